@@ -1,0 +1,8 @@
+-- What contracts see of a source over a reader.
+use Rattle.std.specs.Prelude.{ℕ, List}
+use Rattle.std.specs.declared.option.Option.{Option}
+
+-- The bytes that the reader has left, where it tells them, and how many faults there were.
+pub record ReaderState : Type 0 where
+  pub told : Option (List ℕ)
+  pub faults : ℕ

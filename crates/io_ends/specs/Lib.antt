@@ -1,0 +1,4 @@
+pub mod Causes
+pub mod Whole
+pub mod Memory
+pub mod Files

@@ -1,0 +1,53 @@
+// Where bytes come from, and where they go.
+ghost use Rattle.std.specs.Prelude.{◌≡◌, ◌<◌, ◌≤◌, [], List, ℕ, Ok, length, IfOk};
+ghost use Rattle.std.specs.declared.option.Option.{Option};
+ghost use Rattle.std.specs.Io.{ReadsAtMost, WritesAtMost};
+ghost use Rattle.std.specs.Io.KnownBytes.{ReadConsumes, WriteAppends};
+ghost use Rattle.io_ends.specs.Causes.{HasCause, counted};
+
+/// A read or a write failed, and its end has counted the fault.
+#[derive(Clone, Copy, Debug, PartialEq, Eq)]
+pub struct Failed;
+
+/// Where bytes come from.
+pub trait Source {
+    /// The bytes that are left, where the source tells them.
+    ghost left: { Self → Option (List ℕ) };
+
+    /// How many faults it has counted. It starts at 0 and stays at `u64::MAX` once there.
+    ghost faults: { Self → ℕ };
+
+    /// Takes bytes into the front of `buf`, and answers how many. 0 for a buffer with room is the
+    /// end of the bytes. A read that failed took nothing.
+    fn read(&mut self, buf: &mut [u8]) -> Result<usize, Failed>
+        ensures bound { ReadsAtMost result buf.new }
+        ensures bytes { ReadConsumes (left self.old) (left self.new) result buf.new }
+        ensures cause { HasCause (faults self.old) (faults self.new) result };
+}
+
+/// Where bytes go.
+pub trait Sink {
+    /// The bytes that are held, where the sink tells them.
+    ghost held: { Self → Option (List ℕ) };
+
+    /// How many faults it has counted. It starts at 0 and stays at `u64::MAX` once there.
+    ghost faults: { Self → ℕ };
+
+    /// Appends the front of `piece`, and answers how many bytes of it. A write that failed appended
+    /// nothing.
+    fn write(&mut self, piece: &[u8]) -> Result<usize, Failed>
+        ensures bound { WritesAtMost result piece.now }
+        ensures some { IfOk result (λ n. 0 < length piece.now → 0 < n) }
+        ensures empty { piece.now ≡ [] → result ≡ Ok 0 }
+        ensures bytes { WriteAppends (held self.old) (held self.new) result piece.now }
+        ensures cause { HasCause (faults self.old) (faults self.new) result };
+}
+
+// Counts a fault.
+pub(crate) fn count_fault(faults: &mut u64) -> Failed
+    ensures counts { faults.new ≡ counted faults.old }
+    ensures later { faults.old ≤ faults.new }
+{
+    *faults = faults.saturating_add(1);
+    Failed
+}

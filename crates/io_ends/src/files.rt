@@ -1,0 +1,153 @@
+// The ends of the process: standard input and output, and files. What a system call does is not
+// proved, so these ends tell nothing of their bytes.
+ghost use Rattle.std.specs.Prelude.{◌≡◌, ◌<◌, ◌≤◌, [], None, Ok, length, is_ok, if◌then◌else◌, IfOk};
+ghost use Rattle.std.specs.Io.{ReadsAtMost, WritesAtMost};
+ghost use Rattle.std.specs.Io.KnownBytes.{ReadConsumes, WriteAppends};
+ghost use Rattle.io_ends.specs.Causes.{HasCause, counted};
+
+use crate::ends::count_fault;
+use crate::{Failed, Sink, Source};
+use std::fs;
+use std::io::{self, Read, Write};
+use std::marker::Model;
+use std::rt::Files;
+
+/// A source over standard input, as the runtime's `reader()` gives it, or over a file that is opened
+/// for reading. Each read that the system refuses is a fault.
+#[derive(Drop)]
+pub struct FileSource<R: Read> {
+    reader: R,
+    faults: u64,
+}
+
+impl<R: Read> Model for FileSource<R> {
+    ghost use Rattle.io_ends.specs.Files.{ReaderState};
+
+    ghost Value = { ReaderState };
+
+    ghost view = { λ a. record { told = R.remaining a.reader; faults = a.faults } };
+}
+
+impl<R: Read> FileSource<R> {
+    /// A source of what the reader gives.
+    pub fn new(reader: R) -> Self
+        ensures { result ≡ record { told = R.remaining reader; faults = 0 } }
+    {
+        FileSource { reader, faults: 0 }
+    }
+}
+
+impl<R: Read> Source for FileSource<R> {
+    ghost left = { λ _. None };
+
+    ghost faults = { λ s. s.faults };
+
+    fn read(&mut self, buf: &mut [u8]) -> Result<usize, Failed>
+        ensures bound { ReadsAtMost result buf.new }
+        ensures bytes { ReadConsumes None None result buf.new }
+        ensures cause { HasCause self.old.faults self.new.faults result }
+
+        // It hands on what its reader gives, and counts each read that failed.
+        ensures given { ReadConsumes self.old.told self.new.told result buf.new }
+        ensures faults { self.new.faults ≡ (if is_ok result then self.old.faults else counted self.old.faults) }
+    {
+        match self.reader.read(buf) {
+            Ok(count) => Ok(count),
+            Err(_) => Err(count_fault(&mut self.faults)),
+        }
+    }
+}
+
+// Where a sink's bytes go.
+#[derive(Drop)]
+enum Place<F> {
+    Standard,
+    Named(String),
+    Opened(F),
+}
+
+/// A sink over standard output, or over a named file. Each write that the system refuses is a
+/// fault, and so is one that takes no byte of a piece that has some. Nothing is kept back: a write
+/// gives its piece to the system before it returns.
+#[derive(Drop)]
+pub struct FileSink<R: Files> {
+    rt: R,
+    place: Place<R::File>,
+    faults: u64,
+}
+
+impl<R: Files> Model for FileSink<R> {
+    ghost use Rattle.std.specs.Prelude.{ℕ};
+
+    ghost Value = { ℕ };
+
+    ghost view = { λ a. a.faults };
+}
+
+impl<R: Files + Print> FileSink<R> {
+    /// A sink over standard output.
+    pub fn stdout(rt: R) -> Self
+        ensures { result ≡ 0 }
+    {
+        FileSink {
+            rt,
+            place: Place::Standard,
+            faults: 0,
+        }
+    }
+
+    /// A sink over the file of this name, which is made, or emptied where it is there, at the first
+    /// write of a piece that is not empty. Where that fails, the next such write tries it again.
+    pub fn named(rt: R, name: String) -> Self
+        ensures { result ≡ 0 }
+    {
+        FileSink {
+            rt,
+            place: Place::Named(name),
+            faults: 0,
+        }
+    }
+}
+
+// One write of a piece.
+fn write_some<R: Files + Print>(
+    rt: &R,
+    place: &mut Place<R::File>,
+    piece: &[u8],
+) -> io::Result<usize>
+    ensures { IfOk result (λ n. n ≤ length piece.now) }
+{
+    match place {
+        Place::Standard => rt.write_some(piece),
+        Place::Opened(file) => file.write(piece),
+        Place::Named(name) => {
+            let mut file = fs::create(rt, name.as_str())?;
+            let written = file.write(piece);
+            *place = Place::Opened(file);
+            written
+        }
+    }
+}
+
+impl<R: Files + Print> Sink for FileSink<R> {
+    ghost held = { λ _. None };
+
+    ghost faults = { λ s. s };
+
+    fn write(&mut self, piece: &[u8]) -> Result<usize, Failed>
+        ensures bound { WritesAtMost result piece.now }
+        ensures some { IfOk result (λ n. 0 < length piece.now → 0 < n) }
+        ensures empty { piece.now ≡ [] → result ≡ Ok 0 }
+        ensures bytes { WriteAppends None None result piece.now }
+        ensures cause { HasCause self.old self.new result }
+        ensures faults { self.new ≡ (if is_ok result then self.old else counted self.old) }
+    {
+        if piece.is_empty() {
+            return Ok(0);
+        }
+        match write_some(&self.rt, &mut self.place, piece) {
+            Ok(count) if count > 0 => Ok(count),
+            _ => Err(count_fault(&mut self.faults)),
+        }
+    }
+}

@@ -1,0 +1,24 @@
+//! The ends of the outside: where bytes come from and where they go, each with a count of its faults.
+//!
+//! Code over a [`Source`] or a [`Sink`] is proved from the clauses of these traits alone, so it holds
+//! over every end. The ends in memory and those that never fail are proved to the byte. What the
+//! system does with a call of a [`FileSource`] or a [`FileSink`] is trusted.
+#![tactic(auto)]
+
+mod ends;
+mod files;
+mod list;
+mod memory;
+mod sure;
+mod whole;
+
+pub use ends::{Failed, Sink, Source};
+pub use files::{FileSink, FileSource};
+pub use list::ByteList;
+pub use memory::{MemSink, MemSource};
+pub use std::alloc::AllocError as NoMemory;
+pub use sure::{SureSink, SureSource};
+pub use whole::{LineFault, Whole, read_whole, write_whole};
+
+#[cfg(test)]
+mod tests;

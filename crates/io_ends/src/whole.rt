@@ -1,0 +1,103 @@
+// A whole piece out, in as many writes as it takes, and whole bytes in.
+ghost use Rattle.std.specs.Prelude.{◌≡◌, ◌+◌, ◌<◌, ◌≤◌, false, length, nat_lt, take, MatchResult, OnOk, OnErr, IfErr};
+ghost use Rattle.std.specs.Io.KnownBytes.{Appends};
+ghost use Rattle.io_ends.specs.Causes.{HasCause, AppendsPart, Rose};
+ghost use Rattle.io_ends.specs.Whole.{Fills, FillFails, ReadsWhole};
+
+use crate::{ByteList, Failed, Sink, Source};
+use std::alloc::{AllocError, Global};
+
+// How many bytes one read asks for.
+const CHUNK: usize = 4096;
+
+/// Why the bytes of a source could not be had.
+#[derive(Clone, Copy, Debug, PartialEq, Eq)]
+pub enum LineFault {
+    /// A read failed, and the source has counted the fault.
+    Failed,
+    /// There was no memory to keep what was read.
+    NoMemory,
+}
+
+impl From<AllocError> for LineFault {
+    ghost use Rattle.std.specs.Prelude.{◌≡◌};
+    ghost use Rattle.io_ends.specs.declared.whole.LineFault.TheVariants.{NoMemory};
+
+    ghost from_gives = { λ _ e. e ≡ NoMemory };
+
+    fn from(_: AllocError) -> Self {
+        LineFault::NoMemory
+    }
+}
+
+/// The first bytes of a source, and whether there were more than the limit.
+#[derive(Debug, Drop)]
+pub struct Whole {
+    /// The first bytes, up to the limit.
+    pub bytes: ByteList,
+    /// The source had more bytes than the limit.
+    pub more: bool,
+}
+
+/// Appends a whole piece. It takes no memory of its own. After a fault a part of the piece stands,
+/// and not all of it.
+pub fn write_whole<K: Sink>(sink: &mut K, piece: &[u8]) -> Result<(), Failed>
+    ensures ok { OnOk result (Appends (K.held sink.old) (K.held sink.new) piece.now) }
+    ensures err { OnErr result (AppendsPart (K.held sink.old) (K.held sink.new) piece.now) }
+    ensures cause { HasCause (K.faults sink.old) (K.faults sink.new) result }
+{
+    let mut rest = piece;
+    while !rest.is_empty() {
+        let count = sink.write(rest)?;
+        rest = &rest[count..];
+    }
+    Ok(())
+}
+
+// Adds one read to the bytes, which stay at most `most`.
+fn fill<S: Source>(bytes: &mut ByteList, source: &mut S, most: usize) -> Result<usize, LineFault>
+    requires { length bytes.old < most }
+    ensures fills { MatchResult result
+        (λ n. Fills n bytes.old bytes.new most (S.left source.old) (S.left source.new))
+        (λ _. FillFails bytes.old most (S.left source.old) (S.left source.new)) }
+    ensures later { S.faults source.old ≤ S.faults source.new }
+    ensures cause { IfErr result (λ fault. fault ≡ LineFault.Failed → Rose (S.faults source.old) (S.faults source.new)) }
+{
+    let mut chunk = [0u8; CHUNK];
+    let room = (most - bytes.items().len()).min(CHUNK);
+    match source.read(&mut chunk[..room]) {
+        Ok(count) => {
+            bytes.append(&chunk[..count])?;
+            Ok(count)
+        }
+        Err(_) => Err(LineFault::Failed),
+    }
+}
+
+// What bytes that were read say, the last of which may be beyond the limit.
+fn whole_of(mut bytes: ByteList, limit: usize) -> Whole
+    ensures bytes { result.bytes ≡ take limit bytes }
+    ensures more { result.more ≡ nat_lt limit (length bytes) }
+{
+    let more = limit < bytes.items().len();
+    bytes.truncate(limit);
+    Whole { bytes, more }
+}
+
+/// Reads a source to its end, or to one byte beyond `limit` bytes, which tells that there are more.
+/// After an error the bytes that were taken are lost.
+pub fn read_whole<S: Source>(alloc: Global, source: &mut S, limit: u64) -> Result<Whole, LineFault>
+    requires { limit ≤ 16777216 }
+    ensures reads { ReadsWhole result limit (S.left source.old) (S.left source.new) }
+    ensures later { S.faults source.old ≤ S.faults source.new }
+    ensures cause { IfErr result (λ fault. fault ≡ LineFault.Failed → Rose (S.faults source.old) (S.faults source.new)) }
+{
+    let limit = limit as usize;
+    let mut bytes = ByteList::new(alloc);
+    while bytes.items().len() <= limit {
+        if fill(&mut bytes, source, limit + 1)? == 0 {
+            break;
+        }
+    }
+    Ok(whole_of(bytes, limit))
+}
