@@ -1,0 +1,92 @@
+// Levels, in their order.
+ghost use Rattle.std.specs.Prelude.{◌≡◌, ◌≤◌, ◌↔◌, IsSome, IfSome};
+
+use crate::Lattice;
+use std::marker::Model;
+
+/// The highest number of a level.
+pub const MAX_LEVEL: u8 = 15;
+
+/// A level of secrecy, seen as its number: 0 is the lowest, 15 the highest that a value can have.
+#[derive(Clone, Copy, Debug, PartialEq, Eq, PartialOrd, Ord)]
+pub struct Level {
+    number: u8,
+}
+
+impl Model for Level {
+    ghost use Rattle.std.specs.Prelude.{ℕ, ◌≤◌};
+
+    ghost Value = { ℕ };
+
+    ghost view = { λ l. l.number };
+
+    ghost invariant = { λ l. l.number ≤ 15 };
+
+    ghost inverse = { λ n. record { number = n } };
+}
+
+impl Level {
+    /// The level with this number, if there is one.
+    pub fn new(n: u8) -> Option<Level>
+        ensures some { IsSome result ↔ (n ≤ 15) }
+        ensures level { IfSome result (λ level. level ≡ n) }
+    {
+        if n <= MAX_LEVEL {
+            Some(Level { number: n })
+        } else {
+            None
+        }
+    }
+
+    /// Its number.
+    pub fn number(&self) -> u8
+        ensures number { result ≡ self.now }
+        ensures few { result ≤ 15 }
+    {
+        self.number
+    }
+}
+
+impl Lattice for Level {
+    ghost use Rattle.lab_lattice.specs.Level.{level_covers, level_join, level_meet, level_itself, level_through, level_both, join_first, join_second, join_under, meet_first, meet_second, meet_over};
+
+    ghost covers = { level_covers };
+
+    ghost join = { level_join };
+
+    ghost meet = { level_meet };
+
+    ghost reflexive = { level_itself };
+
+    ghost transitive = { level_through };
+
+    ghost antisymmetric = { level_both };
+
+    ghost join_above_first = { join_first };
+
+    ghost join_above_second = { join_second };
+
+    ghost join_least = { join_under };
+
+    ghost meet_below_first = { meet_first };
+
+    ghost meet_below_second = { meet_second };
+
+    ghost meet_greatest = { meet_over };
+
+    fn dominates(&self, other: &Self) -> bool {
+        self.number >= other.number
+    }
+
+    fn equal(&self, other: &Self) -> bool {
+        self.number == other.number
+    }
+
+    fn lub(&self, other: &Self) -> Self {
+        if self.dominates(other) { *self } else { *other }
+    }
+
+    fn glb(&self, other: &Self) -> Self {
+        if other.dominates(self) { *self } else { *other }
+    }
+}
