@@ -1,0 +1,68 @@
+-- The first state of a world: numbers are drawn per label in the order of its lines.
+use Rattle.std.specs.Prelude.{ℕ, ◌+◌, List, [], ◌∷◌, unwrap_or}
+use Rattle.std.specs.FinMap as map
+use Rattle.fs_path.specs.Name.{Name}
+use Rattle.lab_lattice.specs.Label.{Label}
+use Rattle.kern_model.specs.declared.numbers.Pid.{Pid}
+use Rattle.kern_model.specs.declared.numbers.Oid.{Oid}
+use Rattle.kern_model.specs.declared.objects.Kind.{Kind}
+use Rattle.kern_model.specs.declared.objects.Kind.TheVariants as kind
+use Rattle.kern_model.specs.declared.objects.Body.{Body}
+use Rattle.kern_model.specs.declared.objects.Body.TheVariants as body
+use Rattle.kern_model.specs.declared.objects.Object.{Object}
+use Rattle.kern_model.specs.declared.world.World.{World}
+use Rattle.kern_model.specs.declared.world.WorldObject.{WorldObject}
+use Rattle.kern_model.specs.declared.world.WorldProc.{WorldProc}
+use Rattle.kern_model.specs.State.{State, Change, SetObject, SetEntry, SetProcess, DrawObject, DrawProcess, changed_by, drawn, look, root}
+
+abbrev pub kind_of : Body → Kind
+kind_of body.Dir = kind.Dir
+kind_of (body.File bytes) = kind.File
+kind_of body.Fifo = kind.Fifo
+kind_of body.Pipe = kind.Pipe
+
+abbrev pub bytes_of : Body → List ℕ
+bytes_of (body.File bytes) = bytes
+bytes_of _ = []
+
+abbrev pub object_of : WorldObject → Object
+object_of o = record { kind = kind_of o.body; label = o.label; attr = o.attr; bytes = bytes_of o.body }
+
+-- the next number of an object at a label
+abbrev pub next_object : State → Label → Oid
+next_object s l = record { label = l; n = drawn s.object_numbers l + 1 }
+
+-- the next number of a process at a label
+abbrev pub next_process : State → Label → Pid
+next_process s l = record { label = l; n = drawn s.process_numbers l + 1 }
+
+-- the entry for an object, at the end of the names from a directory; the root has none
+abbrev pub entry_for : State → Oid → List Name → Oid → List Change
+entry_for s dir [] id = []
+entry_for s dir (name ∷ []) id = SetEntry (dir, name) id ∷ []
+entry_for s dir (name ∷ next ∷ names) id = entry_for s (unwrap_or (look s dir name) dir) (next ∷ names) id
+
+-- an object of the world is there, and has its entry
+unfoldable pub boot_object : State → WorldObject → State
+boot_object s o = changed_by s
+    (DrawObject o.label (drawn s.object_numbers o.label + 1) ∷ SetObject (next_object s o.label) (object_of o) ∷ entry_for s root o.path.names (next_object s o.label))
+
+-- a process of the world is there, in the root directory
+unfoldable pub boot_process : State → WorldProc → State
+boot_process s w = changed_by s
+    (DrawProcess w.label (drawn s.process_numbers w.label + 1) ∷ SetProcess (next_process s w.label) (record { ids = w.ids; label = w.label; cwd = root }) ∷ [])
+
+abbrev pub boot_objects : State → List WorldObject → State
+boot_objects s [] = s
+boot_objects s (o ∷ os) = boot_objects (boot_object s o) os
+
+abbrev pub boot_processes : State → List WorldProc → State
+boot_processes s [] = s
+boot_processes s (w ∷ ws) = boot_processes (boot_process s w) ws
+
+-- nothing is there yet
+abbrev pub nothing : Label → State
+nothing top = record { objects = map.empty; entries = map.empty; procs = map.empty; object_numbers = map.empty; process_numbers = map.empty; top = top }
+
+abbrev pub boot : World → State
+boot w = boot_processes (boot_objects (nothing w.top) w.objects) w.procs

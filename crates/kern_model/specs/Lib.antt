@@ -1,0 +1,10 @@
+pub mod Maps
+pub mod Keys
+pub mod State
+pub mod Rules
+pub mod Row
+pub mod Walk
+pub mod Table
+pub mod Step
+pub mod Boot
+pub mod Run

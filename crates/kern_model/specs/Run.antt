@@ -1,0 +1,24 @@
+-- A run: the steps of a script, one after another.
+use Rattle.std.specs.Prelude.{List, [], ◌∷◌}
+use Rattle.kern_model.specs.declared.numbers.Pid.{Pid}
+use Rattle.kern_model.specs.declared.calls.Call.{Call}
+use Rattle.kern_model.specs.declared.calls.Reply.{Reply}
+use Rattle.kern_model.specs.declared.world.ScriptItem.{ScriptItem}
+use Rattle.kern_model.specs.State.{State}
+use Rattle.kern_model.specs.Step.{step}
+
+-- one call that was played: who called, what, and the reply
+pub record Played : Type 0 where
+  pub who : Pid
+  pub call : Call
+  pub reply : Reply
+
+-- what is played of a script from a state on
+abbrev pub run : State → List ScriptItem → List Played
+run s [] = []
+run s (i ∷ is) = record { who = i.who; call = i.call; reply = (step s i.who i.call).reply } ∷ run (step s i.who i.call).state is
+
+-- the last state
+abbrev pub state_after_run : State → List ScriptItem → State
+state_after_run s [] = s
+state_after_run s (i ∷ is) = state_after_run (step s i.who i.call).state is

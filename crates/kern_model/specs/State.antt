@@ -1,0 +1,64 @@
+-- The state of the kernel, and the single changes that are made to it.
+use Rattle.std.specs.Prelude.{ℕ, List, [], ◌∷◌, Option}
+use Rattle.std.specs.FinMap as map
+use Rattle.std.specs.FinMap.{FinMap}
+use Rattle.fs_path.specs.Name.{Name}
+use Rattle.lab_lattice.specs.Label.{Label, label_cmp, bottom}
+use Rattle.kern_model.specs.declared.numbers.Pid.{Pid}
+use Rattle.kern_model.specs.declared.numbers.Oid.{Oid}
+use Rattle.kern_model.specs.declared.objects.Object.{Object}
+use Rattle.kern_model.specs.declared.objects.Kind.TheVariants.{File}
+use Rattle.kern_model.specs.declared.objects.Process.{Process}
+use Rattle.kern_model.specs.Maps.{get_or}
+use Rattle.kern_model.specs.Keys.{oid_cmp, pid_cmp, spot_cmp, Spot}
+
+pub record State : Type 0 where
+  pub objects : FinMap oid_cmp Object
+  -- where the names in each directory lead: this is what a directory contains
+  pub entries : FinMap spot_cmp Oid
+  pub procs : FinMap pid_cmp Process
+  -- the last number drawn of each label
+  pub object_numbers : FinMap label_cmp ℕ
+  pub process_numbers : FinMap label_cmp ℕ
+  -- the label that dominates all others
+  pub top : Label
+
+-- one change of one thing
+pub data Change : Type 0 where
+  SetObject : (id : Oid) (object : Object) → Change
+  SetEntry : (spot : Spot) (id : Oid) → Change
+  SetProcess : (who : Pid) (process : Process) → Change
+  DrawObject : (label : Label) (n : ℕ) → Change
+  DrawProcess : (label : Label) (n : ℕ) → Change
+
+abbrev pub changed : State → Change → State
+changed s (SetObject id o) = record s { objects = map.insert s.objects id o }
+changed s (SetEntry spot id) = record s { entries = map.insert s.entries spot id }
+changed s (SetProcess who p) = record s { procs = map.insert s.procs who p }
+changed s (DrawObject l n) = record s { object_numbers = map.insert s.object_numbers l n }
+changed s (DrawProcess l n) = record s { process_numbers = map.insert s.process_numbers l n }
+
+-- the changes, one after another
+abbrev pub changed_by : State → List Change → State
+changed_by s [] = s
+changed_by s (c ∷ cs) = changed_by (changed s c) cs
+
+-- what is read where nothing is: an empty file of the highest label that nobody may use
+abbrev pub stub_object : Label → Object
+stub_object top = record { kind = File; label = top; attr = record { owner = 0; group = 0; mode = 0 }; bytes = [] }
+
+-- the object with a number, and the stub where there is none
+abbrev pub object_at : State → Oid → Object
+object_at s id = get_or s.objects id (stub_object s.top)
+
+-- the last number drawn of a label
+abbrev pub drawn : FinMap label_cmp ℕ → Label → ℕ
+drawn numbers l = get_or numbers l 0
+
+-- where an entry of a directory leads
+abbrev pub look : State → Oid → Name → Option Oid
+look s dir name = map.get s.entries (dir, name)
+
+-- the root directory
+abbrev pub root : Oid
+root = record { label = bottom; n = 1 }

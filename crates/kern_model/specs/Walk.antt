@@ -1,0 +1,49 @@
+-- The walk of a path: at each name mac_read on the directory reached, its kind, the look-up.
+use Rattle.std.specs.Prelude.{ℕ, ◌+◌, not, List, [], ◌∷◌, Option, Some, None, cond, length}
+use Rattle.fs_path.specs.Name.{Name}
+use Rattle.fs_path.specs.Path.{PathValue}
+use Rattle.kern_model.specs.declared.numbers.Oid.{Oid}
+use Rattle.kern_model.specs.declared.objects.Process.{Process}
+use Rattle.kern_model.specs.declared.checks.Place.{Place}
+use Rattle.kern_model.specs.declared.calls.Errno.TheVariants as errno
+use Rattle.kern_model.specs.State.{State, object_at, look, root}
+use Rattle.kern_model.specs.Rules.{is_dir, mac_read}
+use Rattle.kern_model.specs.Row.{Row, Need, Refuse, Fail}
+
+-- what a walk found: the last directory and the last name, if the path has names, and what it leads to, if that is there
+pub record Found : Type 0 where
+  pub dir : Option Oid
+  pub name : Option Name
+  pub object : Option Oid
+
+-- a directory is entered, and the row goes on
+abbrev pub enter : State → Process → Oid → Place → Row → Row
+enter s p dir place rest = Need (mac_read s p dir place) (Refuse errno.ENOTDIR (not (is_dir (object_at s dir).kind)) rest)
+
+-- the row goes on from what is there, and fails where nothing is
+abbrev pub or_missing : Option Oid → (Oid → Row) → Row
+or_missing None k = Fail errno.ENOENT
+or_missing (Some id) k = k id
+
+-- the walk of names from a directory, and the row that goes on from what it finds; `place` names the places of this path
+abbrev pub walk_from : State → Process → (ℕ → Place) → ℕ → Oid → List Name → (Found → Row) → Row
+walk_from s p place at dir [] k = k (record { dir = None; name = None; object = Some dir })
+walk_from s p place at dir (name ∷ []) k = enter s p dir (place at) (k (record { dir = Some dir; name = Some name; object = look s dir name }))
+walk_from s p place at dir (name ∷ next ∷ names) k =
+    enter s p dir (place at) (or_missing (look s dir name) (λ id. walk_from s p place (at + 1) id (next ∷ names) k))
+
+-- where a path starts
+abbrev pub start_of : Process → PathValue → Oid
+start_of p path = cond path.absolute root p.cwd
+
+-- the walk of a path, whose last name may be absent
+abbrev pub walk : State → Process → (ℕ → Place) → PathValue → (Found → Row) → Row
+walk s p place path k = walk_from s p place 0 (start_of p path) path.names k
+
+-- the walk of a path to an object that is there
+abbrev pub reach : State → Process → (ℕ → Place) → PathValue → (Oid → Row) → Row
+reach s p place path k = walk s p place path (λ found. or_missing found.object k)
+
+-- the place of what a path leads to
+abbrev pub last_place : (ℕ → Place) → PathValue → Place
+last_place place path = place (length path.names)

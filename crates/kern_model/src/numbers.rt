@@ -1,0 +1,41 @@
+// Numbers of processes and objects, of users and groups.
+use fs_path::List;
+use lab_lattice::Label;
+
+/// The number of a process: the label that it was drawn at, and the count of its draw from 1 on.
+#[derive(Clone, Copy, Debug, PartialEq, Eq, PartialOrd, Ord)]
+pub struct Pid {
+    pub label: Label,
+    pub n: u16,
+}
+
+/// The number of an object: the label that it was drawn at, and the count of its draw from 1 on.
+#[derive(Clone, Copy, Debug, PartialEq, Eq, PartialOrd, Ord)]
+pub struct Oid {
+    pub label: Label,
+    pub n: u16,
+}
+
+/// The number of a user. User 0 has no privilege of its own.
+pub type Uid = u32;
+
+/// The number of a group.
+pub type Gid = u32;
+
+/// Supplementary groups.
+pub type GroupList = List<Gid>;
+
+/// Permission and set-id bits, within octal 6777.
+pub type Mode = u16;
+
+/// Real, effective and saved user and group, and the supplementary groups.
+#[derive(Debug, Drop)]
+pub struct Ids {
+    pub ruid: Uid,
+    pub euid: Uid,
+    pub suid: Uid,
+    pub rgid: Gid,
+    pub egid: Gid,
+    pub sgid: Gid,
+    pub groups: GroupList,
+}

@@ -1,0 +1,46 @@
+// Objects and processes.
+use crate::{Gid, Ids, Mode, Oid, Uid};
+use fs_path::ByteList;
+use lab_lattice::Label;
+
+#[derive(Clone, Copy, Debug, PartialEq, Eq)]
+pub enum Kind {
+    Dir,
+    File,
+    Fifo,
+    Pipe,
+}
+
+/// Who owns an object, and its permission bits.
+#[derive(Clone, Copy, Debug, PartialEq, Eq)]
+pub struct Attr {
+    pub owner: Uid,
+    pub group: Gid,
+    pub mode: Mode,
+}
+
+/// What a new object is, and what it holds.
+#[derive(Debug, Drop)]
+pub enum Body {
+    Dir,
+    File(ByteList),
+    Fifo,
+    Pipe,
+}
+
+/// An object with its present label. The bytes are a file's content; entries of a directory stand in the state.
+#[derive(Debug, Drop)]
+pub struct Object {
+    pub kind: Kind,
+    pub label: Label,
+    pub attr: Attr,
+    pub bytes: ByteList,
+}
+
+/// A living process with its present label and its current directory.
+#[derive(Debug, Drop)]
+pub struct Process {
+    pub ids: Ids,
+    pub label: Label,
+    pub cwd: Oid,
+}

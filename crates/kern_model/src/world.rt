@@ -1,0 +1,41 @@
+// A world as it is described, and the items of a script.
+use crate::{Attr, Body, Call, Ids, Pid};
+use fs_path::{List, Path};
+use lab_lattice::Label;
+
+/// An object of a world: its path, and what stands there.
+#[derive(Debug, Drop)]
+pub struct WorldObject {
+    pub path: Path,
+    pub label: Label,
+    pub attr: Attr,
+    pub body: Body,
+}
+
+/// A process of a world.
+#[derive(Debug, Drop)]
+pub struct WorldProc {
+    pub label: Label,
+    pub ids: Ids,
+}
+
+/// Objects of a world.
+pub type ObjectList = List<WorldObject>;
+
+/// Processes of a world.
+pub type ProcList = List<WorldProc>;
+
+/// What a run starts from: the highest label, and objects and processes in the order of their lines.
+#[derive(Debug, Drop)]
+pub struct World {
+    pub top: Label,
+    pub objects: ObjectList,
+    pub procs: ProcList,
+}
+
+/// One line of a script: who calls, and what.
+#[derive(Debug, Drop)]
+pub struct ScriptItem {
+    pub who: Pid,
+    pub call: Call,
+}
