@@ -1,0 +1,10 @@
+pub mod Appending
+pub mod ScriptLemmas
+pub mod InputLemmas
+pub mod ClauseLemmas
+pub mod WalkLemmas
+pub mod Tellings
+pub mod BootLemmas
+pub mod LineLemmas
+pub mod WordLemmas
+pub mod ReadLemmas

@@ -1,0 +1,18 @@
+use Rattle.std.proofs.Common.{sym, ◌∙◌}
+use Rattle.std.proofs.lemmas.Bool.{not-true, not-false}
+use Rattle.labsys.specs.Grammar.{exactly, same_bytes}
+use Rattle.labsys.proofs.ReadLemmas.{goes_on, stops_at_line, stops_without, is_exact, is_not_exact}
+use Rattle.labsys.proofs.reading.exact_due.Goals as goal
+
+pub returns-in_default-clause-due : goal.returns-in_default-clause-due
+returns-in_default-clause-due c = stops_without (exactly c.args.wanted.now) c.args.number c.args.text.now c.in_default.ensures.line
+
+pub returns-then-ne-clause-due : goal.returns-then-ne-clause-due
+returns-then-ne-clause-due c =
+    stops_at_line (exactly c.args.wanted.now) c.args.number c.args.text.now c.in-Some.line.now c.in-Some.rest.now c.in-Some.ensures.line
+    (is_not_exact c.args.wanted.now c.in-Some.line.now (not-true (same_bytes c.in-Some.line.now c.args.wanted.now) (sym c.ne.ensures ∙ c.if-ne.true)))
+
+pub returns-clause-due : goal.returns-clause-due
+returns-clause-due c =
+    goes_on (exactly c.args.wanted.now) c.args.number c.args.text.now c.in-Some.line.now c.in-Some.rest.now tt c.in-Some.ensures.line
+    (is_exact c.args.wanted.now c.in-Some.line.now (not-false (same_bytes c.in-Some.line.now c.args.wanted.now) (sym c.ne.ensures ∙ c.if-ne.false)))

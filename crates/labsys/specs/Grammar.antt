@@ -1,0 +1,151 @@
+-- The lines of an input, each by its words.
+use Rattle.std.specs.Prelude.{ℕ, ◌-◌, ◌/◌, ◌%◌, ◌==◌, ◌&&◌, ◌||◌, not, Bool, true, false, cond, nat_le, nat_eq, List, [], ◌∷◌, length, Option, Some, None, codes, position}
+use Rattle.std.specs.List.{list_all, list_any}
+use Rattle.std.specs.Option.{option_and_then}
+use Rattle.std.specs.Cmp.Lexicographic.{pointwise}
+use Rattle.fs_path.specs.Name.{Name, is_name}
+use Rattle.fs_path.specs.Path.{PathValue}
+use Rattle.lab_lattice.specs.Label.{Label, dominates, bottom}
+use Rattle.kern_model.specs.declared.numbers.Pid.{Pid}
+use Rattle.kern_model.specs.declared.numbers.Ids.{Ids}
+use Rattle.kern_model.specs.declared.calls.Call.TheVariants as call
+use Rattle.kern_model.specs.declared.objects.Body.TheVariants as body
+use Rattle.kern_model.specs.declared.world.WorldObject.{WorldObject}
+use Rattle.kern_model.specs.declared.world.WorldProc.{WorldProc}
+use Rattle.kern_model.specs.declared.world.ScriptItem.{ScriptItem}
+use Rattle.labsys.specs.Lines.{cut, pieces, behind, numeral}
+
+-- the names of a world's levels, lowest first
+abbrev pub Levels : Type 0
+Levels = List (List ℕ)
+
+abbrev pub same_bytes : List ℕ → List ℕ → Bool
+same_bytes a b = pointwise nat_eq a b
+
+-- the value, where it passes
+abbrev pub keep_if : {X : Type 0} → Bool → X → Option X
+keep_if b x = cond b (Some x) None
+
+abbrev pub split_then : {X : Type 0} → Option (List ℕ × List ℕ) → (List ℕ → List ℕ → Option X) → Option X
+split_then None k = None
+split_then (Some p) k = k p.0 p.1
+
+-- the first word, and what stands behind the space
+abbrev pub word_then : {X : Type 0} → List ℕ → (List ℕ → List ℕ → Option X) → Option X
+word_then line k = split_then (cut 32 line) k
+
+-- goes on with a value that is there
+abbrev pub then : {A X : Type 0} → Option A → (A → Option X) → Option X
+then o k = option_and_then k o
+
+-- ---- words
+
+abbrev pub is_letter : ℕ → Bool
+is_letter b = (nat_le 65 b && nat_le b 90) || (nat_le 97 b && nat_le b 122)
+
+-- a letter, a digit, `_` or `-`
+abbrev pub is_name_part : ℕ → Bool
+is_name_part b = is_letter b || (nat_le 48 b && nat_le b 57) || b == 95 || b == 45
+
+-- the name of a level or a category: a letter, and up to 30 name parts
+abbrev pub is_label_name : List ℕ → Bool
+is_label_name [] = false
+is_label_name (b ∷ bs) = is_letter b && nat_le (length bs) 30 && list_all is_name_part bs
+
+-- no name stands twice
+abbrev pub are_distinct : List (List ℕ) → Bool
+are_distinct [] = true
+are_distinct (x ∷ xs) = not (list_any (same_bytes x) xs) && are_distinct xs
+
+abbrev pub words_behind : List ℕ → List (List ℕ) → Option (List (List ℕ))
+words_behind keyword [] = None
+words_behind keyword (w ∷ ws) = keep_if (same_bytes w keyword) ws
+
+-- from `low` to `high` distinct names behind a keyword
+abbrev pub names_line : List ℕ → ℕ → ℕ → List ℕ → Option (List (List ℕ))
+names_line keyword low high line = then (words_behind keyword (pieces 32 line)) (λ names.
+    keep_if (nat_le low (length names) && nat_le (length names) high && list_all is_label_name names && are_distinct names) names)
+
+-- a label: the name of a level
+abbrev pub label_of : Levels → List ℕ → Option Label
+label_of levels word = position (same_bytes word) levels
+
+-- the highest level
+abbrev pub top_of : Levels → Label
+top_of levels = length levels - 1
+
+-- a number of a user or a group
+abbrev pub number_of : List ℕ → Option ℕ
+number_of word = numeral 10 10 0 4294967295 word
+
+-- 1 to 4 octal digits, without the bit 1000
+abbrev pub mode_of : List ℕ → Option ℕ
+mode_of word = then (numeral 8 4 0 4095 word) (λ mode. keep_if ((mode / 512) % 2 == 0) mode)
+
+-- a byte that a bare word may have: 0x21 to 0x7e, but not `"` and `\`
+abbrev pub is_bare : ℕ → Bool
+is_bare b = nat_le 33 b && nat_le b 126 && not (b == 34) && not (b == 92)
+
+-- the name of an entry, as a bare word
+abbrev pub entry_of : List ℕ → Option Name
+entry_of word = keep_if (list_all is_bare word && is_name word) word
+
+-- a byte that stands for itself between quotes: 0x20 to 0x7e, but not `"` and `\`
+abbrev pub is_plain : ℕ → Bool
+is_plain b = nat_le 32 b && nat_le b 126 && not (b == 34) && not (b == 92)
+
+-- bytes between quotes, and nothing behind them
+abbrev pub quoted_of : List ℕ → Option (List ℕ)
+quoted_of word = then (behind (34 ∷ []) word) (λ inner. split_then (cut 34 inner) (λ bytes rest.
+    keep_if (same_bytes rest [] && list_all is_plain bytes) bytes))
+
+-- `n@label`
+abbrev pub tag_of : Levels → List ℕ → Option Pid
+tag_of levels word = split_then (cut 64 word) (λ n name.
+    then (numeral 10 10 1 4095 n) (λ n. then (label_of levels name) (λ label. Some (record { label = label; n = n }))))
+
+-- ---- lines
+
+-- a line without a choice
+abbrev pub exactly : List ℕ → List ℕ → Option (Unit {0})
+exactly text line = keep_if (same_bytes line text) tt
+
+abbrev pub levels_line : List ℕ → Option Levels
+levels_line line = names_line (codes "levels") 1 16 line
+
+abbrev pub categories_line : List ℕ → Option (List (List ℕ))
+categories_line line = names_line (codes "categories") 0 64 line
+
+abbrev pub in_root : Name → PathValue
+in_root name = record { absolute = true; names = name ∷ [] }
+
+-- `dir / 0777 UID GID LABEL`, with the lowest level as label
+abbrev pub root_line : Levels → List ℕ → Option WorldObject
+root_line levels line =
+    then (behind (codes "dir / 0777 ") line) (λ line. word_then line (λ uid line. word_then line (λ gid name.
+    then (number_of uid) (λ owner. then (number_of gid) (λ group. then (label_of levels name) (λ label.
+    keep_if (dominates bottom label)
+    (record { path = record { absolute = true; names = [] }; label = label; attr = record { owner = owner; group = group; mode = 511 }; body = body.Dir })))))))
+
+-- `file /NAME MODE UID GID LABEL BYTES`
+abbrev pub file_line : Levels → List ℕ → Option WorldObject
+file_line levels line =
+    then (behind (codes "file /") line) (λ line. word_then line (λ name line. word_then line (λ mode line. word_then line (λ uid line. word_then line (λ gid line. word_then line (λ label bytes.
+    then (entry_of name) (λ name. then (mode_of mode) (λ mode. then (number_of uid) (λ owner. then (number_of gid) (λ group. then (label_of levels label) (λ label. then (quoted_of bytes) (λ bytes.
+    Some (record { path = in_root name; label = label; attr = record { owner = owner; group = group; mode = mode }; body = body.File bytes })))))))))))))
+
+-- the ids of a process: its user and its group are real, effective and saved, and it has no supplementary groups
+abbrev pub ids_of : ℕ → ℕ → Ids
+ids_of user group = record { ruid = user; euid = user; suid = user; rgid = group; egid = group; sgid = group; groups = [] }
+
+-- `proc LABEL UID GID - "="`
+abbrev pub proc_line : Levels → List ℕ → Option WorldProc
+proc_line levels line =
+    then (behind (codes "proc ") line) (λ line. word_then line (λ label line. word_then line (λ uid line. word_then line (λ gid rest.
+    then (label_of levels label) (λ label. then (number_of uid) (λ user. then (number_of gid) (λ group.
+    keep_if (same_bytes rest (codes "- \"=\"")) (record { label = label; ids = ids_of user group }))))))))
+
+-- `TAG mac_get_file /NAME`
+abbrev pub script_line : Levels → List ℕ → Option ScriptItem
+script_line levels line = word_then line (λ tag line. then (behind (codes "mac_get_file /") line) (λ name.
+    then (tag_of levels tag) (λ who. then (entry_of name) (λ name. Some (record { who = who; call = call.MacGetFile (in_root name) })))))

@@ -1,0 +1,10 @@
+pub mod Lines
+pub mod Grammar
+pub mod Input
+pub mod Texts
+pub mod Playing
+pub mod Clauses
+pub mod Kernel
+pub mod Reading
+pub mod Exit
+pub mod Words

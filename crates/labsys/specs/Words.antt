@@ -1,0 +1,41 @@
+-- Words of a line as they are read one after another.
+use Rattle.std.specs.Prelude.{ℕ, ◌+◌, ◌&&◌, Bool, nat_le, List, [], length, Option, Some, None, codes}
+use Rattle.std.specs.List.{list_all}
+use Rattle.kern_model.specs.declared.objects.Body.TheVariants as body
+use Rattle.kern_model.specs.declared.world.WorldObject.{WorldObject}
+use Rattle.labsys.specs.Lines.{pieces, behind}
+use Rattle.labsys.specs.Grammar.{Levels, is_label_name, are_distinct, then, word_then, entry_of, mode_of, number_of, label_of, quoted_of, in_root}
+
+-- the words that are left of a line, where a text is left
+abbrev pub words_in : Option (List ℕ) → List (List ℕ)
+words_in None = []
+words_in (Some text) = pieces 32 text
+
+-- how much is left to read
+abbrev pub left_in : Option (List ℕ) → ℕ
+left_in None = 0
+left_in (Some text) = length text + 1
+
+-- at most `high` distinct names of levels or categories
+abbrev pub are_names : ℕ → List (List ℕ) → Bool
+are_names high names = nat_le (length names) high && list_all is_label_name names && are_distinct names
+
+-- the words of a `file` line
+pub record FileWords : Type 0 where
+  pub name : List ℕ
+  pub mode : List ℕ
+  pub uid : List ℕ
+  pub gid : List ℕ
+  pub label : List ℕ
+  pub bytes : List ℕ
+
+unfoldable pub file_words : List ℕ → Option FileWords
+file_words line =
+    then (behind (codes "file /") line) (λ line. word_then line (λ name line. word_then line (λ mode line. word_then line (λ uid line. word_then line (λ gid line. word_then line (λ label bytes.
+    Some (record { name = name; mode = mode; uid = uid; gid = gid; label = label; bytes = bytes })))))))
+
+-- what the words of a `file` line say
+unfoldable pub file_of : Levels → FileWords → Option WorldObject
+file_of levels w =
+    then (entry_of w.name) (λ name. then (mode_of w.mode) (λ mode. then (number_of w.uid) (λ owner. then (number_of w.gid) (λ group. then (label_of levels w.label) (λ label. then (quoted_of w.bytes) (λ bytes.
+    Some (record { path = in_root name; label = label; attr = record { owner = owner; group = group; mode = mode }; body = body.File bytes })))))))

@@ -1,0 +1,159 @@
+// The walk of a path.
+ghost use Rattle.std.specs.Prelude.{◌≡◌, ◌≤◌, ◌+◌, [], ◌∷◌, IfOk, IfErr, OnOk, length};
+ghost use Rattle.lab_lattice.specs.Label.{bottom};
+ghost use Rattle.kern_model.specs.State.{look, root};
+ghost use Rattle.kern_model.specs.Rules.{is_dir, mac_read};
+ghost use Rattle.kern_model.specs.Walk.{start_of};
+ghost use Rattle.labsys.specs.Kernel.{state_of, FindsFrom, StopsFrom, Enters, StopsAt, PassesTo, PassStops, Reaches, StopsReaching};
+
+use super::Kernel;
+use chk_rules::{Stop, mac_read_ok, must};
+use kern_model::{Check, CheckName, Errno, Kind, Name, NoMemory, Oid, Path, Place, Process, Thing};
+use lab_lattice::{Label, Level};
+
+/// What a walk found: the last directory and the last name, if the path has names, and what it leads to, if that
+/// is there.
+#[derive(Debug, Drop)]
+pub struct Found {
+    pub dir: Option<Oid>,
+    pub name: Option<Name>,
+    pub object: Option<Oid>,
+}
+
+/// The label that each label dominates.
+#[tactic(auto, unfolding(lab_lattice::specs::Label::bottom))]
+fn bottom_label() -> Label
+    ensures { result ≡ bottom }
+{
+    match Level::new(0) {
+        Some(label) => label,
+        None => unreachable!(),
+    }
+}
+
+/// The number of the root directory.
+pub fn root_directory() -> Oid
+    ensures { result ≡ root }
+{
+    Oid {
+        label: bottom_label(),
+        n: 1,
+    }
+}
+
+/// Whether a kind is that of directories.
+pub fn is_directory(kind: Kind) -> bool
+    ensures { result ≡ is_dir kind }
+{
+    match kind {
+        Kind::Dir => true,
+        Kind::File | Kind::Fifo | Kind::Pipe => false,
+    }
+}
+
+impl Kernel {
+    /// Walks a path from where it starts. Its last name may be absent.
+    pub fn walk(&self, process: &Process, path: &Path) -> Result<Found, Stop>
+        ensures found { IfOk result (λ found. FindsFrom (state_of self.now) process.now 0 (start_of process.now path.now) path.now.names found) }
+        ensures stop { IfErr result (λ stop. StopsFrom (state_of self.now) process.now 0 (start_of process.now path.now) path.now.names stop) }
+    {
+        let start = if path.absolute {
+            root_directory()
+        } else {
+            process.cwd
+        };
+        self.walk_from(process, 0, start, path.components())
+    }
+
+    /// Walks a path to an object that is there.
+    pub fn reach(&self, process: &Process, path: &Path) -> Result<Oid, Stop>
+        ensures reached { IfOk result (λ id. Reaches (state_of self.now) process.now path.now id) }
+        ensures stop { IfErr result (λ stop. StopsReaching (state_of self.now) process.now path.now stop) }
+    {
+        let found = self.walk(process, path)?;
+        let object = found.object;
+        object.ok_or(Stop::Refused(Errno::ENOENT))
+    }
+
+    // Walks the names from a directory, which stands at this place of the path.
+    fn walk_from(&self, process: &Process, at: u8, dir: Oid, names: &[Name]) -> Result<Found, Stop>
+        requires { at + length names.now ≤ 32 }
+        ensures found { IfOk result (λ found. FindsFrom (state_of self.now) process.now at dir names.now found) }
+        ensures stop { IfErr result (λ stop. StopsFrom (state_of self.now) process.now at dir names.now stop) }
+    {
+        match names {
+            [] => Ok(Found {
+                dir: None,
+                name: None,
+                object: Some(dir),
+            }),
+            [name] => self.find(process, at, &dir, name),
+            [name, rest @ ..] => {
+                let next = self.pass(process, at, &dir, name)?;
+                self.walk_from(process, at + 1, next, rest)
+            }
+        }
+    }
+
+    // Looks up the last name of a walk, which may be absent.
+    #[tactic(auto, unfolding(chk_rules::specs::Ends::EndsBy))]
+    fn find(&self, process: &Process, at: u8, dir: &Oid, name: &Name) -> Result<Found, Stop>
+        ensures found { IfOk result (λ found. FindsFrom (state_of self.now) process.now at dir.now (name.now ∷ []) found) }
+        ensures stop { IfErr result (λ stop. StopsAt (state_of self.now) process.now at dir.now stop) }
+    {
+        self.enter(process, at, dir)?;
+        let object = self.look(dir, name)?;
+        let copied = name.copy(self.alloc)?;
+        Ok(Found {
+            dir: Some(*dir),
+            name: Some(copied),
+            object,
+        })
+    }
+
+    // Goes on to where a name leads.
+    #[tactic(auto, unfolding(chk_rules::specs::Ends::EndsBy))]
+    fn pass(&self, process: &Process, at: u8, dir: &Oid, name: &Name) -> Result<Oid, Stop>
+        ensures passed { IfOk result (λ next. PassesTo (state_of self.now) process.now at dir.now name.now next) }
+        ensures stop { IfErr result (λ stop. PassStops (state_of self.now) process.now at dir.now name.now stop) }
+    {
+        self.enter(process, at, dir)?;
+        let next = self.look(dir, name)?;
+        next.ok_or(Stop::Refused(Errno::ENOENT))
+    }
+
+    // Enters one directory: it may be read, and is one.
+    fn enter(&self, process: &Process, at: u8, dir: &Oid) -> Result<(), Stop>
+        ensures entered { OnOk result (Enters (state_of self.now) process.now at dir.now) }
+        ensures stop { IfErr result (λ stop. StopsAt (state_of self.now) process.now at dir.now stop) }
+    {
+        must(&self.mac_read(process, dir, Place::First(at)))?;
+        if !is_directory(self.kind_at(dir)) {
+            return Err(Stop::Refused(Errno::ENOTDIR));
+        }
+        Ok(())
+    }
+
+    /// The check whether a process may read an object.
+    pub fn mac_read(&self, process: &Process, id: &Oid, place: Place) -> Check
+        ensures { result ≡ mac_read (state_of self.now) process.now id.now place }
+    {
+        let label = self.label_at(id);
+        Check {
+            name: CheckName::MacRead,
+            holds: mac_read_ok(&process.label, &label),
+            thing: Thing::Object(*id),
+            thing_label: label,
+            new_label: None,
+            place,
+        }
+    }
+
+    /// Where a name of a directory leads, if it is there.
+    pub fn look(&self, dir: &Oid, name: &Name) -> Result<Option<Oid>, NoMemory>
+        ensures { IfOk result (λ id. id ≡ look (state_of self.now) dir.now name.now) }
+    {
+        let spot = (*dir, name.copy(self.alloc)?);
+        Ok(self.entries.get(&spot))
+    }
+}

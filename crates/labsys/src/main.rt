@@ -1,0 +1,67 @@
+//! A simulated kernel: plays a script of system calls on a described world, and writes the reply to each call.
+#![tactic(auto)]
+
+mod kernel;
+mod labels;
+mod lines;
+mod pieces;
+mod playing;
+mod reading;
+mod running;
+mod status;
+mod texts;
+mod words;
+
+use io_ends::{FileSink, FileSource};
+pub use running::run;
+pub use status::{Ending, Fault, Part, Refusal, Status};
+use std::alloc::{AllocError, Global};
+use std::env;
+use std::io::{self, ErrorKind};
+use std::process::ExitCode;
+use std::rt::Env;
+
+// The words behind the program's own name.
+fn words_of<R: Env + Alloc<A = Global>>(rt: &R) -> io::Result<Vec<String>> {
+    let mut words = Vec::new(rt.alloc());
+    for word in env::args(rt)?.skip(1) {
+        words.push(word)?;
+    }
+    Ok(words)
+}
+
+// The name of the trail's file: the second word, or no byte where there is none.
+fn trail_name(alloc: Global, words: &[String]) -> Result<String, AllocError> {
+    match words {
+        [_, name, ..] => name.clone(),
+        _ => Ok(String::new(alloc)),
+    }
+}
+
+fn start(rt: &HostRuntime) -> io::Result<Status> {
+    let words = words_of(rt)?;
+    let name = trail_name(rt.alloc(), &words)?;
+    let mut source = FileSource::new(rt.reader());
+    let mut out = FileSink::stdout(rt.clone()?);
+    let mut trail = FileSink::named(rt.clone()?, name);
+    Ok(run(rt.alloc(), &words, &mut source, &mut out, &mut trail))
+}
+
+// How a run ended whose words could not be read: one that is no text is no command.
+fn status_of_words(error: &io::Error) -> Status {
+    match error.kind() {
+        ErrorKind::OutOfMemory => Status::NoMemory,
+        _ => Status::Usage,
+    }
+}
+
+fn main(rt: HostRuntime) -> ExitCode {
+    let status = start(&rt).unwrap_or_else(|e| status_of_words(&e));
+    if let Some(complaint) = status.complaint() {
+        let _ = eprintln!(rt; "labsys: {complaint}");
+    }
+    ExitCode::from(u8::from(status))
+}
+
+#[cfg(test)]
+mod tests;

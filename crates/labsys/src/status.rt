@@ -1,0 +1,95 @@
+// How inputs and runs end.
+use kern_model::NoMemory;
+
+/// A part of an input.
+#[derive(Clone, Copy, Debug, PartialEq, Eq)]
+pub enum Part {
+    World,
+    Script,
+}
+
+/// Why a line is refused.
+#[derive(Clone, Copy, Debug, PartialEq, Eq)]
+pub enum Refusal {
+    /// The line is none of the forms that are built so far.
+    NotBuilt,
+}
+
+/// How an input ends.
+#[derive(Clone, Copy, Debug, PartialEq, Eq)]
+pub enum Ending {
+    /// All of its lines were accepted.
+    Whole,
+    /// This line was refused, counted from 1; 0 stands for the whole input.
+    Refused(u64, Part, Refusal),
+}
+
+/// How a run ended. The number is the exit status of the program.
+#[derive(Clone, Copy, Debug, PartialEq, Eq)]
+pub enum Status {
+    /// The input was played to its end.
+    Done,
+    /// The words are no command.
+    Usage,
+    /// A line was refused.
+    Refused,
+    /// A read failed.
+    ReadFault,
+    /// A write to the output failed.
+    WriteFault,
+    /// Memory ran out.
+    NoMemory,
+}
+
+/// Why a run ended before its input did.
+#[derive(Clone, Copy, Debug, PartialEq, Eq)]
+pub enum Fault {
+    /// A read failed.
+    Read,
+    /// A write to the output failed.
+    Write,
+    /// Memory ran out.
+    NoMemory,
+}
+
+impl From<NoMemory> for Fault {
+    ghost use Rattle.std.specs.Prelude.{◌≡◌};
+    ghost use Rattle.labsys.specs.declared.status.Fault.TheVariants as fault;
+
+    ghost from_gives = { λ _ e. e ≡ fault.NoMemory };
+
+    fn from(_: NoMemory) -> Self {
+        Fault::NoMemory
+    }
+}
+
+impl Status {
+    /// What the program prints of it to standard error, if anything. No clause speaks of these words.
+    pub fn complaint(self) -> Option<&'static str> {
+        match self {
+            Status::Done | Status::Refused => None,
+            Status::Usage => Some("usage"),
+            Status::ReadFault => Some("read fault"),
+            Status::WriteFault => Some("write fault"),
+            Status::NoMemory => Some("no memory"),
+        }
+    }
+}
+
+impl From<Status> for u8 {
+    ghost use Rattle.std.specs.Prelude.{◌≡◌};
+    ghost use Rattle.labsys.specs.Exit.{exit_code};
+
+    ghost from_gives = { λ status code. code ≡ exit_code status };
+
+    fn from(status: Status) -> u8 {
+        match status {
+            Status::Done => 0,
+            Status::Usage => 1,
+            Status::Refused => 2,
+            Status::ReadFault => 3,
+            Status::WriteFault => 4,
+            Status::NoMemory => 6,
+        }
+    }
+}
