@@ -1,0 +1,35 @@
+-- Names are in lower case already, so a word is one where its lower case is.
+use Rattle.std.proofs.Common.{◌≡◌, ℕ, List, Bool, refl, ap, sym, ◌∙◌}
+use Rattle.std.specs.Prelude.{◌↔◌, IsTrue}
+use Rattle.std.specs.Cmp.Lexicographic.{bytes_decides}
+use Rattle.std.specs.Str.{str_to_ascii_lowercase}
+use Rattle.std.proofs.lemmas.Bool.Decides.{same_from_decides}
+use Rattle.cap_bits.specs.declared.cap.Cap.{Cap}
+use Rattle.cap_bits.specs.declared.cap.Cap.TheVariants.{Chown, DacExecute, DacReadSearch, DacWrite, Fowner, Fsetid, Kill, LinkDir, Setfcap, Setgid, Setuid, MacDowngrade, MacRead, MacRelabelSubj, MacUpgrade, MacWrite, AuditControl, AuditWrite}
+use Rattle.cap_bits.specs.Cap.{cap_name, is_name_of}
+
+pub lower_name : (cap : Cap) → str_to_ascii_lowercase (cap_name cap) ≡ cap_name cap
+lower_name Chown = refl
+lower_name DacExecute = refl
+lower_name DacReadSearch = refl
+lower_name DacWrite = refl
+lower_name Fowner = refl
+lower_name Fsetid = refl
+lower_name Kill = refl
+lower_name LinkDir = refl
+lower_name Setfcap = refl
+lower_name Setgid = refl
+lower_name Setuid = refl
+lower_name MacDowngrade = refl
+lower_name MacRead = refl
+lower_name MacRelabelSubj = refl
+lower_name MacUpgrade = refl
+lower_name MacWrite = refl
+lower_name AuditControl = refl
+lower_name AuditWrite = refl
+
+pub named : (r : Bool) (cap : Cap) (own word : List ℕ) → own ≡ cap_name cap → (IsTrue r ↔ (str_to_ascii_lowercase own ≡ str_to_ascii_lowercase word)) → r ≡ is_name_of word cap
+unfolding is_name_of
+named r cap own word e test =
+    let lower : str_to_ascii_lowercase own ≡ cap_name cap = ap str_to_ascii_lowercase e ∙ lower_name cap in
+    same_from_decides r _ (λ t. sym lower ∙ test.0 t, λ same. test.1 (lower ∙ same)) (bytes_decides (cap_name cap) (str_to_ascii_lowercase word))

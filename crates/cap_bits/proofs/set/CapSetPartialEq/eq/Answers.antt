@@ -1,0 +1,9 @@
+use Rattle.std.proofs.Common.{◌∙◌}
+use Rattle.cap_bits.specs.CapSet.{same_sets}
+use Rattle.cap_bits.proofs.Words.{word_same}
+use Rattle.cap_bits.proofs.set.CapSetPartialEq.eq.Goals as goal
+
+pub returns : goal.returns
+returns c =
+    word_same c.self.inside.word c.other.inside.word c.self.invariant c.other.invariant
+    ∙ (λ i. same_sets (c.self.view_is i) (c.other.view_is i))

@@ -1,0 +1,4 @@
+pub mod Cap
+pub mod CapSet
+pub mod Word
+pub mod State
