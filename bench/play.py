@@ -1,36 +1,61 @@
 #!/usr/bin/env python3
-"""Times runs over scripts of doubling size: the time should double with the size.
+"""Times runs over inputs of doubling size: the time should double with the size.
 
-    bench/play.py [LARGEST_SIZE_IN_BYTES]
+    bench/play.py
+
+First scripts of doubling length on a world of one file and one process, up to the limit of an input; then worlds of
+doubling size, up to the limits of a level, with one call for each file.
 """
 import pathlib
-import resource
 import subprocess
-import sys
 import tempfile
 import time
 
-HEAD = b'world 1\nlevels unc conf sec\ncategories a b\nbound all\ndir / 0777 0 0 unc\nfile /a 0644 10 10 sec "hello"\nproc sec 10 10 - "="\nscript\n'
-LINE = b"1@sec mac_get_file /a\n"
 TOP = pathlib.Path(__file__).resolve().parent.parent
+HEAD = b"world 1\nlevels unc conf sec\ncategories a b\nbound all\ndir / 0777 0 0 unc\n"
+LIMIT = 16_777_216
+
+
+def long_script(size):
+    """A world of one file and one process, and calls up to this many bytes."""
+    world = HEAD + b'file /a 0644 10 10 sec "hello"\nproc sec 10 10 - "="\nscript\n'
+    line = b"1@sec mac_get_file /a\n"
+    return world + line * ((size - len(world)) // len(line))
+
+
+def large_world(files, procs):
+    """This many files and processes of one level, and one call for each file."""
+    lines = [b'file /f%d 0644 10 10 unc "x"\n' % i for i in range(files)]
+    lines += [b'proc unc 10 10 - "="\n'] * procs
+    lines += [b"script\n"]
+    lines += [b"%d@unc mac_get_file /f%d\n" % (i % procs + 1, i) for i in range(files)]
+    return HEAD + b"".join(lines)
+
+
+def run(folder, text):
+    """The status and the seconds of one run."""
+    path = pathlib.Path(folder) / "input"
+    path.write_bytes(text)
+    with open(path, "rb") as source:
+        begin = time.monotonic()
+        done = subprocess.run([TOP / "labsys", "play", "trail.out"], stdin=source, stdout=subprocess.DEVNULL, cwd=folder)
+        return done.returncode, time.monotonic() - begin
+
+
+def show(folder, title, text):
+    status, seconds = run(folder, text)
+    print(f"{title:<32} {len(text):>9} bytes {seconds:>6.2f} s" + ("" if status == 0 else f"  status {status}"))
 
 
 def main():
-    largest = int(sys.argv[1]) if len(sys.argv) > 1 else 16_777_216
-    size = largest // 32
-    print(f"{'bytes':>10} {'calls':>8} {'seconds':>8} {'MiB/s':>6}")
     with tempfile.TemporaryDirectory() as folder:
-        while size <= largest:
-            calls = (size - len(HEAD)) // len(LINE)
-            path = pathlib.Path(folder) / "input"
-            path.write_bytes(HEAD + LINE * calls)
-            begin = time.monotonic()
-            with open(path, "rb") as source, open(pathlib.Path(folder) / "out", "wb") as out:
-                status = subprocess.run([TOP / "labsys", "play", "trail.out"], stdin=source, stdout=out, cwd=folder).returncode
-            spent = time.monotonic() - begin
-            print(f"{path.stat().st_size:>10} {calls:>8} {spent:>8.2f} {path.stat().st_size / spent / 2**20:>6.1f}" + ("" if status == 0 else f"  status {status}"))
-            size *= 2
-    print("largest resident set of a run:", resource.getrusage(resource.RUSAGE_CHILDREN).ru_maxrss // 1024, "MiB")
+        run(folder, long_script(1000))  # builds the program, if it is not built
+        for part in (32, 16, 8, 4, 2, 1):
+            text = long_script(LIMIT // part)
+            show(folder, f"{text.count(b'mac_get_file')} calls", text)
+        for part in (8, 4, 2, 1):
+            files, procs = 65_534 // part, 4_095 // part
+            show(folder, f"{files} files, {procs} processes", large_world(files, procs))
 
 
 if __name__ == "__main__":

@@ -3,8 +3,7 @@
 
     run_cases.py --cmd "PATH" [FOLDER or FILE ...]
 
-Without a folder or file it runs every case below this file. `--without-trail`
-compares status and out alone, since no trail is written yet.
+Without a folder or file it runs every case below this file.
 
 A case is a text file of sections, each begun by a line `== NAME`, in this order:
 
@@ -99,7 +98,7 @@ def first_difference(want, got):
     return []
 
 
-def run_case(cmd, path, with_trail, timeout):
+def run_case(cmd, path, timeout):
     """The lines that tell what is wrong; none where the case passed."""
     try:
         case = read_case(path)
@@ -118,13 +117,12 @@ def run_case(cmd, path, with_trail, timeout):
         if done.returncode != case["status"]:
             wrong.append("    status wanted %d, got %d" % (case["status"], done.returncode))
         wrong += diff("out", case["out"], done.stdout)
-        if with_trail:
-            want = [case["words"][1]] if "trail" in case else []
-            if made != want:
-                wrong.append("    files wanted %s, made %s" % (want or "none", made or "none"))
-            elif want:
-                with open(os.path.join(folder, want[0]), "rb") as f:
-                    wrong += diff("trail", case["trail"], f.read())
+        want = [case["words"][1]] if "trail" in case else []
+        if made != want:
+            wrong.append("    files wanted %s, made %s" % (want or "none", made or "none"))
+        elif want:
+            with open(os.path.join(folder, want[0]), "rb") as f:
+                wrong += diff("trail", case["trail"], f.read())
         if wrong and done.stderr:
             wrong.append("    standard error: " + done.stderr.decode("latin-1").strip().split("\n")[-1][:200])
         return wrong
@@ -145,7 +143,6 @@ def find(paths):
 def main():
     ap = argparse.ArgumentParser(description="Runs cases against a command.")
     ap.add_argument("--cmd", required=True, help="the command, as one word of a shell line")
-    ap.add_argument("--without-trail", action="store_true", help="compare status and out alone")
     ap.add_argument("--timeout", type=int, default=120, help="seconds for one case")
     ap.add_argument("--jobs", type=int, default=os.cpu_count() or 1)
     ap.add_argument("paths", nargs="*")
@@ -155,7 +152,7 @@ def main():
     paths = find(a.paths or [here])
     passed = failed = 0
     with concurrent.futures.ThreadPoolExecutor(a.jobs) as pool:
-        for path, wrong in zip(paths, pool.map(lambda p: run_case(cmd, p, not a.without_trail, a.timeout), paths)):
+        for path, wrong in zip(paths, pool.map(lambda p: run_case(cmd, p, a.timeout), paths)):
             if wrong:
                 failed += 1
                 print("FAILED " + os.path.relpath(path))

@@ -1,31 +1,110 @@
-// What checks come to.
-ghost use Rattle.std.specs.Prelude.{◌≡◌, OnOk, IfErr};
+// What checks come to, and the exercises that they leave.
+ghost use Rattle.std.specs.Prelude.{◌≡◌, IfOk, IfErr, OnOk, OnErr};
 ghost use Rattle.kern_model.specs.Row.{verdict_of};
+ghost use Rattle.chk_rules.specs.Asking.{asking, noting};
 ghost use Rattle.chk_rules.specs.Ends.{GoesOn, StopsHere};
 
 use crate::Stop;
-use kern_model::{Check, Verdict};
+use cap_bits::CapSet;
+use kern_model::{Check, NoMemory, Pid, Rec, RecList, Verdict};
+use lab_lattice::Label;
+use std::alloc::Global;
+use std::marker::Model;
 
-/// What a check comes to.
-#[tactic(auto, unfolding(kern_model::specs::Row::verdict_of))]
-pub fn need(check: &Check) -> Verdict
-    ensures { result ≡ verdict_of check.now }
-{
-    if check.holds {
-        Verdict::Passed
-    } else {
-        Verdict::Denied
+/// The checks of one call: who asks, with which effective capabilities, and the exercises so far.
+#[derive(Drop)]
+pub struct Checks {
+    who: Pid,
+    label: Label,
+    effective: CapSet,
+    used: RecList,
+}
+
+impl Model for Checks {
+    ghost use Rattle.std.specs.FinSet as set;
+    ghost use Rattle.std.specs.Coded.{codes};
+    ghost use Rattle.cap_bits.specs.Cap.{cap_cmp, cap_code};
+    ghost use Rattle.chk_rules.specs.Asking.{Asking};
+
+    ghost Value = { Asking };
+
+    ghost coded = { Prim.hlevel (codes, set.code {R = cap_cmp} cap_code) };
+
+    ghost view = { λ c. record { asker = record { who = c.who; label = c.label; effective = c.effective }; used = c.used } };
+}
+
+impl Checks {
+    /// The checks of a call of this process, before the first one. No memory is taken.
+    pub fn new(alloc: Global, who: Pid, label: Label, effective: CapSet) -> Checks
+        ensures { result ≡ asking who label effective }
+    {
+        Checks {
+            who,
+            label,
+            effective,
+            used: RecList::new(alloc),
+        }
+    }
+
+    /// What a check comes to. Where its capability is used, an exercise is added.
+    #[tactic(auto, unfolding(kern_model::specs::Row::verdict_of))]
+    pub fn need(&mut self, check: &Check) -> Result<Verdict, NoMemory>
+        ensures verdict { IfOk result (λ verdict. verdict ≡ verdict_of self.old.asker check.now) }
+        ensures used { IfOk result (λ verdict. self.new ≡ noting self.old check.now verdict) }
+        ensures asker { self.new.asker ≡ self.old.asker }
+        ensures err { OnErr result (self.new ≡ self.old) }
+    {
+        if check.holds {
+            return Ok(Verdict::Passed);
+        }
+        match check.name.cap() {
+            Some(cap) if self.effective.has(cap) => {
+                self.used.push(Rec::Exercise(
+                    self.who,
+                    self.label,
+                    cap,
+                    check.name,
+                    check.thing,
+                    check.thing_label,
+                    check.new_label,
+                    check.place,
+                ))?;
+                Ok(Verdict::Exercised)
+            }
+            _ => Ok(Verdict::Denied),
+        }
+    }
+
+    /// The exercises so far, in order.
+    pub fn exercises(&self) -> &[Rec]
+        ensures { result.now ≡ self.now.used }
+    {
+        self.used.items()
+    }
+
+    /// The exercises, in order.
+    pub fn into_exercises(self) -> RecList
+        ensures { result ≡ self.used }
+    {
+        let Checks {
+            who: _,
+            label: _,
+            effective: _,
+            used,
+        } = self;
+        used
     }
 }
 
-/// A check that has to pass: where it is denied, the call stops at it.
+/// A check that has to let the call go on: where it is denied, the call stops at it.
 #[tactic(auto, unfolding(kern_model::specs::Row::judge, crate::specs::Ends::EndsBy))]
-pub fn must(check: &Check) -> Result<(), Stop>
-    ensures passed { OnOk result (GoesOn check.now) }
-    ensures stop { IfErr result (λ stop. StopsHere check.now stop) }
+pub fn must(checks: &mut Checks, check: &Check) -> Result<(), Stop>
+    ensures passed { OnOk result (GoesOn checks.old check.now checks.new) }
+    ensures stop { IfErr result (λ stop. StopsHere checks.old check.now stop checks.new) }
+    ensures asker { checks.new.asker ≡ checks.old.asker }
 {
-    match need(check) {
-        Verdict::Passed => Ok(()),
+    match checks.need(check)? {
+        Verdict::Passed | Verdict::Exercised => Ok(()),
         Verdict::Denied => Err(Stop::Denied(check.name, check.place)),
     }
 }

@@ -5,6 +5,7 @@ mod checks;
 mod rules;
 mod stop;
 
-pub use checks::{must, need};
-pub use rules::mac_read_ok;
+pub use checks::{Checks, must};
+pub use kern_model::Want;
+pub use rules::{mac_read_ok, mode_allows};
 pub use stop::Stop;

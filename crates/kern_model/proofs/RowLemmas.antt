@@ -1,27 +1,42 @@
 -- How a row is judged, item by item.
-use Rattle.std.specs.Prelude.{◌≡◌, Bool, true, false, List, refl, cond}
-use Rattle.std.proofs.Common.{ap}
+use Rattle.std.specs.Prelude.{◌≡◌, Bool, true, false, List, Option, refl, cond}
+use Rattle.std.proofs.Common.{ap, sym, ◌∙◌}
+use Rattle.kern_model.specs.declared.checks.Check.{Check}
+use Rattle.kern_model.specs.declared.checks.Verdict.{Verdict}
 use Rattle.kern_model.specs.declared.calls.Errno.{Errno}
 use Rattle.kern_model.specs.declared.calls.Answer.{Answer}
+use Rattle.kern_model.specs.declared.records.Rec.{Rec}
 use Rattle.kern_model.specs.State.{Change}
-use Rattle.kern_model.specs.Row.{Row, Refuse, Fail, Give, Refused, Done, judge}
+use Rattle.kern_model.specs.Row.{Row, Need, Refuse, Fail, Give, Asker, Stopped, Refused, Done, judged, judge, verdict_of, is_denied, noted}
 
--- a refusal whose condition holds ends the row
-pub judge-refuse : (e : Errno) (b : Bool) (r : Row) → b ≡ true → judge (Refuse e b r) ≡ Refused e
+-- a check lets the row go on
+pub judge-need : (a : Asker) (used : List Rec) (c : Check) (v : Verdict) (r : Row) → v ≡ verdict_of a c → is_denied v ≡ false → judge a used (Need c r) ≡ judge a (noted a c v used) r
 unfolding judge
-judge-refuse e b r h = ap (λ b. cond b (Refused e) (judge r)) h
+judge-need a used c v r e go =
+    ap (λ w. cond (is_denied w) (judged used (Stopped c.name c.place)) (judge a (noted a c w used) r)) (sym e)
+    ∙ ap (λ b. cond b (judged used (Stopped c.name c.place)) (judge a (noted a c v used) r)) go
 
--- a refusal whose condition fails lets the row go on
-pub judge-pass : (e : Errno) (b : Bool) (r : Row) → b ≡ false → judge (Refuse e b r) ≡ judge r
+-- a check stops the row
+pub judge-stop : (a : Asker) (used : List Rec) (c : Check) (v : Verdict) (r : Row) → v ≡ verdict_of a c → is_denied v ≡ true → judge a used (Need c r) ≡ judged used (Stopped c.name c.place)
 unfolding judge
-judge-pass e b r h = ap (λ b. cond b (Refused e) (judge r)) h
+judge-stop a used c v r e stop =
+    ap (λ w. cond (is_denied w) (judged used (Stopped c.name c.place)) (judge a (noted a c w used) r)) (sym e)
+    ∙ ap (λ b. cond b (judged used (Stopped c.name c.place)) (judge a (noted a c v used) r)) stop
 
--- a refusal without a condition ends the row
-pub judge-fail : (e : Errno) → judge (Fail e) ≡ Refused e
+-- a refusal stops the row where its condition holds
+pub judge-refuse : (a : Asker) (used : List Rec) (e : Errno) (b : Bool) (r : Row) → b ≡ true → judge a used (Refuse e b r) ≡ judged used (Refused e)
 unfolding judge
-judge-fail e = refl
+judge-refuse a used e b r h = ap (λ b. cond b (judged used (Refused e)) (judge a used r)) h
 
--- what nothing stopped is done
-pub judge-give : (changes : List Change) (answer : Answer) → judge (Give changes answer) ≡ Done changes answer
+-- and lets it go on where it does not
+pub judge-pass : (a : Asker) (used : List Rec) (e : Errno) (b : Bool) (r : Row) → b ≡ false → judge a used (Refuse e b r) ≡ judge a used r
 unfolding judge
-judge-give changes answer = refl
+judge-pass a used e b r h = ap (λ b. cond b (judged used (Refused e)) (judge a used r)) h
+
+pub judge-fail : (a : Asker) (used : List Rec) (e : Errno) → judge a used (Fail e) ≡ judged used (Refused e)
+unfolding judge
+judge-fail a used e = refl
+
+pub judge-give : (a : Asker) (used : List Rec) (changes : List Change) (answer : Answer) (own : Option Rec) → judge a used (Give changes answer own) ≡ judged used (Done changes answer own)
+unfolding judge
+judge-give a used changes answer own = refl

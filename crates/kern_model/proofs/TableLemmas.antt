@@ -1,8 +1,8 @@
 -- A sorted list of entries, seen as a finite map.
 use Rattle.std.specs.Prelude.{◌≡◌, ◌&&◌, Bool, true, false, List, [], ◌∷◌, Option, Some, None, cond, refl}
 use Rattle.std.specs.declared.cmp.Ordering.{Ordering}
-use Rattle.std.specs.declared.cmp.Ordering.TheVariants.{Less}
-use Rattle.std.specs.Ordering.{is_lt}
+use Rattle.std.specs.declared.cmp.Ordering.TheVariants.{Less, Equal, Greater}
+use Rattle.std.specs.Ordering.{is_lt, is_eq}
 use Rattle.std.specs.Cmp.{IsTotalOrder, eq_by_cmp_equiv}
 use Rattle.std.specs.BTreeMap.{is_at}
 use Rattle.std.specs.List.{AllByRecursion}
@@ -55,6 +55,11 @@ abbrev or_default : {X : Type 0} → X → Option X → X
 or_default d None = d
 or_default d (Some x) = x
 
+found_equal : (r : Ordering) → is_eq r ≡ true → r ≡ Equal
+found_equal Less h = absurd (cc h)
+found_equal Equal h = refl
+found_equal Greater h = absurd (cc h)
+
 module _ {K X : Type 0} {R : K → K → Ordering} (o : IsTotalOrder R) where
   holds_at : (P : X → Type 0) (d x : X) (b : Bool) (old : Option X) → P x → P (or_default d old) → P (or_default d (cond b (Some x) old))
   holds_at P d x true old h g = h
@@ -68,3 +73,13 @@ module _ {K X : Type 0} {R : K → K → Ordering} (o : IsTotalOrder R) where
   pub each_set : (P : X → Type 0) (d : X) (m : FinMap R X) (k : K) (x : X) → P x → ((q : K) → P (get_or m q d)) → (q : K) → P (get_or (insert m k x) q d)
   each_set P d m k x h g q =
       subst P (sym (is_default (insert m k x) q d)) (subst (λ v. P (or_default d v)) (sym (get-insert o m k x q)) (holds_at P d x _ (get m q) h (subst P (is_default m q d) (g q))))
+
+  there_at : (P : K → X → Type 0) (d x : X) (q k : K) (b : Bool) (old : Option X) → (b ≡ true → q ≡ k) → P k x → P q (or_default d old) → P q (or_default d (cond b (Some x) old))
+  there_at P d x q k true old same h g = subst (λ z. P z x) (sym (same refl)) h
+  there_at P d x q k false old same h g = g
+
+  -- the same for what is said of a key and its value
+  pub each_set_at : IsAntisymmetric R → (P : K → X → Type 0) (d : X) (m : FinMap R X) (k : K) (x : X) → P k x → ((q : K) → P q (get_or m q d)) → (q : K) → P q (get_or (insert m k x) q d)
+  each_set_at exact P d m k x h g q =
+      subst (P q) (sym (is_default (insert m k x) q d)) (subst (λ v. P q (or_default d v)) (sym (get-insert o m k x q))
+      (there_at P d x q k _ (get m q) (λ e. exact q k (found_equal (R q k) e)) h (subst (P q) (is_default m q d) (g q))))

@@ -1,6 +1,7 @@
 -- The first state of a world: numbers are drawn per label in the order of its lines.
-use Rattle.std.specs.Prelude.{ℕ, ◌+◌, List, [], ◌∷◌, unwrap_or}
+use Rattle.std.specs.Prelude.{ℕ, ◌+◌, List, [], ◌∷◌, unwrap_or, true}
 use Rattle.std.specs.FinMap as map
+use Rattle.cap_bits.specs.CapSet.{CapSet}
 use Rattle.fs_path.specs.Name.{Name}
 use Rattle.lab_lattice.specs.Label.{Label}
 use Rattle.kern_model.specs.declared.numbers.Pid.{Pid}
@@ -10,6 +11,8 @@ use Rattle.kern_model.specs.declared.objects.Kind.TheVariants as kind
 use Rattle.kern_model.specs.declared.objects.Body.{Body}
 use Rattle.kern_model.specs.declared.objects.Body.TheVariants as body
 use Rattle.kern_model.specs.declared.objects.Object.{Object}
+use Rattle.kern_model.specs.declared.records.Rec.{Rec}
+use Rattle.kern_model.specs.declared.records.Rec.TheVariants as rec
 use Rattle.kern_model.specs.declared.world.World.{World}
 use Rattle.kern_model.specs.declared.world.WorldObject.{WorldObject}
 use Rattle.kern_model.specs.declared.world.WorldProc.{WorldProc}
@@ -50,7 +53,7 @@ boot_object s o = changed_by s
 -- a process of the world is there, in the root directory
 unfoldable pub boot_process : State → WorldProc → State
 boot_process s w = changed_by s
-    (DrawProcess w.label (drawn s.process_numbers w.label + 1) ∷ SetProcess (next_process s w.label) (record { ids = w.ids; label = w.label; cwd = root }) ∷ [])
+    (DrawProcess w.label (drawn s.process_numbers w.label + 1) ∷ SetProcess (next_process s w.label) (record { ids = w.ids; label = w.label; caps = w.caps; cwd = root; audited = true }) ∷ [])
 
 abbrev pub boot_objects : State → List WorldObject → State
 boot_objects s [] = s
@@ -61,8 +64,20 @@ boot_processes s [] = s
 boot_processes s (w ∷ ws) = boot_processes (boot_process s w) ws
 
 -- nothing is there yet
-abbrev pub nothing : Label → State
-nothing top = record { objects = map.empty; entries = map.empty; procs = map.empty; object_numbers = map.empty; process_numbers = map.empty; top = top }
+abbrev pub nothing : CapSet → Label → State
+nothing bound top = record { objects = map.empty; entries = map.empty; procs = map.empty; object_numbers = map.empty; process_numbers = map.empty; bound = bound; top = top }
+
+-- the objects of a world alone
+abbrev pub furnished : World → State
+furnished w = boot_objects (nothing w.bound w.top) w.objects
 
 abbrev pub boot : World → State
-boot w = boot_processes (boot_objects (nothing w.top) w.objects) w.procs
+boot w = boot_processes (furnished w) w.procs
+
+abbrev pub started : State → List WorldProc → List Rec
+started s [] = []
+started s (w ∷ ws) = rec.Boot (next_process s w.label) w.label w.caps ∷ started (boot_process s w) ws
+
+-- the records of a start: one for each process, in the order of the world's lines
+abbrev pub boot_recs : World → List Rec
+boot_recs w = started (furnished w) w.procs

@@ -8,3 +8,7 @@ pub mod Table
 pub mod Step
 pub mod Boot
 pub mod Run
+pub mod Isolation
+pub mod Valid
+pub mod Fronts
+pub mod Lineage

@@ -1,13 +1,20 @@
 -- A row of the call table: items in order, and then what is done. The first item that stops counts.
-use Rattle.std.specs.Prelude.{Bool, true, false, List, cond}
+use Rattle.std.specs.Prelude.{Bool, true, false, List, [], ◌∷◌, ◌++◌, Option, Some, None, cond}
+use Rattle.cap_bits.specs.CapSet.{CapSet, has}
+use Rattle.cap_bits.specs.declared.cap.Cap.{Cap}
+use Rattle.lab_lattice.specs.Label.{Label}
+use Rattle.kern_model.specs.declared.numbers.Pid.{Pid}
 use Rattle.kern_model.specs.declared.checks.Check.{Check}
 use Rattle.kern_model.specs.declared.checks.CheckName.{CheckName}
 use Rattle.kern_model.specs.declared.checks.Place.{Place}
+use Rattle.kern_model.specs.declared.checks.Verdict.{Verdict}
+use Rattle.kern_model.specs.declared.checks.Verdict.TheVariants.{Passed, Exercised, Denied}
 use Rattle.kern_model.specs.declared.calls.Errno.{Errno}
 use Rattle.kern_model.specs.declared.calls.Answer.{Answer}
-use Rattle.kern_model.specs.declared.checks.Verdict.{Verdict}
-use Rattle.kern_model.specs.declared.checks.Verdict.TheVariants.{Passed, Denied}
+use Rattle.kern_model.specs.declared.records.Rec.{Rec}
+use Rattle.kern_model.specs.declared.records.Rec.TheVariants.{Exercise}
 use Rattle.kern_model.specs.State.{Change}
+use Rattle.kern_model.specs.Rules.{cap_of}
 
 pub data Row : Type 0 where
   -- a check, which stops the call where it is denied
@@ -16,26 +23,56 @@ pub data Row : Type 0 where
   Refuse : (errno : Errno) (holds : Bool) (rest : Row) → Row
   -- a refusal without a condition
   Fail : (errno : Errno) → Row
-  -- nothing stopped the call
-  Give : (changes : List Change) (answer : Answer) → Row
+  -- nothing stopped the call: what changes, what it answers, and its own record if it leaves one
+  Give : (changes : List Change) (answer : Answer) (own : Option Rec) → Row
 
--- a check passes where its rule holds
-unfoldable pub verdict_of : Check → Verdict
-verdict_of c = cond c.holds Passed Denied
+-- who asks, and with which effective capabilities
+pub record Asker : Type 0 where
+  pub who : Pid
+  pub label : Label
+  pub effective : CapSet
+
+-- whether the capability of a check, if it has one, is effective
+abbrev pub may : CapSet → Option Cap → Bool
+may caps None = false
+may caps (Some c) = has caps c
+
+-- passed where the rule holds, and else exercised where the capability is effective
+unfoldable pub verdict_of : Asker → Check → Verdict
+verdict_of a c = cond c.holds Passed (cond (may a.effective (cap_of c.name)) Exercised Denied)
 
 abbrev pub is_denied : Verdict → Bool
 is_denied Passed = false
+is_denied Exercised = false
 is_denied Denied = true
+
+abbrev pub exercise_with : Asker → Check → Option Cap → List Rec
+exercise_with a c None = []
+exercise_with a c (Some with) = Exercise a.who a.label with c.name c.thing c.thing_label c.new_label c.place ∷ []
+
+-- the exercises so far, and one more where the check was exercised
+abbrev pub noted : Asker → Check → Verdict → List Rec → List Rec
+noted a c Passed used = used
+noted a c Exercised used = used ++ exercise_with a c (cap_of c.name)
+noted a c Denied used = used
 
 -- how a call ends
 pub data End : Type 0 where
   Stopped : (name : CheckName) (place : Place) → End
   Refused : (errno : Errno) → End
-  Done : (changes : List Change) (answer : Answer) → End
+  Done : (changes : List Change) (answer : Answer) (own : Option Rec) → End
 
--- the first item that stops, or else what is done
-unfoldable pub judge : Row → End
-judge (Need c rest) = cond (is_denied (verdict_of c)) (Stopped c.name c.place) (judge rest)
-judge (Refuse e holds rest) = cond holds (Refused e) (judge rest)
-judge (Fail e) = Refused e
-judge (Give changes answer) = Done changes answer
+-- the exercises, and how the call ends
+pub record Judged : Type 0 where
+  pub used : List Rec
+  pub end : End
+
+abbrev pub judged : List Rec → End → Judged
+judged used end = record { used = used; end = end }
+
+-- the first item that stops, or else what is done, with the exercises before it added to those so far
+unfoldable pub judge : Asker → List Rec → Row → Judged
+judge a used (Need c rest) = cond (is_denied (verdict_of a c)) (judged used (Stopped c.name c.place)) (judge a (noted a c (verdict_of a c) used) rest)
+judge a used (Refuse e holds rest) = cond holds (judged used (Refused e)) (judge a used rest)
+judge a used (Fail e) = judged used (Refused e)
+judge a used (Give changes answer own) = judged used (Done changes answer own)

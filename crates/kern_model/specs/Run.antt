@@ -3,20 +3,26 @@ use Rattle.std.specs.Prelude.{List, [], ◌∷◌}
 use Rattle.kern_model.specs.declared.numbers.Pid.{Pid}
 use Rattle.kern_model.specs.declared.calls.Call.{Call}
 use Rattle.kern_model.specs.declared.calls.Reply.{Reply}
+use Rattle.kern_model.specs.declared.records.Rec.{Rec}
 use Rattle.kern_model.specs.declared.world.ScriptItem.{ScriptItem}
 use Rattle.kern_model.specs.State.{State}
 use Rattle.kern_model.specs.Step.{step}
 
--- one call that was played: who called, what, and the reply
+-- one call that was played: who called, what, the reply and the records
 pub record Played : Type 0 where
   pub who : Pid
   pub call : Call
   pub reply : Reply
+  pub recs : List Rec
+
+-- an item as it is played on a state
+abbrev pub played : State → ScriptItem → Played
+played s i = record { who = i.who; call = i.call; reply = (step s i.who i.call).reply; recs = (step s i.who i.call).recs }
 
 -- what is played of a script from a state on
 abbrev pub run : State → List ScriptItem → List Played
 run s [] = []
-run s (i ∷ is) = record { who = i.who; call = i.call; reply = (step s i.who i.call).reply } ∷ run (step s i.who i.call).state is
+run s (i ∷ is) = played s i ∷ run (step s i.who i.call).state is
 
 -- the last state
 abbrev pub state_after_run : State → List ScriptItem → State

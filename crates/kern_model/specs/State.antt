@@ -2,6 +2,7 @@
 use Rattle.std.specs.Prelude.{ℕ, List, [], ◌∷◌, Option}
 use Rattle.std.specs.FinMap as map
 use Rattle.std.specs.FinMap.{FinMap}
+use Rattle.cap_bits.specs.CapSet.{CapSet}
 use Rattle.fs_path.specs.Name.{Name}
 use Rattle.lab_lattice.specs.Label.{Label, label_cmp, bottom}
 use Rattle.kern_model.specs.declared.numbers.Pid.{Pid}
@@ -20,6 +21,8 @@ pub record State : Type 0 where
   -- the last number drawn of each label
   pub object_numbers : FinMap label_cmp ℕ
   pub process_numbers : FinMap label_cmp ℕ
+  -- the bound of capabilities over exec
+  pub bound : CapSet
   -- the label that dominates all others
   pub top : Label
 
@@ -46,6 +49,10 @@ changed_by s (c ∷ cs) = changed_by (changed s c) cs
 -- what is read where nothing is: an empty file of the highest label that nobody may use
 abbrev pub stub_object : Label → Object
 stub_object top = record { kind = File; label = top; attr = record { owner = 0; group = 0; mode = 0 }; bytes = [] }
+
+-- the number of what is not seen: 0, which is never drawn
+abbrev pub stub : Label → Oid
+stub top = record { label = top; n = 0 }
 
 -- the object with a number, and the stub where there is none
 abbrev pub object_at : State → Oid → Object

@@ -1,5 +1,5 @@
 -- The call table: a row for each call.
-use Rattle.std.specs.Prelude.{[]}
+use Rattle.std.specs.Prelude.{None, []}
 use Rattle.fs_path.specs.Path.{PathValue}
 use Rattle.kern_model.specs.declared.numbers.Pid.{Pid}
 use Rattle.kern_model.specs.declared.objects.Process.{Process}
@@ -15,7 +15,7 @@ use Rattle.kern_model.specs.Walk.{reach, last_place}
 -- the label of what the path leads to, for a caller that may read it
 abbrev pub mac_get_file : State → Process → PathValue → Row
 mac_get_file s p path = reach s p (λ n. First n) path (λ id.
-    Need (mac_read s p id (last_place (λ n. First n) path)) (Give [] (answer.Mark (object_at s id).label)))
+    Need (mac_read s p id (last_place (λ n. First n) path)) (Give [] (answer.Mark (object_at s id).label) None))
 
 abbrev pub row : State → Pid → Process → Call → Row
 row s who p (call.MacGetFile path) = mac_get_file s p path

@@ -1,4 +1,4 @@
--- The walk of a path: at each name mac_read on the directory reached, its kind, the look-up.
+-- The walk of a path: at each name mac_read on the directory reached, its kind, dac_search, the look-up.
 use Rattle.std.specs.Prelude.{ℕ, ◌+◌, not, List, [], ◌∷◌, Option, Some, None, cond, length}
 use Rattle.fs_path.specs.Name.{Name}
 use Rattle.fs_path.specs.Path.{PathValue}
@@ -7,7 +7,7 @@ use Rattle.kern_model.specs.declared.objects.Process.{Process}
 use Rattle.kern_model.specs.declared.checks.Place.{Place}
 use Rattle.kern_model.specs.declared.calls.Errno.TheVariants as errno
 use Rattle.kern_model.specs.State.{State, object_at, look, root}
-use Rattle.kern_model.specs.Rules.{is_dir, mac_read}
+use Rattle.kern_model.specs.Rules.{is_dir, mac_read, dac_search}
 use Rattle.kern_model.specs.Row.{Row, Need, Refuse, Fail}
 
 -- what a walk found: the last directory and the last name, if the path has names, and what it leads to, if that is there
@@ -18,7 +18,7 @@ pub record Found : Type 0 where
 
 -- a directory is entered, and the row goes on
 abbrev pub enter : State → Process → Oid → Place → Row → Row
-enter s p dir place rest = Need (mac_read s p dir place) (Refuse errno.ENOTDIR (not (is_dir (object_at s dir).kind)) rest)
+enter s p dir place rest = Need (mac_read s p dir place) (Refuse errno.ENOTDIR (not (is_dir (object_at s dir).kind)) (Need (dac_search s p dir place) rest))
 
 -- the row goes on from what is there, and fails where nothing is
 abbrev pub or_missing : Option Oid → (Oid → Row) → Row

@@ -1,4 +1,7 @@
 // Calls and their replies.
+ghost use Rattle.std.specs.Prelude.{◌≡◌};
+ghost use Rattle.kern_model.specs.Rules.{name_of};
+
 use crate::{CheckName, Place};
 use fs_path::Path;
 use lab_lattice::Label;
@@ -8,6 +11,23 @@ use lab_lattice::Label;
 pub enum Call {
     /// What label has the object that the path leads to?
     MacGetFile(Path),
+}
+
+/// A call by its name alone.
+#[derive(Clone, Copy, Debug, PartialEq, Eq)]
+pub enum CallName {
+    MacGetFile,
+}
+
+impl Call {
+    /// Its name.
+    pub fn name(&self) -> CallName
+        ensures { result ≡ name_of self.now }
+    {
+        match self {
+            Call::MacGetFile(_) => CallName::MacGetFile,
+        }
+    }
 }
 
 /// Error numbers, by the names that POSIX.1 gives them.

@@ -1,8 +1,9 @@
 // Checks, and what they come to.
 ghost use Rattle.std.specs.Prelude.{◌≡◌};
-ghost use Rattle.kern_model.specs.Rules.{errno_of};
+ghost use Rattle.kern_model.specs.Rules.{cap_of, errno_of};
 
 use crate::{Errno, Oid, Pid};
+use cap_bits::Cap;
 use lab_lattice::Label;
 
 /// The checks by their names. Each has one rule.
@@ -10,15 +11,27 @@ use lab_lattice::Label;
 pub enum CheckName {
     /// The caller's label dominates the thing's.
     MacRead,
+    /// The mode lets the caller search the directory.
+    DacSearch,
 }
 
 impl CheckName {
+    /// The capability that lets a call go on where the rule of this check fails.
+    pub fn cap(self) -> Option<Cap>
+        ensures { result ≡ cap_of self }
+    {
+        match self {
+            CheckName::MacRead => Some(Cap::MacRead),
+            CheckName::DacSearch => Some(Cap::DacReadSearch),
+        }
+    }
+
     /// What a call answers that this check denied.
     pub fn errno(self) -> Errno
         ensures { result ≡ errno_of self }
     {
         match self {
-            CheckName::MacRead => Errno::EACCES,
+            CheckName::MacRead | CheckName::DacSearch => Errno::EACCES,
         }
     }
 }
@@ -57,6 +70,16 @@ pub struct Check {
 pub enum Verdict {
     /// Its rule holds.
     Passed,
+    /// Its rule fails, and the caller's capability lets the call go on.
+    Exercised,
     /// Its rule fails.
     Denied,
+}
+
+/// What is wanted of an object by its mode.
+#[derive(Clone, Copy, Debug, PartialEq, Eq)]
+pub enum Want {
+    Read,
+    Write,
+    Execute,
 }

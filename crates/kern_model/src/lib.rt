@@ -6,11 +6,13 @@ mod calls;
 mod checks;
 mod numbers;
 mod objects;
+mod records;
 mod world;
 
-pub use calls::{Answer, Call, Errno, Reply};
-pub use checks::{Check, CheckName, Place, Thing, Verdict};
+pub use calls::{Answer, Call, CallName, Errno, Reply};
+pub use checks::{Check, CheckName, Place, Thing, Verdict, Want};
 pub use fs_path::{ByteList, List, Name, NameList, NoMemory, Path};
 pub use numbers::{Gid, GroupList, Ids, Mode, Oid, Pid, Uid};
 pub use objects::{Attr, Body, Kind, Object, Process};
+pub use records::{Outcome, Rec, RecList};
 pub use world::{ObjectList, ProcList, ScriptItem, World, WorldObject, WorldProc};

@@ -1,5 +1,6 @@
 // Objects and processes.
 use crate::{Gid, Ids, Mode, Oid, Uid};
+use cap_bits::CapState;
 use fs_path::ByteList;
 use lab_lattice::Label;
 
@@ -37,10 +38,13 @@ pub struct Object {
     pub bytes: ByteList,
 }
 
-/// A living process with its present label and its current directory.
+/// A living process with its present label, its capability sets and its current directory.
 #[derive(Debug, Drop)]
 pub struct Process {
     pub ids: Ids,
     pub label: Label,
+    pub caps: CapState,
     pub cwd: Oid,
+    /// The audit switch: whether a denial leaves a record.
+    pub audited: bool,
 }

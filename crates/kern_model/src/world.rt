@@ -1,5 +1,6 @@
 // A world as it is described, and the items of a script.
 use crate::{Attr, Body, Call, Ids, Pid};
+use cap_bits::{CapSet, CapState};
 use fs_path::{List, Path};
 use lab_lattice::Label;
 
@@ -17,6 +18,7 @@ pub struct WorldObject {
 pub struct WorldProc {
     pub label: Label,
     pub ids: Ids,
+    pub caps: CapState,
 }
 
 /// Objects of a world.
@@ -25,10 +27,12 @@ pub type ObjectList = List<WorldObject>;
 /// Processes of a world.
 pub type ProcList = List<WorldProc>;
 
-/// What a run starts from: the highest label, and objects and processes in the order of their lines.
+/// What a run starts from: the highest label, the bound of capabilities over exec, and objects and processes in the
+/// order of their lines.
 #[derive(Debug, Drop)]
 pub struct World {
     pub top: Label,
+    pub bound: CapSet,
     pub objects: ObjectList,
     pub procs: ProcList,
 }

@@ -1,22 +1,26 @@
 -- The first state, object by object and process by process.
-use Rattle.std.specs.Prelude.{◌≡◌, ℕ, ◌+◌, ◌-◌, ◌≤◌, ◌<◌, List, [], ◌∷◌, length, Option, Some, None, refl, unwrap_or}
+use Rattle.std.specs.Prelude.{◌≡◌, ℕ, ◌+◌, ◌≤◌, ◌<◌, Bool, true, false, ◌&&◌, cond, List, [], ◌∷◌, ◌++◌, length, count_by, Option, Some, None, refl, unwrap_or}
 use Rattle.std.specs.FinMap as map
 use Rattle.std.specs.FinMap.{FinMap}
-use Rattle.std.proofs.Common.{ap, sym, ◌∙◌, subst, arith, get_or, drop, drop-cons, add-one, suc}
+use Rattle.std.proofs.lemmas.List.Sums.{sum_by-cons}
+use Rattle.std.proofs.Common.{ap, sym, ◌∙◌, subst, arith, get_or, drop, drop-cons, add-one, suc, append_assoc}
 use Rattle.fs_path.specs.Name.{Name}
-use Rattle.lab_lattice.specs.Label.{Label, label_cmp, label_cmp_total}
+use Rattle.lab_lattice.specs.Label.{Label, label_cmp, label_cmp_total, label_cmp_exact, dominates_itself}
 use Rattle.kern_model.specs.declared.numbers.Oid.{Oid}
 use Rattle.kern_model.specs.declared.numbers.Pid.{Pid}
 use Rattle.kern_model.specs.declared.objects.Object.{Object}
 use Rattle.kern_model.specs.declared.objects.Process.{Process}
+use Rattle.kern_model.specs.declared.records.Rec.{Rec}
+use Rattle.kern_model.specs.declared.records.Rec.TheVariants as rec
 use Rattle.kern_model.specs.declared.world.WorldObject.{WorldObject}
 use Rattle.kern_model.specs.declared.world.WorldProc.{WorldProc}
 use Rattle.kern_model.specs.Maps.{get_or as or_default}
 use Rattle.kern_model.specs.Keys.{Spot}
 use Rattle.kern_model.specs.State.{State, Change, SetObject, SetProcess, DrawObject, DrawProcess, changed_by, drawn, look, root}
-use Rattle.kern_model.specs.Boot.{object_of, next_object, entry_for, boot_object, boot_objects, boot_process, boot_processes}
-use Rattle.kern_model.proofs.TableLemmas.{each_set}
-use Rattle.labsys.specs.Kernel.{IsSpotOf, entry_at, HasRoom}
+use Rattle.kern_model.specs.Boot.{object_of, next_object, entry_for, boot_object, boot_objects, boot_process, boot_processes, next_process, started}
+use Rattle.kern_model.specs.Valid.{same_label}
+use Rattle.kern_model.proofs.TableLemmas.{each_set_at}
+use Rattle.labsys.specs.Kernel.{IsSpotOf, entry_at, RoomForObjects, RoomForProcs}
 
 -- ---- one object
 abbrev pub object_id : WorldObject → ℕ → Oid
@@ -38,7 +42,7 @@ process_id w n = record { label = w.label; n = n }
 abbrev pub made_process : State → WorldProc → ℕ → Process → State
 made_process s w n made = changed_by s (DrawProcess w.label n ∷ SetProcess (process_id w n) made ∷ [])
 
-pub process_booted : (s : State) (w : WorldProc) (n : ℕ) → n ≡ drawn s.process_numbers w.label + 1 → (made : Process) → made ≡ record { ids = w.ids; label = w.label; cwd = root } → made_process s w n made ≡ boot_process s w
+pub process_booted : (s : State) (w : WorldProc) (n : ℕ) → n ≡ drawn s.process_numbers w.label + 1 → (made : Process) → made ≡ record { ids = w.ids; label = w.label; caps = w.caps; cwd = root; audited = true } → made_process s w n made ≡ boot_process s w
 unfolding boot_process
 process_booted s w n is made made_is = λ i. made_process s w (is i) (made_is i)
 
@@ -71,30 +75,93 @@ objects_keep s [] = refl
 objects_keep s (o ∷ os) = objects_keep (boot_object s o) os ∙ object_keeps s o
 
 -- ---- the room for numbers
--- one more number is drawn
-less_room : (limit : ℕ) (m : FinMap label_cmp ℕ) (l : Label) (k i : ℕ) → i < k → HasRoom limit m (k - i) → HasRoom limit (map.insert m l (drawn m l + 1)) (k - (i + 1))
-less_room limit m l k i h room =
-    each_set label_cmp_total (λ x. x + (k - (i + 1)) ≤ limit) 0 m l (drawn m l + 1) (let r = room l in omega arith) (λ q. let r = room q in omega arith)
+same_itself : (l : Label) → same_label l l ≡ true
+same_itself l = ap (λ b. b && b) (dominates_itself l)
 
--- there is room where nothing is drawn
-pub all_room : (limit more : ℕ) → more ≤ limit → HasRoom limit map.empty more
+with_one : (b : Bool) (n : ℕ) → b ≡ true → cond b 1 0 + n ≡ n + 1
+with_one true n h = omega arith
+with_one false n h = absurd (cc h)
+
+fewer : (limit : ℕ) (b : Bool) (d n m : ℕ) → m ≡ cond b 1 0 + n → d + m ≤ limit → d + n ≤ limit
+fewer limit true d n m e h = omega arith
+fewer limit false d n m e h = omega arith
+
+drawn_too : (limit d n m : ℕ) → m ≡ n + 1 → d + m ≤ limit → d + 1 + n ≤ limit
+drawn_too limit d n m e h = omega arith
+
+left_for_one : (limit d n m : ℕ) → m ≡ n + 1 → d + m ≤ limit → d < limit
+left_for_one limit d n m e h = omega arith
+
+module _ {X : Type 0} (label_of : X → Label) (limit : ℕ) where
+  -- how many have a label
+  abbrev how_many : Label → List X → ℕ
+  how_many l xs = count_by (λ x. same_label (label_of x) l) xs
+
+  -- there are numbers left for these at each label
+  abbrev RoomFor : FinMap label_cmp ℕ → List X → Type 0
+  RoomFor m xs = (l : Label) → drawn m l + how_many l xs ≤ limit
+
+  with_first : (l : Label) (x : X) (xs : List X) → how_many l (x ∷ xs) ≡ cond (same_label (label_of x) l) 1 0 + how_many l xs
+  with_first l x xs = sum_by-cons (λ y. cond (same_label (label_of y) l) 1 0) x xs
+
+  one_more : (x : X) (xs : List X) → how_many (label_of x) (x ∷ xs) ≡ how_many (label_of x) xs + 1
+  one_more x xs = with_first (label_of x) x xs ∙ with_one _ (how_many (label_of x) xs) (same_itself (label_of x))
+
+  -- there is a number for the first of these
+  first_room : (m : FinMap label_cmp ℕ) (x : X) (xs : List X) → RoomFor m (x ∷ xs) → drawn m (label_of x) < limit
+  first_room m x xs room = left_for_one limit (drawn m (label_of x)) (how_many (label_of x) xs) _ (one_more x xs) (room (label_of x))
+
+  -- one more number is drawn, for the first of these
+  less_room : (m : FinMap label_cmp ℕ) (x : X) (xs : List X) → RoomFor m (x ∷ xs) → RoomFor (map.insert m (label_of x) (drawn m (label_of x) + 1)) xs
+  less_room m x xs room =
+      each_set_at label_cmp_total label_cmp_exact (λ l n. n + how_many l xs ≤ limit) 0 m (label_of x) (drawn m (label_of x) + 1)
+      (drawn_too limit (drawn m (label_of x)) (how_many (label_of x) xs) _ (one_more x xs) (room (label_of x)))
+      (λ l. fewer limit (same_label (label_of x) l) (drawn m l) (how_many l xs) _ (with_first l x xs) (room l))
+
+-- nothing is drawn yet
+none_drawn : (l : Label) → drawn map.empty l ≡ 0
 unfolding or_default
-all_room limit more h l = subst (λ v. (elim v [ None ↦ 0 | Some x ↦ x ]) + more ≤ limit) (sym (map.get-empty {X = ℕ} label_cmp l)) (omega arith)
+none_drawn l = ap (λ (v : Option ℕ). elim v [ None ↦ 0 | Some x ↦ x ]) (map.get-empty {X = ℕ} label_cmp l)
+
+from_none : (limit d n : ℕ) → d ≡ 0 → n ≤ limit → d + n ≤ limit
+from_none limit d n e h = omega arith
+
+-- there is room for what a world may have, where nothing is drawn
+pub all_room : (limit : ℕ) (f : Label → ℕ) → ((l : Label) → f l ≤ limit) → (l : Label) → drawn map.empty l + f l ≤ limit
+all_room limit f h l = from_none limit _ (f l) (none_drawn l) (h l)
 
 -- ---- one more of a list
 rest_from : {X : Type 0} (xs : List X) (i : ℕ) (x : X) → i < length xs → x ≡ get_or xs i x → drop i xs ≡ x ∷ drop (i + 1) xs
 rest_from xs i x h is = drop-cons xs i x h ∙ ap (λ y. y ∷ drop (suc i) xs) (sym is) ∙ ap (λ n. x ∷ drop n xs) (sym (add-one i))
 
+-- the first object that is left has a number
+pub object_room : (s : State) (os : List WorldObject) (i : ℕ) (o : WorldObject) → i < length os → o ≡ get_or os i o → RoomForObjects s.object_numbers (drop i os) → drawn s.object_numbers o.label < 65535
+object_room s os i o h is room =
+    first_room (λ (x : WorldObject). x.label) 65535 s.object_numbers o (drop (i + 1) os) (subst (λ xs. RoomForObjects s.object_numbers xs) (rest_from os i o h is) room)
+
+-- the first process that is left has a number
+pub process_room : (s : State) (ws : List WorldProc) (i : ℕ) (w : WorldProc) → i < length ws → w ≡ get_or ws i w → RoomForProcs s.process_numbers (drop i ws) → drawn s.process_numbers w.label < 4095
+process_room s ws i w h is room =
+    first_room (λ (x : WorldProc). x.label) 4095 s.process_numbers w (drop (i + 1) ws) (subst (λ xs. RoomForProcs s.process_numbers xs) (rest_from ws i w h is) room)
+
 module _ (s t : State) (os : List WorldObject) (i : ℕ) (o : WorldObject) (h : i < length os) (is : o ≡ get_or os i o) (booted : t ≡ boot_object s o) where
   pub objects_step : boot_objects t (drop (i + 1) os) ≡ boot_objects s (drop i os)
   objects_step = ap (λ u. boot_objects u (drop (i + 1) os)) booted ∙ ap (boot_objects s) (sym (rest_from os i o h is))
 
-  pub objects_room : (limit : ℕ) → HasRoom limit s.object_numbers (length os - i) → HasRoom limit t.object_numbers (length os - (i + 1))
-  objects_room limit room = subst (λ m. HasRoom limit m (length os - (i + 1))) (sym (ap (λ u. u.object_numbers) booted ∙ object_draws s o)) (less_room limit s.object_numbers o.label (length os) i h room)
+  pub objects_room : RoomForObjects s.object_numbers (drop i os) → RoomForObjects t.object_numbers (drop (i + 1) os)
+  objects_room room = subst (λ m. RoomForObjects m (drop (i + 1) os)) (sym (ap (λ u. u.object_numbers) booted ∙ object_draws s o))
+      (less_room (λ (x : WorldObject). x.label) 65535 s.object_numbers o (drop (i + 1) os) (subst (λ xs. RoomForObjects s.object_numbers xs) (rest_from os i o h is) room))
 
 module _ (s t : State) (ws : List WorldProc) (i : ℕ) (w : WorldProc) (h : i < length ws) (is : w ≡ get_or ws i w) (booted : t ≡ boot_process s w) where
   pub processes_step : boot_processes t (drop (i + 1) ws) ≡ boot_processes s (drop i ws)
   processes_step = ap (λ u. boot_processes u (drop (i + 1) ws)) booted ∙ ap (boot_processes s) (sym (rest_from ws i w h is))
 
-  pub processes_room : (limit : ℕ) → HasRoom limit s.process_numbers (length ws - i) → HasRoom limit t.process_numbers (length ws - (i + 1))
-  processes_room limit room = subst (λ m. HasRoom limit m (length ws - (i + 1))) (sym (ap (λ u. u.process_numbers) booted ∙ process_draws s w)) (less_room limit s.process_numbers w.label (length ws) i h room)
+  pub processes_room : RoomForProcs s.process_numbers (drop i ws) → RoomForProcs t.process_numbers (drop (i + 1) ws)
+  processes_room room = subst (λ m. RoomForProcs m (drop (i + 1) ws)) (sym (ap (λ u. u.process_numbers) booted ∙ process_draws s w))
+      (less_room (λ (x : WorldProc). x.label) 4095 s.process_numbers w (drop (i + 1) ws) (subst (λ xs. RoomForProcs s.process_numbers xs) (rest_from ws i w h is) room))
+
+  -- its record, and then those of the rest
+  pub started_step : (who : Pid) → who ≡ next_process s w.label → (recs : List Rec) → (recs ++ rec.Boot who w.label w.caps ∷ []) ++ started t (drop (i + 1) ws) ≡ recs ++ started s (drop i ws)
+  started_step who number recs =
+      append_assoc recs (rec.Boot who w.label w.caps ∷ []) (started t (drop (i + 1) ws))
+      ∙ ap (λ xs. recs ++ xs) ((λ j. rec.Boot (number j) w.label w.caps ∷ started (booted j) (drop (i + 1) ws)) ∙ ap (started s) (sym (rest_from ws i w h is)))

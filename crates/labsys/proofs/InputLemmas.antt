@@ -1,126 +1,196 @@
 -- The input of bytes that were taken, and what a run on it leaves.
-use Rattle.std.proofs.Common.{◌≡◌, ℕ, ◌≤◌, ◌<◌, true, false, cond, List, [], ◌++◌, length, refl, sym, ◌∙◌, ap, subst, arith}
-use Rattle.std.proofs.lemmas.List.{append-nil, length-append, take_all}
+use Rattle.std.proofs.Common.{◌≡◌, ℕ, ◌+◌, ◌≤◌, ◌<◌, true, false, cond, List, [], ◌∷◌, ◌++◌, length, take, refl, sym, ◌∙◌, ap, subst, arith}
+use Rattle.std.proofs.lemmas.List.{append-nil, length-append, length-take, take-append-le}
 use Rattle.std.proofs.lemmas.Bool.Decides.{nat_tests}
-use Rattle.std.specs.Prelude.{Result, IsErrAnd, IfOk, IfErr, Ok, Err, None, Some, nat_lt}
-use Rattle.std.specs.declared.option.Option.{Option}
-use Rattle.std.specs.Io.KnownBytes.{Appends, Consumes, IsAtEnd}
+use Rattle.std.specs.Prelude.{Result, IsErrAnd, IfOk, IfErr, Ok, Err, Option, None, Some, nat_lt, codes}
+use Rattle.std.specs.Io.KnownBytes.{Appends, IsAtEnd}
 use Rattle.io_ends.specs.declared.whole.Whole.{Whole}
 use Rattle.io_ends.specs.Whole.{IsWhole}
-use Rattle.kern_model.specs.Boot.{boot}
 use Rattle.labsys.specs.declared.status.Ending.{Ending}
-use Rattle.labsys.specs.declared.status.Ending.TheVariants.{Whole as AllRead}
+use Rattle.labsys.specs.declared.status.Ending.TheVariants.{Whole as AllRead, TooMuch}
+use Rattle.labsys.specs.declared.status.Part.{Part}
+use Rattle.labsys.specs.declared.status.Part.TheVariants as part
 use Rattle.labsys.specs.declared.status.Fault.{Fault}
-use Rattle.labsys.specs.declared.status.Fault.TheVariants.{Read, Write, NoMemory}
-use Rattle.labsys.specs.declared.reading.ReadWorld.{ReadWorld}
+use Rattle.labsys.specs.declared.status.Fault.TheVariants.{Read, Write, Trail, NoMemory}
+use Rattle.labsys.specs.declared.policy.Policy.{Policy}
+use Rattle.cap_bits.specs.CapSet.{CapSet}
+use Rattle.kern_model.specs.declared.world.ScriptItem.{ScriptItem}
 use Rattle.labsys.specs.Lines.{pieces}
-use Rattle.labsys.specs.Input.{Input, script_from, read_lines, refused_world, input_of}
-use Rattle.labsys.specs.Reading.{Reads}
-use Rattle.labsys.specs.Texts.{out_text}
-use Rattle.labsys.specs.Playing.{AppendsFront, Caused, Finishes, Takes, Plays, left_of, order_in}
-use Rattle.labsys.proofs.Appending.{appends_start}
-use Rattle.labsys.proofs.ScriptLemmas.{accepted_text}
+use Rattle.labsys.specs.Grammar.{Levels, exactly, levels_line, categories_line, bound_line, root_line, script_line}
+use Rattle.labsys.specs.Input.{Input, Script, Fixtures, no_world, refused, cut_off, short, said, due, after_item, script_from, next_fixture, added, or_script, with_script, fixtures_from, read_lines, input_of}
+use Rattle.labsys.specs.Texts.{last_text}
+use Rattle.labsys.specs.Order.{order_by, order_of}
+use Rattle.labsys.specs.Playing.{AppendsFront, Caused, SendsFront, Finishes, Takes, Plays, left_of}
+use Rattle.labsys.proofs.Sending.{sends_start, sends_reply, sends_out}
 
--- what an accepted world's lines say goes out from its first state on
-module _ (w : ReadWorld) (text : List ℕ) (is : Reads text w.levels w.world w.script.now) where
-  abbrev input : Input
-  input = record { accepted = Some (record { levels = w.levels; world = w.world }); script = script_from w.levels 9 (pieces 10 w.script.now) }
+-- ---- bytes
 
-  pub world_text : order_in w.levels 0 (boot w.world) (script_from w.levels 9 (pieces 10 w.script.now)) ≡ out_text (read_lines (pieces 10 text))
-  world_text = sym (accepted_text w.levels w.world (script_from w.levels 9 (pieces 10 w.script.now))) ∙ ap out_text (sym is.says)
+pub is_more : (n k : ℕ) → nat_lt n k ≡ true → n < k
+is_more n k h = grind (arith, nat_tests)
 
-  pub world_ending : (script_from w.levels 9 (pieces 10 w.script.now)).ending ≡ (read_lines (pieces 10 text)).script.ending
-  world_ending = ap (λ (i : Input). i.script.ending) (sym is.says)
-
-  -- a run of the script is one of the text
-  pub world_whole : (r : Result Ending Fault) (o o' : Option (List ℕ))
-      → IfOk r (λ e. Finishes o o' (order_in w.levels 0 (boot w.world) (script_from w.levels 9 (pieces 10 w.script.now))) e (script_from w.levels 9 (pieces 10 w.script.now)).ending)
-      → IfOk r (λ e. Finishes o o' (out_text (read_lines (pieces 10 text))) e (read_lines (pieces 10 text)).script.ending)
-  world_whole (Ok e) o o' h = record { all = subst (λ (t : List ℕ). Appends o o' t) world_text h.all; ends = h.ends ∙ world_ending }
-  world_whole (Err fault) o o' h = tt
+pub not_more : (n k : ℕ) → nat_lt n k ≡ false → k ≤ n
+not_more n k h = grind (arith, nat_tests)
 
 more_is : (n k : ℕ) → n < k → nat_lt n k ≡ true
 more_is n k h = grind (arith, nat_tests)
-
-no_more : (n k : ℕ) → k ≤ n → nat_lt n k ≡ false
-no_more n k h = grind (arith, nat_tests)
-
-is_more : (n k : ℕ) → nat_lt n k ≡ true → n < k
-is_more n k h = grind (arith, nat_tests)
-
-not_more : (n k : ℕ) → nat_lt n k ≡ false → k ≤ n
-not_more n k h = grind (arith, nat_tests)
-
--- of more bytes than may be nothing is read
-pub input_over : (got left : List ℕ) → nat_lt 16777216 (length got) ≡ true → input_of (got ++ left) ≡ refused_world 0
-unfolding input_of
-input_over got left e =
-    let h = is_more 16777216 (length got) e in
-    let len = length-append got left in
-    let long : 16777216 < length (got ++ left) = omega arith in
-    ap (λ b. cond b (refused_world 0) (read_lines (pieces 10 (got ++ left)))) (more_is 16777216 (length (got ++ left)) long)
-
-pub input_within : (text : List ℕ) → length text ≤ 16777216 → input_of text ≡ read_lines (pieces 10 text)
-unfolding input_of
-input_within text h = ap (λ b. cond b (refused_world 0) (read_lines (pieces 10 text))) (no_more 16777216 (length text) h)
 
 -- at its end a source has nothing left
 pub nothing_left : (left : Option (List ℕ)) → IsAtEnd left → left_of left ≡ []
 nothing_left None h = refl
 nothing_left (Some bytes) h = h
 
--- what has a cause among fewer has one among more
-pub caused_more : (r : Result Ending Fault) (R W : Type 0) → IfErr r (λ fault. Caused fault ⊥ W) → IfErr r (λ fault. Caused fault R W)
-caused_more (Ok e) R W h = tt
-caused_more (Err fault) R W h = more fault h
-  where
-    more : (fault : Fault) → Caused fault ⊥ W → Caused fault R W
-    more Read h = absurd h
-    more Write h = h
-    more NoMemory h = h
+-- the input of all bytes is told by those that were kept
+pub record IsInput (w : Whole) (got : List ℕ) (now : Option (List ℕ)) (text : List ℕ) : Type 0 where
+  pub input : input_of (got ++ left_of now) ≡ read_lines w.more (pieces 10 text)
+  pub small : length text ≤ 16777216
+
+limit_take : (got : List ℕ) → length (take 16777216 got) ≤ 16777216
+limit_take got = omega (arith, length-take 16777216 got)
+
+pub input_taken : (w : Whole) (got : List ℕ) (now : Option (List ℕ)) (text : List ℕ) → IsWhole w got 16777216 now → text ≡ w.bytes → IsInput w got now text
+unfolding input_of
+input_taken w got now text is kept =
+    let bytes : text ≡ take 16777216 got = kept ∙ is.bytes in
+    elim w.more as (λ b. w.more ≡ b → IsInput w got now text) [
+      | true ↦ λ over.
+          let long : 16777216 < length got = is_more 16777216 (length got) (sym is.more ∙ over) in
+          let le : 16777216 ≤ length got = omega arith in
+          let len = length-append got (left_of now) in
+          let longer : 16777216 < length (got ++ left_of now) = omega arith in
+          record {
+            input = ap (λ b. read_lines b (pieces 10 (take 16777216 (got ++ left_of now)))) (more_is 16777216 (length (got ++ left_of now)) longer ∙ sym over)
+                ∙ ap (λ (x : List ℕ). read_lines w.more (pieces 10 x)) (take-append-le 16777216 got (left_of now) le ∙ sym bytes);
+            small = subst (λ (x : List ℕ). length x ≤ 16777216) (sym bytes) (limit_take got);
+          }
+      | false ↦ λ within.
+          let none : got ++ left_of now ≡ got = ap (λ (x : List ℕ). got ++ x) (nothing_left now (is.to_the_end within)) ∙ append-nil got in
+          record {
+            input = ap input_of none ∙ ap (λ b. read_lines b (pieces 10 (take 16777216 got))) (sym is.more) ∙ ap (λ (x : List ℕ). read_lines w.more (pieces 10 x)) (sym bytes);
+            small = subst (λ (x : List ℕ). length x ≤ 16777216) (sym bytes) (limit_take got);
+          }
+    ] refl
+
+-- ---- an input that goes on past the limit does not end whole
+
+abbrev NotWhole : Ending → Type 0
+NotWhole e = e ≡ AllRead → ⊥
+
+cut_not : (n : ℕ) (p : Part) (last : List ℕ) → NotWhole (cut_off n p last)
+cut_not n p last = elim (nat_lt 2048 (length last)) as (λ b. NotWhole (cond b (refused n p) TooMuch)) [ true ↦ λ e. cc | false ↦ λ e. cc ]
+
+item_not : (o : Option ScriptItem) (n : ℕ) (more : Script) → NotWhole more.ending → NotWhole (after_item o n more).ending
+item_not None n more h = λ e. cc
+item_not (Some item) n more h = h
+
+script_not : (levels : Levels) (n : ℕ) (l : List ℕ) (ls : List (List ℕ)) → NotWhole (script_from true levels n (l ∷ ls)).ending
+unfolding script_from
+script_not levels n l [] = cut_not n part.Script l
+script_not levels n l (next ∷ ls) = item_not (short (script_line levels) l) n (script_from true levels (n + 1) (next ∷ ls)) (script_not levels (n + 1) next ls)
+
+abbrev InputNot : Input → Type 0
+InputNot i = NotWhole i.script.ending
+
+said_not : {X : Type 0} (o : Option X) (n : ℕ) (k : X → Input) → ((x : X) → InputNot (k x)) → InputNot (said o n k)
+said_not None n k h = λ e. cc
+said_not (Some x) n k h = h x
+
+due_not : {X : Type 0} (form : List ℕ → Option X) (n : ℕ) (ls : List (List ℕ)) (k : X → List (List ℕ) → Input) → ((x : X) (l : List ℕ) (ls : List (List ℕ)) → InputNot (k x (l ∷ ls))) → InputNot (due true form n ls k)
+due_not form n [] k h = cut_not n part.World []
+due_not form n (last ∷ []) k h = cut_not n part.World last
+due_not form n (line ∷ next ∷ ls) k h = said_not (short form line) n (λ x. k x (next ∷ ls)) (λ x. h x next ls)
+
+or_not : (o : Option (Unit {0})) (i j : Input) → InputNot i → InputNot j → InputNot (or_script o i j)
+or_not (Some u) i j p q = p
+or_not None i j p q = q
+
+fixtures_not : (policy : Policy) (bound : CapSet) (n : ℕ) (t : Fixtures) (l : List ℕ) (ls : List (List ℕ)) → InputNot (fixtures_from true policy bound n t (l ∷ ls))
+unfolding fixtures_from
+fixtures_not policy bound n t l [] = cut_not n part.World l
+fixtures_not policy bound n t l (next ∷ ls) =
+    or_not (short (exactly (codes "script")) l) (with_script true policy bound t (n + 1) (next ∷ ls)) _ (script_not policy.levels (n + 1) next ls)
+    (said_not (next_fixture policy.levels t l) n (λ f. fixtures_from true policy bound (n + 1) (added t f) (next ∷ ls)) (λ f. fixtures_not policy bound (n + 1) (added t f) next ls))
+
+pub lines_not : (ls : List (List ℕ)) → InputNot (read_lines true ls)
+lines_not ls =
+    due_not (exactly (codes "world 1")) 1 ls _ (λ _ l ls.
+    due_not levels_line 2 (l ∷ ls) _ (λ levels l ls.
+    due_not categories_line 3 (l ∷ ls) _ (λ categories l ls.
+    due_not bound_line 4 (l ∷ ls) _ (λ bound l ls.
+    due_not (root_line levels) 5 (l ∷ ls) _ (λ root l ls.
+    fixtures_not _ bound 6 _ l ls)))))
+
+-- ---- what a run leaves
 
 -- an error that is no read fault
-no_read : (fault : Fault) (W P : Type 0) → Caused fault ⊥ W → fault ≡ Read → P
-no_read fault W P cause is = absurd (subst (λ f. Caused f ⊥ W) is cause)
+no_read : (fault : Fault) (W T P : Type 0) → Caused fault ⊥ W T → fault ≡ Read → P
+no_read fault W T P cause is = absurd (subst (λ f. Caused f ⊥ W T) is cause)
 
--- a run that played this input
-pub plays_input : (r : Result Ending Fault) (left left' out out' : Option (List ℕ)) (got : List ℕ) (i : Input) (W : Type 0)
-    → Consumes left left' got → length got ≤ 16777217 → input_of (got ++ left_of left') ≡ i
-    → AppendsFront out out' (out_text i) → IfOk r (λ e. Finishes out out' (out_text i) e i.script.ending) → IfErr r (λ fault. Caused fault ⊥ W) → (i.script.ending ≡ AllRead → IsAtEnd left')
-    → Plays r left left' out out'
-plays_input (Ok e) left left' out out' got i W took few is front whole cause end = record {
-  taken = got;
-  took = took;
-  few = few;
-  front = subst (λ j. AppendsFront out out' (out_text j)) (sym is) front;
-  whole = (subst (λ j. Finishes out out' (out_text j) e j.script.ending) (sym is) whole, λ all. end (sym whole.ends ∙ all));
-}
-plays_input (Err fault) left left' out out' got i W took few is front whole cause end = record {
-  taken = got;
-  took = took;
-  few = few;
-  front = subst (λ j. AppendsFront out out' (out_text j)) (sym is) front;
-  whole = λ read. no_read fault W (out' ≡ out) cause read;
-}
+-- what has a cause among fewer has one among more
+pub caused_more : (r : Result Ending Fault) (R W T : Type 0) → IfErr r (λ fault. Caused fault ⊥ W T) → IfErr r (λ fault. Caused fault R W T)
+caused_more (Ok e) R W T h = tt
+caused_more (Err fault) R W T h = more fault h
+  where
+    more : (fault : Fault) → Caused fault ⊥ W T → Caused fault R W T
+    more Read h = absurd h
+    more Write h = h
+    more Trail h = h
+    more NoMemory h = h
+
+-- the last line alone, where no world was accepted
+pub without_world : (o o' t : Option (List ℕ)) (e : Ending) → AppendsFront o o' (last_text 0 e) → SendsFront o o' t t (order_of (no_world e))
+unfolding order_by
+without_world o o' t e f = sends_reply o o' t (last_text 0 e) f
+
+pub without_world_whole : (r : Result Ending Fault) (o o' t : Option (List ℕ)) (e : Ending) → IfOk r (λ x. Appends o o' (last_text 0 e) × (x ≡ e)) → IfOk r (λ x. Finishes o o' t t (order_of (no_world e)) x (no_world e).script.ending)
+unfolding order_by
+without_world_whole (Ok x) o o' t e h = record { all = sends_out o o' t (last_text 0 e) h.0; ends = h.1 }
+without_world_whole (Err fault) o o' t e h = tt
+
+-- a run on one input is a run on the same input
+pub whole_over : (r : Result Ending Fault) (o o' t t' : Option (List ℕ)) (i j : Input) → i ≡ j → IfOk r (λ e. Finishes o o' t t' (order_of i) e i.script.ending) → IfOk r (λ e. Finishes o o' t t' (order_of j) e j.script.ending)
+whole_over r o o' t t' i j is h = subst (λ k. IfOk r (λ e. Finishes o o' t t' (order_of k) e k.script.ending)) is h
+
+pub front_over : (o o' t t' : Option (List ℕ)) (i j : Input) → i ≡ j → SendsFront o o' t t' (order_of i) → SendsFront o o' t t' (order_of j)
+front_over o o' t t' i j is h = subst (λ k. SendsFront o o' t t' (order_of k)) is h
+
+-- a source at which an input ended whole is at its end
+at_end : (w : Whole) (got text : List ℕ) (now : Option (List ℕ)) → IsWhole w got 16777216 now → (read_lines w.more (pieces 10 text)).script.ending ≡ AllRead → IsAtEnd now
+at_end w got text now is =
+    elim w.more as (λ b. w.more ≡ b → (read_lines b (pieces 10 text)).script.ending ≡ AllRead → IsAtEnd now) [
+      | true ↦ λ _ e. absurd (lines_not (pieces 10 text) e)
+      | false ↦ λ within _. is.to_the_end within
+    ] refl
+
+-- a run that played what was taken
+pub plays_taken : (r : Result Ending Fault) (w : Whole) (left left' o o' t t' : Option (List ℕ)) (text : List ℕ) (W T : Type 0) → (takes : Takes (Ok w) left left') → text ≡ w.bytes
+    → SendsFront o o' t t' (order_of (read_lines w.more (pieces 10 text))) → IfOk r (λ e. Finishes o o' t t' (order_of (read_lines w.more (pieces 10 text))) e (read_lines w.more (pieces 10 text)).script.ending) → IfErr r (λ fault. Caused fault ⊥ W T)
+    → Plays r left left' o o' t t'
+plays_taken (Ok e) w left left' o o' t t' text W T takes kept front whole cause =
+    let i = input_taken w takes.got left' text takes.shows kept in
+    record {
+      taken = takes.got;
+      took = takes.took;
+      few = takes.few;
+      front = front_over o o' t t' _ _ (sym i.input) front;
+      whole = (subst (λ k. Finishes o o' t t' (order_of k) e k.script.ending) (sym i.input) whole, λ all. at_end w takes.got text left' takes.shows (sym whole.ends ∙ all));
+    }
+plays_taken (Err fault) w left left' o o' t t' text W T takes kept front whole cause =
+    let i = input_taken w takes.got left' text takes.shows kept in
+    record {
+      taken = takes.got;
+      took = takes.took;
+      few = takes.few;
+      front = front_over o o' t t' _ _ (sym i.input) front;
+      whole = λ read. no_read fault W T ((o' ≡ o) × (t' ≡ t)) cause read;
+    }
 
 -- nothing was played
-pub plays_nothing : (r : Result Ending Fault) (t : Result Whole Fault) (fault : Fault) (left left' out : Option (List ℕ)) → Takes t left left' → IsErrAnd r (λ e. e ≡ fault) → Plays r left left' out out
-plays_nothing (Ok e) t fault left left' out takes is = absurd is
-plays_nothing (Err e) t fault left left' out takes is = record {
+pub plays_nothing : (r : Result Ending Fault) (w : Result Whole Fault) (fault : Fault) (left left' o t : Option (List ℕ)) → Takes w left left' → IsErrAnd r (λ e. e ≡ fault) → Plays r left left' o o t t
+plays_nothing (Ok e) w fault left left' o t takes is = absurd is
+plays_nothing (Err e) w fault left left' o t takes is = record {
   taken = takes.got;
   took = takes.took;
   few = takes.few;
-  front = appends_start out (out_text (input_of (takes.got ++ left_of left')));
-  whole = λ _. refl;
+  front = sends_start o t (order_of (input_of (takes.got ++ left_of left')));
+  whole = λ _. (refl, refl);
 }
-
--- the input that was kept whole
-pub input_kept : (w : Whole) (got : List ℕ) (now : Option (List ℕ)) (text : List ℕ) → IsWhole w got 16777216 now → w.more ≡ false → text ≡ w.bytes → (input_of (got ++ left_of now) ≡ read_lines (pieces 10 text)) × IsAtEnd now × (length text ≤ 16777216)
-input_kept w got now text is none kept =
-    let few = not_more 16777216 (length got) (sym is.more ∙ none) in
-    let all = take_all 16777216 got few in
-    let same : text ≡ got = kept ∙ is.bytes ∙ all in (
-      ap (λ (x : List ℕ). input_of (got ++ x)) (nothing_left now (is.to_the_end none)) ∙ ap input_of (append-nil got) ∙ input_within got few ∙ ap (λ (x : List ℕ). read_lines (pieces 10 x)) (sym same),
-      is.to_the_end none,
-      subst (λ (x : List ℕ). length x ≤ 16777216) (sym same) few,
-    )

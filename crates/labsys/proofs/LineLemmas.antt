@@ -167,3 +167,14 @@ cut_shorter b (x ∷ xs) l r e = by_head (x == b) (cut b xs) (cut_shorter b xs) 
     by_head true o again e = let same : xs ≡ r = (some_pair_parts [] l xs r e).1 in let len = ap (λ (q : List ℕ). length q) same in omega arith
     by_head false None again e = absurd (cc)
     by_head false (Some p) again e = let same : p.1 ≡ r = (some_pair_parts (x ∷ p.0) l p.1 r e).1 in let less = again p.0 p.1 refl in let len = ap (λ (q : List ℕ). length q) same in omega arith
+
+-- what stands before is no longer
+pub cut_longer : (b : ℕ) (t l r : List ℕ) → cut b t ≡ Some (l, r) → length l ≤ length t
+unfolding cut
+cut_longer b [] l r e = absurd (cc)
+cut_longer b (x ∷ xs) l r e = by_head (x == b) (cut b xs) (cut_longer b xs) e
+  where
+    by_head : (v : Bool) (o : Option (List ℕ × List ℕ)) → ((l r : List ℕ) → o ≡ Some (l, r) → length l ≤ length xs) → cond v (Some ([], xs)) (onto_front x o) ≡ Some (l, r) → length l ≤ length (x ∷ xs)
+    by_head true o again e = let same : [] ≡ l = (some_pair_parts [] l xs r e).0 in let len = ap (λ (q : List ℕ). length q) same in omega arith
+    by_head false None again e = absurd (cc)
+    by_head false (Some p) again e = let same : x ∷ p.0 ≡ l = (some_pair_parts (x ∷ p.0) l p.1 r e).0 in let less = again p.0 p.1 refl in let len = ap (λ (q : List ℕ). length q) same in omega arith

@@ -1,64 +1,96 @@
 -- Inputs from one line on.
-use Rattle.std.proofs.Common.{◌≡◌, ℕ, ◌+◌, ◌≤◌, ◌<◌, Bool, true, false, cond, nat_le, List, [], ◌∷◌, length, refl, sym, ◌∙◌, ap, arith, Option, Some, None}
+use Rattle.std.proofs.Common.{◌≡◌, ℕ, ◌+◌, ◌≤◌, ◌<◌, Bool, true, false, cond, nat_le, nat_lt, ◌&&◌, not, List, [], ◌∷◌, ◌++◌, length, refl, sym, ◌∙◌, ap, subst, arith, Option, Some, None}
 use Rattle.std.specs.Prelude.{◌==◌, option_and_then, codes}
+use Rattle.std.specs.List.{AllByRecursion, list_any}
+use Rattle.std.proofs.lemmas.Bool.{and_parts, eqb-true, ltb-true, not-true}
 use Rattle.std.proofs.lemmas.Bool.Decides.{nat_tests}
+use Rattle.cap_bits.specs.CapSet.{CapSet}
+use Rattle.lab_lattice.specs.Label.{Label, dominates, dominates_both, dominates_bottom, bottom}
+use Rattle.kern_model.specs.declared.objects.Body.TheVariants as body
 use Rattle.kern_model.specs.declared.world.ScriptItem.{ScriptItem}
 use Rattle.kern_model.specs.declared.world.World.{World}
 use Rattle.kern_model.specs.declared.world.WorldObject.{WorldObject}
 use Rattle.kern_model.specs.declared.world.WorldProc.{WorldProc}
+use Rattle.kern_model.specs.Valid.{same_label, objects_at, procs_at}
 use Rattle.labsys.specs.declared.reading.Halt.{Halt}
-use Rattle.labsys.specs.declared.status.Ending.TheVariants.{Whole, Refused}
+use Rattle.labsys.specs.declared.status.Ending.{Ending}
+use Rattle.labsys.specs.declared.status.Ending.TheVariants.{Whole, TooMuch}
+use Rattle.labsys.specs.declared.status.Part.{Part}
 use Rattle.labsys.specs.declared.status.Part.TheVariants as part
-use Rattle.labsys.specs.declared.status.Refusal.TheVariants as refusal
 use Rattle.labsys.specs.declared.reading.Halt.TheVariants as halt
+use Rattle.labsys.specs.declared.policy.Policy.{Policy}
+use Rattle.labsys.specs.declared.lines.Fixture.{Fixture as Read}
+use Rattle.labsys.specs.declared.lines.Fixture.TheVariants as read
 use Rattle.labsys.specs.Lines.{cut, pieces}
-use Rattle.labsys.specs.Grammar.{Levels, keep_if, same_bytes, exactly, levels_line, categories_line, root_line, file_line, proc_line, script_line}
-use Rattle.labsys.specs.Input.{Input, Script, due, said, short, refused_world, script, script_from, after_item, read_lines, with_script, world_of}
-use Rattle.labsys.specs.Reading.{next_short, GoesOn, Stops, Reads, ReadsNone, Plays, Ends}
-use Rattle.labsys.proofs.LineLemmas.{pieces_some, pieces_none, pieces_first}
+use Rattle.labsys.specs.Grammar.{Levels, Fixture, OfObject, OfProcess, keep_if, then, same_bytes, exactly, levels_line, categories_line, bound_line, root_line, fixture_line, script_line, top_of}
+use Rattle.labsys.specs.Input.{Input, Script, Fixtures, due, said, short, no_world, refused, script, script_from, after_item, fits, added, next_fixture, or_script, fixtures_from, read_lines, with_script, world_of, same_place}
+use Rattle.labsys.specs.Fixture.{as_fixture, label_in}
+use Rattle.labsys.specs.Reading.{next_short, next_of, ends_at, GoesOn, Stops, Begins, IsSound, ComesTo, EndsInScript, EndsBefore, Reads, ReadsNone, PlaysLine, Ends}
+use Rattle.labsys.proofs.LineLemmas.{pieces_some, pieces_none, pieces_first, cut_longer}
+use Rattle.labsys.proofs.FixtureLemmas.{objects_at_more, procs_at_more}
 
-abbrev due_from : {X : Type 0} → (List ℕ → Option X) → ℕ → Option (List ℕ × List ℕ) → (X → List (List ℕ) → Input) → Input
-due_from form n None k = refused_world n
-due_from form n (Some p) k = said (form p.0) n (λ x. k x (pieces 10 p.1))
+-- ---- the line that is due
+
+abbrev due_from : {X : Type 0} → Bool → (List ℕ → Option X) → ℕ → List ℕ → Option (List ℕ × List ℕ) → (X → List (List ℕ) → Input) → Input
+due_from over form n text None k = no_world (ends_at over n part.World text)
+due_from over form n text (Some p) k = said (form p.0) n (λ x. k x (pieces 10 p.1))
+
+-- a line that is too long is refused, also where it is looked at up to the end of the text
+pub ends_long : (over : Bool) (n : ℕ) (p : Part) (text line : List ℕ) → length line ≤ length text → nat_le (length line) 2048 ≡ false → ends_at over n p text ≡ refused n p
+ends_long false n p text line less long = refl
+ends_long true n p text line less long = ap (λ t. cond t (refused n p) TooMuch) over_long
+  where
+    over_long : nat_lt 2048 (length text) ≡ true
+    over_long = grind (arith, nat_tests)
 
 -- a line with a line feed behind it
-due_line : {X : Type 0} (form : List ℕ → Option X) (n : ℕ) (line : List ℕ) (ls : List (List ℕ)) (k : X → List (List ℕ) → Input)
-    → (p : List ℕ) (ps : List (List ℕ)) → ls ≡ p ∷ ps → due form n (line ∷ ls) k ≡ said (short form line) n (λ x. k x ls)
-due_line form n line ls k p ps e = ap (λ (q : List (List ℕ)). due form n (line ∷ q) k) e ∙ sym (ap (λ (q : List (List ℕ)). said (short form line) n (λ x. k x q)) e)
+due_line : {X : Type 0} (over : Bool) (form : List ℕ → Option X) (n : ℕ) (line : List ℕ) (ls : List (List ℕ)) (k : X → List (List ℕ) → Input)
+    → (p : List ℕ) (ps : List (List ℕ)) → ls ≡ p ∷ ps → due over form n (line ∷ ls) k ≡ said (short form line) n (λ x. k x ls)
+due_line over form n line ls k p ps e = ap (λ (q : List (List ℕ)). due over form n (line ∷ q) k) e ∙ sym (ap (λ (q : List (List ℕ)). said (short form line) n (λ x. k x q)) e)
 
-short_is : {X : Type 0} (form : List ℕ → Option X) (n : ℕ) (line rest : List ℕ) (k : X → List (List ℕ) → Input) (v : Bool)
-    → said (cond v (form line) None) n (λ x. k x (pieces 10 rest)) ≡ due_from form n (keep_if v (line, rest)) k
-short_is form n line rest k true = refl
-short_is form n line rest k false = refl
+short_is : {X : Type 0} (over : Bool) (form : List ℕ → Option X) (n : ℕ) (text line rest : List ℕ) (k : X → List (List ℕ) → Input) → length line ≤ length text → (v : Bool) → nat_le (length line) 2048 ≡ v
+    → said (cond v (form line) None) n (λ x. k x (pieces 10 rest)) ≡ due_from over form n text (keep_if v (line, rest)) k
+short_is over form n text line rest k less true e = refl
+short_is over form n text line rest k less false e = sym (ap no_world (ends_long over n part.World text line less e))
 
-due_is : {X : Type 0} (form : List ℕ → Option X) (n : ℕ) (text : List ℕ) (k : X → List (List ℕ) → Input) → due form n (pieces 10 text) k ≡ due_from form n (next_short text) k
+abbrev short_of : Option (List ℕ × List ℕ) → Option (List ℕ × List ℕ)
+short_of o = option_and_then (λ (p : List ℕ × List ℕ). keep_if (nat_le (length p.0) 2048) p) o
+
+due_is : {X : Type 0} (over : Bool) (form : List ℕ → Option X) (n : ℕ) (text : List ℕ) (k : X → List (List ℕ) → Input) → due over form n (pieces 10 text) k ≡ due_from over form n text (next_short text) k
 unfolding next_short
-due_is form n text k = by_cut (cut 10 text) refl
+due_is over form n text k = by_cut (cut 10 text) refl
   where
-    by_cut : (o : Option (List ℕ × List ℕ)) → cut 10 text ≡ o → due form n (pieces 10 text) k ≡ due_from form n (option_and_then (λ (p : List ℕ × List ℕ). keep_if (nat_le (length p.0) 2048) p) (cut 10 text)) k
+    by_cut : (o : Option (List ℕ × List ℕ)) → cut 10 text ≡ o → due over form n (pieces 10 text) k ≡ due_from over form n text (short_of (cut 10 text)) k
     by_cut None e =
-        ap (λ (q : List (List ℕ)). due form n q k) (pieces_none 10 text e)
-        ∙ sym (ap (λ (o : Option (List ℕ × List ℕ)). due_from form n (option_and_then (λ (p : List ℕ × List ℕ). keep_if (nat_le (length p.0) 2048) p) o) k) e)
+        ap (λ (q : List (List ℕ)). due over form n q k) (pieces_none 10 text e)
+        ∙ sym (ap (λ (o : Option (List ℕ × List ℕ)). due_from over form n text (short_of o) k) e)
     by_cut (Some p) e =
         let first = pieces_first 10 p.1 in
-        ap (λ (q : List (List ℕ)). due form n q k) (pieces_some 10 text p.0 p.1 e)
-        ∙ due_line form n p.0 (pieces 10 p.1) k first.0 first.1 first.2
-        ∙ short_is form n p.0 p.1 k (nat_le (length p.0) 2048)
-        ∙ sym (ap (λ (o : Option (List ℕ × List ℕ)). due_from form n (option_and_then (λ (p : List ℕ × List ℕ). keep_if (nat_le (length p.0) 2048) p) o) k) e)
+        ap (λ (q : List (List ℕ)). due over form n q k) (pieces_some 10 text p.0 p.1 e)
+        ∙ due_line over form n p.0 (pieces 10 p.1) k first.0 first.1 first.2
+        ∙ short_is over form n text p.0 p.1 k (cut_longer 10 text p.0 p.1 e) (nat_le (length p.0) 2048) refl
+        ∙ sym (ap (λ (o : Option (List ℕ × List ℕ)). due_from over form n text (short_of o) k) e)
 
-pub goes_on : {X : Type 0} (form : List ℕ → Option X) (n : ℕ) (text line rest : List ℕ) (x : X) → next_short text ≡ Some (line, rest) → Some x ≡ form line → GoesOn form n text x rest
+pub goes_on : {X : Type 0} (over : Bool) (form : List ℕ → Option X) (n : ℕ) (text line rest : List ℕ) (x : X) → next_short text ≡ Some (line, rest) → Some x ≡ form line → GoesOn over form n text x rest
 unfolding GoesOn
-goes_on {X} form n text line rest x next is = λ (k : X → List (List ℕ) → Input).
-    due_is form n text k ∙ ap (λ (o : Option (List ℕ × List ℕ)). due_from form n o k) next ∙ sym (ap (λ (o : Option X). said o n (λ x. k x (pieces 10 rest))) is)
+goes_on {X} over form n text line rest x next is = λ (k : X → List (List ℕ) → Input).
+    due_is over form n text k ∙ ap (λ (o : Option (List ℕ × List ℕ)). due_from over form n text o k) next ∙ sym (ap (λ (o : Option X). said o n (λ x. k x (pieces 10 rest))) is)
 
-pub stops_at_line : {X : Type 0} (form : List ℕ → Option X) (n : ℕ) (text line rest : List ℕ) → next_short text ≡ Some (line, rest) → None ≡ form line → Stops form n text (halt.Refused n)
+pub stops_at_line : {X : Type 0} (over : Bool) (form : List ℕ → Option X) (n : ℕ) (text line rest : List ℕ) (h : Halt) → next_short text ≡ Some (line, rest) → None ≡ form line → h ≡ halt.Ended (refused n part.World)
+    → Stops over form n text h
 unfolding Stops
-stops_at_line {X} form n text line rest next is = λ (k : X → List (List ℕ) → Input).
-    due_is form n text k ∙ ap (λ (o : Option (List ℕ × List ℕ)). due_from form n o k) next ∙ sym (ap (λ (o : Option X). said o n (λ x. k x (pieces 10 rest))) is)
+stops_at_line {X} over form n text line rest h next is e = subst (Stops over form n text) (sym e) here
+  where
+    here : Stops over form n text (halt.Ended (refused n part.World))
+    here = λ (k : X → List (List ℕ) → Input).
+        due_is over form n text k ∙ ap (λ (o : Option (List ℕ × List ℕ)). due_from over form n text o k) next ∙ sym (ap (λ (o : Option X). said o n (λ x. k x (pieces 10 rest))) is)
 
-pub stops_without : {X : Type 0} (form : List ℕ → Option X) (n : ℕ) (text : List ℕ) → next_short text ≡ None → Stops form n text (halt.Refused n)
+pub stops_without : {X : Type 0} (over : Bool) (form : List ℕ → Option X) (n : ℕ) (text : List ℕ) (h : Halt) → next_short text ≡ None → h ≡ halt.Ended (ends_at over n part.World text) → Stops over form n text h
 unfolding Stops
-stops_without {X} form n text next = λ (k : X → List (List ℕ) → Input). due_is form n text k ∙ ap (λ (o : Option (List ℕ × List ℕ)). due_from form n o k) next
+stops_without {X} over form n text h next e = subst (Stops over form n text) (sym e) here
+  where
+    here : Stops over form n text (halt.Ended (ends_at over n part.World text))
+    here = λ (k : X → List (List ℕ) → Input). due_is over form n text k ∙ ap (λ (o : Option (List ℕ × List ℕ)). due_from over form n text o k) next
 
 pub is_exact : (text line : List ℕ) → same_bytes line text ≡ true → Some tt ≡ exactly text line
 is_exact text line e = sym (ap (λ v. keep_if v tt) e)
@@ -68,150 +100,335 @@ is_not_exact text line e = sym (ap (λ v. keep_if v tt) e)
 
 -- ---- a script
 
-abbrev script_next : Levels → ℕ → Option (List ℕ × List ℕ) → Script
-script_next levels n None = script [] (Refused n part.Script refusal.NotBuilt)
-script_next levels n (Some p) = after_item (script_line levels p.0) n (script_from levels (n + 1) (pieces 10 p.1))
+abbrev script_next : Bool → Levels → ℕ → List ℕ → Option (List ℕ × List ℕ) → Script
+script_next over levels n text None = script [] (ends_at over n part.Script text)
+script_next over levels n text (Some p) = after_item (script_line levels p.0) n (script_from over levels (n + 1) (pieces 10 p.1))
 
-script_more : (levels : Levels) (n : ℕ) (line : List ℕ) (ls : List (List ℕ)) (p : List ℕ) (ps : List (List ℕ)) → ls ≡ p ∷ ps
-    → script_from levels n (line ∷ ls) ≡ after_item (short (script_line levels) line) n (script_from levels (n + 1) ls)
+script_more : (over : Bool) (levels : Levels) (n : ℕ) (line : List ℕ) (ls : List (List ℕ)) (p : List ℕ) (ps : List (List ℕ)) → ls ≡ p ∷ ps
+    → script_from over levels n (line ∷ ls) ≡ after_item (short (script_line levels) line) n (script_from over levels (n + 1) ls)
 unfolding script_from
-script_more levels n line ls p ps e =
-    ap (λ (q : List (List ℕ)). script_from levels n (line ∷ q)) e ∙ sym (ap (λ (q : List (List ℕ)). after_item (short (script_line levels) line) n (script_from levels (n + 1) q)) e)
+script_more over levels n line ls p ps e =
+    ap (λ (q : List (List ℕ)). script_from over levels n (line ∷ q)) e ∙ sym (ap (λ (q : List (List ℕ)). after_item (short (script_line levels) line) n (script_from over levels (n + 1) q)) e)
 
-short_item : (levels : Levels) (n : ℕ) (line rest : List ℕ) (v : Bool)
-    → after_item (cond v (script_line levels line) None) n (script_from levels (n + 1) (pieces 10 rest)) ≡ script_next levels n (keep_if v (line, rest))
-short_item levels n line rest true = refl
-short_item levels n line rest false = refl
+short_item : (over : Bool) (levels : Levels) (n : ℕ) (text line rest : List ℕ) → length line ≤ length text → (v : Bool) → nat_le (length line) 2048 ≡ v
+    → after_item (cond v (script_line levels line) None) n (script_from over levels (n + 1) (pieces 10 rest)) ≡ script_next over levels n text (keep_if v (line, rest))
+short_item over levels n text line rest less true e = refl
+short_item over levels n text line rest less false e = sym (ap (script []) (ends_long over n part.Script text line less e))
 
-script_last : (levels : Levels) (n : ℕ) (text : List ℕ) → 0 < length text → script_from levels n (text ∷ []) ≡ script [] (Refused n part.Script refusal.NotBuilt)
+-- whether there is more to read, or a last line
+abbrev pub is_open : Bool → List ℕ → Bool
+is_open true text = true
+is_open false [] = false
+is_open false (b ∷ bs) = true
+
+script_last : (over : Bool) (levels : Levels) (n : ℕ) (text : List ℕ) → is_open over text ≡ true → script_from over levels n (text ∷ []) ≡ script [] (ends_at over n part.Script text)
 unfolding script_from
-script_last levels n [] some = absurd (omega arith)
-script_last levels n (b ∷ bs) some = refl
+script_last true levels n text some = refl
+script_last false levels n [] some = absurd (cc)
+script_last false levels n (b ∷ bs) some = refl
 
-script_is : (levels : Levels) (n : ℕ) (text : List ℕ) → 0 < length text → script_from levels n (pieces 10 text) ≡ script_next levels n (next_short text)
+script_is : (over : Bool) (levels : Levels) (n : ℕ) (text : List ℕ) → is_open over text ≡ true → script_from over levels n (pieces 10 text) ≡ script_next over levels n text (next_short text)
 unfolding next_short
-script_is levels n text some = by_cut (cut 10 text) refl
+script_is over levels n text some = by_cut (cut 10 text) refl
   where
-    by_cut : (o : Option (List ℕ × List ℕ)) → cut 10 text ≡ o → script_from levels n (pieces 10 text) ≡ script_next levels n (option_and_then (λ (p : List ℕ × List ℕ). keep_if (nat_le (length p.0) 2048) p) (cut 10 text))
+    by_cut : (o : Option (List ℕ × List ℕ)) → cut 10 text ≡ o → script_from over levels n (pieces 10 text) ≡ script_next over levels n text (short_of (cut 10 text))
     by_cut None e =
-        ap (script_from levels n) (pieces_none 10 text e) ∙ script_last levels n text some
-        ∙ sym (ap (λ (o : Option (List ℕ × List ℕ)). script_next levels n (option_and_then (λ (p : List ℕ × List ℕ). keep_if (nat_le (length p.0) 2048) p) o)) e)
+        ap (script_from over levels n) (pieces_none 10 text e) ∙ script_last over levels n text some
+        ∙ sym (ap (λ (o : Option (List ℕ × List ℕ)). script_next over levels n text (short_of o)) e)
     by_cut (Some p) e =
         let first = pieces_first 10 p.1 in
-        ap (script_from levels n) (pieces_some 10 text p.0 p.1 e)
-        ∙ script_more levels n p.0 (pieces 10 p.1) first.0 first.1 first.2
-        ∙ short_item levels n p.0 p.1 (nat_le (length p.0) 2048)
-        ∙ sym (ap (λ (o : Option (List ℕ × List ℕ)). script_next levels n (option_and_then (λ (p : List ℕ × List ℕ). keep_if (nat_le (length p.0) 2048) p) o)) e)
+        ap (script_from over levels n) (pieces_some 10 text p.0 p.1 e)
+        ∙ script_more over levels n p.0 (pieces 10 p.1) first.0 first.1 first.2
+        ∙ short_item over levels n text p.0 p.1 (cut_longer 10 text p.0 p.1 e) (nat_le (length p.0) 2048) refl
+        ∙ sym (ap (λ (o : Option (List ℕ × List ℕ)). script_next over levels n text (short_of o)) e)
 
-pub ends_whole : (levels : Levels) (n : ℕ) (text : List ℕ) → length text ≡ 0 → Ends levels n text Whole
+pub ends_whole : (over : Bool) (levels : Levels) (n : ℕ) (text : List ℕ) → over ≡ false → length text ≡ 0 → Ends over levels n text Whole
 unfolding script_from pieces
-ends_whole levels n [] e = refl
-ends_whole levels n (b ∷ bs) e = absurd (omega arith)
+ends_whole true levels n text whole e = absurd (cc)
+ends_whole false levels n [] whole e = refl
+ends_whole false levels n (b ∷ bs) whole e = absurd (omega arith)
 
-pub ends_without : (levels : Levels) (n : ℕ) (text : List ℕ) → 0 < length text → next_short text ≡ None → Ends levels n text (Refused n part.Script refusal.NotBuilt)
-ends_without levels n text some next = script_is levels n text some ∙ ap (script_next levels n) next
+pub ends_without : (over : Bool) (levels : Levels) (n : ℕ) (text : List ℕ) (ending : Ending) → is_open over text ≡ true → next_short text ≡ None → ending ≡ ends_at over n part.Script text → Ends over levels n text ending
+ends_without over levels n text ending some next e = script_is over levels n text some ∙ ap (script_next over levels n text) next ∙ sym (ap (script []) e)
 
-pub ends_at_line : (levels : Levels) (n : ℕ) (text line rest : List ℕ) → 0 < length text → next_short text ≡ Some (line, rest) → None ≡ script_line levels line
-    → Ends levels n text (Refused n part.Script refusal.NotBuilt)
-ends_at_line levels n text line rest some next is =
-    script_is levels n text some ∙ ap (script_next levels n) next ∙ sym (ap (λ (o : Option ScriptItem). after_item o n (script_from levels (n + 1) (pieces 10 rest))) is)
+pub ends_at_line : (over : Bool) (levels : Levels) (n : ℕ) (text line rest : List ℕ) → is_open over text ≡ true → next_short text ≡ Some (line, rest) → None ≡ script_line levels line
+    → Ends over levels n text (refused n part.Script)
+ends_at_line over levels n text line rest some next is =
+    script_is over levels n text some ∙ ap (script_next over levels n text) next ∙ sym (ap (λ (o : Option ScriptItem). after_item o n (script_from over levels (n + 1) (pieces 10 rest))) is)
 
-pub plays_line : (levels : Levels) (n : ℕ) (text line rest : List ℕ) (item : ScriptItem) → next_short text ≡ Some (line, rest) → Some item ≡ script_line levels line
-    → length rest < length text → Plays levels n text item rest
-plays_line levels n text line rest item next is less = record {
-  says = script_is levels n text (omega arith) ∙ ap (script_next levels n) next ∙ sym (ap (λ (o : Option ScriptItem). after_item o n (script_from levels (n + 1) (pieces 10 rest))) is);
+pub plays_line : (over : Bool) (levels : Levels) (n : ℕ) (text line rest : List ℕ) (item : ScriptItem) → is_open over text ≡ true → next_short text ≡ Some (line, rest) → Some item ≡ script_line levels line
+    → length rest < length text → PlaysLine over levels n text item rest
+plays_line over levels n text line rest item some next is less = record {
+  says = script_is over levels n text some ∙ ap (script_next over levels n text) next ∙ sym (ap (λ (o : Option ScriptItem). after_item o n (script_from over levels (n + 1) (pieces 10 rest))) is);
   shorter = less;
 }
 
-pub not_empty : (k : ℕ) → (k == 0) ≡ false → 0 < k
-not_empty k e = grind (arith, nat_tests)
+pub opened : (over : Bool) (text : List ℕ) → ((length text == 0) && not over) ≡ false → is_open over text ≡ true
+opened true text e = refl
+opened false [] e = absurd (cc)
+opened false (b ∷ bs) e = refl
+
+pub closed : (over : Bool) (text : List ℕ) → ((length text == 0) && not over) ≡ true → (over ≡ false) × (length text ≡ 0)
+closed over text e =
+    let parts = and_parts (length text == 0) (not over) e in
+    (not-true over parts.1, eqb-true (length text) 0 parts.0)
+
+-- ---- files and processes
+
+abbrev fixtures_next : Bool → Policy → CapSet → ℕ → Fixtures → List ℕ → Option (List ℕ × List ℕ) → Input
+fixtures_next over policy bound n t text None = no_world (ends_at over n part.World text)
+fixtures_next over policy bound n t text (Some p) =
+    or_script (exactly (codes "script") p.0) (with_script over policy bound t (n + 1) (pieces 10 p.1))
+    (said (next_of policy.levels t p.0) n (λ f. fixtures_from over policy bound (n + 1) (added t f) (pieces 10 p.1)))
+
+fixtures_more : (over : Bool) (policy : Policy) (bound : CapSet) (n : ℕ) (t : Fixtures) (line : List ℕ) (ls : List (List ℕ)) (p : List ℕ) (ps : List (List ℕ)) → ls ≡ p ∷ ps
+    → fixtures_from over policy bound n t (line ∷ ls) ≡ or_script (short (exactly (codes "script")) line) (with_script over policy bound t (n + 1) ls)
+    (said (next_fixture policy.levels t line) n (λ f. fixtures_from over policy bound (n + 1) (added t f) ls))
+unfolding fixtures_from
+fixtures_more over policy bound n t line ls p ps e =
+    ap (λ (q : List (List ℕ)). fixtures_from over policy bound n t (line ∷ q)) e
+    ∙ sym (ap (λ (q : List (List ℕ)). or_script (short (exactly (codes "script")) line) (with_script over policy bound t (n + 1) q)
+    (said (next_fixture policy.levels t line) n (λ f. fixtures_from over policy bound (n + 1) (added t f) q))) e)
+
+short_fixture : (over : Bool) (policy : Policy) (bound : CapSet) (n : ℕ) (t : Fixtures) (text line rest : List ℕ) → length line ≤ length text → (v : Bool) → nat_le (length line) 2048 ≡ v
+    → or_script (cond v (exactly (codes "script") line) None) (with_script over policy bound t (n + 1) (pieces 10 rest))
+    (said (then (cond v (fixture_line policy.levels line) None) (λ f. keep_if (fits t f) f)) n (λ f. fixtures_from over policy bound (n + 1) (added t f) (pieces 10 rest)))
+    ≡ fixtures_next over policy bound n t text (keep_if v (line, rest))
+short_fixture over policy bound n t text line rest less true e = refl
+short_fixture over policy bound n t text line rest less false e = sym (ap no_world (ends_long over n part.World text line less e))
+
+fixtures_last : (over : Bool) (policy : Policy) (bound : CapSet) (n : ℕ) (t : Fixtures) (text : List ℕ) → fixtures_from over policy bound n t (text ∷ []) ≡ no_world (ends_at over n part.World text)
+unfolding fixtures_from
+fixtures_last over policy bound n t text = refl
+
+fixtures_are : (over : Bool) (policy : Policy) (bound : CapSet) (n : ℕ) (t : Fixtures) (text : List ℕ) → fixtures_from over policy bound n t (pieces 10 text) ≡ fixtures_next over policy bound n t text (next_short text)
+unfolding next_short
+fixtures_are over policy bound n t text = by_cut (cut 10 text) refl
+  where
+    by_cut : (o : Option (List ℕ × List ℕ)) → cut 10 text ≡ o → fixtures_from over policy bound n t (pieces 10 text) ≡ fixtures_next over policy bound n t text (short_of (cut 10 text))
+    by_cut None e =
+        ap (fixtures_from over policy bound n t) (pieces_none 10 text e) ∙ fixtures_last over policy bound n t text
+        ∙ sym (ap (λ (o : Option (List ℕ × List ℕ)). fixtures_next over policy bound n t text (short_of o)) e)
+    by_cut (Some p) e =
+        let first = pieces_first 10 p.1 in
+        ap (fixtures_from over policy bound n t) (pieces_some 10 text p.0 p.1 e)
+        ∙ fixtures_more over policy bound n t p.0 (pieces 10 p.1) first.0 first.1 first.2
+        ∙ short_fixture over policy bound n t text p.0 p.1 (cut_longer 10 text p.0 p.1 e) (nat_le (length p.0) 2048) refl
+        ∙ sym (ap (λ (o : Option (List ℕ × List ℕ)). fixtures_next over policy bound n t text (short_of o)) e)
+
+pub comes_here : (over : Bool) (policy : Policy) (n : ℕ) (t u : Fixtures) (text : List ℕ) → u ≡ t → ComesTo over policy n t text n u text
+unfolding ComesTo
+comes_here over policy n t u text e = λ (bound : CapSet). sym (ap (λ (v : Fixtures). fixtures_from over policy bound n v (pieces 10 text)) e)
+
+-- one line on
+pub comes_further : (over : Bool) (policy : Policy) (n : ℕ) (t : Fixtures) (text : List ℕ) (m : ℕ) (u : Fixtures) (now line rest : List ℕ) (f : Fixture) (w : Fixtures)
+    → ComesTo over policy n t text m u now → next_short now ≡ Some (line, rest) → None ≡ exactly (codes "script") line → Some f ≡ next_of policy.levels u line → w ≡ added u f
+    → ComesTo over policy n t text (m + 1) w rest
+unfolding ComesTo
+comes_further over policy n t text m u now line rest f w comes next no_script is e = λ (bound : CapSet).
+    comes bound ∙ fixtures_are over policy bound m u now ∙ ap (fixtures_next over policy bound m u now) next
+    ∙ sym (ap (λ (o : Option (Unit {0})). or_script o (with_script over policy bound u (m + 1) (pieces 10 rest))
+    (said (next_of policy.levels u line) m (λ f. fixtures_from over policy bound (m + 1) (added u f) (pieces 10 rest)))) no_script)
+    ∙ sym (ap (λ (o : Option Fixture). said o m (λ f. fixtures_from over policy bound (m + 1) (added u f) (pieces 10 rest))) is)
+    ∙ sym (ap (λ (v : Fixtures). fixtures_from over policy bound (m + 1) v (pieces 10 rest)) e)
+
+pub comes_to_script : (over : Bool) (policy : Policy) (n : ℕ) (t : Fixtures) (text : List ℕ) (m : ℕ) (u : Fixtures) (now line rest : List ℕ)
+    → ComesTo over policy n t text m u now → next_short now ≡ Some (line, rest) → Some tt ≡ exactly (codes "script") line → EndsInScript over policy n t text (m + 1) u rest
+unfolding ComesTo EndsInScript
+comes_to_script over policy n t text m u now line rest comes next begins = λ (bound : CapSet).
+    comes bound ∙ fixtures_are over policy bound m u now ∙ ap (fixtures_next over policy bound m u now) next
+    ∙ sym (ap (λ (o : Option (Unit {0})). or_script o (with_script over policy bound u (m + 1) (pieces 10 rest))
+    (said (next_of policy.levels u line) m (λ f. fixtures_from over policy bound (m + 1) (added u f) (pieces 10 rest)))) begins)
+
+pub comes_to_refused : (over : Bool) (policy : Policy) (n : ℕ) (t : Fixtures) (text : List ℕ) (m : ℕ) (u : Fixtures) (now line rest : List ℕ) (h : Halt)
+    → ComesTo over policy n t text m u now → next_short now ≡ Some (line, rest) → None ≡ exactly (codes "script") line → None ≡ next_of policy.levels u line → h ≡ halt.Ended (refused m part.World)
+    → EndsBefore over policy n t text h
+unfolding ComesTo EndsBefore
+comes_to_refused over policy n t text m u now line rest h comes next no_script is e = subst (EndsBefore over policy n t text) (sym e) here
+  where
+    here : EndsBefore over policy n t text (halt.Ended (refused m part.World))
+    here = λ (bound : CapSet).
+        comes bound ∙ fixtures_are over policy bound m u now ∙ ap (fixtures_next over policy bound m u now) next
+        ∙ sym (ap (λ (o : Option (Unit {0})). or_script o (with_script over policy bound u (m + 1) (pieces 10 rest))
+        (said (next_of policy.levels u line) m (λ f. fixtures_from over policy bound (m + 1) (added u f) (pieces 10 rest)))) no_script)
+        ∙ sym (ap (λ (o : Option Fixture). said o m (λ f. fixtures_from over policy bound (m + 1) (added u f) (pieces 10 rest))) is)
+
+pub comes_to_end : (over : Bool) (policy : Policy) (n : ℕ) (t : Fixtures) (text : List ℕ) (m : ℕ) (u : Fixtures) (now : List ℕ) (h : Halt)
+    → ComesTo over policy n t text m u now → next_short now ≡ None → h ≡ halt.Ended (ends_at over m part.World now) → EndsBefore over policy n t text h
+unfolding ComesTo EndsBefore
+comes_to_end over policy n t text m u now h comes next e = subst (EndsBefore over policy n t text) (sym e) here
+  where
+    here : EndsBefore over policy n t text (halt.Ended (ends_at over m part.World now))
+    here = λ (bound : CapSet). comes bound ∙ fixtures_are over policy bound m u now ∙ ap (fixtures_next over policy bound m u now) next
+
+-- ---- a sound world
+
+all_more : {X : Type 0} (P : X → Type 0) (xs : List X) (x : X) → AllByRecursion P xs → P x → AllByRecursion P (xs ++ x ∷ [])
+all_more P [] x all one = (one, tt)
+all_more P (y ∷ ys) x all one = (all.0, all_more P ys x all.1 one)
+
+-- the root alone
+pub sound_root : (top : Label) (root : WorldObject) (t : Fixtures) → t ≡ record { objects = root ∷ []; procs = [] } → root.path.names ≡ [] → dominates bottom root.label ≡ true → root.body ≡ body.Dir → IsSound top t
+sound_root top root t e no_names lowest is_dir = subst (IsSound top) (sym e) here
+  where
+    one : (v : Bool) → 0 + cond v 1 0 ≤ 65535
+    one true = omega arith
+    one false = omega arith
+
+    is_bottom : root.label ≡ bottom
+    is_bottom = dominates_both root.label bottom (dominates_bottom root.label) lowest
+
+    here : IsSound top (record { objects = root ∷ []; procs = [] })
+    here = λ (bound : CapSet). (
+      record {
+        first = root;
+        others = [];
+        objects_are = refl;
+        no_names = no_names;
+        root_body = is_dir;
+        root_label = is_bottom;
+        objects_below = (subst (λ (l : Label). dominates top l ≡ true) (sym is_bottom) (dominates_bottom top), tt);
+        procs_below = tt;
+      },
+      record { objects = λ l. one (same_label root.label l); procs = λ l. omega arith },
+    )
+
+few_more : (high many : ℕ) (v : Bool) → (v ≡ true → many < high) → many ≤ high → many + cond v 1 0 ≤ high
+few_more high many true room few = let less = room refl in omega arith
+few_more high many false room few = omega arith
+
+room_at : {X : Type 0} (at : Label → List X → ℕ) (a l : Label) (xs : List X) (high : ℕ) → at a xs < high → same_label a l ≡ true → at l xs < high
+room_at at a l xs high room e =
+    let parts = and_parts (dominates a l) (dominates l a) e in
+    subst (λ (x : Label). at x xs < high) (dominates_both a l parts.0 parts.1) room
+
+-- one more, for which there is room
+pub sound_more : (top : Label) (t u : Fixtures) (f : Read) → IsSound top t → fits t (as_fixture f) ≡ true → dominates top (label_in f) ≡ true → u ≡ added t (as_fixture f) → IsSound top u
+sound_more top t u (read.Object o) s room below e = subst (IsSound top) (sym e) here
+  where
+    less : objects_at o.label t.objects < 65535
+    less = ltb-true (objects_at o.label t.objects) 65535 (and_parts (not (list_any (same_place o) t.objects)) (nat_lt (objects_at o.label t.objects) 65535) room).1
+
+    here : IsSound top (added t (OfObject o))
+    here = λ (bound : CapSet). (
+      record {
+        first = (s bound).0.first;
+        others = (s bound).0.others ++ o ∷ [];
+        objects_are = ap (λ (q : List WorldObject). q ++ o ∷ []) (s bound).0.objects_are;
+        no_names = (s bound).0.no_names;
+        root_body = (s bound).0.root_body;
+        root_label = (s bound).0.root_label;
+        objects_below = all_more (λ (o : WorldObject). dominates top o.label ≡ true) t.objects o (s bound).0.objects_below below;
+        procs_below = (s bound).0.procs_below;
+      },
+      record {
+        objects = λ l. subst (λ k. k ≤ 65535) (sym (objects_at_more l t.objects o))
+            (few_more 65535 (objects_at l t.objects) (same_label o.label l) (room_at objects_at o.label l t.objects 65535 less) ((s bound).1.objects l));
+        procs = (s bound).1.procs;
+      },
+    )
+sound_more top t u (read.Process p) s room below e = subst (IsSound top) (sym e) here
+  where
+    less : procs_at p.label t.procs < 4095
+    less = ltb-true (procs_at p.label t.procs) 4095 room
+
+    here : IsSound top (added t (OfProcess p))
+    here = λ (bound : CapSet). (
+      record {
+        first = (s bound).0.first;
+        others = (s bound).0.others;
+        objects_are = (s bound).0.objects_are;
+        no_names = (s bound).0.no_names;
+        root_body = (s bound).0.root_body;
+        root_label = (s bound).0.root_label;
+        objects_below = (s bound).0.objects_below;
+        procs_below = all_more (λ (p : WorldProc). dominates top p.label ≡ true) t.procs p (s bound).0.procs_below below;
+      },
+      record {
+        objects = (s bound).1.objects;
+        procs = λ l. subst (λ k. k ≤ 4095) (sym (procs_at_more l t.procs p))
+            (few_more 4095 (procs_at l t.procs) (same_label p.label l) (room_at procs_at p.label l t.procs 4095 less) ((s bound).1.procs l));
+      },
+    )
 
 -- ---- a world, from each of its lines on
 
-abbrev from8 : Levels → WorldObject → WorldObject → WorldProc → List (List ℕ) → Input
-from8 levels root file process ls = due (exactly (codes "script")) 8 ls (λ _ ls. with_script levels root file process ls)
+abbrev policy_of : Levels → Levels → Policy
+policy_of levels categories = record { levels = levels; categories = categories }
 
-abbrev from7 : Levels → WorldObject → WorldObject → List (List ℕ) → Input
-from7 levels root file ls = due (proc_line levels) 7 ls (λ process ls. from8 levels root file process ls)
+abbrev from5 : Bool → Levels → Levels → CapSet → List (List ℕ) → Input
+from5 over levels categories bound ls = due over (root_line levels) 5 ls (λ root ls. fixtures_from over (policy_of levels categories) bound 6 (record { objects = root ∷ []; procs = [] }) ls)
 
-abbrev from6 : Levels → WorldObject → List (List ℕ) → Input
-from6 levels root ls = due (file_line levels) 6 ls (λ file ls. from7 levels root file ls)
+abbrev from4 : Bool → Levels → Levels → List (List ℕ) → Input
+from4 over levels categories ls = due over bound_line 4 ls (λ bound ls. from5 over levels categories bound ls)
 
-abbrev from5 : Levels → List (List ℕ) → Input
-from5 levels ls = due (root_line levels) 5 ls (λ root ls. from6 levels root ls)
+abbrev from3 : Bool → Levels → List (List ℕ) → Input
+from3 over levels ls = due over categories_line 3 ls (λ categories ls. from4 over levels categories ls)
 
-abbrev from4 : Levels → List (List ℕ) → Input
-from4 levels ls = due (exactly (codes "bound all")) 4 ls (λ _ ls. from5 levels ls)
+abbrev from2 : Bool → List (List ℕ) → Input
+from2 over ls = due over levels_line 2 ls (λ levels ls. from3 over levels ls)
 
-abbrev from3 : Levels → List (List ℕ) → Input
-from3 levels ls = due categories_line 3 ls (λ _ ls. from4 levels ls)
+abbrev from1 : Bool → List (List ℕ) → Input
+from1 over ls = due over (exactly (codes "world 1")) 1 ls (λ _ ls. from2 over ls)
 
-abbrev from2 : List (List ℕ) → Input
-from2 ls = due levels_line 2 ls (λ levels ls. from3 levels ls)
+pub at1 : (over : Bool) (text : List ℕ) → read_lines over (pieces 10 text) ≡ from1 over (pieces 10 text)
+at1 over text = refl
 
-abbrev from1 : List (List ℕ) → Input
-from1 ls = due (exactly (codes "world 1")) 1 ls (λ _ ls. from2 ls)
-
-pub at1 : (text : List ℕ) → read_lines (pieces 10 text) ≡ from1 (pieces 10 text)
-at1 text = refl
-
-pub at2 : (text t : List ℕ) → GoesOn (exactly (codes "world 1")) 1 text tt t → read_lines (pieces 10 text) ≡ from2 (pieces 10 t)
+pub at2 : (over : Bool) (text t : List ℕ) → GoesOn over (exactly (codes "world 1")) 1 text tt t → read_lines over (pieces 10 text) ≡ from2 over (pieces 10 t)
 unfolding GoesOn
-at2 text t g = g (λ _ ls. from2 ls)
+at2 over text t g = g (λ _ ls. from2 over ls)
 
-pub at3 : (text t rest : List ℕ) (levels : Levels) → read_lines (pieces 10 text) ≡ from2 (pieces 10 t) → GoesOn levels_line 2 t levels rest → read_lines (pieces 10 text) ≡ from3 levels (pieces 10 rest)
+pub at3 : (over : Bool) (text t rest : List ℕ) (levels : Levels) → read_lines over (pieces 10 text) ≡ from2 over (pieces 10 t) → GoesOn over levels_line 2 t levels rest → read_lines over (pieces 10 text) ≡ from3 over levels (pieces 10 rest)
 unfolding GoesOn
-at3 text t rest levels e g = e ∙ g (λ levels ls. from3 levels ls)
+at3 over text t rest levels e g = e ∙ g (λ levels ls. from3 over levels ls)
 
-pub at4 : (text t rest : List ℕ) (levels categories : Levels) → read_lines (pieces 10 text) ≡ from3 levels (pieces 10 t) → GoesOn categories_line 3 t categories rest → read_lines (pieces 10 text) ≡ from4 levels (pieces 10 rest)
+pub at4 : (over : Bool) (text t rest : List ℕ) (levels categories : Levels) → read_lines over (pieces 10 text) ≡ from3 over levels (pieces 10 t) → GoesOn over categories_line 3 t categories rest
+    → read_lines over (pieces 10 text) ≡ from4 over levels categories (pieces 10 rest)
 unfolding GoesOn
-at4 text t rest levels categories e g = e ∙ g (λ _ ls. from4 levels ls)
+at4 over text t rest levels categories e g = e ∙ g (λ categories ls. from4 over levels categories ls)
 
-pub at5 : (text t rest : List ℕ) (levels : Levels) → read_lines (pieces 10 text) ≡ from4 levels (pieces 10 t) → GoesOn (exactly (codes "bound all")) 4 t tt rest → read_lines (pieces 10 text) ≡ from5 levels (pieces 10 rest)
+pub at5 : (over : Bool) (text t rest : List ℕ) (levels categories : Levels) (bound : CapSet) → read_lines over (pieces 10 text) ≡ from4 over levels categories (pieces 10 t) → GoesOn over bound_line 4 t bound rest
+    → read_lines over (pieces 10 text) ≡ from5 over levels categories bound (pieces 10 rest)
 unfolding GoesOn
-at5 text t rest levels e g = e ∙ g (λ _ ls. from5 levels ls)
+at5 over text t rest levels categories bound e g = e ∙ g (λ bound ls. from5 over levels categories bound ls)
 
-pub at6 : (text t rest : List ℕ) (levels : Levels) (root : WorldObject) → read_lines (pieces 10 text) ≡ from5 levels (pieces 10 t) → GoesOn (root_line levels) 5 t root rest
-    → read_lines (pieces 10 text) ≡ from6 levels root (pieces 10 rest)
+pub at6 : (over : Bool) (text t rest : List ℕ) (levels categories : Levels) (bound : CapSet) (root : WorldObject) → read_lines over (pieces 10 text) ≡ from5 over levels categories bound (pieces 10 t)
+    → GoesOn over (root_line levels) 5 t root rest → Begins over text (policy_of levels categories) bound root rest
 unfolding GoesOn
-at6 text t rest levels root e g = e ∙ g (λ root ls. from6 levels root ls)
+at6 over text t rest levels categories bound root e g = e ∙ g (λ root ls. fixtures_from over (policy_of levels categories) bound 6 (record { objects = root ∷ []; procs = [] }) ls)
 
-pub at7 : (text t rest : List ℕ) (levels : Levels) (root file : WorldObject) → read_lines (pieces 10 text) ≡ from6 levels root (pieces 10 t) → GoesOn (file_line levels) 6 t file rest
-    → read_lines (pieces 10 text) ≡ from7 levels root file (pieces 10 rest)
-unfolding GoesOn
-at7 text t rest levels root file e g = e ∙ g (λ file ls. from7 levels root file ls)
-
-pub at8 : (text t rest : List ℕ) (levels : Levels) (root file : WorldObject) (process : WorldProc) → read_lines (pieces 10 text) ≡ from7 levels root file (pieces 10 t) → GoesOn (proc_line levels) 7 t process rest
-    → read_lines (pieces 10 text) ≡ from8 levels root file process (pieces 10 rest)
-unfolding GoesOn
-at8 text t rest levels root file process e g = e ∙ g (λ process ls. from8 levels root file process ls)
-
-pub at9 : (text t rest : List ℕ) (levels : Levels) (root file : WorldObject) (process : WorldProc) → read_lines (pieces 10 text) ≡ from8 levels root file process (pieces 10 t) → GoesOn (exactly (codes "script")) 8 t tt rest
-    → read_lines (pieces 10 text) ≡ with_script levels root file process (pieces 10 rest)
-unfolding GoesOn
-at9 text t rest levels root file process e g = e ∙ g (λ _ ls. with_script levels root file process ls)
-
--- the line that is due is refused: so is the world
-pub stopped : {X : Type 0} (form : List ℕ → Option X) (n : ℕ) (text t : List ℕ) (k : X → List (List ℕ) → Input) (h : Halt)
-    → read_lines (pieces 10 text) ≡ due form n (pieces 10 t) k → Stops form n t h → ReadsNone text h
+-- the line that is due is not there: so no world is read
+pub stopped : {X : Type 0} (over : Bool) (form : List ℕ → Option X) (n : ℕ) (text t : List ℕ) (k : X → List (List ℕ) → Input) (h : Halt)
+    → read_lines over (pieces 10 text) ≡ due over form n (pieces 10 t) k → Stops over form n t h → ReadsNone over text h
 unfolding Stops
-stopped form n text t k (halt.Refused m) e s = e ∙ s k
-stopped form n text t k halt.NoMemory e s = tt
+stopped over form n text t k (halt.Ended ending) e s = e ∙ s k
+stopped over form n text t k halt.NoMemory e s = tt
 
-pub le_trans : {a b d : ℕ} → a ≤ b → b ≤ d → a ≤ d
-le_trans p q = omega arith
+pub failed : (over : Bool) (text rest : List ℕ) (policy : Policy) (bound : CapSet) (root : WorldObject) (h : Halt) → Begins over text policy bound root rest
+    → EndsBefore over policy 6 (record { objects = root ∷ []; procs = [] }) rest h → ReadsNone over text h
+unfolding EndsBefore
+failed over text rest policy bound root (halt.Ended ending) e s = e ∙ s bound
+failed over text rest policy bound root halt.NoMemory e s = tt
+
+abbrev made : Label → CapSet → List WorldObject × List WorldProc → World
+made top bound lists = record { top = top; bound = bound; objects = lists.0; procs = lists.1 }
+
+pub world_is : (levels : Levels) (bound : CapSet) (t : Fixtures) (top : Label) (lists : List WorldObject × List WorldProc) → top ≡ top_of levels → lists ≡ (t.objects, t.procs)
+    → world_of levels bound t ≡ made top bound lists
+world_is levels bound t top lists e f =
+    sym (ap (λ (x : Label). made x bound lists) e ∙ ap (λ (p : List WorldObject × List WorldProc). made (top_of levels) bound p) f)
 
 -- a world as it was read
-pub read_whole : (text rest : List ℕ) (levels : Levels) (root file : WorldObject) (process : WorldProc) (world : World) → read_lines (pieces 10 text) ≡ with_script levels root file process (pieces 10 rest)
-    → world ≡ world_of levels root file process → 1 ≤ length levels → length levels ≤ 16 → length rest ≤ length text → Reads text levels world rest
-read_whole text rest levels root file process world e w some few less = record {
-  says = e ∙ sym (ap (λ (v : World). input levels v rest) w);
+pub read_whole : (over : Bool) (text behind rest : List ℕ) (policy : Policy) (bound : CapSet) (root : WorldObject) (t : Fixtures) (n : ℕ) (world : World)
+    → Begins over text policy bound root behind → EndsInScript over policy 6 (record { objects = root ∷ []; procs = [] }) behind n t rest
+    → world_of policy.levels bound t ≡ world → IsSound (top_of policy.levels) t → 1 ≤ length policy.levels → length policy.levels ≤ 16 → length rest + n ≤ length behind + 6 → length behind + 5 ≤ length text
+    → Reads over text policy world n rest
+unfolding EndsInScript
+read_whole over text behind rest policy bound root t n world b f w s some few numbered shorter = subst (λ (w : World). Reads over text policy w n rest) w (record {
+  says = b ∙ f bound;
   some_level = some;
   few_levels = few;
-  objects = ap (λ (v : World). length v.objects) w;
-  procs = ap (λ (v : World). length v.procs) w;
-  shorter = less;
-}
-  where
-    input : Levels → World → List ℕ → Input
-    input levels world rest = record { accepted = Some (record { levels = levels; world = world }); script = script_from levels 9 (pieces 10 rest) }
+  is_world = (s bound).0;
+  has_room = (s bound).1;
+  numbered = omega arith;
+})

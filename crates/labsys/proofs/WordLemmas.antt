@@ -13,7 +13,7 @@ use Rattle.labsys.specs.Words.{are_names, FileWords, file_words, file_of}
 eq_turn : (a b : ℕ) → (a == b) ≡ (b == a)
 eq_turn a b = grind (arith, nat_tests)
 
-same_turn : (xs ys : List ℕ) → same_bytes xs ys ≡ same_bytes ys xs
+pub same_turn : (xs ys : List ℕ) → same_bytes xs ys ≡ same_bytes ys xs
 same_turn [] [] = refl
 same_turn [] (y ∷ ys) = refl
 same_turn (x ∷ xs) [] = refl

@@ -1,13 +1,15 @@
 -- The exit status of the program.
 use Rattle.std.specs.Prelude.{ℕ}
 use Rattle.labsys.specs.declared.status.Status.{Status}
-use Rattle.labsys.specs.declared.status.Status.TheVariants.{Done, Usage, Refused, ReadFault, WriteFault, NoMemory}
+use Rattle.labsys.specs.declared.status.Status.TheVariants.{Done, Usage, Refused, ReadFault, WriteFault, TrailFault, NoMemory, TooLong}
 
--- the number of a status; 5 and 7 are kept for a fault of the trail and for an input that is too long
+-- the number of a status
 abbrev pub exit_code : Status → ℕ
 exit_code Done = 0
 exit_code Usage = 1
 exit_code Refused = 2
 exit_code ReadFault = 3
 exit_code WriteFault = 4
+exit_code TrailFault = 5
 exit_code NoMemory = 6
+exit_code TooLong = 7

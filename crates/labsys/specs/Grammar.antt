@@ -3,6 +3,10 @@ use Rattle.std.specs.Prelude.{ℕ, ◌-◌, ◌/◌, ◌%◌, ◌==◌, ◌&&◌
 use Rattle.std.specs.List.{list_all, list_any}
 use Rattle.std.specs.Option.{option_and_then}
 use Rattle.std.specs.Cmp.Lexicographic.{pointwise}
+use Rattle.cap_bits.specs.declared.cap.Cap.TheVariants as cap
+use Rattle.cap_bits.specs.declared.state.CapState.{CapState}
+use Rattle.cap_bits.specs.CapSet.{CapSet, no_caps, all_of_caps, with_cap}
+use Rattle.cap_bits.specs.State.{no_flags}
 use Rattle.fs_path.specs.Name.{Name, is_name}
 use Rattle.fs_path.specs.Path.{PathValue}
 use Rattle.lab_lattice.specs.Label.{Label, dominates, bottom}
@@ -116,16 +120,20 @@ levels_line line = names_line (codes "levels") 1 16 line
 abbrev pub categories_line : List ℕ → Option (List (List ℕ))
 categories_line line = names_line (codes "categories") 0 64 line
 
+-- `bound all` or `bound none`
+abbrev pub bound_line : List ℕ → Option CapSet
+bound_line line = cond (same_bytes line (codes "bound all")) (Some all_of_caps) (keep_if (same_bytes line (codes "bound none")) no_caps)
+
 abbrev pub in_root : Name → PathValue
 in_root name = record { absolute = true; names = name ∷ [] }
 
--- `dir / 0777 UID GID LABEL`, with the lowest level as label
+-- `dir / MODE UID GID LABEL`, with the lowest level as label
 abbrev pub root_line : Levels → List ℕ → Option WorldObject
 root_line levels line =
-    then (behind (codes "dir / 0777 ") line) (λ line. word_then line (λ uid line. word_then line (λ gid name.
-    then (number_of uid) (λ owner. then (number_of gid) (λ group. then (label_of levels name) (λ label.
+    then (behind (codes "dir / ") line) (λ line. word_then line (λ mode line. word_then line (λ uid line. word_then line (λ gid name.
+    then (mode_of mode) (λ mode. then (number_of uid) (λ owner. then (number_of gid) (λ group. then (label_of levels name) (λ label.
     keep_if (dominates bottom label)
-    (record { path = record { absolute = true; names = [] }; label = label; attr = record { owner = owner; group = group; mode = 511 }; body = body.Dir })))))))
+    (record { path = record { absolute = true; names = [] }; label = label; attr = record { owner = owner; group = group; mode = mode }; body = body.Dir })))))))))
 
 -- `file /NAME MODE UID GID LABEL BYTES`
 abbrev pub file_line : Levels → List ℕ → Option WorldObject
@@ -138,12 +146,34 @@ file_line levels line =
 abbrev pub ids_of : ℕ → ℕ → Ids
 ids_of user group = record { ruid = user; euid = user; suid = user; rgid = group; egid = group; sgid = group; groups = [] }
 
--- `proc LABEL UID GID - "="`
+-- cap_mac_read effective and permitted
+abbrev pub reads_labels : CapState
+reads_labels = record { e = with_cap no_caps cap.MacRead; i = no_caps; p = with_cap no_caps cap.MacRead }
+
+-- the capability texts so far: `"="` and `"cap_mac_read=ep"`
+abbrev pub caps_of : List ℕ → Option CapState
+caps_of word = cond (same_bytes word (codes "\"=\"")) (Some no_flags) (keep_if (same_bytes word (codes "\"cap_mac_read=ep\"")) reads_labels)
+
+-- `proc LABEL UID GID - CAPS`
 abbrev pub proc_line : Levels → List ℕ → Option WorldProc
 proc_line levels line =
     then (behind (codes "proc ") line) (λ line. word_then line (λ label line. word_then line (λ uid line. word_then line (λ gid rest.
-    then (label_of levels label) (λ label. then (number_of uid) (λ user. then (number_of gid) (λ group.
-    keep_if (same_bytes rest (codes "- \"=\"")) (record { label = label; ids = ids_of user group }))))))))
+    then (label_of levels label) (λ label. then (number_of uid) (λ user. then (number_of gid) (λ group. then (behind (codes "- ") rest) (λ word. then (caps_of word) (λ caps.
+    Some (record { label = label; ids = ids_of user group; caps = caps }))))))))))
+
+-- an object or a process of a world
+pub data Fixture : Type 0 where
+  OfObject : (object : WorldObject) → Fixture
+  OfProcess : (process : WorldProc) → Fixture
+
+abbrev pub first_of : Option WorldObject → Option WorldProc → Option Fixture
+first_of (Some o) w = Some (OfObject o)
+first_of None (Some p) = Some (OfProcess p)
+first_of None None = None
+
+-- a file or a process
+abbrev pub fixture_line : Levels → List ℕ → Option Fixture
+fixture_line levels line = first_of (file_line levels line) (proc_line levels line)
 
 -- `TAG mac_get_file /NAME`
 abbrev pub script_line : Levels → List ℕ → Option ScriptItem

@@ -1,22 +1,28 @@
 -- What an input says: its world, its script up to the first refused line, and how it ends.
-use Rattle.std.specs.Prelude.{ℕ, ◌+◌, cond, nat_le, nat_lt, List, [], ◌∷◌, length, Option, Some, None, codes}
+use Rattle.std.specs.Prelude.{ℕ, ◌+◌, ◌&&◌, not, Bool, cond, nat_le, nat_lt, List, [], ◌∷◌, ◌++◌, length, take, Option, Some, None, codes}
+use Rattle.std.specs.List.{list_any}
+use Rattle.std.specs.Cmp.Lexicographic.{pointwise}
+use Rattle.cap_bits.specs.CapSet.{CapSet}
 use Rattle.kern_model.specs.declared.world.World.{World}
 use Rattle.kern_model.specs.declared.world.WorldObject.{WorldObject}
 use Rattle.kern_model.specs.declared.world.WorldProc.{WorldProc}
 use Rattle.kern_model.specs.declared.world.ScriptItem.{ScriptItem}
+use Rattle.kern_model.specs.Valid.{objects_at, procs_at}
 use Rattle.labsys.specs.declared.status.Ending.{Ending}
-use Rattle.labsys.specs.declared.status.Ending.TheVariants.{Whole, Refused}
+use Rattle.labsys.specs.declared.status.Ending.TheVariants.{Whole, Refused, TooMuch}
+use Rattle.labsys.specs.declared.status.Part.{Part}
 use Rattle.labsys.specs.declared.status.Part.TheVariants as part
 use Rattle.labsys.specs.declared.status.Refusal.TheVariants as refusal
 use Rattle.labsys.specs.Lines.{pieces}
-use Rattle.labsys.specs.Grammar.{Levels, exactly, levels_line, categories_line, root_line, file_line, proc_line, script_line, top_of}
+use Rattle.labsys.specs.declared.policy.Policy.{Policy}
+use Rattle.labsys.specs.Grammar.{Levels, Fixture, OfObject, OfProcess, same_bytes, keep_if, then, exactly, levels_line, categories_line, bound_line, root_line, fixture_line, script_line, top_of}
 
--- a world that was accepted, with the names of its levels
+-- a world that was accepted, with the names that it gives
 pub record Accepted : Type 0 where
-  pub levels : Levels
+  pub policy : Policy
   pub world : World
 
--- the items of a script up to the first refused line, and how it ends
+-- the items of a script up to the first refused line, and how the input ends
 pub record Script : Type 0 where
   pub items : List ScriptItem
   pub ending : Ending
@@ -28,59 +34,106 @@ pub record Input : Type 0 where
 abbrev pub script : List ScriptItem → Ending → Script
 script items ending = record { items = items; ending = ending }
 
--- no world is accepted, since this line is not the one due
-abbrev pub refused_world : ℕ → Input
-refused_world n = record { accepted = None; script = script [] (Refused n part.World refusal.NotBuilt) }
+-- no world is accepted
+abbrev pub no_world : Ending → Input
+no_world ending = record { accepted = None; script = script [] ending }
+
+-- this line of this part is refused
+abbrev pub refused : ℕ → Part → Ending
+refused n p = Refused n p refusal.NotBuilt
+
+-- a line that passes the place of the limit is judged for its length alone
+abbrev pub cut_off : ℕ → Part → List ℕ → Ending
+cut_off n p last = cond (nat_lt 2048 (length last)) (refused n p) TooMuch
+
+-- how an input ends inside its world, at a last piece that is no line; `over` where it goes on past the limit
+abbrev pub world_ends : Bool → ℕ → List ℕ → Input
+world_ends over n last = no_world (cond over (cut_off n part.World last) (refused n part.World))
 
 -- a line of at most 2,048 bytes that has a form
 abbrev pub short : {X : Type 0} → (List ℕ → Option X) → List ℕ → Option X
 short form line = cond (nat_le (length line) 2048) (form line) None
 
 abbrev pub said : {X : Type 0} → Option X → ℕ → (X → Input) → Input
-said None n k = refused_world n
+said None n k = no_world (refused n part.World)
 said (Some x) n k = k x
 
 -- the line that is due: what it says goes on with the pieces behind it, and any other line is refused.
 -- The last piece has no line feed behind it: there the input ends before the line that is due.
-abbrev pub due : {X : Type 0} → (List ℕ → Option X) → ℕ → List (List ℕ) → (X → List (List ℕ) → Input) → Input
-due form n [] k = refused_world n
-due form n (last ∷ []) k = refused_world n
-due form n (line ∷ next ∷ ls) k = said (short form line) n (λ x. k x (next ∷ ls))
+abbrev pub due : {X : Type 0} → Bool → (List ℕ → Option X) → ℕ → List (List ℕ) → (X → List (List ℕ) → Input) → Input
+due over form n [] k = world_ends over n []
+due over form n (last ∷ []) k = world_ends over n last
+due over form n (line ∷ next ∷ ls) k = said (short form line) n (λ x. k x (next ∷ ls))
+
+-- ---- the script
 
 abbrev pub after_item : Option ScriptItem → ℕ → Script → Script
-after_item None n more = script [] (Refused n part.Script refusal.NotBuilt)
+after_item None n more = script [] (refused n part.Script)
 after_item (Some item) n more = script (item ∷ more.items) more.ending
 
-abbrev pub ends_at : ℕ → List ℕ → Script
-ends_at n [] = script [] Whole
-ends_at n (b ∷ bs) = script [] (Refused n part.Script refusal.NotBuilt)
+abbrev pub whole_or_refused : ℕ → List ℕ → Ending
+whole_or_refused n [] = Whole
+whole_or_refused n (b ∷ bs) = refused n part.Script
 
 -- the script from line n on: its lines up to the first refused one, or to the end
-unfoldable pub script_from : Levels → ℕ → List (List ℕ) → Script
-script_from levels n [] = script [] Whole
-script_from levels n (last ∷ []) = ends_at n last
-script_from levels n (line ∷ next ∷ ls) = after_item (short (script_line levels) line) n (script_from levels (n + 1) (next ∷ ls))
+unfoldable pub script_from : Bool → Levels → ℕ → List (List ℕ) → Script
+script_from over levels n [] = script [] Whole
+script_from over levels n (last ∷ []) = script [] (cond over (cut_off n part.Script last) (whole_or_refused n last))
+script_from over levels n (line ∷ next ∷ ls) = after_item (short (script_line levels) line) n (script_from over levels (n + 1) (next ∷ ls))
 
-abbrev pub world_of : Levels → WorldObject → WorldObject → WorldProc → World
-world_of levels root file process = record { top = top_of levels; objects = root ∷ file ∷ []; procs = process ∷ [] }
+-- ---- the world
 
-abbrev pub with_script : Levels → WorldObject → WorldObject → WorldProc → List (List ℕ) → Input
-with_script levels root file process ls =
-    record { accepted = Some (record { levels = levels; world = world_of levels root file process }); script = script_from levels 9 ls }
+-- objects and processes so far, in the order of their lines
+pub record Fixtures : Type 0 where
+  pub objects : List WorldObject
+  pub procs : List WorldProc
+
+-- whether two objects have one path
+abbrev pub same_place : WorldObject → WorldObject → Bool
+same_place a b = pointwise same_bytes a.path.names b.path.names
+
+-- whether there is room for one more: its path is new, and its label has numbers left
+abbrev pub fits : Fixtures → Fixture → Bool
+fits t (OfObject o) = not (list_any (same_place o) t.objects) && nat_lt (objects_at o.label t.objects) 65535
+fits t (OfProcess p) = nat_lt (procs_at p.label t.procs) 4095
+
+abbrev pub added : Fixtures → Fixture → Fixtures
+added t (OfObject o) = record t { objects = t.objects ++ o ∷ [] }
+added t (OfProcess p) = record t { procs = t.procs ++ p ∷ [] }
+
+-- a line of the world behind the root's
+abbrev pub next_fixture : Levels → Fixtures → List ℕ → Option Fixture
+next_fixture levels t line = then (short (fixture_line levels) line) (λ f. keep_if (fits t f) f)
+
+abbrev pub world_of : Levels → CapSet → Fixtures → World
+world_of levels bound t = record { top = top_of levels; bound = bound; objects = t.objects; procs = t.procs }
+
+abbrev pub with_script : Bool → Policy → CapSet → Fixtures → ℕ → List (List ℕ) → Input
+with_script over policy bound t n ls =
+    record { accepted = Some (record { policy = policy; world = world_of policy.levels bound t }); script = script_from over policy.levels n ls }
+
+abbrev pub or_script : Option (Unit {0}) → Input → Input → Input
+or_script (Some u) begins more = begins
+or_script None begins more = more
+
+-- files and processes from line n on, up to the line `script`
+unfoldable pub fixtures_from : Bool → Policy → CapSet → ℕ → Fixtures → List (List ℕ) → Input
+fixtures_from over policy bound n t [] = world_ends over n []
+fixtures_from over policy bound n t (last ∷ []) = world_ends over n last
+fixtures_from over policy bound n t (line ∷ next ∷ ls) =
+    or_script (short (exactly (codes "script")) line) (with_script over policy bound t (n + 1) (next ∷ ls))
+    (said (next_fixture policy.levels t line) n (λ f. fixtures_from over policy bound (n + 1) (added t f) (next ∷ ls)))
 
 -- the lines of a world, each in its turn, and then the script
-abbrev pub read_lines : List (List ℕ) → Input
-read_lines ls =
-    due (exactly (codes "world 1")) 1 ls (λ _ ls.
-    due levels_line 2 ls (λ levels ls.
-    due categories_line 3 ls (λ _ ls.
-    due (exactly (codes "bound all")) 4 ls (λ _ ls.
-    due (root_line levels) 5 ls (λ root ls.
-    due (file_line levels) 6 ls (λ file ls.
-    due (proc_line levels) 7 ls (λ process ls.
-    due (exactly (codes "script")) 8 ls (λ _ ls.
-    with_script levels root file process ls))))))))
+abbrev pub read_lines : Bool → List (List ℕ) → Input
+read_lines over ls =
+    due over (exactly (codes "world 1")) 1 ls (λ _ ls.
+    due over levels_line 2 ls (λ levels ls.
+    due over categories_line 3 ls (λ categories ls.
+    due over bound_line 4 ls (λ bound ls.
+    due over (root_line levels) 5 ls (λ root ls.
+    fixtures_from over (record { levels = levels; categories = categories }) bound 6 (record { objects = root ∷ []; procs = [] }) ls)))))
 
--- what bytes say: of more than 16 MiB, nothing
+-- what bytes say: the lines that stand in the first 16 MiB, and whether there is more
 unfoldable pub input_of : List ℕ → Input
-input_of text = cond (nat_lt 16777216 (length text)) (refused_world 0) (read_lines (pieces 10 text))
+input_of text = read_lines (nat_lt 16777216 (length text)) (pieces 10 (take 16777216 text))

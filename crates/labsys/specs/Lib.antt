@@ -1,10 +1,12 @@
 pub mod Lines
 pub mod Grammar
 pub mod Input
+pub mod Words
+pub mod Fixture
+pub mod Reading
+pub mod Kernel
 pub mod Texts
+pub mod Order
 pub mod Playing
 pub mod Clauses
-pub mod Kernel
-pub mod Reading
 pub mod Exit
-pub mod Words

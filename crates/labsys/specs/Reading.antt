@@ -1,53 +1,88 @@
 -- What is read of an input, line by line.
-use Rattle.std.specs.Prelude.{◌≡◌, ℕ, ◌+◌, ◌≤◌, ◌<◌, nat_le, List, [], ◌∷◌, length, Option, Some, option_and_then}
+use Rattle.std.specs.Prelude.{◌≡◌, ℕ, ◌+◌, ◌≤◌, ◌<◌, Bool, cond, nat_le, List, [], ◌∷◌, length, Option, Some, option_and_then}
+use Rattle.cap_bits.specs.CapSet.{CapSet}
+use Rattle.lab_lattice.specs.Label.{Label}
+use Rattle.kern_model.specs.declared.world.WorldObject.{WorldObject}
 use Rattle.kern_model.specs.declared.world.World.{World}
 use Rattle.kern_model.specs.declared.world.ScriptItem.{ScriptItem}
+use Rattle.kern_model.specs.Valid.{HasRoom, IsWorld}
 use Rattle.labsys.specs.declared.status.Ending.{Ending}
+use Rattle.labsys.specs.declared.status.Part.{Part}
 use Rattle.labsys.specs.declared.reading.Halt.{Halt}
 use Rattle.labsys.specs.declared.reading.Halt.TheVariants as halt
 use Rattle.labsys.specs.declared.reading.Next.{Next}
 use Rattle.labsys.specs.declared.reading.Next.TheVariants as next
 use Rattle.labsys.specs.Lines.{cut, pieces}
-use Rattle.labsys.specs.Grammar.{Levels, keep_if}
-use Rattle.labsys.specs.Input.{Input, due, refused_world, read_lines, script, script_from}
+use Rattle.labsys.specs.declared.policy.Policy.{Policy}
+use Rattle.labsys.specs.Grammar.{Levels, Fixture, keep_if, then, fixture_line}
+use Rattle.labsys.specs.Input.{Input, Fixtures, no_world, refused, cut_off, due, fits, fixtures_from, with_script, read_lines, script, script_from}
 
 -- the next line, where it has at most 2,048 bytes, and what stands behind its line feed
 unfoldable pub next_short : List ℕ → Option (List ℕ × List ℕ)
 next_short text = option_and_then (λ (p : List ℕ × List ℕ). keep_if (nat_le (length p.0) 2048) p) (cut 10 text)
 
+-- how an input ends where no next line of at most 2,048 bytes stands
+abbrev pub ends_at : Bool → ℕ → Part → List ℕ → Ending
+ends_at over n p text = cond over (cut_off n p text) (refused n p)
+
 -- the line that is due says `x`, and what stands behind it is read next
-unfoldable pub GoesOn : {X : Type 0} → (List ℕ → Option X) → ℕ → List ℕ → X → List ℕ → Type 0
-GoesOn {X} form n text x rest = (k : X → List (List ℕ) → Input) → due form n (pieces 10 text) k ≡ k x (pieces 10 rest)
+unfoldable pub GoesOn : {X : Type 0} → Bool → (List ℕ → Option X) → ℕ → List ℕ → X → List ℕ → Type 0
+GoesOn {X} over form n text x rest = (k : X → List (List ℕ) → Input) → due over form n (pieces 10 text) k ≡ k x (pieces 10 rest)
 
--- the line that is due is refused, if memory did not run out
-unfoldable pub Stops : {X : Type 0} → (List ℕ → Option X) → ℕ → List ℕ → Halt → Type 0
-Stops {X} form n text (halt.Refused m) = (k : X → List (List ℕ) → Input) → due form n (pieces 10 text) k ≡ refused_world m
-Stops form n text halt.NoMemory = Unit {0}
+-- the line that is due is not there, if memory did not run out
+unfoldable pub Stops : {X : Type 0} → Bool → (List ℕ → Option X) → ℕ → List ℕ → Halt → Type 0
+Stops {X} over form n text (halt.Ended ending) = (k : X → List (List ℕ) → Input) → due over form n (pieces 10 text) k ≡ no_world ending
+Stops over form n text halt.NoMemory = Unit {0}
 
--- a world was read, and this text is its script
-pub record Reads (text : List ℕ) (levels : Levels) (world : World) (rest : List ℕ) : Type 0 where
-  pub says : read_lines (pieces 10 text) ≡ record { accepted = Some (record { levels = levels; world = world }); script = script_from levels 9 (pieces 10 rest) }
-  pub some_level : 1 ≤ length levels
-  pub few_levels : length levels ≤ 16
-  pub objects : length world.objects ≡ 2
-  pub procs : length world.procs ≡ 1
-  pub shorter : length rest ≤ length text
+-- the lines of a world up to its root were read, and this text is what stands behind them
+abbrev pub Begins : Bool → List ℕ → Policy → CapSet → WorldObject → List ℕ → Type 0
+Begins over text policy bound root rest = read_lines over (pieces 10 text) ≡ fixtures_from over policy bound 6 (record { objects = root ∷ []; procs = [] }) (pieces 10 rest)
+
+-- what a line of the world behind the root's says, where there is room for it
+abbrev pub next_of : Levels → Fixtures → List ℕ → Option Fixture
+next_of levels t line = then (fixture_line levels line) (λ f. keep_if (fits t f) f)
+
+-- objects and processes make up a valid world that has room, whatever the bound
+abbrev pub IsSound : Label → Fixtures → Type 0
+IsSound top t = (bound : CapSet) → IsWorld (record { top = top; bound = bound; objects = t.objects; procs = t.procs }) × HasRoom (record { top = top; bound = bound; objects = t.objects; procs = t.procs })
+
+-- from line n on the same is read as from line m on
+unfoldable pub ComesTo : Bool → Policy → ℕ → Fixtures → List ℕ → ℕ → Fixtures → List ℕ → Type 0
+ComesTo over policy n t text m u rest = (bound : CapSet) → fixtures_from over policy bound n t (pieces 10 text) ≡ fixtures_from over policy bound m u (pieces 10 rest)
+
+-- from line n on files and processes are read, and then the script from line m on
+unfoldable pub EndsInScript : Bool → Policy → ℕ → Fixtures → List ℕ → ℕ → Fixtures → List ℕ → Type 0
+EndsInScript over policy n t text m u rest = (bound : CapSet) → fixtures_from over policy bound n t (pieces 10 text) ≡ with_script over policy bound u m (pieces 10 rest)
+
+-- from line n on no world is read, if memory did not run out
+unfoldable pub EndsBefore : Bool → Policy → ℕ → Fixtures → List ℕ → Halt → Type 0
+EndsBefore over policy n t text (halt.Ended ending) = (bound : CapSet) → fixtures_from over policy bound n t (pieces 10 text) ≡ no_world ending
+EndsBefore over policy n t text halt.NoMemory = Unit {0}
+
+-- a world was read, and this text is its script, from line n on
+pub record Reads (over : Bool) (text : List ℕ) (policy : Policy) (world : World) (n : ℕ) (rest : List ℕ) : Type 0 where
+  pub says : read_lines over (pieces 10 text) ≡ record { accepted = Some (record { policy = policy; world = world }); script = script_from over policy.levels n (pieces 10 rest) }
+  pub some_level : 1 ≤ length policy.levels
+  pub few_levels : length policy.levels ≤ 16
+  pub is_world : IsWorld world
+  pub has_room : HasRoom world
+  pub numbered : length rest + n ≤ length text + 1
 
 -- no world was read
-abbrev pub ReadsNone : List ℕ → Halt → Type 0
-ReadsNone text (halt.Refused n) = read_lines (pieces 10 text) ≡ refused_world n
-ReadsNone text halt.NoMemory = Unit {0}
+abbrev pub ReadsNone : Bool → List ℕ → Halt → Type 0
+ReadsNone over text (halt.Ended ending) = read_lines over (pieces 10 text) ≡ no_world ending
+ReadsNone over text halt.NoMemory = Unit {0}
 
 -- a line of a script says this item, and this text is what stands behind it
-pub record Plays (levels : Levels) (n : ℕ) (text : List ℕ) (item : ScriptItem) (rest : List ℕ) : Type 0 where
-  pub says : script_from levels n (pieces 10 text) ≡ script (item ∷ (script_from levels (n + 1) (pieces 10 rest)).items) (script_from levels (n + 1) (pieces 10 rest)).ending
+pub record PlaysLine (over : Bool) (levels : Levels) (n : ℕ) (text : List ℕ) (item : ScriptItem) (rest : List ℕ) : Type 0 where
+  pub says : script_from over levels n (pieces 10 text) ≡ script (item ∷ (script_from over levels (n + 1) (pieces 10 rest)).items) (script_from over levels (n + 1) (pieces 10 rest)).ending
   pub shorter : length rest < length text
 
 -- a script ends here
-abbrev pub Ends : Levels → ℕ → List ℕ → Ending → Type 0
-Ends levels n text ending = script_from levels n (pieces 10 text) ≡ script [] ending
+abbrev pub Ends : Bool → Levels → ℕ → List ℕ → Ending → Type 0
+Ends over levels n text ending = script_from over levels n (pieces 10 text) ≡ script [] ending
 
 -- what is next in a script
-abbrev pub Follows : Levels → ℕ → List ℕ → Next → Type 0
-Follows levels n text (next.Item item rest) = Plays levels n text item rest.now
-Follows levels n text (next.Ended ending) = Ends levels n text ending
+abbrev pub Follows : Bool → Levels → ℕ → List ℕ → Next → Type 0
+Follows over levels n text (next.Item item rest) = PlaysLine over levels n text item rest.now
+Follows over levels n text (next.Ended ending) = Ends over levels n text ending

@@ -1,9 +1,13 @@
 -- The texts that are written.
-use Rattle.std.specs.Prelude.{ℕ, List, [], ◌∷◌, ◌++◌, length, Option, Some, None, codes, slice_get, unwrap_or}
+use Rattle.std.specs.Prelude.{ℕ, List, [], ◌∷◌, ◌++◌, Option, Some, None, cond, codes, slice_get, unwrap_or}
 use Rattle.std.specs.List.{flat_map}
 use Rattle.std.specs.Option.{option_map}
 use Rattle.std.specs.Fmt.{decimal}
 use Rattle.std.specs.FinMap as map
+use Rattle.cap_bits.specs.declared.cap.Cap.TheVariants as cap
+use Rattle.cap_bits.specs.declared.state.CapState.{CapState}
+use Rattle.cap_bits.specs.Cap.{cap_name}
+use Rattle.cap_bits.specs.CapSet.{CapSet, has, is_within, all_of_caps}
 use Rattle.lab_lattice.specs.Label.{Label}
 use Rattle.kern_model.specs.declared.numbers.Pid.{Pid}
 use Rattle.kern_model.specs.declared.objects.Process.{Process}
@@ -11,8 +15,12 @@ use Rattle.kern_model.specs.declared.checks.CheckName.{CheckName}
 use Rattle.kern_model.specs.declared.checks.CheckName.TheVariants as check
 use Rattle.kern_model.specs.declared.checks.Place.{Place}
 use Rattle.kern_model.specs.declared.checks.Place.TheVariants as place
-use Rattle.kern_model.specs.declared.calls.Call.{Call}
-use Rattle.kern_model.specs.declared.calls.Call.TheVariants as call
+use Rattle.kern_model.specs.declared.checks.Thing.{Thing}
+use Rattle.kern_model.specs.declared.checks.Thing.TheVariants as thing
+use Rattle.kern_model.specs.declared.records.Rec.{Rec}
+use Rattle.kern_model.specs.declared.records.Rec.TheVariants as rec
+use Rattle.kern_model.specs.declared.calls.CallName.{CallName}
+use Rattle.kern_model.specs.declared.calls.CallName.TheVariants as call
 use Rattle.kern_model.specs.declared.calls.Errno.{Errno}
 use Rattle.kern_model.specs.declared.calls.Errno.TheVariants as errno
 use Rattle.kern_model.specs.declared.calls.Answer.{Answer}
@@ -20,16 +28,16 @@ use Rattle.kern_model.specs.declared.calls.Answer.TheVariants as answer
 use Rattle.kern_model.specs.declared.calls.Reply.{Reply}
 use Rattle.kern_model.specs.declared.calls.Reply.TheVariants as reply
 use Rattle.kern_model.specs.State.{State}
-use Rattle.kern_model.specs.Boot.{boot}
-use Rattle.kern_model.specs.Run.{Played, run, state_after_run}
+use Rattle.kern_model.specs.Rules.{name_of}
+use Rattle.kern_model.specs.Run.{Played}
 use Rattle.labsys.specs.declared.status.Ending.{Ending}
-use Rattle.labsys.specs.declared.status.Ending.TheVariants.{Whole, Refused}
+use Rattle.labsys.specs.declared.status.Ending.TheVariants.{Whole, Refused, TooMuch}
 use Rattle.labsys.specs.declared.status.Part.{Part}
 use Rattle.labsys.specs.declared.status.Part.TheVariants as part
 use Rattle.labsys.specs.declared.status.Refusal.{Refusal}
 use Rattle.labsys.specs.declared.status.Refusal.TheVariants as refusal
+use Rattle.labsys.specs.declared.policy.Policy.{Policy}
 use Rattle.labsys.specs.Grammar.{Levels}
-use Rattle.labsys.specs.Input.{Accepted, Input}
 
 -- ---- words
 
@@ -37,9 +45,12 @@ use Rattle.labsys.specs.Input.{Accepted, Input}
 unfoldable pub label_text : Levels → Label → List ℕ
 label_text levels l = unwrap_or (slice_get levels l) []
 
+unfoldable pub number_text : Levels → ℕ → Label → List ℕ
+number_text levels n l = decimal n ++ 64 ∷ label_text levels l
+
 -- `n@label`
 unfoldable pub pid_text : Levels → Pid → List ℕ
-pid_text levels who = decimal who.n ++ 64 ∷ label_text levels who.label
+pid_text levels who = number_text levels who.n who.label
 
 unfoldable pub place_text : Place → List ℕ
 place_text (place.First n) = 112 ∷ decimal n
@@ -56,9 +67,28 @@ errno_text errno.ESRCH = codes "ESRCH"
 
 unfoldable pub check_text : CheckName → List ℕ
 check_text check.MacRead = codes "mac_read"
+check_text check.DacSearch = codes "dac_search"
 
-unfoldable pub call_text : Call → List ℕ
-call_text (call.MacGetFile path) = codes "mac_get_file"
+unfoldable pub call_text : CallName → List ℕ
+call_text call.MacGetFile = codes "mac_get_file"
+
+-- `obj:OID` or `proc:PID`
+unfoldable pub thing_text : Levels → Thing → List ℕ
+thing_text levels (thing.Object id) = codes "obj:" ++ number_text levels id.n id.label
+thing_text levels (thing.Process who) = codes "proc:" ++ number_text levels who.n who.label
+
+-- a new label, or `-`
+unfoldable pub new_label_text : Levels → Option Label → List ℕ
+new_label_text levels None = codes "-"
+new_label_text levels (Some l) = label_text levels l
+
+-- the capability states so far
+unfoldable pub caps_text : CapState → List ℕ
+caps_text caps = cond (has caps.e cap.MacRead) (codes "\"cap_mac_read=ep\"") (codes "\"=\"")
+
+-- the bounds so far
+unfoldable pub bound_text : CapSet → List ℕ
+bound_text bound = cond (is_within all_of_caps bound) (codes "all") (codes "none")
 
 unfoldable pub answer_text : Levels → Answer → List ℕ
 answer_text levels (answer.Mark l) = codes "ok " ++ label_text levels l
@@ -68,28 +98,33 @@ outcome_text levels (reply.Done answer) = answer_text levels answer
 outcome_text levels (reply.Denied e check place) = errno_text e ++ 32 ∷ (check_text check ++ 32 ∷ place_text place)
 outcome_text levels (reply.Refused e) = errno_text e
 
--- ---- lines
+-- ---- lines of the output
 
 -- the reply line of a call: `TAG CALL OUTCOME`
 unfoldable pub reply_text : Levels → Played → List ℕ
-reply_text levels p = pid_text levels p.who ++ 32 ∷ (call_text p.call ++ 32 ∷ (outcome_text levels p.reply ++ 10 ∷ []))
+reply_text levels p = pid_text levels p.who ++ 32 ∷ (call_text (name_of p.call) ++ 32 ∷ (outcome_text levels p.reply ++ 10 ∷ []))
 
--- the end line of a process that lives: `end PID LABEL "="`
-unfoldable pub life_text : Levels → Pid → Label → List ℕ
-life_text levels who l = codes "end " ++ (pid_text levels who ++ 32 ∷ (label_text levels l ++ codes " \"=\"\n"))
+-- the end line of a process that lives: `end PID LABEL CAPS`
+unfoldable pub life_text : Levels → Pid → Label → CapState → List ℕ
+life_text levels who l caps = codes "end " ++ (pid_text levels who ++ 32 ∷ (label_text levels l ++ 32 ∷ (caps_text caps ++ 10 ∷ [])))
 
 -- the end line, where the process lives
-abbrev pub end_text : Levels → Pid → Option Label → List ℕ
-end_text levels who None = []
-end_text levels who (Some l) = life_text levels who l
+abbrev pub end_text : Levels → Pid → Option Label → Option CapState → List ℕ
+end_text levels who (Some l) (Some caps) = life_text levels who l caps
+end_text levels who (Some l) None = []
+end_text levels who None caps = []
 
 -- the label of a process that lives
 abbrev pub label_in : State → Pid → Option Label
 label_in s who = option_map (λ (p : Process). p.label) (map.get s.procs who)
 
+-- the capability sets of a process that lives
+abbrev pub caps_in : State → Pid → Option CapState
+caps_in s who = option_map (λ (p : Process). p.caps) (map.get s.procs who)
+
 -- the end lines of all that live, in the order of their numbers
 unfoldable pub ends_text : Levels → State → List ℕ
-ends_text levels s = flat_map (λ who. end_text levels who (label_in s who)) (map.keys s.procs)
+ends_text levels s = flat_map (λ who. end_text levels who (label_in s who) (caps_in s who)) (map.keys s.procs)
 
 unfoldable pub part_text : Part → List ℕ
 part_text part.World = codes "world"
@@ -98,23 +133,30 @@ part_text part.Script = codes "script"
 unfoldable pub refusal_text : Refusal → List ℕ
 refusal_text refusal.NotBuilt = codes "not_built"
 
--- the last line: `done COUNT`, or `refused LINE PART WORD`
+-- the last line: `done COUNT`, `refused LINE PART WORD` or `too long`
 unfoldable pub last_text : ℕ → Ending → List ℕ
 last_text count Whole = codes "done " ++ (decimal count ++ 10 ∷ [])
 last_text count (Refused n part why) = codes "refused " ++ (decimal n ++ 32 ∷ (part_text part ++ 32 ∷ (refusal_text why ++ 10 ∷ [])))
+last_text count TooMuch = codes "too long\n"
 
--- ---- the whole output
+-- ---- lines of the trail
 
-unfoldable pub replies_text : Levels → List Played → List ℕ
-replies_text levels ps = flat_map (reply_text levels) ps
+-- a keyword and names behind it
+unfoldable pub names_text : List ℕ → List (List ℕ) → List ℕ
+names_text keyword names = keyword ++ (flat_map (λ name. 32 ∷ name) names ++ 10 ∷ [])
 
--- of an accepted world the replies of the run, the end lines of its last state, and the last line
-unfoldable pub out_of : Option Accepted → Input → List ℕ
-out_of None i = last_text 0 i.script.ending
-out_of (Some a) i =
-    replies_text a.levels (run (boot a.world) i.script.items)
-    ++ (ends_text a.levels (state_after_run (boot a.world) i.script.items)
-    ++ last_text (length i.script.items) i.script.ending)
+-- the header of the trail: its format, and the world's lines of levels, categories and bound
+unfoldable pub header_text : Policy → CapSet → List ℕ
+header_text policy bound = codes "trail 1\n" ++ (names_text (codes "levels") policy.levels ++ (names_text (codes "categories") policy.categories ++ (codes "bound " ++ (bound_text bound ++ 10 ∷ []))))
 
-unfoldable pub out_text : Input → List ℕ
-out_text i = out_of i.accepted i
+-- the words of a record
+unfoldable pub rec_words : Levels → Rec → List ℕ
+rec_words levels (rec.Boot who l caps) = codes "boot " ++ (pid_text levels who ++ 32 ∷ (label_text levels l ++ 32 ∷ caps_text caps))
+rec_words levels (rec.Exercise who l with check thing thing_label new_label place) =
+    codes "exercise " ++ (pid_text levels who ++ 32 ∷ (label_text levels l ++ 32 ∷ (cap_name with ++ 32 ∷ (check_text check ++ 32 ∷ (thing_text levels thing ++ 32 ∷ (label_text levels thing_label
+    ++ 32 ∷ (new_label_text levels new_label ++ 32 ∷ place_text place)))))))
+rec_words levels (rec.Deny who call e check place) = codes "deny " ++ (pid_text levels who ++ 32 ∷ (call_text call ++ 32 ∷ (errno_text e ++ 32 ∷ (check_text check ++ 32 ∷ place_text place))))
+
+-- a record of a call, with the call's number; 0 stands for the start
+unfoldable pub rec_text : Levels → ℕ → Rec → List ℕ
+rec_text levels n r = decimal n ++ 32 ∷ (rec_words levels r ++ 10 ∷ [])

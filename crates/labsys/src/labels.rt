@@ -1,11 +1,11 @@
 // Labels by the names of their levels.
-ghost use Rattle.std.specs.Prelude.{◌≡◌, ◌≤◌, ◌<◌, length, IfSome, position};
+ghost use Rattle.std.specs.Prelude.{◌≡◌, ◌≤◌, ◌<◌, length, IfSome, position, true};
 ghost use Rattle.lab_lattice.specs.Label.{dominates, bottom};
 ghost use Rattle.labsys.specs.Grammar.{label_of, top_of, same_bytes};
 ghost use Rattle.labsys.specs.Texts.{label_text};
 
 use crate::words::Levels;
-use lab_lattice::{Label, Level};
+use lab_lattice::{Label, Lattice, Level};
 
 // The place of a name.
 fn place_of(levels: &Levels, word: &[u8]) -> Option<usize>
@@ -15,10 +15,12 @@ fn place_of(levels: &Levels, word: &[u8]) -> Option<usize>
     levels.items().iter().position(|name| word == name.items())
 }
 
-/// The label with this name.
+/// The label with this name, which the highest one dominates.
+#[tactic(auto, using(crate::proofs::LabelLemmas::place_below))]
 pub fn label_of(levels: &Levels, word: &[u8]) -> Option<Label>
     requires { length levels.now ≤ 16 }
-    ensures { result ≡ label_of levels.now word.now }
+    ensures label { result ≡ label_of levels.now word.now }
+    ensures below { IfSome result (λ label. dominates (top_of levels.now) label ≡ true) }
 {
     let place = place_of(levels, word)?;
     Level::new(place as u8)

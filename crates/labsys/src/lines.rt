@@ -1,16 +1,20 @@
 // The lines of an input.
-ghost use Rattle.std.specs.Prelude.{◌≡◌, ◌≤◌, IfOk, MatchOption, None, Some, length};
-ghost use Rattle.labsys.specs.Grammar.{names_line, levels_line, categories_line, root_line, file_line, proc_line, script_line};
+ghost use Rattle.std.specs.Prelude.{◌≡◌, ◌≤◌, IfOk, IfSome, MatchOption, None, Some, [], length, true, option_map};
+ghost use Rattle.lab_lattice.specs.Label.{dominates, bottom};
+ghost use Rattle.labsys.specs.Grammar.{names_line, levels_line, categories_line, bound_line, root_line, file_line, proc_line, fixture_line, script_line, top_of};
 ghost use Rattle.labsys.specs.Words.{file_words, file_of};
+ghost use Rattle.kern_model.specs.declared.objects.Body.TheVariants as body;
+ghost use Rattle.labsys.specs.Fixture.{as_fixture, label_in, IsInRoot};
 
 use crate::labels::{is_bottom, label_of};
 use crate::pieces::{behind, cut};
-use crate::words::{Levels, entry_of, first_word, mode_of, names_in, number_of, quoted_of, tag_of};
+use crate::words::{
+    Levels, caps_of, entry_of, first_word, mode_of, names_in, number_of, quoted_of, tag_of,
+};
+use cap_bits::CapSet;
 use fs_path::{List, NoMemory, Path};
 use kern_model::{Attr, Body, Call, Ids, ScriptItem, WorldObject, WorldProc};
 use std::alloc::Global;
-
-const ROOT_MODE: u16 = 0o777;
 
 /// From `low` to `high` distinct names behind a keyword.
 fn names_line(
@@ -49,14 +53,32 @@ pub fn categories_line(alloc: Global, line: &[u8]) -> Result<Option<Levels>, NoM
     names_line(alloc, b"categories", 0, 64, line)
 }
 
+/// The capabilities that a program can give to a process.
+pub fn bound_line(line: &[u8]) -> Option<CapSet>
+    ensures { result ≡ bound_line line.now }
+{
+    if line == b"bound all".as_slice() {
+        return Some(CapSet::all());
+    }
+    if line == b"bound none".as_slice() {
+        return Some(CapSet::none());
+    }
+    None
+}
+
 /// The root directory, which has the lowest label.
 pub fn root_line(alloc: Global, levels: &Levels, line: &[u8]) -> Option<WorldObject>
     requires { length levels.now ≤ 16 }
-    ensures { result ≡ root_line levels.now line.now }
+    ensures line { result ≡ root_line levels.now line.now }
+    ensures no_names { IfSome result (λ root. root.path.names ≡ []) }
+    ensures lowest { IfSome result (λ root. dominates bottom root.label ≡ true) }
+    ensures is_dir { IfSome result (λ root. root.body ≡ body.Dir) }
 {
-    let line = behind(b"dir / 0777 ", line)?;
+    let line = behind(b"dir / ", line)?;
+    let (mode, line) = cut(line, b' ')?;
     let (uid, line) = cut(line, b' ')?;
     let (gid, name) = cut(line, b' ')?;
+    let mode = mode_of(mode)?;
     let owner = number_of(uid)?;
     let group = number_of(gid)?;
     let label = label_of(levels, name)?;
@@ -66,11 +88,7 @@ pub fn root_line(alloc: Global, levels: &Levels, line: &[u8]) -> Option<WorldObj
     Some(WorldObject {
         path: Path::root(alloc),
         label,
-        attr: Attr {
-            owner,
-            group,
-            mode: ROOT_MODE,
-        },
+        attr: Attr { owner, group, mode },
         body: Body::Dir,
     })
 }
@@ -113,7 +131,9 @@ fn file_of(
     words: FileWords<'_>,
 ) -> Result<Option<WorldObject>, NoMemory>
     requires { length levels.now ≤ 16 }
-    ensures { IfOk result (λ said. said ≡ file_of levels.now (record { name = words.entry.name.now; mode = words.entry.mode.now; uid = words.entry.uid.now; gid = words.entry.gid.now; label = words.entry.label.now; bytes = words.entry.bytes.now })) }
+    ensures words { IfOk result (λ said. said ≡ file_of levels.now (record { name = words.entry.name.now; mode = words.entry.mode.now; uid = words.entry.uid.now; gid = words.entry.gid.now; label = words.entry.label.now; bytes = words.entry.bytes.now })) }
+    ensures below { IfOk result (λ said. IfSome said (λ file. dominates (top_of levels.now) file.label ≡ true)) }
+    ensures in_root { IfOk result (λ said. IfSome said (λ file. length file.path.names ≡ 1)) }
 {
     let Some(name) = entry_of(alloc, words.name)? else {
         return Ok(None);
@@ -148,7 +168,9 @@ pub fn file_line(
     line: &[u8],
 ) -> Result<Option<WorldObject>, NoMemory>
     requires { length levels.now ≤ 16 }
-    ensures { IfOk result (λ said. said ≡ file_line levels.now line.now) }
+    ensures line { IfOk result (λ said. said ≡ file_line levels.now line.now) }
+    ensures below { IfOk result (λ said. IfSome said (λ file. dominates (top_of levels.now) file.label ≡ true)) }
+    ensures in_root { IfOk result (λ said. IfSome said (λ file. length file.path.names ≡ 1)) }
 {
     match file_words(line) {
         Some(words) => file_of(alloc, levels, words),
@@ -156,10 +178,11 @@ pub fn file_line(
     }
 }
 
-/// The first process.
+/// A process.
 pub fn proc_line(alloc: Global, levels: &Levels, line: &[u8]) -> Option<WorldProc>
     requires { length levels.now ≤ 16 }
-    ensures { result ≡ proc_line levels.now line.now }
+    ensures line { result ≡ proc_line levels.now line.now }
+    ensures below { IfSome result (λ process. dominates (top_of levels.now) process.label ≡ true) }
 {
     let line = behind(b"proc ", line)?;
     let (label, line) = cut(line, b' ')?;
@@ -168,9 +191,7 @@ pub fn proc_line(alloc: Global, levels: &Levels, line: &[u8]) -> Option<WorldPro
     let label = label_of(levels, label)?;
     let user = number_of(uid)?;
     let group = number_of(gid)?;
-    if rest != b"- \"=\"".as_slice() {
-        return None;
-    }
+    let caps = caps_of(behind(b"- ", rest)?)?;
     Some(WorldProc {
         label,
         ids: Ids {
@@ -182,7 +203,35 @@ pub fn proc_line(alloc: Global, levels: &Levels, line: &[u8]) -> Option<WorldPro
             sgid: group,
             groups: List::new(alloc),
         },
+        caps,
     })
+}
+
+/// An object or a process of a world.
+#[derive(Debug, Drop)]
+pub enum Fixture {
+    Object(WorldObject),
+    Process(WorldProc),
+}
+
+/// A file or a process.
+pub fn fixture_line(
+    alloc: Global,
+    levels: &Levels,
+    line: &[u8],
+) -> Result<Option<Fixture>, NoMemory>
+    requires { length levels.now ≤ 16 }
+    ensures line { IfOk result (λ said. option_map as_fixture said ≡ fixture_line levels.now line.now) }
+    ensures below { IfOk result (λ said. IfSome said (λ fixture. dominates (top_of levels.now) (label_in fixture) ≡ true)) }
+    ensures in_root { IfOk result (λ said. IfSome said IsInRoot) }
+{
+    if let Some(object) = file_line(alloc, levels, line)? {
+        return Ok(Some(Fixture::Object(object)));
+    }
+    match proc_line(alloc, levels, line) {
+        Some(process) => Ok(Some(Fixture::Process(process))),
+        None => Ok(None),
+    }
 }
 
 /// A call and its caller.

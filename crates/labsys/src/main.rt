@@ -1,11 +1,13 @@
 //! A simulated kernel: plays a script of system calls on a described world, and writes the reply to each call.
 #![tactic(auto)]
 
+mod fixtures;
 mod kernel;
 mod labels;
 mod lines;
 mod pieces;
 mod playing;
+mod policy;
 mod reading;
 mod running;
 mod status;

@@ -1,33 +1,52 @@
 // An input that was read, from its first byte to the last line.
-ghost use Rattle.std.specs.Prelude.{◌≡◌, ◌≤◌, ◌++◌, OnOk, IfOk, IfErr, length};
+ghost use Rattle.std.specs.Prelude.{◌≡◌, ◌≤◌, ◌+◌, ◌^◌, ◌++◌, OnOk, IfOk, IfErr, Some, length};
+ghost use Rattle.std.specs.List.{flat_map};
 ghost use Rattle.std.specs.Io.KnownBytes.{Appends};
 ghost use Rattle.io_ends.specs.Causes.{Rose};
-ghost use Rattle.kern_model.specs.Boot.{boot};
+ghost use Rattle.kern_model.specs.Boot.{boot, boot_recs};
+ghost use Rattle.kern_model.specs.Run.{played};
 ghost use Rattle.kern_model.specs.Step.{step};
+ghost use Rattle.kern_model.specs.Valid.{HasRoom};
 ghost use Rattle.labsys.specs.Lines.{pieces};
-ghost use Rattle.labsys.specs.Input.{script_from, read_lines, refused_world};
+ghost use Rattle.labsys.specs.Input.{script_from, read_lines, no_world};
 ghost use Rattle.labsys.specs.Kernel.{state_of};
-ghost use Rattle.labsys.specs.Texts.{reply_text, end_text, label_in, ends_text, last_text, out_text};
-ghost use Rattle.labsys.specs.Playing.{AppendsFront, Caused, Finishes, Takes, Plays, order_in};
+ghost use Rattle.labsys.specs.Texts.{rec_text, end_text, label_in, caps_in, ends_text, last_text, header_text};
+ghost use Rattle.labsys.specs.Order.{turn_of, told, to_trail, to_out, order_in, order_by, order_of};
+ghost use Rattle.labsys.specs.Playing.{AppendsFront, Sends, SendsFront, Caused, Finishes, Takes, Plays};
 
 use crate::kernel::Kernel;
+use crate::policy::Policy;
 use crate::reading::{Halt, Next, ReadWorld, next_item, read_world};
-use crate::texts::{end_line, last_line, reply_line};
+use crate::texts::{end_line, header, last_line, record_line, reply_line};
 use crate::words::Levels;
-use crate::{Ending, Fault, Part, Refusal};
+use crate::{Ending, Fault};
+use cap_bits::CapSet;
 use io_ends::{LineFault, Sink, Source, Whole, read_whole, write_whole};
-use kern_model::{Pid, ScriptItem};
+use kern_model::{Pid, Rec, ScriptItem};
 use std::alloc::Global;
 
 // How many bytes an input may have.
 const LIMIT: u64 = 16_777_216;
+
+// A piece to the trail.
+fn note<T: Sink>(trail: &mut T, piece: &[u8]) -> Result<(), Fault>
+    ensures ok { OnOk result (Appends (T.held trail.old) (T.held trail.new) piece.now) }
+    ensures front { AppendsFront (T.held trail.old) (T.held trail.new) piece.now }
+    ensures later { T.faults trail.old ≤ T.faults trail.new }
+    ensures cause { IfErr result (λ fault. Caused fault ⊥ ⊥ (Rose (T.faults trail.old) (T.faults trail.new))) }
+{
+    match write_whole(trail, piece) {
+        Ok(()) => Ok(()),
+        Err(_) => Err(Fault::Trail),
+    }
+}
 
 // A piece to the output.
 fn answer<K: Sink>(out: &mut K, piece: &[u8]) -> Result<(), Fault>
     ensures ok { OnOk result (Appends (K.held out.old) (K.held out.new) piece.now) }
     ensures front { AppendsFront (K.held out.old) (K.held out.new) piece.now }
     ensures later { K.faults out.old ≤ K.faults out.new }
-    ensures cause { IfErr result (λ fault. Caused fault ⊥ (Rose (K.faults out.old) (K.faults out.new))) }
+    ensures cause { IfErr result (λ fault. Caused fault ⊥ (Rose (K.faults out.old) (K.faults out.new)) ⊥) }
 {
     match write_whole(out, piece) {
         Ok(()) => Ok(()),
@@ -35,24 +54,46 @@ fn answer<K: Sink>(out: &mut K, piece: &[u8]) -> Result<(), Fault>
     }
 }
 
-// Plays one item of the script: its reply goes out.
-fn play_item<K: Sink>(
+// One piece for each record of a call.
+fn note_all<T: Sink>(
+    alloc: Global,
+    levels: &Levels,
+    call: u64,
+    recs: &[Rec],
+    trail: &mut T,
+) -> Result<(), Fault>
+    ensures ok { OnOk result (Appends (T.held trail.old) (T.held trail.new) (flat_map (rec_text levels.now call) recs.now)) }
+    ensures front { AppendsFront (T.held trail.old) (T.held trail.new) (flat_map (rec_text levels.now call) recs.now) }
+    ensures later { T.faults trail.old ≤ T.faults trail.new }
+    ensures cause { IfErr result (λ fault. Caused fault ⊥ ⊥ (Rose (T.faults trail.old) (T.faults trail.new))) }
+{
+    for rec in recs {
+        let text = record_line(alloc, levels, call, rec)?;
+        note(trail, &text)?;
+    }
+    Ok(())
+}
+
+// Plays one item of the script: its records go to the trail, and then its reply goes out.
+fn play_item<K: Sink, T: Sink>(
     alloc: Global,
     kernel: &mut Kernel,
     levels: &Levels,
+    call: u64,
     item: &ScriptItem,
     out: &mut K,
+    trail: &mut T,
 ) -> Result<(), Fault>
-    ensures ok { OnOk result (Appends (K.held out.old) (K.held out.new)
-        (reply_text levels.now (record { who = item.now.who; call = item.now.call; reply = (step (state_of kernel.old) item.now.who item.now.call).reply }))) }
+    ensures ok { OnOk result (Sends (K.held out.old) (K.held out.new) (T.held trail.old) (T.held trail.new) (told (turn_of levels.now call (played (state_of kernel.old) item.now)))) }
     ensures state { OnOk result (state_of kernel.new ≡ (step (state_of kernel.old) item.now.who item.now.call).state) }
-    ensures front { AppendsFront (K.held out.old) (K.held out.new)
-        (reply_text levels.now (record { who = item.now.who; call = item.now.call; reply = (step (state_of kernel.old) item.now.who item.now.call).reply })) }
-    ensures later { K.faults out.old ≤ K.faults out.new }
-    ensures cause { IfErr result (λ fault. Caused fault ⊥ (Rose (K.faults out.old) (K.faults out.new))) }
+    ensures front { SendsFront (K.held out.old) (K.held out.new) (T.held trail.old) (T.held trail.new) (told (turn_of levels.now call (played (state_of kernel.old) item.now))) }
+    ensures out_later { K.faults out.old ≤ K.faults out.new }
+    ensures trail_later { T.faults trail.old ≤ T.faults trail.new }
+    ensures cause { IfErr result (λ fault. Caused fault ⊥ (Rose (K.faults out.old) (K.faults out.new)) (Rose (T.faults trail.old) (T.faults trail.new))) }
 {
-    let reply = kernel.call(item.who, &item.call)?;
-    let text = reply_line(alloc, levels, &item.who, &item.call, reply)?;
+    let outcome = kernel.call(item.who, &item.call)?;
+    note_all(alloc, levels, call, outcome.recs.items(), trail)?;
+    let text = reply_line(alloc, levels, item, outcome.reply)?;
     answer(out, &text)
 }
 
@@ -64,17 +105,17 @@ fn tell_end<K: Sink>(
     who: &Pid,
     out: &mut K,
 ) -> Result<(), Fault>
-    ensures ok { OnOk result (Appends (K.held out.old) (K.held out.new) (end_text levels.now who.now (label_in (state_of kernel.now) who.now))) }
-    ensures front { AppendsFront (K.held out.old) (K.held out.new) (end_text levels.now who.now (label_in (state_of kernel.now) who.now)) }
+    ensures ok { OnOk result (Appends (K.held out.old) (K.held out.new) (end_text levels.now who.now (label_in (state_of kernel.now) who.now) (caps_in (state_of kernel.now) who.now))) }
+    ensures front { AppendsFront (K.held out.old) (K.held out.new) (end_text levels.now who.now (label_in (state_of kernel.now) who.now) (caps_in (state_of kernel.now) who.now)) }
     ensures later { K.faults out.old ≤ K.faults out.new }
-    ensures cause { IfErr result (λ fault. Caused fault ⊥ (Rose (K.faults out.old) (K.faults out.new))) }
+    ensures cause { IfErr result (λ fault. Caused fault ⊥ (Rose (K.faults out.old) (K.faults out.new)) ⊥) }
 {
-    match kernel.label_of(who) {
-        Some(label) => {
-            let text = end_line(alloc, levels, who, &label)?;
+    match (kernel.label_of(who), kernel.caps_of(who)) {
+        (Some(label), Some(caps)) => {
+            let text = end_line(alloc, levels, who, &label, &caps)?;
             answer(out, &text)
         }
-        None => Ok(()),
+        _ => Ok(()),
     }
 }
 
@@ -89,7 +130,7 @@ fn tell_ends<K: Sink>(
     ensures ok { OnOk result (Appends (K.held out.old) (K.held out.new) (ends_text levels.now (state_of kernel.now))) }
     ensures front { AppendsFront (K.held out.old) (K.held out.new) (ends_text levels.now (state_of kernel.now)) }
     ensures later { K.faults out.old ≤ K.faults out.new }
-    ensures cause { IfErr result (λ fault. Caused fault ⊥ (Rose (K.faults out.old) (K.faults out.new))) }
+    ensures cause { IfErr result (λ fault. Caused fault ⊥ (Rose (K.faults out.old) (K.faults out.new)) ⊥) }
 {
     let numbers = kernel.live()?;
     for who in numbers.items() {
@@ -103,7 +144,7 @@ fn tell_last<K: Sink>(alloc: Global, count: u64, ending: Ending, out: &mut K) ->
     ensures ok { OnOk result (Appends (K.held out.old) (K.held out.new) (last_text count ending)) }
     ensures front { AppendsFront (K.held out.old) (K.held out.new) (last_text count ending) }
     ensures later { K.faults out.old ≤ K.faults out.new }
-    ensures cause { IfErr result (λ fault. Caused fault ⊥ (Rose (K.faults out.old) (K.faults out.new))) }
+    ensures cause { IfErr result (λ fault. Caused fault ⊥ (Rose (K.faults out.old) (K.faults out.new)) ⊥) }
 {
     let text = last_line(alloc, count, ending)?;
     answer(out, &text)
@@ -121,34 +162,38 @@ fn finish<K: Sink>(
     ensures ok { OnOk result (Appends (K.held out.old) (K.held out.new) (ends_text levels.now (state_of kernel.now) ++ last_text count ending)) }
     ensures front { AppendsFront (K.held out.old) (K.held out.new) (ends_text levels.now (state_of kernel.now) ++ last_text count ending) }
     ensures later { K.faults out.old ≤ K.faults out.new }
-    ensures cause { IfErr result (λ fault. Caused fault ⊥ (Rose (K.faults out.old) (K.faults out.new))) }
+    ensures cause { IfErr result (λ fault. Caused fault ⊥ (Rose (K.faults out.old) (K.faults out.new)) ⊥) }
 {
     tell_ends(alloc, kernel, levels, out)?;
     tell_last(alloc, count, ending, out)
 }
 
-// Plays a script from its first line on, to its end.
-fn play_script<K: Sink>(
+// Plays a script from its first line on, which has this number, to its end.
+fn play_script<K: Sink, T: Sink>(
     alloc: Global,
     kernel: &mut Kernel,
     levels: &Levels,
+    first: u64,
     script: &[u8],
+    over: bool,
     out: &mut K,
+    trail: &mut T,
 ) -> Result<Ending, Fault>
     requires levels { length levels.now ≤ 16 }
-    requires small { length script.now ≤ 16777216 }
-    ensures whole { IfOk result (λ e. Finishes (K.held out.old) (K.held out.new) (order_in levels.now 0 (state_of kernel.old) (script_from levels.now 9 (pieces 10 script.now))) e (script_from levels.now 9 (pieces 10 script.now)).ending) }
-    ensures front { AppendsFront (K.held out.old) (K.held out.new) (order_in levels.now 0 (state_of kernel.old) (script_from levels.now 9 (pieces 10 script.now))) }
-    ensures later { K.faults out.old ≤ K.faults out.new }
-    ensures cause { IfErr result (λ fault. Caused fault ⊥ (Rose (K.faults out.old) (K.faults out.new))) }
+    requires small { first + length script.now ≤ 2 ^ 60 }
+    ensures whole { IfOk result (λ e. Finishes (K.held out.old) (K.held out.new) (T.held trail.old) (T.held trail.new) (order_in levels.now 0 (state_of kernel.old) (script_from over levels.now first (pieces 10 script.now))) e (script_from over levels.now first (pieces 10 script.now)).ending) }
+    ensures front { SendsFront (K.held out.old) (K.held out.new) (T.held trail.old) (T.held trail.new) (order_in levels.now 0 (state_of kernel.old) (script_from over levels.now first (pieces 10 script.now))) }
+    ensures out_later { K.faults out.old ≤ K.faults out.new }
+    ensures trail_later { T.faults trail.old ≤ T.faults trail.new }
+    ensures cause { IfErr result (λ fault. Caused fault ⊥ (Rose (K.faults out.old) (K.faults out.new)) (Rose (T.faults trail.old) (T.faults trail.new))) }
 {
     let mut rest = script;
-    let mut number = 9u64;
+    let mut number = first;
     let mut count = 0u64;
     loop {
-        match next_item(alloc, levels, number, rest)? {
+        match next_item(alloc, levels, number, rest, over)? {
             Next::Item(item, behind) => {
-                play_item(alloc, kernel, levels, &item, out)?;
+                play_item(alloc, kernel, levels, count + 1, &item, out, trail)?;
                 rest = behind;
                 number += 1;
                 count += 1;
@@ -161,44 +206,92 @@ fn play_script<K: Sink>(
     }
 }
 
-// Plays a world that was accepted, with its script.
-fn play_world<K: Sink>(alloc: Global, read: &ReadWorld, out: &mut K) -> Result<Ending, Fault>
-    requires levels { length read.now.levels ≤ 16 }
-    requires objects { length read.now.world.objects ≤ 65535 }
-    requires procs { length read.now.world.procs ≤ 4095 }
-    requires small { length read.now.script.now ≤ 16777216 }
-    ensures whole { IfOk result (λ e. Finishes (K.held out.old) (K.held out.new) (order_in read.now.levels 0 (boot read.now.world) (script_from read.now.levels 9 (pieces 10 read.now.script.now))) e (script_from read.now.levels 9 (pieces 10 read.now.script.now)).ending) }
-    ensures front { AppendsFront (K.held out.old) (K.held out.new) (order_in read.now.levels 0 (boot read.now.world) (script_from read.now.levels 9 (pieces 10 read.now.script.now))) }
-    ensures later { K.faults out.old ≤ K.faults out.new }
-    ensures cause { IfErr result (λ fault. Caused fault ⊥ (Rose (K.faults out.old) (K.faults out.new))) }
+// The head of the trail: its header, and the boot records.
+fn begin<T: Sink>(
+    alloc: Global,
+    policy: &Policy,
+    bound: &CapSet,
+    recs: &[Rec],
+    trail: &mut T,
+) -> Result<(), Fault>
+    ensures ok { OnOk result (Appends (T.held trail.old) (T.held trail.new) (header_text policy.now bound.now ++ flat_map (rec_text policy.now.levels 0) recs.now)) }
+    ensures front { AppendsFront (T.held trail.old) (T.held trail.new) (header_text policy.now bound.now ++ flat_map (rec_text policy.now.levels 0) recs.now) }
+    ensures later { T.faults trail.old ≤ T.faults trail.new }
+    ensures cause { IfErr result (λ fault. Caused fault ⊥ ⊥ (Rose (T.faults trail.old) (T.faults trail.new))) }
 {
-    let mut kernel = Kernel::boot(alloc, &read.world)?;
-    play_script(alloc, &mut kernel, &read.levels, read.script, out)
+    let text = header(alloc, policy, bound)?;
+    note(trail, &text)?;
+    note_all(alloc, &policy.levels, 0, recs, trail)
 }
 
-// Refuses a world at this line, which is all that is written.
-fn refuse_world<K: Sink>(alloc: Global, line: u64, out: &mut K) -> Result<Ending, Fault>
-    ensures whole { IfOk result (λ e. Finishes (K.held out.old) (K.held out.new) (out_text (refused_world line)) e (refused_world line).script.ending) }
-    ensures front { AppendsFront (K.held out.old) (K.held out.new) (out_text (refused_world line)) }
-    ensures later { K.faults out.old ≤ K.faults out.new }
-    ensures cause { IfErr result (λ fault. Caused fault ⊥ (Rose (K.faults out.old) (K.faults out.new))) }
+// Plays a world that was accepted, with its script.
+fn play_world<K: Sink, T: Sink>(
+    alloc: Global,
+    read: &ReadWorld,
+    over: bool,
+    out: &mut K,
+    trail: &mut T,
+) -> Result<Ending, Fault>
+    requires levels { length read.now.policy.levels ≤ 16 }
+    requires room { HasRoom read.now.world }
+    requires small { read.now.number + length read.now.script.now ≤ 2 ^ 60 }
+    ensures whole { IfOk result (λ e. Finishes (K.held out.old) (K.held out.new) (T.held trail.old) (T.held trail.new)
+        (order_by (Some (record { policy = read.now.policy; world = read.now.world })) (script_from over read.now.policy.levels read.now.number (pieces 10 read.now.script.now))) e (script_from over read.now.policy.levels read.now.number (pieces 10 read.now.script.now)).ending) }
+    ensures front { SendsFront (K.held out.old) (K.held out.new) (T.held trail.old) (T.held trail.new)
+        (order_by (Some (record { policy = read.now.policy; world = read.now.world })) (script_from over read.now.policy.levels read.now.number (pieces 10 read.now.script.now))) }
+    ensures out_later { K.faults out.old ≤ K.faults out.new }
+    ensures trail_later { T.faults trail.old ≤ T.faults trail.new }
+    ensures cause { IfErr result (λ fault. Caused fault ⊥ (Rose (K.faults out.old) (K.faults out.new)) (Rose (T.faults trail.old) (T.faults trail.new))) }
 {
-    let ending = Ending::Refused(line, Part::World, Refusal::NotBuilt);
+    let mut booted = Kernel::boot(alloc, &read.world)?;
+    begin(
+        alloc,
+        &read.policy,
+        &read.world.bound,
+        booted.recs.items(),
+        trail,
+    )?;
+    play_script(
+        alloc,
+        &mut booted.kernel,
+        &read.policy.levels,
+        read.number,
+        read.script,
+        over,
+        out,
+        trail,
+    )
+}
+
+// Without a world the last line is all that is written.
+fn end_without_world<K: Sink>(alloc: Global, ending: Ending, out: &mut K) -> Result<Ending, Fault>
+    ensures ok { IfOk result (λ e. Appends (K.held out.old) (K.held out.new) (last_text 0 ending) × (e ≡ ending)) }
+    ensures front { AppendsFront (K.held out.old) (K.held out.new) (last_text 0 ending) }
+    ensures later { K.faults out.old ≤ K.faults out.new }
+    ensures cause { IfErr result (λ fault. Caused fault ⊥ (Rose (K.faults out.old) (K.faults out.new)) ⊥) }
+{
     tell_last(alloc, 0, ending, out)?;
     Ok(ending)
 }
 
-// Plays what a text says.
-fn play_text<K: Sink>(alloc: Global, text: &[u8], out: &mut K) -> Result<Ending, Fault>
+// Plays what a text says, which goes on past the limit where it is over it.
+fn play_text<K: Sink, T: Sink>(
+    alloc: Global,
+    text: &[u8],
+    over: bool,
+    out: &mut K,
+    trail: &mut T,
+) -> Result<Ending, Fault>
     requires { length text.now ≤ 16777216 }
-    ensures whole { IfOk result (λ e. Finishes (K.held out.old) (K.held out.new) (out_text (read_lines (pieces 10 text.now))) e (read_lines (pieces 10 text.now)).script.ending) }
-    ensures front { AppendsFront (K.held out.old) (K.held out.new) (out_text (read_lines (pieces 10 text.now))) }
-    ensures later { K.faults out.old ≤ K.faults out.new }
-    ensures cause { IfErr result (λ fault. Caused fault ⊥ (Rose (K.faults out.old) (K.faults out.new))) }
+    ensures whole { IfOk result (λ e. Finishes (K.held out.old) (K.held out.new) (T.held trail.old) (T.held trail.new) (order_of (read_lines over (pieces 10 text.now))) e (read_lines over (pieces 10 text.now)).script.ending) }
+    ensures front { SendsFront (K.held out.old) (K.held out.new) (T.held trail.old) (T.held trail.new) (order_of (read_lines over (pieces 10 text.now))) }
+    ensures out_later { K.faults out.old ≤ K.faults out.new }
+    ensures trail_later { T.faults trail.old ≤ T.faults trail.new }
+    ensures cause { IfErr result (λ fault. Caused fault ⊥ (Rose (K.faults out.old) (K.faults out.new)) (Rose (T.faults trail.old) (T.faults trail.new))) }
 {
-    match read_world(alloc, text) {
-        Ok(read) => play_world(alloc, &read, out),
-        Err(Halt::Refused(line)) => refuse_world(alloc, line, out),
+    match read_world(alloc, text, over) {
+        Ok(read) => play_world(alloc, &read, over, out, trail),
+        Err(Halt::Ended(ending)) => end_without_world(alloc, ending, out),
         Err(Halt::NoMemory) => Err(Fault::NoMemory),
     }
 }
@@ -207,7 +300,7 @@ fn play_text<K: Sink>(alloc: Global, text: &[u8], out: &mut K) -> Result<Ending,
 fn take_all<S: Source>(alloc: Global, source: &mut S) -> Result<Whole, Fault>
     ensures takes { Takes result (S.left source.old) (S.left source.new) }
     ensures later { S.faults source.old ≤ S.faults source.new }
-    ensures cause { IfErr result (λ fault. Caused fault (Rose (S.faults source.old) (S.faults source.new)) ⊥) }
+    ensures cause { IfErr result (λ fault. Caused fault (Rose (S.faults source.old) (S.faults source.new)) ⊥ ⊥) }
 {
     match read_whole(alloc, source, LIMIT) {
         Ok(whole) => Ok(whole),
@@ -216,16 +309,19 @@ fn take_all<S: Source>(alloc: Global, source: &mut S) -> Result<Whole, Fault>
     }
 }
 
-/// Plays the input that a source holds: world, script and replies.
-pub fn play<S: Source, K: Sink>(alloc: Global, source: &mut S, out: &mut K) -> Result<Ending, Fault>
-    ensures plays { Plays result (S.left source.old) (S.left source.new) (K.held out.old) (K.held out.new) }
+/// Plays the input that a source holds: replies go out, records to the trail.
+pub fn play<S: Source, K: Sink, T: Sink>(
+    alloc: Global,
+    source: &mut S,
+    out: &mut K,
+    trail: &mut T,
+) -> Result<Ending, Fault>
+    ensures plays { Plays result (S.left source.old) (S.left source.new) (K.held out.old) (K.held out.new) (T.held trail.old) (T.held trail.new) }
     ensures read_later { S.faults source.old ≤ S.faults source.new }
     ensures out_later { K.faults out.old ≤ K.faults out.new }
-    ensures cause { IfErr result (λ fault. Caused fault (Rose (S.faults source.old) (S.faults source.new)) (Rose (K.faults out.old) (K.faults out.new))) }
+    ensures trail_later { T.faults trail.old ≤ T.faults trail.new }
+    ensures cause { IfErr result (λ fault. Caused fault (Rose (S.faults source.old) (S.faults source.new)) (Rose (K.faults out.old) (K.faults out.new)) (Rose (T.faults trail.old) (T.faults trail.new))) }
 {
     let whole = take_all(alloc, source)?;
-    if whole.more {
-        return refuse_world(alloc, 0, out);
-    }
-    play_text(alloc, whole.bytes.items(), out)
+    play_text(alloc, whole.bytes.items(), whole.more, out, trail)
 }

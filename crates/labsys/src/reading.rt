@@ -1,16 +1,26 @@
 //! An input, read line by line.
-ghost use Rattle.std.specs.Prelude.{◌≡◌, ◌<◌, ◌≤◌, None, Some, MatchOption, MatchResult, IfSome, IfOk, length};
-ghost use Rattle.labsys.specs.Grammar.{exactly, levels_line, categories_line, root_line, file_line, proc_line};
-ghost use Rattle.labsys.specs.Input.{world_of};
-ghost use Rattle.labsys.specs.Reading.{next_short, GoesOn, Stops, Reads, ReadsNone, Follows};
+ghost use Rattle.std.specs.Prelude.{◌≡◌, ◌<◌, ◌≤◌, ◌+◌, ◌∷◌, [], None, Some, MatchOption, MatchResult, IfSome, IfOk, length, true, option_map, ◌==◌, ◌&&◌, not};
+ghost use Rattle.lab_lattice.specs.Label.{dominates, bottom};
+ghost use Rattle.kern_model.specs.declared.objects.Body.TheVariants as body;
+ghost use Rattle.labsys.specs.Grammar.{exactly, levels_line, categories_line, bound_line, root_line, top_of};
+ghost use Rattle.labsys.specs.declared.status.Part.TheVariants as part;
+ghost use Rattle.labsys.specs.declared.reading.Halt.TheVariants as halt;
+ghost use Rattle.labsys.specs.Input.{fits, refused};
+ghost use Rattle.labsys.specs.Fixture.{as_fixture, label_in, IsInRoot};
+ghost use Rattle.labsys.specs.Reading.{next_short, next_of, ends_at, GoesOn, Stops, Begins, IsSound, EndsInScript, EndsBefore, Reads, ReadsNone, Follows};
 
+use crate::fixtures::Draft;
 use crate::labels::top_of;
-use crate::lines::{categories_line, file_line, levels_line, proc_line, root_line, script_line};
+use crate::lines::{
+    Fixture, bound_line, categories_line, fixture_line, levels_line, root_line, script_line,
+};
 use crate::pieces::cut;
+use crate::policy::Policy;
 use crate::words::Levels;
 use crate::{Ending, Part, Refusal};
-use fs_path::{List, NoMemory};
-use kern_model::{ScriptItem, World, WorldObject, WorldProc};
+use cap_bits::CapSet;
+use fs_path::NoMemory;
+use kern_model::{ScriptItem, World, WorldObject};
 use std::alloc::Global;
 
 const MAX_LINE: usize = 2048;
@@ -18,15 +28,13 @@ const MAX_LINE: usize = 2048;
 /// Why no world was read.
 #[derive(Clone, Copy, Debug, PartialEq, Eq)]
 pub enum Halt {
-    /// This line, counted from 1, is not the one due.
-    Refused(u64),
+    /// The input ends so, inside its world.
+    Ended(Ending),
     /// Memory ran out.
     NoMemory,
 }
 
 impl From<NoMemory> for Halt {
-    ghost use Rattle.labsys.specs.declared.reading.Halt.TheVariants as halt;
-
     ghost from_gives = { λ _ h. h ≡ halt.NoMemory };
 
     fn from(_: NoMemory) -> Halt {
@@ -47,154 +55,261 @@ pub fn next_line(text: &[u8]) -> Option<(&[u8], &[u8])>
     Some((line, rest))
 }
 
+// How an input ends where no next line stands that is short enough; `over` where it goes on past the limit.
+fn ends_at(over: bool, number: u64, part: Part, text: &[u8]) -> Ending
+    ensures { result ≡ ends_at over number part text.now }
+{
+    if over && text.len() <= MAX_LINE {
+        return Ending::TooMuch;
+    }
+    Ending::Refused(number, part, Refusal::NotBuilt)
+}
+
+// The world ends here, without the line that is due.
+fn no_line(over: bool, number: u64, text: &[u8]) -> Halt
+    ensures { result ≡ halt.Ended (ends_at over number part.World text.now) }
+{
+    Halt::Ended(ends_at(over, number, Part::World, text))
+}
+
+// This line of the world is not the one due.
+fn refused(number: u64) -> Halt
+    ensures { result ≡ halt.Ended (refused number part.World) }
+{
+    Halt::Ended(Ending::Refused(number, Part::World, Refusal::NotBuilt))
+}
+
 // What stands behind a line that has no choice.
-fn exact_due<'a>(wanted: &[u8], number: u64, text: &'a [u8]) -> Result<&'a [u8], Halt>
-    ensures due { MatchResult result (λ rest. GoesOn (exactly wanted.now) number text.now tt rest.now) (λ halt. Stops (exactly wanted.now) number text.now halt) }
-    ensures shorter { IfOk result (λ rest. length rest.now ≤ length text.now) }
+fn exact_due<'a>(over: bool, wanted: &[u8], number: u64, text: &'a [u8]) -> Result<&'a [u8], Halt>
+    ensures due { MatchResult result (λ rest. GoesOn over (exactly wanted.now) number text.now tt rest.now) (λ halt. Stops over (exactly wanted.now) number text.now halt) }
+    ensures shorter { IfOk result (λ rest. length rest.now < length text.now) }
 {
     let Some((line, rest)) = next_line(text) else {
-        return Err(Halt::Refused(number));
+        return Err(no_line(over, number, text));
     };
     if line != wanted {
-        return Err(Halt::Refused(number));
+        return Err(refused(number));
     }
     Ok(rest)
 }
 
 #[tactic(auto, unfolding(crate::specs::Reading::Stops))]
-fn levels_due(alloc: Global, text: &[u8]) -> Result<(Levels, &[u8]), Halt>
-    ensures due { MatchResult result (λ said. GoesOn levels_line 2 text.now said.0 said.1.now) (λ halt. Stops levels_line 2 text.now halt) }
+fn levels_due(alloc: Global, over: bool, text: &[u8]) -> Result<(Levels, &[u8]), Halt>
+    ensures due { MatchResult result (λ said. GoesOn over levels_line 2 text.now said.0 said.1.now) (λ halt. Stops over levels_line 2 text.now halt) }
     ensures some { IfOk result (λ said. 1 ≤ length said.0) }
     ensures few { IfOk result (λ said. length said.0 ≤ 16) }
-    ensures shorter { IfOk result (λ said. length said.1.now ≤ length text.now) }
+    ensures shorter { IfOk result (λ said. length said.1.now < length text.now) }
 {
     let Some((line, rest)) = next_line(text) else {
-        return Err(Halt::Refused(2));
+        return Err(no_line(over, 2, text));
     };
     let Some(said) = levels_line(alloc, line)? else {
-        return Err(Halt::Refused(2));
+        return Err(refused(2));
     };
     Ok((said, rest))
 }
 
 #[tactic(auto, unfolding(crate::specs::Reading::Stops))]
-fn categories_due(alloc: Global, text: &[u8]) -> Result<(Levels, &[u8]), Halt>
-    ensures due { MatchResult result (λ said. GoesOn categories_line 3 text.now said.0 said.1.now) (λ halt. Stops categories_line 3 text.now halt) }
-    ensures shorter { IfOk result (λ said. length said.1.now ≤ length text.now) }
+fn categories_due(alloc: Global, over: bool, text: &[u8]) -> Result<(Levels, &[u8]), Halt>
+    ensures due { MatchResult result (λ said. GoesOn over categories_line 3 text.now said.0 said.1.now) (λ halt. Stops over categories_line 3 text.now halt) }
+    ensures shorter { IfOk result (λ said. length said.1.now < length text.now) }
 {
     let Some((line, rest)) = next_line(text) else {
-        return Err(Halt::Refused(3));
+        return Err(no_line(over, 3, text));
     };
     let Some(said) = categories_line(alloc, line)? else {
-        return Err(Halt::Refused(3));
+        return Err(refused(3));
+    };
+    Ok((said, rest))
+}
+
+fn bound_due(over: bool, text: &[u8]) -> Result<(CapSet, &[u8]), Halt>
+    ensures due { MatchResult result (λ said. GoesOn over bound_line 4 text.now said.0 said.1.now) (λ halt. Stops over bound_line 4 text.now halt) }
+    ensures shorter { IfOk result (λ said. length said.1.now < length text.now) }
+{
+    let Some((line, rest)) = next_line(text) else {
+        return Err(no_line(over, 4, text));
+    };
+    let Some(said) = bound_line(line) else {
+        return Err(refused(4));
     };
     Ok((said, rest))
 }
 
 fn root_due<'a>(
     alloc: Global,
+    over: bool,
     levels: &Levels,
     text: &'a [u8],
 ) -> Result<(WorldObject, &'a [u8]), Halt>
     requires { length levels.now ≤ 16 }
-    ensures due { MatchResult result (λ said. GoesOn (root_line levels.now) 5 text.now said.0 said.1.now) (λ halt. Stops (root_line levels.now) 5 text.now halt) }
-    ensures shorter { IfOk result (λ said. length said.1.now ≤ length text.now) }
+    ensures due { MatchResult result (λ said. GoesOn over (root_line levels.now) 5 text.now said.0 said.1.now) (λ halt. Stops over (root_line levels.now) 5 text.now halt) }
+    ensures no_names { IfOk result (λ said. said.0.path.names ≡ []) }
+    ensures lowest { IfOk result (λ said. dominates bottom said.0.label ≡ true) }
+    ensures is_dir { IfOk result (λ said. said.0.body ≡ body.Dir) }
+    ensures shorter { IfOk result (λ said. length said.1.now < length text.now) }
 {
     let Some((line, rest)) = next_line(text) else {
-        return Err(Halt::Refused(5));
+        return Err(no_line(over, 5, text));
     };
     let Some(said) = root_line(alloc, levels, line) else {
-        return Err(Halt::Refused(5));
+        return Err(refused(5));
     };
     Ok((said, rest))
 }
 
-#[tactic(auto, unfolding(crate::specs::Reading::Stops))]
-fn file_due<'a>(
-    alloc: Global,
-    levels: &Levels,
-    text: &'a [u8],
-) -> Result<(WorldObject, &'a [u8]), Halt>
-    requires { length levels.now ≤ 16 }
-    ensures due { MatchResult result (λ said. GoesOn (file_line levels.now) 6 text.now said.0 said.1.now) (λ halt. Stops (file_line levels.now) 6 text.now halt) }
-    ensures shorter { IfOk result (λ said. length said.1.now ≤ length text.now) }
-{
-    let Some((line, rest)) = next_line(text) else {
-        return Err(Halt::Refused(6));
-    };
-    let Some(said) = file_line(alloc, levels, line)? else {
-        return Err(Halt::Refused(6));
-    };
-    Ok((said, rest))
-}
-
-fn proc_due<'a>(
-    alloc: Global,
-    levels: &Levels,
-    text: &'a [u8],
-) -> Result<(WorldProc, &'a [u8]), Halt>
-    requires { length levels.now ≤ 16 }
-    ensures due { MatchResult result (λ said. GoesOn (proc_line levels.now) 7 text.now said.0 said.1.now) (λ halt. Stops (proc_line levels.now) 7 text.now halt) }
-    ensures shorter { IfOk result (λ said. length said.1.now ≤ length text.now) }
-{
-    let Some((line, rest)) = next_line(text) else {
-        return Err(Halt::Refused(7));
-    };
-    let Some(said) = proc_line(alloc, levels, line) else {
-        return Err(Halt::Refused(7));
-    };
-    Ok((said, rest))
-}
-
-fn world_of(
-    alloc: Global,
-    levels: &Levels,
+/// What the lines of a world up to its root say, and the text behind them.
+#[derive(Drop)]
+struct Head<'a> {
+    policy: Policy,
+    bound: CapSet,
     root: WorldObject,
-    file: WorldObject,
-    process: WorldProc,
-) -> Result<World, NoMemory>
-    requires some { 1 ≤ length levels.now }
-    requires few { length levels.now ≤ 16 }
-    ensures { IfOk result (λ world. world ≡ world_of levels.now root file process) }
+    rest: &'a [u8],
+}
+
+// The lines of a world up to its root, each in its turn.
+fn read_head(alloc: Global, over: bool, text: &[u8]) -> Result<Head<'_>, Halt>
+    ensures says { MatchResult result (λ head. Begins over text.now head.policy head.bound head.root head.rest.now) (λ halt. ReadsNone over text.now halt) }
+    ensures some { IfOk result (λ head. 1 ≤ length head.policy.levels) }
+    ensures few { IfOk result (λ head. length head.policy.levels ≤ 16) }
+    ensures no_names { IfOk result (λ head. head.root.path.names ≡ []) }
+    ensures lowest { IfOk result (λ head. dominates bottom head.root.label ≡ true) }
+    ensures is_dir { IfOk result (λ head. head.root.body ≡ body.Dir) }
+    ensures shorter { IfOk result (λ head. length head.rest.now + 5 ≤ length text.now) }
 {
-    let mut objects = List::new(alloc);
-    objects.push(root)?;
-    objects.push(file)?;
-    let mut procs = List::new(alloc);
-    procs.push(process)?;
-    Ok(World {
-        top: top_of(levels),
-        objects,
-        procs,
+    let after_head = exact_due(over, b"world 1", 1, text)?;
+    let (levels, after_levels) = levels_due(alloc, over, after_head)?;
+    let (categories, after_categories) = categories_due(alloc, over, after_levels)?;
+    let (bound, after_bound) = match bound_due(over, after_categories) {
+        Ok(said) => said,
+        Err(halt) => return Err(halt),
+    };
+    let (root, rest) = root_due(alloc, over, &levels, after_bound)?;
+    Ok(Head {
+        policy: Policy { levels, categories },
+        bound,
+        root,
+        rest,
     })
 }
 
-/// A world that was read: the names of its levels, and the text of its script.
+// A file or a process, where there is room for it.
+fn next_fixture(
+    alloc: Global,
+    levels: &Levels,
+    draft: &Draft,
+    line: &[u8],
+) -> Result<Option<Fixture>, NoMemory>
+    requires { length levels.now ≤ 16 }
+    ensures says { IfOk result (λ said. option_map as_fixture said ≡ next_of levels.now draft.now line.now) }
+    ensures room { IfOk result (λ said. IfSome said (λ fixture. fits draft.now (as_fixture fixture) ≡ true)) }
+    ensures below { IfOk result (λ said. IfSome said (λ fixture. dominates (top_of levels.now) (label_in fixture) ≡ true)) }
+    ensures in_root { IfOk result (λ said. IfSome said IsInRoot) }
+{
+    let Some(fixture) = fixture_line(alloc, levels, line)? else {
+        return Ok(None);
+    };
+    if !draft.fits(&fixture) {
+        return Ok(None);
+    }
+    Ok(Some(fixture))
+}
+
+/// The objects and the processes of a world, and its script, from the line with this number on.
+#[derive(Drop)]
+struct Furnished<'a> {
+    draft: Draft,
+    script: &'a [u8],
+    number: u64,
+}
+
+// Files and processes from line 6 on, up to the line `script`.
+#[tactic(auto, unfolding(crate::specs::Reading::EndsBefore))]
+fn read_fixtures<'a>(
+    alloc: Global,
+    over: bool,
+    policy: &Policy,
+    root: WorldObject,
+    text: &'a [u8],
+) -> Result<Furnished<'a>, Halt>
+    requires small { length text.now ≤ 16777216 }
+    requires few { length policy.now.levels ≤ 16 }
+    requires no_names { root.path.names ≡ [] }
+    requires lowest { dominates bottom root.label ≡ true }
+    requires is_dir { root.body ≡ body.Dir }
+    ensures says { MatchResult result (λ f. EndsInScript over policy.now 6 (record { objects = root ∷ []; procs = [] }) text.now f.number f.draft f.script.now) (λ halt. EndsBefore over policy.now 6 (record { objects = root ∷ []; procs = [] }) text.now halt) }
+    ensures sound { IfOk result (λ f. IsSound (top_of policy.now.levels) f.draft) }
+    ensures numbered { IfOk result (λ f. length f.script.now + f.number ≤ length text.now + 6) }
+{
+    let mut draft = Draft::new(alloc, root)?;
+    let mut rest = text;
+    let mut number = 6;
+    loop {
+        let Some((line, behind)) = next_line(rest) else {
+            return Err(no_line(over, number, rest));
+        };
+        if line == b"script".as_slice() {
+            return Ok(Furnished {
+                draft,
+                script: behind,
+                number: number + 1,
+            });
+        }
+        let Some(fixture) = next_fixture(alloc, &policy.levels, &draft, line)? else {
+            return Err(refused(number));
+        };
+        draft = draft.with(alloc, fixture)?;
+        rest = behind;
+        number += 1;
+    }
+}
+
+/// A world that was read, with the names that it gives, and the text of its script, which begins at the line with
+/// this number.
 #[derive(Drop)]
 pub struct ReadWorld<'a> {
-    pub levels: Levels,
+    pub policy: Policy,
     pub world: World,
     pub script: &'a [u8],
+    pub number: u64,
 }
 
-/// The world of an input.
-pub fn read_world(alloc: Global, text: &[u8]) -> Result<ReadWorld<'_>, Halt>
-    ensures { MatchResult result (λ read. Reads text.now read.levels read.world read.script.now) (λ halt. ReadsNone text.now halt) }
+/// The world of an input; `over` where the input goes on past the limit.
+pub fn read_world(alloc: Global, text: &[u8], over: bool) -> Result<ReadWorld<'_>, Halt>
+    requires { length text.now ≤ 16777216 }
+    ensures { MatchResult result (λ read. Reads over text.now read.policy read.world read.number read.script.now) (λ halt. ReadsNone over text.now halt) }
 {
-    let behind1 = exact_due(b"world 1", 1, text)?;
-    let (levels, behind2) = levels_due(alloc, behind1)?;
-    let (_categories, behind3) = categories_due(alloc, behind2)?;
-    let behind4 = exact_due(b"bound all", 4, behind3)?;
-    let (root, behind5) = root_due(alloc, &levels, behind4)?;
-    let (file, behind6) = file_due(alloc, &levels, behind5)?;
-    let (process, behind7) = proc_due(alloc, &levels, behind6)?;
-    let script = exact_due(b"script", 8, behind7)?;
-    let world = world_of(alloc, &levels, root, file, process)?;
+    let Head {
+        policy,
+        bound,
+        root,
+        rest,
+    } = read_head(alloc, over, text)?;
+    let Furnished {
+        draft,
+        script,
+        number,
+    } = read_fixtures(alloc, over, &policy, root, rest)?;
+    let (objects, procs) = draft.into_lists();
+    let world = World {
+        top: top_of(&policy.levels),
+        bound,
+        objects,
+        procs,
+    };
     Ok(ReadWorld {
-        levels,
+        policy,
         world,
         script,
+        number,
     })
+}
+
+// Whether a script ends here, with each of its lines accepted.
+fn is_whole(over: bool, text: &[u8]) -> bool
+    ensures { result ≡ ((length text.now == 0) && not over) }
+{
+    text.is_empty() && !over
 }
 
 /// What is next in a script.
@@ -206,24 +321,25 @@ pub enum Next<'a> {
     Ended(Ending),
 }
 
-/// The next item of a script, whose line has this number.
+/// The next item of a script, whose line has this number; `over` where the input goes on past the limit.
 pub fn next_item<'a>(
     alloc: Global,
     levels: &Levels,
     number: u64,
     text: &'a [u8],
+    over: bool,
 ) -> Result<Next<'a>, NoMemory>
     requires { length levels.now ≤ 16 }
-    ensures { IfOk result (Follows levels.now number text.now) }
+    ensures { IfOk result (Follows over levels.now number text.now) }
 {
-    if text.is_empty() {
+    if is_whole(over, text) {
         return Ok(Next::Ended(Ending::Whole));
     }
-    let refused = Ending::Refused(number, Part::Script, Refusal::NotBuilt);
     let Some((line, rest)) = next_line(text) else {
-        return Ok(Next::Ended(refused));
+        return Ok(Next::Ended(ends_at(over, number, Part::Script, text)));
     };
     let Some(item) = script_line(alloc, levels, line)? else {
+        let refused = Ending::Refused(number, Part::Script, Refusal::NotBuilt);
         return Ok(Next::Ended(refused));
     };
     Ok(Next::Item(item, rest))

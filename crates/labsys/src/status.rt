@@ -20,8 +20,10 @@ pub enum Refusal {
 pub enum Ending {
     /// All of its lines were accepted.
     Whole,
-    /// This line was refused, counted from 1; 0 stands for the whole input.
+    /// This line was refused, counted from 1.
     Refused(u64, Part, Refusal),
+    /// It goes on past the limit, and no line before that was refused.
+    TooMuch,
 }
 
 /// How a run ended. The number is the exit status of the program.
@@ -37,8 +39,12 @@ pub enum Status {
     ReadFault,
     /// A write to the output failed.
     WriteFault,
+    /// A write to the trail failed.
+    TrailFault,
     /// Memory ran out.
     NoMemory,
+    /// The input is too long.
+    TooLong,
 }
 
 /// Why a run ended before its input did.
@@ -48,6 +54,8 @@ pub enum Fault {
     Read,
     /// A write to the output failed.
     Write,
+    /// A write to the trail failed.
+    Trail,
     /// Memory ran out.
     NoMemory,
 }
@@ -67,10 +75,11 @@ impl Status {
     /// What the program prints of it to standard error, if anything. No clause speaks of these words.
     pub fn complaint(self) -> Option<&'static str> {
         match self {
-            Status::Done | Status::Refused => None,
+            Status::Done | Status::Refused | Status::TooLong => None,
             Status::Usage => Some("usage"),
             Status::ReadFault => Some("read fault"),
             Status::WriteFault => Some("write fault"),
+            Status::TrailFault => Some("trail fault"),
             Status::NoMemory => Some("no memory"),
         }
     }
@@ -89,7 +98,9 @@ impl From<Status> for u8 {
             Status::Refused => 2,
             Status::ReadFault => 3,
             Status::WriteFault => 4,
+            Status::TrailFault => 5,
             Status::NoMemory => 6,
+            Status::TooLong => 7,
         }
     }
 }

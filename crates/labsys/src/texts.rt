@@ -1,12 +1,19 @@
 // The lines that are written.
 ghost use Rattle.std.specs.Prelude.{◌≡◌, ◌++◌, ◌∷◌, [], OnOk, IfOk};
 ghost use Rattle.std.specs.Fmt.{decimal};
-ghost use Rattle.labsys.specs.Texts.{label_text, pid_text, place_text, errno_text, check_text, call_text, outcome_text, reply_text, life_text, answer_text, part_text, refusal_text, last_text};
+ghost use Rattle.std.specs.List.{flat_map};
+ghost use Rattle.std.specs.Prelude.{List};
+ghost use Rattle.kern_model.specs.declared.records.Rec.{Rec as RecValue};
+ghost use Rattle.labsys.specs.Texts.{label_text, number_text, pid_text, place_text, errno_text, check_text, call_text, outcome_text, reply_text, life_text, answer_text, part_text, refusal_text, last_text, thing_text, new_label_text, caps_text, bound_text, names_text, header_text, rec_words, rec_text};
 
 use crate::labels::label_name;
+use crate::policy::Policy;
 use crate::words::Levels;
 use crate::{Ending, Part, Refusal};
-use kern_model::{Answer, Call, CheckName, Errno, NoMemory, Pid, Place, Reply};
+use cap_bits::{Cap, CapSet, CapState};
+use kern_model::{
+    Answer, CallName, CheckName, Errno, NoMemory, Pid, Place, Rec, Reply, ScriptItem, Thing,
+};
 use lab_lattice::Label;
 use std::alloc::Global;
 
@@ -28,15 +35,16 @@ fn check_word(check: CheckName) -> &'static [u8]
 {
     match check {
         CheckName::MacRead => b"mac_read",
+        CheckName::DacSearch => b"dac_search",
     }
 }
 
 #[tactic(auto, unfolding(crate::specs::Texts::call_text))]
-fn call_word(call: &Call) -> &'static [u8]
-    ensures { result.now ≡ call_text call.now }
+fn call_word(call: CallName) -> &'static [u8]
+    ensures { result.now ≡ call_text call }
 {
     match call {
-        Call::MacGetFile(_) => b"mac_get_file",
+        CallName::MacGetFile => b"mac_get_file",
     }
 }
 
@@ -66,13 +74,79 @@ fn put_number(alloc: Global, text: &mut Vec<u8>, n: u64) -> Result<(), NoMemory>
     text.extend_from_slice(digits.as_bytes())
 }
 
+#[tactic(auto, unfolding(crate::specs::Texts::number_text))]
+fn put_drawn(
+    alloc: Global,
+    text: &mut Vec<u8>,
+    levels: &Levels,
+    n: u16,
+    label: &Label,
+) -> Result<(), NoMemory>
+    ensures { OnOk result (text.new.items ≡ text.old.items ++ number_text levels.now n label.now) }
+{
+    put_number(alloc, text, u64::from(n))?;
+    text.push(b'@')?;
+    text.extend_from_slice(label_name(levels, label))
+}
+
 #[tactic(auto, unfolding(crate::specs::Texts::pid_text))]
 fn put_pid(alloc: Global, text: &mut Vec<u8>, levels: &Levels, who: &Pid) -> Result<(), NoMemory>
     ensures { OnOk result (text.new.items ≡ text.old.items ++ pid_text levels.now who.now) }
 {
-    put_number(alloc, text, u64::from(who.n))?;
-    text.push(b'@')?;
-    text.extend_from_slice(label_name(levels, &who.label))
+    put_drawn(alloc, text, levels, who.n, &who.label)
+}
+
+#[tactic(auto, unfolding(crate::specs::Texts::thing_text))]
+fn put_thing(
+    alloc: Global,
+    text: &mut Vec<u8>,
+    levels: &Levels,
+    thing: &Thing,
+) -> Result<(), NoMemory>
+    ensures { OnOk result (text.new.items ≡ text.old.items ++ thing_text levels.now thing.now) }
+{
+    match thing {
+        Thing::Object(id) => {
+            text.extend_from_slice(b"obj:")?;
+            put_drawn(alloc, text, levels, id.n, &id.label)
+        }
+        Thing::Process(who) => {
+            text.extend_from_slice(b"proc:")?;
+            put_drawn(alloc, text, levels, who.n, &who.label)
+        }
+    }
+}
+
+#[tactic(auto, unfolding(crate::specs::Texts::new_label_text))]
+fn new_label_word<'a>(levels: &'a Levels, label: &Option<Label>) -> &'a [u8]
+    ensures { result.now ≡ new_label_text levels.now label.now }
+{
+    match label {
+        Some(label) => label_name(levels, label),
+        None => b"-",
+    }
+}
+
+#[tactic(auto, unfolding(crate::specs::Texts::caps_text))]
+fn caps_word(caps: &CapState) -> &'static [u8]
+    ensures { result.now ≡ caps_text caps.now }
+{
+    if caps.e.has(Cap::MacRead) {
+        b"\"cap_mac_read=ep\""
+    } else {
+        b"\"=\""
+    }
+}
+
+#[tactic(auto, unfolding(crate::specs::Texts::bound_text))]
+fn bound_word(bound: &CapSet) -> &'static [u8]
+    ensures { result.now ≡ bound_text bound.now }
+{
+    if CapSet::all().within(bound) {
+        b"all"
+    } else {
+        b"none"
+    }
 }
 
 #[tactic(auto, unfolding(crate::specs::Texts::place_text))]
@@ -137,38 +211,40 @@ fn put_outcome(
 pub fn reply_line(
     alloc: Global,
     levels: &Levels,
-    who: &Pid,
-    call: &Call,
+    item: &ScriptItem,
     reply: Reply,
 ) -> Result<Vec<u8>, NoMemory>
-    ensures { IfOk result (λ text. text.items ≡ reply_text levels.now (record { who = who.now; call = call.now; reply = reply })) }
+    ensures { IfOk result (λ text. (recs : List RecValue) → text.items ≡ reply_text levels.now (record { who = item.now.who; call = item.now.call; reply = reply; recs = recs })) }
 {
     let mut text = Vec::new(alloc);
-    put_pid(alloc, &mut text, levels, who)?;
+    put_pid(alloc, &mut text, levels, &item.who)?;
     text.push(b' ')?;
-    text.extend_from_slice(call_word(call))?;
+    text.extend_from_slice(call_word(item.call.name()))?;
     text.push(b' ')?;
     put_outcome(alloc, &mut text, levels, reply)?;
     text.push(b'\n')?;
     Ok(text)
 }
 
-/// The end line of a process that lives and has this label.
+/// The end line of a process that lives, with its label and its capability sets.
 #[tactic(auto, unfolding(crate::specs::Texts::life_text))]
 pub fn end_line(
     alloc: Global,
     levels: &Levels,
     who: &Pid,
     label: &Label,
+    caps: &CapState,
 ) -> Result<Vec<u8>, NoMemory>
-    ensures { IfOk result (λ text. text.items ≡ life_text levels.now who.now label.now) }
+    ensures { IfOk result (λ text. text.items ≡ life_text levels.now who.now label.now caps.now) }
 {
     let mut text = Vec::new(alloc);
     text.extend_from_slice(b"end ")?;
     put_pid(alloc, &mut text, levels, who)?;
     text.push(b' ')?;
     text.extend_from_slice(label_name(levels, label))?;
-    text.extend_from_slice(b" \"=\"\n")?;
+    text.push(b' ')?;
+    text.extend_from_slice(caps_word(caps))?;
+    text.push(b'\n')?;
     Ok(text)
 }
 
@@ -191,7 +267,126 @@ pub fn last_line(alloc: Global, count: u64, ending: Ending) -> Result<Vec<u8>, N
             text.push(b' ')?;
             text.extend_from_slice(refusal_word(why))?;
         }
+        Ending::TooMuch => text.extend_from_slice(b"too long")?,
     }
+    text.push(b'\n')?;
+    Ok(text)
+}
+
+fn put_names(text: &mut Vec<u8>, names: &Levels) -> Result<(), NoMemory>
+    ensures { OnOk result (text.new.items ≡ text.old.items ++ flat_map (λ name. 32 ∷ name) names.now) }
+{
+    for name in names.items() {
+        text.push(b' ')?;
+        text.extend_from_slice(name.items())?;
+    }
+    Ok(())
+}
+
+#[tactic(auto, unfolding(crate::specs::Texts::names_text))]
+fn put_names_line(text: &mut Vec<u8>, keyword: &[u8], names: &Levels) -> Result<(), NoMemory>
+    ensures { OnOk result (text.new.items ≡ text.old.items ++ names_text keyword.now names.now) }
+{
+    text.extend_from_slice(keyword)?;
+    put_names(text, names)?;
+    text.push(b'\n')?;
+    Ok(())
+}
+
+/// The header of the trail, four lines.
+#[tactic(auto, unfolding(crate::specs::Texts::header_text))]
+pub fn header(alloc: Global, policy: &Policy, bound: &CapSet) -> Result<Vec<u8>, NoMemory>
+    ensures { IfOk result (λ text. text.items ≡ header_text policy.now bound.now) }
+{
+    let mut text = Vec::new(alloc);
+    text.extend_from_slice(b"trail 1\n")?;
+    put_names_line(&mut text, b"levels", &policy.levels)?;
+    put_names_line(&mut text, b"categories", &policy.categories)?;
+    text.extend_from_slice(b"bound ")?;
+    text.extend_from_slice(bound_word(bound))?;
+    text.push(b'\n')?;
+    Ok(text)
+}
+
+// A word behind a space.
+fn put_word(text: &mut Vec<u8>, word: &[u8]) -> Result<(), NoMemory>
+    ensures { OnOk result (text.new.items ≡ text.old.items ++ 32 ∷ word.now) }
+{
+    text.push(b' ')?;
+    text.extend_from_slice(word)
+}
+
+// A place behind a space.
+fn put_place_word(alloc: Global, text: &mut Vec<u8>, place: Place) -> Result<(), NoMemory>
+    ensures { OnOk result (text.new.items ≡ text.old.items ++ 32 ∷ place_text place) }
+{
+    text.push(b' ')?;
+    put_place(alloc, text, place)
+}
+
+// What an exercise was about: the thing, its label, the new label, the place.
+fn put_subject(
+    alloc: Global,
+    text: &mut Vec<u8>,
+    levels: &Levels,
+    thing: &Thing,
+    thing_label: &Label,
+    new_label: &Option<Label>,
+    place: Place,
+) -> Result<(), NoMemory>
+    ensures { OnOk result (text.new.items ≡ text.old.items ++ 32 ∷ (thing_text levels.now thing.now ++ 32 ∷ (label_text levels.now thing_label.now ++ 32 ∷ (new_label_text levels.now new_label.now ++ 32 ∷ place_text place)))) }
+{
+    text.push(b' ')?;
+    put_thing(alloc, text, levels, thing)?;
+    put_word(text, label_name(levels, thing_label))?;
+    put_word(text, new_label_word(levels, new_label))?;
+    put_place_word(alloc, text, place)
+}
+
+#[tactic(auto, unfolding(crate::specs::Texts::rec_words))]
+fn put_record(alloc: Global, text: &mut Vec<u8>, levels: &Levels, rec: &Rec) -> Result<(), NoMemory>
+    ensures { OnOk result (text.new.items ≡ text.old.items ++ rec_words levels.now rec.now) }
+{
+    match rec {
+        Rec::Boot(who, label, caps) => {
+            text.extend_from_slice(b"boot ")?;
+            put_pid(alloc, text, levels, who)?;
+            put_word(text, label_name(levels, label))?;
+            put_word(text, caps_word(caps))
+        }
+        Rec::Exercise(who, label, with, check, thing, thing_label, new_label, place) => {
+            text.extend_from_slice(b"exercise ")?;
+            put_pid(alloc, text, levels, who)?;
+            put_word(text, label_name(levels, label))?;
+            put_word(text, with.name())?;
+            put_word(text, check_word(*check))?;
+            put_subject(alloc, text, levels, thing, thing_label, new_label, *place)
+        }
+        Rec::Deny(who, call, errno, check, place) => {
+            text.extend_from_slice(b"deny ")?;
+            put_pid(alloc, text, levels, who)?;
+            put_word(text, call_word(*call))?;
+            put_word(text, errno_word(*errno))?;
+            put_word(text, check_word(*check))?;
+            put_place_word(alloc, text, *place)
+        }
+    }
+}
+
+/// The line of a record that the call with this number left; 0 stands for the start.
+#[tactic(auto, unfolding(crate::specs::Texts::rec_text))]
+pub fn record_line(
+    alloc: Global,
+    levels: &Levels,
+    call: u64,
+    rec: &Rec,
+) -> Result<Vec<u8>, NoMemory>
+    ensures { IfOk result (λ text. text.items ≡ rec_text levels.now call rec.now) }
+{
+    let mut text = Vec::new(alloc);
+    put_number(alloc, &mut text, call)?;
+    text.push(b' ')?;
+    put_record(alloc, &mut text, levels, rec)?;
     text.push(b'\n')?;
     Ok(text)
 }

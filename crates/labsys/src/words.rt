@@ -4,11 +4,12 @@ ghost use Rattle.std.specs.List.{list_all, list_any};
 ghost use Rattle.std.specs.Option.{option_copied};
 ghost use Rattle.fs_path.specs.Name.{is_name};
 ghost use Rattle.labsys.specs.Lines.{pieces};
-ghost use Rattle.labsys.specs.Grammar.{is_letter, is_name_part, is_label_name, same_bytes, keep_if, number_of, mode_of, is_bare, entry_of, is_plain, quoted_of, tag_of};
+ghost use Rattle.labsys.specs.Grammar.{is_letter, is_name_part, is_label_name, same_bytes, keep_if, number_of, mode_of, is_bare, entry_of, is_plain, quoted_of, tag_of, caps_of};
 ghost use Rattle.labsys.specs.Words.{words_in, left_in, are_names};
 
 use crate::labels::label_of;
 use crate::pieces::{behind, cut, numeral};
+use cap_bits::{Cap, CapSet, CapState};
 use fs_path::{ByteList, List, Name, NoMemory};
 use kern_model::{Gid, Mode, Pid};
 use std::alloc::Global;
@@ -151,4 +152,22 @@ pub fn tag_of(levels: &Levels, word: &[u8]) -> Option<Pid>
         label,
         n: number as u16,
     })
+}
+
+/// The capability sets that a text gives to a process.
+pub fn caps_of(word: &[u8]) -> Option<CapState>
+    ensures { result ≡ caps_of word.now }
+{
+    if word == b"\"=\"".as_slice() {
+        return Some(CapState::none());
+    }
+    if word == b"\"cap_mac_read=ep\"".as_slice() {
+        let reads = CapSet::none().with(Cap::MacRead);
+        return Some(CapState {
+            e: reads,
+            i: CapSet::none(),
+            p: reads,
+        });
+    }
+    None
 }

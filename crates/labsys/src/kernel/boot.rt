@@ -1,34 +1,46 @@
 // The first state of a world.
-ghost use Rattle.std.specs.Prelude.{◌≡◌, ◌≤◌, ◌<◌, ◌+◌, IfOk, OnOk, length};
+ghost use Rattle.std.specs.Prelude.{◌≡◌, ◌<◌, IfOk, OnOk};
+ghost use Rattle.kern_model.specs.declared.records.Rec.TheVariants as rec;
 ghost use Rattle.kern_model.specs.Keys.{Spot};
 ghost use Rattle.kern_model.specs.State.{drawn, root};
-ghost use Rattle.kern_model.specs.Boot.{boot, boot_object, boot_objects, boot_process, boot_processes, nothing};
-ghost use Rattle.labsys.specs.Kernel.{state_of, HasRoom, IsSpotOf};
+ghost use Rattle.kern_model.specs.Boot.{boot, boot_object, boot_objects, boot_process, boot_processes, boot_recs, next_process, nothing, started};
+ghost use Rattle.kern_model.specs.Valid.{HasRoom};
+ghost use Rattle.labsys.specs.Kernel.{state_of, RoomForObjects, RoomForProcs, IsSpotOf};
 
 use super::Kernel;
 use super::copies::{copy_ids, object_from};
 use super::tables::{Entries, Numbers, Objects, Procs, Spot};
 use super::walk::root_directory;
-use kern_model::{Name, NoMemory, Oid, Pid, Process, World, WorldObject, WorldProc};
+use cap_bits::CapSet;
+use kern_model::{
+    Name, NoMemory, Oid, Pid, Process, Rec, RecList, Thing, World, WorldObject, WorldProc,
+};
 use lab_lattice::Label;
 use std::alloc::Global;
 
+/// A kernel in the first state of a world, and the records of its start.
+#[derive(Drop)]
+pub struct Booted {
+    pub kernel: Kernel,
+    pub recs: RecList,
+}
+
 impl Kernel {
-    /// The kernel in the first state of a world.
-    pub fn boot(alloc: Global, world: &World) -> Result<Kernel, NoMemory>
-        requires few_objects { length world.now.objects ≤ 65535 }
-        requires few_processes { length world.now.procs ≤ 4095 }
-        ensures { IfOk result (λ kernel. state_of kernel ≡ boot world.now) }
+    /// The kernel in the first state of a world, and a record for each process, in the order of the world's lines.
+    pub fn boot(alloc: Global, world: &World) -> Result<Booted, NoMemory>
+        requires room { HasRoom world.now }
+        ensures state { IfOk result (λ booted. state_of booted.kernel ≡ boot world.now) }
+        ensures recs { IfOk result (λ booted. booted.recs ≡ boot_recs world.now) }
     {
-        let mut kernel = Kernel::empty(alloc, world.top);
+        let mut kernel = Kernel::empty(alloc, world.bound, world.top);
         kernel.boot_objects(world.objects.items())?;
-        kernel.boot_processes(world.procs.items())?;
-        Ok(kernel)
+        let recs = kernel.boot_processes(world.procs.items())?;
+        Ok(Booted { kernel, recs })
     }
 
     // The kernel in which nothing is yet.
-    fn empty(alloc: Global, top: Label) -> Kernel
-        ensures { state_of result ≡ nothing top }
+    fn empty(alloc: Global, bound: CapSet, top: Label) -> Kernel
+        ensures { state_of result ≡ nothing bound top }
     {
         Kernel {
             alloc,
@@ -37,13 +49,14 @@ impl Kernel {
             procs: Procs::new(alloc),
             object_numbers: Numbers::new(alloc),
             process_numbers: Numbers::new(alloc),
+            bound,
             top,
         }
     }
 
     // Makes the objects of a world, in their order.
     fn boot_objects(&mut self, objects: &[WorldObject]) -> Result<(), NoMemory>
-        requires { HasRoom 65535 self.old.object_numbers (length objects.now) }
+        requires { RoomForObjects self.old.object_numbers objects.now }
         ensures { OnOk result (state_of self.new ≡ boot_objects (state_of self.old) objects.now) }
     {
         for object in objects {
@@ -52,15 +65,20 @@ impl Kernel {
         Ok(())
     }
 
-    // Makes the processes of a world, in their order.
-    fn boot_processes(&mut self, procs: &[WorldProc]) -> Result<(), NoMemory>
-        requires { HasRoom 4095 self.old.process_numbers (length procs.now) }
-        ensures { OnOk result (state_of self.new ≡ boot_processes (state_of self.old) procs.now) }
+    // Makes the processes of a world, in their order, with a record for each.
+    fn boot_processes(&mut self, procs: &[WorldProc]) -> Result<RecList, NoMemory>
+        requires { RoomForProcs self.old.process_numbers procs.now }
+        ensures state { OnOk result (state_of self.new ≡ boot_processes (state_of self.old) procs.now) }
+        ensures recs { IfOk result (λ recs. recs ≡ started (state_of self.old) procs.now) }
     {
+        // names a type inside records: the check of loans in the loop has to be told of it
+        let _: Option<Thing> = None;
+        let mut recs = RecList::new(self.alloc);
         for process in procs {
-            self.boot_process(process)?;
+            let who = self.boot_process(process)?;
+            recs.push(boot_record(&who, process))?;
         }
-        Ok(())
+        Ok(recs)
     }
 
     // Makes an object under the next number of its label, and its entry.
@@ -96,10 +114,11 @@ impl Kernel {
         }
     }
 
-    // Makes a process under the next number of its label, in the root directory.
-    fn boot_process(&mut self, process: &WorldProc) -> Result<(), NoMemory>
-        requires { drawn self.old.process_numbers process.now.label < 65535 }
-        ensures { OnOk result (state_of self.new ≡ boot_process (state_of self.old) process.now) }
+    // Makes a process under the next number of its label, in the root directory, and tells the number.
+    fn boot_process(&mut self, process: &WorldProc) -> Result<Pid, NoMemory>
+        requires { drawn self.old.process_numbers process.now.label < 4095 }
+        ensures state { OnOk result (state_of self.new ≡ boot_process (state_of self.old) process.now) }
+        ensures number { IfOk result (λ who. who ≡ next_process (state_of self.old) process.now.label) }
     {
         let n = self.process_numbers.last(&process.label) + 1;
         let who = Pid {
@@ -109,9 +128,19 @@ impl Kernel {
         let made = Process {
             ids: copy_ids(self.alloc, &process.ids)?,
             label: process.label,
+            caps: process.caps,
             cwd: root_directory(),
+            audited: true,
         };
         self.process_numbers.set(process.label, n)?;
-        self.procs.set(who, made)
+        self.procs.set(who, made)?;
+        Ok(who)
     }
+}
+
+// The record of a process that starts with the world.
+fn boot_record(who: &Pid, process: &WorldProc) -> Rec
+    ensures { result ≡ rec.Boot who.now process.now.label process.now.caps }
+{
+    Rec::Boot(*who, process.label, process.caps)
 }

@@ -29,7 +29,9 @@ pub fn copy_process(alloc: Global, process: &Process) -> Result<Process, NoMemor
     Ok(Process {
         ids,
         label: process.label,
+        caps: process.caps,
         cwd: process.cwd,
+        audited: process.audited,
     })
 }
 

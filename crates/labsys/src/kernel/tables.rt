@@ -5,6 +5,7 @@ ghost use Rattle.kern_model.specs.declared.objects.Process.{Process};
 ghost use Rattle.kern_model.specs.State.{drawn};
 
 use super::copies::copy_process;
+use cap_bits::CapState;
 use kern_model::{List, Name, NoMemory, Object, Oid, Pid, Process};
 use lab_lattice::Label;
 use std::alloc::Global;
@@ -112,13 +113,15 @@ pub struct Procs {
 
 impl Model for Procs {
     ghost use Rattle.std.specs.FinMap as map;
+    ghost use Rattle.std.specs.FinSet as set;
     ghost use Rattle.std.specs.Coded.{codes};
+    ghost use Rattle.cap_bits.specs.Cap.{cap_cmp, cap_code};
     ghost use Rattle.kern_model.specs.Keys.{pid_cmp};
     ghost use Rattle.kern_model.specs.declared.objects.Process.{Process};
 
     ghost Value = { map.FinMap pid_cmp Process };
 
-    ghost coded = { map.code (Prim.hlevel codes) (Prim.hlevel codes) };
+    ghost coded = { map.code (Prim.hlevel codes) (Prim.hlevel (codes, set.code {R = cap_cmp} cap_code)) };
 
     ghost view = { λ a. map.from_entries a.kept.entries };
 }
@@ -156,6 +159,16 @@ impl Procs {
     {
         match self.get(who) {
             Some(process) => Some(process.label),
+            None => None,
+        }
+    }
+
+    /// The capability sets of the process with this number, if there is one.
+    pub fn caps_of(&self, who: &Pid) -> Option<CapState>
+        ensures { result ≡ option_map (λ (p : Process). p.caps) (map.get self.now who.now) }
+    {
+        match self.get(who) {
+            Some(process) => Some(process.caps),
             None => None,
         }
     }

@@ -1,4 +1,4 @@
-use Rattle.labsys.proofs.Appending.{appends_more}
+use Rattle.labsys.proofs.Sending.{appends_more}
 use Rattle.labsys.proofs.playing.finish.Goals as goal
 
 pub returns-clause-front : goal.returns-clause-front

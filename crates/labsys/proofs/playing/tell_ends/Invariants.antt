@@ -3,11 +3,11 @@ use Rattle.std.specs.List.{flat_map}
 use Rattle.std.specs.Io.KnownBytes.{Appends}
 use Rattle.kern_model.specs.declared.numbers.Pid.{Pid}
 use Rattle.labsys.specs.Kernel.{state_of}
-use Rattle.labsys.specs.Texts.{end_text, label_in}
+use Rattle.labsys.specs.Texts.{end_text, label_in, caps_in}
 use Rattle.labsys.proofs.playing.tell_ends.Given as goal
 
 abbrev pub invariant-loop-who : goal.invariant-loop-who
 invariant-loop-who g l = record {
-  told : Appends (g.K.Sink.held l.initial.out) (g.K.Sink.held l.out) (flat_map (λ (who : Pid). end_text l.levels who (label_in (state_of l.kernel) who)) (take l.who-index l.who-items));
+  told : Appends (g.K.Sink.held l.initial.out) (g.K.Sink.held l.out) (flat_map (λ (who : Pid). end_text l.levels who (label_in (state_of l.kernel) who) (caps_in (state_of l.kernel) who)) (take l.who-index l.who-items));
   later : g.K.Sink.faults l.initial.out ≤ g.K.Sink.faults l.out;
 }

@@ -5,14 +5,14 @@ use Rattle.labsys.proofs.ReadLemmas.{goes_on, stops_at_line, stops_without, is_e
 use Rattle.labsys.proofs.reading.exact_due.Goals as goal
 
 pub returns-in_default-clause-due : goal.returns-in_default-clause-due
-returns-in_default-clause-due c = stops_without (exactly c.args.wanted.now) c.args.number c.args.text.now c.in_default.ensures.line
+returns-in_default-clause-due c = stops_without c.args.over (exactly c.args.wanted.now) c.args.number c.args.text.now c.no_line.result c.in_default.ensures.line c.no_line.ensures
 
 pub returns-then-ne-clause-due : goal.returns-then-ne-clause-due
 returns-then-ne-clause-due c =
-    stops_at_line (exactly c.args.wanted.now) c.args.number c.args.text.now c.in-Some.line.now c.in-Some.rest.now c.in-Some.ensures.line
-    (is_not_exact c.args.wanted.now c.in-Some.line.now (not-true (same_bytes c.in-Some.line.now c.args.wanted.now) (sym c.ne.ensures ∙ c.if-ne.true)))
+    stops_at_line c.args.over (exactly c.args.wanted.now) c.args.number c.args.text.now c.in-Some.line.now c.in-Some.rest.now c.refused.result c.in-Some.ensures.line
+    (is_not_exact c.args.wanted.now c.in-Some.line.now (not-true (same_bytes c.in-Some.line.now c.args.wanted.now) (sym c.ne.ensures ∙ c.if-ne.true))) c.refused.ensures
 
 pub returns-clause-due : goal.returns-clause-due
 returns-clause-due c =
-    goes_on (exactly c.args.wanted.now) c.args.number c.args.text.now c.in-Some.line.now c.in-Some.rest.now tt c.in-Some.ensures.line
+    goes_on c.args.over (exactly c.args.wanted.now) c.args.number c.args.text.now c.in-Some.line.now c.in-Some.rest.now tt c.in-Some.ensures.line
     (is_exact c.args.wanted.now c.in-Some.line.now (not-false (same_bytes c.in-Some.line.now c.args.wanted.now) (sym c.ne.ensures ∙ c.if-ne.false)))

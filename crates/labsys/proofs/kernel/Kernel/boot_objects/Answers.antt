@@ -1,7 +1,11 @@
 use Rattle.std.proofs.Common.{◌∙◌}
 use Rattle.labsys.specs.Kernel.{state_of}
-use Rattle.labsys.proofs.BootLemmas.{objects_step, objects_room}
+use Rattle.labsys.proofs.BootLemmas.{object_room, objects_step, objects_room}
 use Rattle.labsys.proofs.kernel.Kernel.boot_objects.Goals as goal
+
+pub boot_object-requires : goal.boot_object-requires
+boot_object-requires c =
+    object_room (state_of c.loop-object.self) c.args.objects.now c.loop-object.object-index c.object-item.result c.loop-object-test.true c.object-item.is c.loop-object.invariant.room
 
 pub loop-object-preserved : goal.loop-object-preserved
 loop-object-preserved c =
@@ -9,5 +13,5 @@ loop-object-preserved c =
     let t = state_of c.boot_object.new.self in
     record {
       same = objects_step s t c.args.objects.now c.loop-object.object-index c.object-item.result c.loop-object-test.true c.object-item.is c.in_ok-boot_object.ensures ∙ c.loop-object.invariant.same;
-      room = objects_room s t c.args.objects.now c.loop-object.object-index c.object-item.result c.loop-object-test.true c.object-item.is c.in_ok-boot_object.ensures 65535 c.loop-object.invariant.room;
+      room = objects_room s t c.args.objects.now c.loop-object.object-index c.object-item.result c.loop-object-test.true c.object-item.is c.in_ok-boot_object.ensures c.loop-object.invariant.room;
     }

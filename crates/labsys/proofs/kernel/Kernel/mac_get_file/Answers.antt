@@ -1,4 +1,4 @@
-use Rattle.std.proofs.Common.{◌≡◌, ◌∙◌, sym, ap, refl, [], length}
+use Rattle.std.proofs.Common.{◌≡◌, ◌∙◌, sym, ap, refl, [], None, length}
 use Rattle.fs_path.specs.Path.{PathValue}
 use Rattle.kern_model.specs.declared.numbers.Oid.{Oid}
 use Rattle.kern_model.specs.declared.objects.Process.{Process}
@@ -6,15 +6,16 @@ use Rattle.kern_model.specs.declared.checks.Place.TheVariants.{First}
 use Rattle.kern_model.specs.declared.calls.Answer.TheVariants as answer
 use Rattle.kern_model.specs.State.{State, object_at}
 use Rattle.kern_model.specs.Rules.{mac_read}
-use Rattle.kern_model.specs.Row.{Row, Need, Give, Done, judge}
+use Rattle.kern_model.specs.Row.{Row, Need, Give, Done, judged}
 use Rattle.kern_model.specs.Walk.{last_place}
 use Rattle.kern_model.proofs.RowLemmas.{judge-give}
+use Rattle.chk_rules.specs.Asking.{judge_from}
 use Rattle.labsys.specs.Kernel.{state_of}
 use Rattle.labsys.proofs.kernel.Kernel.mac_get_file.Goals as goal
 
 -- what the row gives at its end
 abbrev given : State → Oid → Row
-given s id = Give [] (answer.Mark (object_at s id).label)
+given s id = Give [] (answer.Mark (object_at s id).label) None
 
 -- what follows the walk
 abbrev told : State → Process → PathValue → Oid → Row
@@ -30,9 +31,9 @@ returns-clause-played c =
     record {
       changes = [];
       ends = c.in_ok-id.ensures.reached (told s p c.args.path.now)
-          ∙ ap (λ m. judge (Need m (given s id))) (sym is_check)
+          ∙ ap (λ m. judge_from c.reach.new.checks (Need m (given s id))) (sym is_check)
           ∙ c.in_ok-must.ensures.passed (given s id)
-          ∙ judge-give _ _
-          ∙ ap (λ l. Done [] (answer.Mark l)) (sym c.label_at.ensures);
+          ∙ judge-give _ _ _ _ _
+          ∙ ap (λ l. judged c.must.new.checks.used (Done [] (answer.Mark l) None)) (sym c.label_at.ensures);
       state = refl;
     }

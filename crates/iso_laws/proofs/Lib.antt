@@ -1,0 +1,11 @@
+pub mod Part
+pub mod Rows
+pub mod Sight
+pub mod Changes
+pub mod Calls
+pub mod Steps
+pub mod FrontLemmas
+pub mod Runs
+pub mod Booting
+pub mod Worlds
+pub mod Lineage

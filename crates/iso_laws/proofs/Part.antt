@@ -1,0 +1,148 @@
+-- The part of a state by numbers alone. Where numbers and labels agree it is the part, and each change goes through it.
+use Rattle.std.specs.Prelude.{◌≡◌, ℕ, Bool, true, false, List, [], ◌∷◌, ◌++◌, Some, None, refl, cond, map}
+use Rattle.std.specs.List.{AllByRecursion}
+use Rattle.std.specs.FinMap as map
+use Rattle.std.proofs.Common.{sym, ◌∙◌, ap}
+use Rattle.lab_lattice.specs.Label.{Label, label_cmp_total, label_cmp_exact}
+use Rattle.kern_model.specs.declared.numbers.Pid.{Pid}
+use Rattle.kern_model.specs.declared.numbers.Oid.{Oid}
+use Rattle.kern_model.specs.declared.objects.Object.{Object}
+use Rattle.kern_model.specs.declared.objects.Process.{Process}
+use Rattle.kern_model.specs.Keys.{Spot, oid_cmp_total, oid_cmp_exact, pid_cmp_total, pid_cmp_exact, spot_cmp_total, spot_cmp_exact}
+use Rattle.kern_model.specs.Maps.{select, where_key}
+use Rattle.kern_model.specs.State.{State, Change, SetObject, SetEntry, SetProcess, DrawObject, DrawProcess, changed, changed_by, stub}
+use Rattle.kern_model.specs.Isolation.{low, part, shows, label_in, Kept}
+use Rattle.kern_model.proofs.MapLemmas.{select_agree, select-insert_kept, select-insert_dropped}
+
+-- what an entry that leads to it leads to in the part
+abbrev pub shown : Label → Label → Oid → Oid
+shown l top id = cond (low l id.label) id (stub top)
+
+abbrev pub same : {X : Type 0} → X → X
+same x = x
+
+abbrev pub low_oid : Label → Oid → Bool
+low_oid l id = low l id.label
+
+abbrev pub low_spot : Label → Spot → Bool
+low_spot l spot = low l spot.0.label
+
+abbrev pub low_pid : Label → Pid → Bool
+low_pid l who = low l who.label
+
+unfoldable pub by_number : Label → State → State
+by_number l s = record {
+  objects = select (where_key (low_oid l) (same {X = Object})) s.objects;
+  entries = select (where_key (low_spot l) (shown l s.top)) s.entries;
+  procs = select (where_key (low_pid l) (same {X = Process})) s.procs;
+  object_numbers = select (where_key (low l) (same {X = ℕ})) s.object_numbers;
+  process_numbers = select (where_key (low l) (same {X = ℕ})) s.process_numbers;
+  bound = s.bound;
+  top = s.top;
+}
+
+-- the label of the number that a change is made at
+abbrev pub change_label : Change → Label
+change_label (SetObject id o) = id.label
+change_label (SetEntry spot id) = spot.0.label
+change_label (SetProcess who p) = who.label
+change_label (DrawObject label n) = label
+change_label (DrawProcess label n) = label
+
+-- a change as the part sees it
+abbrev pub shown_change : Label → Label → Change → Change
+shown_change l top (SetEntry spot id) = SetEntry spot (shown l top id)
+shown_change l top c = c
+
+-- the change in the part, where the part sees it
+abbrev pub part_change : Label → Label → Change → List Change
+part_change l top c = cond (low l (change_label c)) (shown_change l top c ∷ []) []
+
+abbrev pub part_changes : Label → Label → List Change → List Change
+part_changes l top [] = []
+part_changes l top (c ∷ cs) = part_change l top c ++ part_changes l top cs
+
+-- of changes at Low numbers, the part sees each
+pub part_of_low : (l top : Label) (cs : List Change) → AllByRecursion (λ c. low l (change_label c) ≡ true) cs → part_changes l top cs ≡ map (shown_change l top) cs
+part_of_low l top [] h = refl
+part_of_low l top (c ∷ cs) h = ap (λ b. cond b (shown_change l top c ∷ []) [] ++ part_changes l top cs) h.0 ∙ ap (λ ds. shown_change l top c ∷ ds) (part_of_low l top cs h.1)
+
+-- of changes at numbers that are not Low, the part sees none
+pub part_of_high : (l top : Label) (cs : List Change) → AllByRecursion (λ c. low l (change_label c) ≡ false) cs → part_changes l top cs ≡ []
+part_of_high l top [] h = refl
+part_of_high l top (c ∷ cs) h = ap (λ b. cond b (shown_change l top c ∷ []) [] ++ part_changes l top cs) h.0 ∙ part_of_high l top cs h.1
+
+-- what a change does to the part
+pub by_number-changed : (l : Label) (s : State) (c : Change) → by_number l (changed s c) ≡ changed_by (by_number l s) (part_change l s.top c)
+unfolding by_number
+by_number-changed l s (SetObject id o) =
+    elim (low l id.label) as (λ b. low l id.label ≡ b → by_number l (changed s (SetObject id o)) ≡ changed_by (by_number l s) (cond b (SetObject id o ∷ []) [])) [
+      | true ↦ λ e. ap (λ m. record (by_number l s) { objects = m }) (select-insert_kept oid_cmp_total oid_cmp_exact (low_oid l) same s.objects id o e)
+      | false ↦ λ e. ap (λ m. record (by_number l s) { objects = m }) (select-insert_dropped oid_cmp_total oid_cmp_exact (low_oid l) same s.objects id o e)
+    ] refl
+by_number-changed l s (SetEntry spot id) =
+    elim (low l spot.0.label) as (λ b. low l spot.0.label ≡ b → by_number l (changed s (SetEntry spot id)) ≡ changed_by (by_number l s) (cond b (SetEntry spot (shown l s.top id) ∷ []) [])) [
+      | true ↦ λ e. ap (λ m. record (by_number l s) { entries = m }) (select-insert_kept spot_cmp_total spot_cmp_exact (low_spot l) (shown l s.top) s.entries spot id e)
+      | false ↦ λ e. ap (λ m. record (by_number l s) { entries = m }) (select-insert_dropped spot_cmp_total spot_cmp_exact (low_spot l) (shown l s.top) s.entries spot id e)
+    ] refl
+by_number-changed l s (SetProcess who p) =
+    elim (low l who.label) as (λ b. low l who.label ≡ b → by_number l (changed s (SetProcess who p)) ≡ changed_by (by_number l s) (cond b (SetProcess who p ∷ []) [])) [
+      | true ↦ λ e. ap (λ m. record (by_number l s) { procs = m }) (select-insert_kept pid_cmp_total pid_cmp_exact (low_pid l) same s.procs who p e)
+      | false ↦ λ e. ap (λ m. record (by_number l s) { procs = m }) (select-insert_dropped pid_cmp_total pid_cmp_exact (low_pid l) same s.procs who p e)
+    ] refl
+by_number-changed l s (DrawObject label n) =
+    elim (low l label) as (λ b. low l label ≡ b → by_number l (changed s (DrawObject label n)) ≡ changed_by (by_number l s) (cond b (DrawObject label n ∷ []) [])) [
+      | true ↦ λ e. ap (λ m. record (by_number l s) { object_numbers = m }) (select-insert_kept label_cmp_total label_cmp_exact (low l) same s.object_numbers label n e)
+      | false ↦ λ e. ap (λ m. record (by_number l s) { object_numbers = m }) (select-insert_dropped label_cmp_total label_cmp_exact (low l) same s.object_numbers label n e)
+    ] refl
+by_number-changed l s (DrawProcess label n) =
+    elim (low l label) as (λ b. low l label ≡ b → by_number l (changed s (DrawProcess label n)) ≡ changed_by (by_number l s) (cond b (DrawProcess label n ∷ []) [])) [
+      | true ↦ λ e. ap (λ m. record (by_number l s) { process_numbers = m }) (select-insert_kept label_cmp_total label_cmp_exact (low l) same s.process_numbers label n e)
+      | false ↦ λ e. ap (λ m. record (by_number l s) { process_numbers = m }) (select-insert_dropped label_cmp_total label_cmp_exact (low l) same s.process_numbers label n e)
+    ] refl
+
+-- no change changes top
+pub top-changed : (s : State) (c : Change) → (changed s c).top ≡ s.top
+top-changed s (SetObject id o) = refl
+top-changed s (SetEntry spot id) = refl
+top-changed s (SetProcess who p) = refl
+top-changed s (DrawObject label n) = refl
+top-changed s (DrawProcess label n) = refl
+
+pub top-changed_by : (s : State) (cs : List Change) → (changed_by s cs).top ≡ s.top
+top-changed_by s [] = refl
+top-changed_by s (c ∷ cs) = top-changed_by (changed s c) cs ∙ top-changed s c
+
+changed_by-append : (s : State) (cs ds : List Change) → changed_by s (cs ++ ds) ≡ changed_by (changed_by s cs) ds
+changed_by-append s [] ds = refl
+changed_by-append s (c ∷ cs) ds = changed_by-append (changed s c) cs ds
+
+-- what a list of changes does to the part
+pub by_number-changed_by : (l : Label) (s : State) (cs : List Change) → by_number l (changed_by s cs) ≡ changed_by (by_number l s) (part_changes l s.top cs)
+by_number-changed_by l s [] = refl
+by_number-changed_by l s (c ∷ cs) =
+    by_number-changed_by l (changed s c) cs
+    ∙ ap (λ top. changed_by (by_number l (changed s c)) (part_changes l top cs)) (top-changed s c)
+    ∙ ap (λ t. changed_by t (part_changes l s.top cs)) (by_number-changed l s c)
+    ∙ sym (changed_by-append (by_number l s) (part_change l s.top c) (part_changes l s.top cs))
+
+shows_low : (l : Label) (s : State) → Kept l s → (id : Oid) → shows l s id ≡ low l id.label
+shows_low l s kept id =
+    elim (map.get s.objects id) as (λ w. map.get s.objects id ≡ w → low l (label_in w id) ≡ low l id.label) [
+      | None ↦ λ _. refl
+      | Some o ↦ λ e. sym (kept.objects id o e)
+    ] refl
+
+-- where numbers and labels agree, the part goes by numbers
+pub part_by_number : (l : Label) (s : State) → Kept l s → part l s ≡ by_number l s
+unfolding part by_number
+part_by_number l s kept =
+    let objects : (part l s).objects ≡ (by_number l s).objects =
+    select_agree oid_cmp_total oid_cmp_exact _ _ s.objects (λ q o e. ap (λ b. cond b (Some o) None) (sym (kept.objects q o e))) in
+    let entries : (part l s).entries ≡ (by_number l s).entries =
+    select_agree spot_cmp_total spot_cmp_exact _ _ s.entries (λ q id e.
+    ap (λ b. cond b (Some (cond (shows l s id) id (stub s.top))) None) (shows_low l s kept q.0)
+    ∙ ap (λ b. cond (low_spot l q) (Some (cond b id (stub s.top))) None) (shows_low l s kept id)) in
+    let procs : (part l s).procs ≡ (by_number l s).procs =
+    select_agree pid_cmp_total pid_cmp_exact _ _ s.procs (λ q p e. ap (λ b. cond b (Some p) None) (sym (kept.procs q p e))) in
+    λ i. record { objects = objects i; entries = entries i; procs = procs i; object_numbers = (by_number l s).object_numbers; process_numbers = (by_number l s).process_numbers; bound = s.bound; top = s.top }

@@ -1,0 +1,319 @@
+-- What a process sees of the part of a state.
+use Rattle.std.specs.Prelude.{◌≡◌, ℕ, ◌+◌, Bool, true, false, not, ◌&&◌, ◌||◌, List, [], ◌∷◌, Option, Some, None, refl, cond}
+use Rattle.std.specs.Option.{option_map, option_and_then}
+use Rattle.std.specs.List.{list_any}
+use Rattle.std.proofs.Common.{sym, ◌∙◌, ap, subst}
+use Rattle.std.proofs.lemmas.Bool.{and_parts}
+use Rattle.std.specs.FinMap as map
+use Rattle.cap_bits.specs.declared.cap.Cap.{Cap}
+use Rattle.cap_bits.specs.declared.cap.Cap.TheVariants as cap
+use Rattle.fs_path.specs.Name.{Name}
+use Rattle.fs_path.specs.Path.{PathValue}
+use Rattle.lab_lattice.specs.Label.{Label, dominates, dominates_through, dominates_bottom, label_cmp_total, label_cmp_exact}
+use Rattle.kern_model.specs.declared.numbers.Pid.{Pid}
+use Rattle.kern_model.specs.declared.numbers.Oid.{Oid}
+use Rattle.kern_model.specs.declared.objects.Object.{Object}
+use Rattle.kern_model.specs.declared.objects.Process.{Process}
+use Rattle.kern_model.specs.declared.checks.Check.{Check}
+use Rattle.kern_model.specs.declared.checks.CheckName.TheVariants as check
+use Rattle.kern_model.specs.declared.checks.Place.{Place}
+use Rattle.kern_model.specs.declared.checks.Verdict.TheVariants.{Passed, Exercised, Denied}
+use Rattle.kern_model.specs.declared.checks.Want.TheVariants as want
+use Rattle.kern_model.specs.declared.calls.Errno.TheVariants as errno
+use Rattle.kern_model.specs.declared.records.Rec.{Rec}
+use Rattle.kern_model.specs.Maps.{where_key, get_or}
+use Rattle.kern_model.specs.Keys.{oid_cmp_total, oid_cmp_exact, pid_cmp_total, pid_cmp_exact, spot_cmp_total, spot_cmp_exact}
+use Rattle.kern_model.specs.State.{State, Change, drawn, object_at, look, stub, stub_object, root}
+use Rattle.kern_model.specs.Rules.{cap_of, is_dir, mode_allows, on_object, mac_read, dac_search}
+use Rattle.kern_model.specs.Row.{Row, Need, Refuse, Asker, verdict_of, is_denied, noted, exercise_with, may}
+use Rattle.kern_model.specs.Walk.{Found, walk_from, walk, reach, start_of, enter, or_missing}
+use Rattle.kern_model.specs.Step.{asker}
+use Rattle.kern_model.specs.Isolation.{low, crosses, is_mac, differ, differs_from, Kept}
+use Rattle.kern_model.specs.Valid.{IsValid, IsThere, same_label}
+use Rattle.kern_model.proofs.MapLemmas.{get-select, get_or-found, get_or-absent, get_or-same, some_same}
+use Rattle.iso_laws.proofs.Part.{by_number, shown, low_oid, low_pid, low_spot, same}
+use Rattle.iso_laws.proofs.Rows.{Alike, Ends, Passes, alike_same, alike_hidden, alike_refuse, alike_missing, ends_need, ends_refuse, ends_missing}
+
+-- ---- checks
+pub failed_verdict : (a : Asker) (c : Check) → c.holds ≡ false → verdict_of a c ≡ cond (may a.effective (cap_of c.name)) Exercised Denied
+unfolding verdict_of
+failed_verdict a c h = ap (λ b. cond b Passed (cond (may a.effective (cap_of c.name)) Exercised Denied)) h
+
+both_true : (a b : Bool) → a ≡ true → b ≡ true → (a && b) ≡ true
+both_true true b p q = q
+both_true false b p q = p
+
+or_left : (a b : Bool) → a ≡ true → (a || b) ≡ true
+or_left true b p = refl
+or_left false b p = cc
+
+-- a check of a label that failed and went on crosses, where the labels are on two sides
+pub crossed : (l : Label) (a : Asker) (c : Check) (with : Cap) → c.holds ≡ false → cap_of c.name ≡ Some with → is_mac with ≡ true → differ (low l a.label) (low l c.thing_label) ≡ true → Passes (crosses l) a c → ⊥
+crossed l a c with fails named mac apart passes =
+    elim (may a.effective (cap_of c.name)) as (λ b. verdict_of a c ≡ cond b Exercised Denied → ⊥) [
+      | true ↦ λ v.
+          let inside : list_any (crosses l) (exercise_with a c (Some with)) ≡ false = ap (λ o. list_any (crosses l) (exercise_with a c o)) (sym named) ∙ ap (λ w. list_any (crosses l) (noted a c w [])) (sym v) ∙ passes.inside in
+          let is : list_any (crosses l) (exercise_with a c (Some with)) ≡ true = or_left _ _ (both_true (is_mac with) _ mac (or_left _ _ apart)) in
+          let no : true ≡ false = sym is ∙ inside in
+          cc
+      | false ↦ λ v. let no : true ≡ false = ap is_denied (sym v) ∙ passes.granted in cc
+    ] (failed_verdict a c fails)
+
+-- ---- labels
+not_true : (b : Bool) → (b ≡ true → ⊥) → b ≡ false
+not_true true h = absurd (h refl)
+not_true false h = refl
+
+-- what a Low label dominates is Low
+pub low_below : (l x y : Label) → low l x ≡ true → dominates x y ≡ true → low l y ≡ true
+low_below l x y h d = dominates_through l x y h d
+
+-- a Low label dominates no label that is not Low
+pub not_below : (l x y : Label) → low l x ≡ true → low l y ≡ false → dominates x y ≡ false
+not_below l x y h n = not_true _ (λ d. let no : true ≡ false = sym (low_below l x y h d) ∙ n in cc)
+
+-- top is not Low where something below it is not
+pub top_hidden : (l top y : Label) → dominates top y ≡ true → low l y ≡ false → low l top ≡ false
+top_hidden l top y d n = not_true _ (λ h. let no : true ≡ false = sym (low_below l top y h d) ∙ n in cc)
+
+equal_bools : (a b : Bool) → (a ≡ true → b ≡ true) → (b ≡ true → a ≡ true) → a ≡ b
+equal_bools true b f g = sym (f refl)
+equal_bools false true f g = g refl
+equal_bools false false f g = refl
+
+-- equal labels are on one side
+pub same_side : (l x y : Label) → same_label x y ≡ true → low l x ≡ low l y
+same_side l x y h =
+    let parts = and_parts (dominates x y) (dominates y x) h in
+    equal_bools _ _ (λ w. low_below l x y w parts.0) (λ w. low_below l y x w parts.1)
+
+differ_false : (a b : Bool) → differ a b ≡ false → a ≡ b
+differ_false true true h = refl
+differ_false true false h = cc
+differ_false false true h = cc
+differ_false false false h = refl
+
+inner : (a b d : Bool) → a ≡ true → ((a && (b || d)) || false) ≡ false → d ≡ false
+inner true true d p e = cc
+inner true false true p e = cc
+inner true false false p e = refl
+inner false b d p e = cc
+
+-- where a check wants equal labels and overriding it crosses, what passed is on the caller's side
+pub thing_side : (l : Label) (a : Asker) (c : Check) (with : Cap) → cap_of c.name ≡ Some with → is_mac with ≡ true → c.holds ≡ same_label a.label c.thing_label → Passes (crosses l) a c → low l a.label ≡ low l c.thing_label
+thing_side l a c with named mac holds passes =
+    elim (same_label a.label c.thing_label) as (λ b. same_label a.label c.thing_label ≡ b → low l a.label ≡ low l c.thing_label) [
+      | true ↦ λ h. same_side l _ _ h
+      | false ↦ λ h.
+          elim (differ (low l a.label) (low l c.thing_label)) as (λ b. differ (low l a.label) (low l c.thing_label) ≡ b → low l a.label ≡ low l c.thing_label) [
+            | true ↦ λ d. absurd (crossed l a c with (holds ∙ h) named mac d passes)
+            | false ↦ λ d. differ_false _ _ d
+          ] refl
+    ] refl
+
+-- where it wants the new label equal, so is the new label
+pub new_side : (l : Label) (a : Asker) (c : Check) (with : Cap) (new : Label) → cap_of c.name ≡ Some with → is_mac with ≡ true → c.new_label ≡ Some new → c.holds ≡ same_label a.label new → Passes (crosses l) a c → low l a.label ≡ low l new
+new_side l a c with new named mac is_new holds passes =
+    elim (same_label a.label new) as (λ b. same_label a.label new ≡ b → low l a.label ≡ low l new) [
+      | true ↦ λ h. same_side l _ _ h
+      | false ↦ λ h.
+          elim (may a.effective (cap_of c.name)) as (λ b. verdict_of a c ≡ cond b Exercised Denied → low l a.label ≡ low l new) [
+            | true ↦ λ v.
+                let inside : list_any (crosses l) (exercise_with a c (Some with)) ≡ false = ap (λ o. list_any (crosses l) (exercise_with a c o)) (sym named) ∙ ap (λ w. list_any (crosses l) (noted a c w [])) (sym v) ∙ passes.inside in
+                differ_false _ _ (inner (is_mac with) (differ (low l a.label) (low l c.thing_label)) _ mac (ap (λ n. (is_mac with && (differ (low l a.label) (low l c.thing_label) || differs_from l (low l a.label) n)) || false) (sym is_new) ∙ inside))
+            | false ↦ λ v. let no : true ≡ false = ap is_denied (sym v) ∙ passes.granted in cc
+          ] (failed_verdict a c (holds ∙ h))
+    ] refl
+
+-- the root is Low for each label
+pub root_low : (l : Label) → low l root.label ≡ true
+root_low l = dominates_bottom l
+
+-- ---- what is there
+-- a directory is there
+pub dir_there : (s : State) (id : Oid) → is_dir (object_at s id).kind ≡ true → IsThere s id
+dir_there s id h =
+    elim (map.get s.objects id) as (λ w. map.get s.objects id ≡ w → IsThere s id) [
+      | None ↦ λ e. let no : false ≡ true = ap (λ (o : Object). is_dir o.kind) (sym (get_or-absent s.objects id (stub_object s.top) e)) ∙ h in cc
+      | Some o ↦ λ e. record { object = o; is = e }
+    ] refl
+
+not_false : (b : Bool) → not b ≡ false → b ≡ true
+not_false true h = refl
+not_false false h = sym h
+
+-- what is known of what any walk found: of what it leads to, where the root is there
+pub record FoundIn (s : State) (found : Found) : Type 0 where
+  pub dir_there : (dir : Oid) → found.dir ≡ Some dir → IsThere s dir
+  pub there : (id : Oid) → found.object ≡ Some id → IsThere s root → IsThere s id
+
+-- ---- any process
+module _ (bad : Rec → Bool) (s : State) (valid : IsValid s) (who : Pid) (p : Process) (P : List Change → Type 0) (none : P []) where
+  abbrev Meets : Row → Type 0
+  Meets r = Ends bad (asker who p) P r
+
+  pub ends_enter : (dir : Oid) (place : Place) (r : Row) → (IsThere s dir → Meets r) → Meets (enter s p dir place r)
+  ends_enter dir place r h = ends_need bad (asker who p) P none _ _ (λ _. ends_refuse bad (asker who p) P none _ _ _ (λ is. ends_need bad (asker who p) P none _ _ (λ _. h (dir_there s dir (not_false _ is)))))
+
+  pub ends_walk_from : (place : ℕ → Place) (at : ℕ) (dir : Oid) (names : List Name) (k : Found → Row) → (IsThere s root → IsThere s dir) → ((found : Found) → FoundIn s found → Meets (k found)) → Meets (walk_from s p place at dir names k)
+  ends_walk_from place at dir [] k there h = h (record { dir = None; name = None; object = Some dir }) (record { dir_there = λ d e. cc; there = λ id e is. subst (IsThere s) (some_same dir id e) (there is) })
+  ends_walk_from place at dir (name ∷ []) k there h =
+      ends_enter dir (place at) _ (λ is. h (record { dir = Some dir; name = Some name; object = look s dir name }) (record { dir_there = λ d e. subst (IsThere s) (some_same dir d e) is; there = λ id e _. valid.held (dir, name) id e }))
+  ends_walk_from place at dir (name ∷ next ∷ names) k there h =
+      ends_enter dir (place at) _ (λ _. ends_missing bad (asker who p) P none (look s dir name) _ (λ id e. ends_walk_from place (at + 1) id (next ∷ names) k (λ _. valid.held (dir, name) id e) h))
+
+  start_there : (path : PathValue) → map.get s.procs who ≡ Some p → IsThere s root → IsThere s (start_of p path)
+  start_there path is there = elim path.absolute as (λ b. IsThere s (cond b root p.cwd)) [ true ↦ there | false ↦ valid.cwd who p is ]
+
+  pub ends_walk : map.get s.procs who ≡ Some p → (place : ℕ → Place) (path : PathValue) (k : Found → Row) → ((found : Found) → FoundIn s found → Meets (k found)) → Meets (walk s p place path k)
+  ends_walk is place path k h = ends_walk_from place 0 (start_of p path) path.names k (start_there path is) h
+
+  -- a walk to an object that is there
+  pub ends_reach : map.get s.procs who ≡ Some p → (place : ℕ → Place) (path : PathValue) (k : Oid → Row) → ((id : Oid) → (IsThere s root → IsThere s id) → Meets (k id)) → Meets (reach s p place path k)
+  ends_reach is place path k h = ends_walk is place path _ (λ found f. ends_missing bad (asker who p) P none found.object k (λ id e. h id (f.there id e)))
+
+-- ---- a Low process and the part
+module _ (l : Label) (s : State) where
+  get_low : (id : Oid) → low l id.label ≡ true → map.get (by_number l s).objects id ≡ map.get s.objects id
+  unfolding by_number
+  get_low id h =
+      get-select oid_cmp_exact (where_key (low_oid l) same) oid_cmp_total s.objects id
+      ∙ ap (λ b. option_and_then (λ (o : Object). cond b (Some o) None) (map.get s.objects id)) h
+      ∙ elim (map.get s.objects id) as (λ w. option_and_then (λ (o : Object). Some o) w ≡ w) [ None ↦ refl | Some o ↦ refl ]
+
+  -- a Low number's process is the same in the part
+  pub get_process : (q : Pid) → low l q.label ≡ true → map.get (by_number l s).procs q ≡ map.get s.procs q
+  unfolding by_number
+  get_process q h =
+      get-select pid_cmp_exact (where_key (low_pid l) (same {X = Process})) pid_cmp_total s.procs q
+      ∙ ap (λ b. option_and_then (λ (o : Process). cond b (Some o) None) (map.get s.procs q)) h
+      ∙ elim (map.get s.procs q) as (λ w. option_and_then (λ (o : Process). Some o) w ≡ w) [ None ↦ refl | Some o ↦ refl ]
+
+  abbrev gone : Object → Option Object
+  gone o = None
+
+  nothing : (w : Option Object) → option_and_then gone w ≡ None
+  nothing None = refl
+  nothing (Some o) = refl
+
+  get_stub : low l s.top ≡ false → map.get (by_number l s).objects (stub s.top) ≡ None
+  unfolding by_number
+  get_stub h =
+      get-select oid_cmp_exact (where_key (low_oid l) same) oid_cmp_total s.objects (stub s.top)
+      ∙ ap (λ b. option_and_then (λ (o : Object). cond b (Some o) None) (map.get s.objects (stub s.top))) h
+      ∙ nothing (map.get s.objects (stub s.top))
+
+  top_is : (by_number l s).top ≡ s.top
+  unfolding by_number
+  top_is = refl
+
+  -- a Low object reads the same in the part
+  pub object_low : (id : Oid) → low l id.label ≡ true → object_at (by_number l s) id ≡ object_at s id
+  object_low id h = ap (λ t. get_or (by_number l s).objects id (stub_object t)) top_is ∙ get_or-same _ _ id _ (get_low id h)
+
+  object_stub : low l s.top ≡ false → object_at (by_number l s) (stub s.top) ≡ stub_object s.top
+  object_stub h = ap (λ t. get_or (by_number l s).objects (stub s.top) (stub_object t)) top_is ∙ get_or-absent _ _ _ (get_stub h)
+
+  -- an entry of a Low directory leads in the part to what is shown of where it leads
+  pub look_low : (dir : Oid) (name : Name) → low l dir.label ≡ true → look (by_number l s) dir name ≡ option_map (shown l s.top) (look s dir name)
+  unfolding by_number
+  look_low dir name h =
+      get-select spot_cmp_exact (where_key (low_spot l) (shown l s.top)) spot_cmp_total s.entries (dir, name)
+      ∙ ap (λ b. option_and_then (λ (o : Oid). cond b (Some (shown l s.top o)) None) (look s dir name)) h
+      ∙ elim (look s dir name) as (λ w. option_and_then (λ (o : Oid). Some (shown l s.top o)) w ≡ option_map (shown l s.top) w) [ None ↦ refl | Some o ↦ refl ]
+
+  -- the numbers drawn of a Low label are the same in the part
+  pub drawn_objects : (label : Label) → low l label ≡ true → drawn (by_number l s).object_numbers label ≡ drawn s.object_numbers label
+  unfolding by_number
+  drawn_objects label h = get_or-same _ _ label 0 (get-select label_cmp_exact (where_key (low l) (same {X = ℕ})) label_cmp_total s.object_numbers label
+      ∙ ap (λ b. option_and_then (λ (n : ℕ). cond b (Some n) None) (map.get s.object_numbers label)) h
+      ∙ elim (map.get s.object_numbers label) as (λ w. option_and_then (λ (n : ℕ). Some n) w ≡ w) [ None ↦ refl | Some n ↦ refl ])
+
+  pub drawn_processes : (label : Label) → low l label ≡ true → drawn (by_number l s).process_numbers label ≡ drawn s.process_numbers label
+  unfolding by_number
+  drawn_processes label h = get_or-same _ _ label 0 (get-select label_cmp_exact (where_key (low l) (same {X = ℕ})) label_cmp_total s.process_numbers label
+      ∙ ap (λ b. option_and_then (λ (n : ℕ). cond b (Some n) None) (map.get s.process_numbers label)) h
+      ∙ elim (map.get s.process_numbers label) as (λ w. option_and_then (λ (n : ℕ). Some n) w ≡ w) [ None ↦ refl | Some n ↦ refl ])
+
+  -- what is Low is shown as it is
+  pub shown_low : (id : Oid) → low l id.label ≡ true → shown l s.top id ≡ id
+  shown_low id h = ap (λ b. cond b id (stub s.top)) h
+
+module _ (l : Label) (s : State) (kept : Kept l s) (valid : IsValid s) (who : Pid) (p : Process) (is_low : low l p.label ≡ true) where
+  abbrev Same : Row → Row → Type 0
+  Same r r' = Alike (crosses l) l s.top (asker who p) r r'
+
+  -- what passed a Low caller's mac_read is Low, and reads the same in the part
+  pub alike_mac_read : (id : Oid) → (low l id.label ≡ false → IsThere s id) → (place : Place) (r : Row) (r' : Oid → Row) → (low l id.label ≡ true → Same r (r' id)) → Same (Need (mac_read s p id place) r) (Need (mac_read (by_number l s) p (shown l s.top id) place) (r' (shown l s.top id)))
+  alike_mac_read id is_there place r r' rest =
+      elim (low l id.label) as (λ b. low l id.label ≡ b → Same (Need (mac_read s p id place) r) (Need (mac_read (by_number l s) p (cond b id (stub s.top)) place) (r' (cond b id (stub s.top))))) [
+        | true ↦ λ h. alike_same (crosses l) l s.top (asker who p) _ _ r (r' id) (ap (λ o. on_object check.MacRead (dominates p.label o.label) id o place) (object_low l s id h)) (λ _. rest h)
+        | false ↦ λ h.
+            let there : IsThere s id = is_there h in
+            let at : object_at s id ≡ there.object = get_or-found _ _ _ _ there.is in
+            let hidden : low l there.object.label ≡ false = sym (kept.objects id there.object there.is) ∙ h in
+            let label : (object_at s id).label ≡ there.object.label = ap (λ o. o.label) at in
+            let top : low l s.top ≡ false = top_hidden l s.top there.object.label (valid.objects_below id there.object there.is) hidden in
+            let fails : dominates p.label (object_at s id).label ≡ false = ap (dominates p.label) label ∙ not_below l p.label there.object.label is_low hidden in
+            let stub_label : (object_at (by_number l s) (stub s.top)).label ≡ s.top = ap (λ o. o.label) (object_stub l s top) in
+            let fails' : dominates p.label (object_at (by_number l s) (stub s.top)).label ≡ false = ap (dominates p.label) stub_label ∙ not_below l p.label s.top is_low top in
+            let apart : differ (low l p.label) (low l (object_at s id).label) ≡ true = ap (λ b. differ b (low l (object_at s id).label)) is_low ∙ ap (λ x. not (low l x)) label ∙ ap not hidden in
+            alike_hidden (crosses l) l s.top (asker who p) (mac_read s p id place) (mac_read (by_number l s) p (stub s.top) place) r (r' (stub s.top)) refl refl
+            (failed_verdict (asker who p) (mac_read (by_number l s) p (stub s.top) place) fails' ∙ sym (failed_verdict (asker who p) (mac_read s p id place) fails))
+            (crossed l (asker who p) (mac_read s p id place) cap.MacRead fails refl refl apart)
+      ] refl
+
+  pub alike_enter : (dir : Oid) → (low l dir.label ≡ false → IsThere s dir) → (place : Place) (r : Row) (r' : Oid → Row) → (low l dir.label ≡ true → IsThere s dir → Same r (r' dir)) → Same (enter s p dir place r) (enter (by_number l s) p (shown l s.top dir) place (r' (shown l s.top dir)))
+  alike_enter dir is_there place r r' rest =
+      alike_mac_read dir is_there place
+      (Refuse errno.ENOTDIR (not (is_dir (object_at s dir).kind)) (Need (dac_search s p dir place) r))
+      (λ d. Refuse errno.ENOTDIR (not (is_dir (object_at (by_number l s) d).kind)) (Need (dac_search (by_number l s) p d place) (r' d)))
+      (λ h. alike_refuse (crosses l) l s.top (asker who p) errno.ENOTDIR _ _ _ _ (ap (λ o. not (is_dir o.kind)) (object_low l s dir h))
+      (λ is. alike_same (crosses l) l s.top (asker who p) (dac_search s p dir place) (dac_search (by_number l s) p dir place) r (r' dir)
+      (ap (λ o. on_object check.DacSearch (mode_allows o.attr p.ids want.Execute) dir o place) (object_low l s dir h)) (λ _. rest h (dir_there s dir (not_false _ is)))))
+
+  -- what a walk found, in the part
+  abbrev pub part_found : Found → Found
+  part_found found = record { dir = found.dir; name = found.name; object = option_map (shown l s.top) found.object }
+
+  -- what is known of what a Low process's walk found
+  pub record Seen (found : Found) : Type 0 where
+    pub dir_low : (dir : Oid) → found.dir ≡ Some dir → low l dir.label ≡ true
+    pub dir_there : (dir : Oid) → found.dir ≡ Some dir → IsThere s dir
+    pub there : (id : Oid) → found.object ≡ Some id → low l id.label ≡ false → IsThere s id
+
+  pub alike_walk_from : (place : ℕ → Place) (at : ℕ) (dir : Oid) (names : List Name) (k k' : Found → Row) → (low l dir.label ≡ false → IsThere s dir) → ((found : Found) → Seen found → Same (k found) (k' (part_found found))) → Same (walk_from s p place at dir names k) (walk_from (by_number l s) p place at (shown l s.top dir) names k')
+  alike_walk_from place at dir [] k k' there h =
+      h (record { dir = None; name = None; object = Some dir })
+      (record { dir_low = λ d e. cc; dir_there = λ d e. cc; there = λ id e high. subst (IsThere s) (some_same dir id e) (there (ap (λ (x : Oid). low l x.label) (some_same dir id e) ∙ high)) })
+  alike_walk_from place at dir (name ∷ []) k k' there h =
+      alike_enter dir there (place at) (k (record { dir = Some dir; name = Some name; object = look s dir name }))
+      (λ d. k' (record { dir = Some d; name = Some name; object = look (by_number l s) d name }))
+      (λ is_low_dir is. subst (λ w. Same (k (record { dir = Some dir; name = Some name; object = look s dir name })) (k' (record { dir = Some dir; name = Some name; object = w }))) (sym (look_low l s dir name is_low_dir))
+      (h (record { dir = Some dir; name = Some name; object = look s dir name })
+      (record {
+        dir_low = λ d e. subst (λ (x : Oid). low l x.label ≡ true) (some_same dir d e) is_low_dir;
+        dir_there = λ d e. subst (IsThere s) (some_same dir d e) is;
+        there = λ id e _. valid.held (dir, name) id e;
+      })))
+  alike_walk_from place at dir (name ∷ next ∷ names) k k' there h =
+      alike_enter dir there (place at) (or_missing (look s dir name) (λ id. walk_from s p place (at + 1) id (next ∷ names) k))
+      (λ d. or_missing (look (by_number l s) d name) (λ id. walk_from (by_number l s) p place (at + 1) id (next ∷ names) k'))
+      (λ is_low_dir _. subst (λ w. Same (or_missing (look s dir name) (λ id. walk_from s p place (at + 1) id (next ∷ names) k)) (or_missing w (λ id. walk_from (by_number l s) p place (at + 1) id (next ∷ names) k'))) (sym (look_low l s dir name is_low_dir))
+      (alike_missing (crosses l) l s.top (asker who p) (look s dir name) _ _ (shown l s.top)
+      (λ id e. alike_walk_from place (at + 1) id (next ∷ names) k k' (λ _. valid.held (dir, name) id e) h)))
+
+  start_low : (path : PathValue) → map.get s.procs who ≡ Some p → low l (start_of p path).label ≡ true
+  start_low path is = elim path.absolute as (λ b. low l (cond b root p.cwd).label ≡ true) [ true ↦ root_low l | false ↦ kept.cwd who p is is_low ]
+
+  -- the walk of a path, in the state and in its part
+  pub alike_walk : map.get s.procs who ≡ Some p → (place : ℕ → Place) (path : PathValue) (k k' : Found → Row) → ((found : Found) → Seen found → Same (k found) (k' (part_found found))) → Same (walk s p place path k) (walk (by_number l s) p place path k')
+  alike_walk is place path k k' h =
+      let start : low l (start_of p path).label ≡ true = start_low path is in
+      subst (λ d. Same (walk s p place path k) (walk_from (by_number l s) p place 0 d path.names k')) (shown_low l s (start_of p path) start)
+      (alike_walk_from place 0 (start_of p path) path.names k k' (λ high. let no : true ≡ false = sym start ∙ high in cc) h)
+
+  -- a walk to an object that is there
+  pub alike_reach : map.get s.procs who ≡ Some p → (place : ℕ → Place) (path : PathValue) (k k' : Oid → Row) → ((id : Oid) → (low l id.label ≡ false → IsThere s id) → Same (k id) (k' (shown l s.top id))) → Same (reach s p place path k) (reach (by_number l s) p place path k')
+  alike_reach is place path k k' h = alike_walk is place path _ _ (λ found seen.
+      alike_missing (crosses l) l s.top (asker who p) found.object k k' (shown l s.top) (λ id e. h id (seen.there id e)))

@@ -1,0 +1,98 @@
+-- The laws of a step.
+use Rattle.std.specs.Prelude.{◌≡◌, true, false, [], ◌++◌, Option, Some, None, refl, cond}
+use Rattle.std.specs.Option.{option_and_then}
+use Rattle.std.proofs.Common.{sym, ◌∙◌, ap, subst}
+use Rattle.std.specs.FinMap as map
+use Rattle.lab_lattice.specs.Label.{Label}
+use Rattle.kern_model.specs.declared.numbers.Pid.{Pid}
+use Rattle.kern_model.specs.declared.objects.Process.{Process}
+use Rattle.kern_model.specs.declared.calls.Call.{Call}
+use Rattle.kern_model.specs.Maps.{where_key}
+use Rattle.kern_model.specs.Keys.{pid_cmp_total, pid_cmp_exact}
+use Rattle.kern_model.specs.State.{State, changed_by}
+use Rattle.kern_model.specs.Row.{End, Stopped, Refused, Done, Judged, judge, judged}
+use Rattle.kern_model.specs.Rules.{name_of}
+use Rattle.kern_model.specs.Table.{row}
+use Rattle.kern_model.specs.Step.{Outcome, step, step_by, settled, asker, reply_of, state_after, own_of}
+use Rattle.kern_model.specs.Isolation.{low, part, crosses, crossing, Kept}
+use Rattle.kern_model.specs.Valid.{IsValid}
+use Rattle.kern_model.proofs.MapLemmas.{get-select}
+use Rattle.iso_laws.proofs.Part.{by_number, low_pid, same, part_changes, part_by_number, by_number-changed_by}
+use Rattle.iso_laws.proofs.Rows.{part_end, part_judged, changes_of, bad_front, never, none_never}
+use Rattle.iso_laws.proofs.Sight.{get_process}
+use Rattle.iso_laws.proofs.Calls.{low_row, row_meets, hidden_cases, kept_cases, valid_cases}
+
+module _ (s : State) (who : Pid) (c : Call) where
+  abbrev judged_row : Process → Judged
+  judged_row p = judge (asker who p) [] (row s who p c)
+
+  -- by the process, if there is one
+  by_process : (P : Outcome → Type 0) → (map.get s.procs who ≡ None → P (step_by s who c None)) → ((p : Process) → map.get s.procs who ≡ Some p → P (settled s who p (name_of c) (judged_row p))) → P (step s who c)
+  unfolding step
+  by_process P f g =
+      elim (map.get s.procs who) as (λ o. map.get s.procs who ≡ o → P (step_by s who c o)) [ None ↦ f | Some p ↦ g p ] refl
+
+  after : (e : End) → state_after s e ≡ changed_by s (changes_of e)
+  after (Stopped name place) = refl
+  after (Refused e) = refl
+  after (Done cs answer own) = refl
+
+  -- a valid state stays valid, whatever crosses
+  pub valid_after : IsValid s → IsValid (step s who c).state
+  valid_after valid = by_process (λ o. IsValid o.state)
+      (λ _. valid)
+      (λ p is. subst IsValid (sym (after (judged_row p).end))
+      ((row_meets never s valid who p is (λ cs. IsValid (changed_by s cs)) (valid_cases never s valid who p is) c).ends [] (none_never (judged_row p).used)))
+
+module _ (l : Label) (s : State) (who : Pid) (c : Call) where
+  -- what is kept is kept by a step that does not cross
+  pub kept_after : Kept l s → IsValid s → crossing l (step s who c).recs ≡ false → Kept l (step s who c).state
+  kept_after kept valid = by_process s who c (λ o. crossing l o.recs ≡ false → Kept l o.state)
+      (λ _ _. kept)
+      (λ p is h. subst (Kept l) (sym (after s who c (judged_row s who c p).end))
+      ((row_meets (crosses l) s valid who p is (λ cs. Kept l (changed_by s cs)) (kept_cases l s kept who p is) c).ends [] (bad_front (crosses l) (judged_row s who c p).used (own_of who p (name_of c) (judged_row s who c p).end) h)))
+
+  -- a process that is not Low leaves the part as it is
+  pub other_after : Kept l s → IsValid s → low l who.label ≡ false → crossing l (step s who c).recs ≡ false → part l (step s who c).state ≡ part l s
+  other_after kept valid high = by_process s who c (λ o. (crossing l o.recs ≡ false → Kept l o.state) → crossing l o.recs ≡ false → part l o.state ≡ part l s)
+      (λ _ _ _. refl)
+      (λ p is k h.
+      part_by_number l _ (k h)
+      ∙ ap (by_number l) (after s who c (judged_row s who c p).end)
+      ∙ by_number-changed_by l s (changes_of (judged_row s who c p).end)
+      ∙ ap (changed_by (by_number l s)) ((row_meets (crosses l) s valid who p is (λ cs. part_changes l s.top cs ≡ []) (hidden_cases l s who p high (sym (kept.procs who p is) ∙ high)) c).ends [] (bad_front (crosses l) (judged_row s who c p).used (own_of who p (name_of c) (judged_row s who c p).end) h))
+      ∙ sym (part_by_number l s kept))
+      (kept_after kept valid)
+
+  abbrev part_outcome : Outcome → Outcome
+  part_outcome o = record { state = part l o.state; reply = o.reply; recs = o.recs }
+
+  settled_part : Kept l s → (p : Process) (j : Judged) → Kept l (state_after s j.end) → settled (by_number l s) who p (name_of c) (part_judged l s.top j) ≡ part_outcome (settled s who p (name_of c) j)
+  settled_part kept p j kept' =
+      elim j.end as (λ e. Kept l (state_after s e) → settled (by_number l s) who p (name_of c) (judged j.used (part_end l s.top e)) ≡ part_outcome (settled s who p (name_of c) (judged j.used e))) [
+        | Stopped name place ↦ λ k. ap (λ t. record { state = t; reply = reply_of (Stopped name place); recs = j.used ++ own_of who p (name_of c) (Stopped name place) }) (sym (part_by_number l s kept))
+        | Refused e ↦ λ k. ap (λ t. record { state = t; reply = reply_of (Refused e); recs = j.used ++ own_of who p (name_of c) (Refused e) }) (sym (part_by_number l s kept))
+        | Done cs answer own ↦ λ k. ap (λ t. record { state = t; reply = reply_of (Done cs answer own); recs = j.used ++ own_of who p (name_of c) (Done cs answer own) }) (sym (by_number-changed_by l s cs) ∙ sym (part_by_number l _ k))
+      ] kept'
+
+  no_process : (w : Option Process) → w ≡ None → option_and_then (λ (p : Process). cond (low_pid l who) (Some p) None) w ≡ None
+  no_process None e = refl
+  no_process (Some p) e = cc
+
+  absent : map.get s.procs who ≡ None → map.get (by_number l s).procs who ≡ None
+  unfolding by_number
+  absent e = get-select pid_cmp_exact (where_key (low_pid l) (same {X = Process})) pid_cmp_total s.procs who ∙ no_process _ e
+
+  -- a Low process is told the same in the part
+  pub low_after : Kept l s → IsValid s → low l who.label ≡ true → crossing l (step s who c).recs ≡ false → step (part l s) who c ≡ part_outcome (step s who c)
+  unfolding step
+  low_after kept valid is_low h =
+      ap (λ t. step t who c) (part_by_number l s kept)
+      ∙ by_process s who c (λ o. (crossing l o.recs ≡ false → Kept l o.state) → crossing l o.recs ≡ false → step (by_number l s) who c ≡ part_outcome o)
+      (λ none _ _. ap (step_by (by_number l s) who c) (absent none) ∙ ap (λ t. step_by t who c None) (sym (part_by_number l s kept)))
+      (λ p is k h.
+      let p_low : low l p.label ≡ true = sym (kept.procs who p is) ∙ is_low in
+      ap (step_by (by_number l s) who c) (get_process l s who is_low ∙ is)
+      ∙ ap (settled (by_number l s) who p (name_of c)) ((low_row l s kept valid who p is p_low c).ends [] (bad_front (crosses l) (judged_row s who c p).used (own_of who p (name_of c) (judged_row s who c p).end) h))
+      ∙ settled_part kept p (judged_row s who c p) (k h))
+      (kept_after kept valid) h

@@ -1,0 +1,223 @@
+-- A reply that stands has its records in front of it.
+use Rattle.std.proofs.Common.{◌≡◌, ℕ, ◌+◌, ◌≤◌, ◌<◌, List, [], ◌∷◌, ◌++◌, length, take, suc, zero, refl, sym, ◌∙◌, ap, subst, append_assoc, arith}
+use Rattle.std.proofs.lemmas.List.{append-nil, append_cancel_left, length-append}
+use Rattle.std.specs.Prelude.{Option, Some, None}
+use Rattle.std.specs.List.{flat_map, AllByRecursion}
+use Rattle.kern_model.specs.Boot.{boot}
+use Rattle.kern_model.specs.Fronts.{IsFront}
+use Rattle.kern_model.specs.Rules.{name_of}
+use Rattle.kern_model.specs.Run.{Played, run}
+use Rattle.labsys.specs.Grammar.{Levels}
+use Rattle.labsys.specs.Input.{Accepted, Script}
+use Rattle.labsys.specs.Texts.{pid_text, call_text, outcome_text, last_text, reply_text}
+use Rattle.labsys.specs.Order.{Sent, Turn, out_of, trail_of, to_out, to_trail, turns_from, told, replies_of, records_of, tail_text, order_in, head_text, order_by, turns_of, out_by, trail_by}
+use Rattle.labsys.proofs.Sending.{out_of-append, trail_of-append, out_of-to_out, out_of-to_trail, trail_of-to_out, trail_of-to_trail}
+
+-- a front of two lists is a front of the first, or all of it and a front of the second
+pub data Split (a b front rest : List Sent) : Type 0 where
+  Within : (more : List Sent) (a_is : a ≡ front ++ more) → Split a b front rest
+  Past : (more : List Sent) (front_is : front ≡ a ++ more) (b_is : b ≡ more ++ rest) → Split a b front rest
+
+pub split : (a b front rest : List Sent) → a ++ b ≡ front ++ rest → Split a b front rest
+split [] b front rest e = Past front refl e
+split (x ∷ a) b [] rest e = Within (x ∷ a) refl
+split (x ∷ a) b (y ∷ front) rest e =
+    let h : x ≡ y = cc in
+    let t : a ++ b ≡ front ++ rest = cc in
+    elim (split a b front rest t) [
+      | Within more a_is ↦ Within more (ap (λ (z : List Sent). x ∷ z) a_is ∙ ap (λ q. q ∷ (front ++ more)) h)
+      | Past more front_is b_is ↦ Past more (ap (λ (z : List Sent). y ∷ z) front_is ∙ ap (λ q. q ∷ (a ++ more)) (sym h)) b_is
+    ]
+
+-- what stands in each sink behind records, and behind a reply
+out_behind : (r : List ℕ) (x : List Sent) → out_of (to_trail r ++ x) ≡ out_of x
+out_behind r x = out_of-append (to_trail r) x ∙ ap (λ (z : List ℕ). z ++ out_of x) (out_of-to_trail r)
+
+trail_behind : (r : List ℕ) (x : List Sent) → trail_of (to_trail r ++ x) ≡ r ++ trail_of x
+trail_behind r x = trail_of-append (to_trail r) x ∙ ap (λ (z : List ℕ). z ++ trail_of x) (trail_of-to_trail r)
+
+out_reply : (p : List ℕ) (x : List Sent) → out_of (to_out p ++ x) ≡ p ++ out_of x
+out_reply p x = out_of-append (to_out p) x ∙ ap (λ (z : List ℕ). z ++ out_of x) (out_of-to_out p)
+
+trail_reply : (p : List ℕ) (x : List Sent) → trail_of (to_out p ++ x) ≡ trail_of x
+trail_reply p x = trail_of-append (to_out p) x ∙ ap (λ (z : List ℕ). z ++ trail_of x) (trail_of-to_out p)
+
+-- ---- each sink alone
+
+turn_out : (t : Turn) (x : List Sent) → out_of (told t ++ x) ≡ t.reply ++ out_of x
+unfolding told
+turn_out t x = ap out_of (append_assoc (to_trail t.recs) (to_out t.reply) x) ∙ out_behind t.recs (to_out t.reply ++ x) ∙ out_reply t.reply x
+
+turn_trail : (t : Turn) (x : List Sent) → trail_of (told t ++ x) ≡ t.recs ++ trail_of x
+unfolding told
+turn_trail t x = ap trail_of (append_assoc (to_trail t.recs) (to_out t.reply) x) ∙ trail_behind t.recs (to_out t.reply ++ x) ∙ ap (λ (z : List ℕ). t.recs ++ z) (trail_reply t.reply x)
+
+turns_out : (ts : List Turn) (tail : List ℕ) → out_of (flat_map told ts ++ to_out tail) ≡ replies_of ts ++ tail
+turns_out [] tail = out_of-to_out tail
+turns_out (t ∷ ts) tail =
+    ap out_of (append_assoc (told t) (flat_map told ts) (to_out tail)) ∙ turn_out t (flat_map told ts ++ to_out tail) ∙ ap (λ (z : List ℕ). t.reply ++ z) (turns_out ts tail) ∙ sym (append_assoc t.reply (replies_of ts) tail)
+
+turns_trail : (ts : List Turn) (tail : List ℕ) → trail_of (flat_map told ts ++ to_out tail) ≡ records_of ts
+turns_trail [] tail = trail_of-to_out tail
+turns_trail (t ∷ ts) tail =
+    ap trail_of (append_assoc (told t) (flat_map told ts) (to_out tail)) ∙ turn_trail t (flat_map told ts ++ to_out tail) ∙ ap (λ (z : List ℕ). t.recs ++ z) (turns_trail ts tail)
+
+pub order_out : (a : Option Accepted) (m : Script) → out_of (order_by a m) ≡ out_by a m
+unfolding order_by out_by order_in
+order_out None m = out_of-to_out (last_text 0 m.ending)
+order_out (Some a) m =
+    out_behind (head_text a) (flat_map told (turns_of a m) ++ to_out (tail_text a.policy.levels 0 (boot a.world) m)) ∙ turns_out (turns_of a m) (tail_text a.policy.levels 0 (boot a.world) m)
+
+pub order_trail : (a : Option Accepted) (m : Script) → trail_of (order_by a m) ≡ trail_by a m
+unfolding order_by trail_by order_in
+order_trail None m = trail_of-to_out (last_text 0 m.ending)
+order_trail (Some a) m =
+    trail_behind (head_text a) (flat_map told (turns_of a m) ++ to_out (tail_text a.policy.levels 0 (boot a.world) m)) ∙ ap (λ (z : List ℕ). head_text a ++ z) (turns_trail (turns_of a m) (tail_text a.policy.levels 0 (boot a.world) m))
+
+-- ---- no reply line is empty
+
+reply_pos : (levels : Levels) (p : Played) → 0 < length (reply_text levels p)
+unfolding reply_text
+reply_pos levels p = omega (arith, length-append (pid_text levels p.who) (32 ∷ (call_text (name_of p.call) ++ 32 ∷ (outcome_text levels p.reply ++ 10 ∷ []))))
+
+-- each turn has a reply
+abbrev AllReply : List Turn → Type 0
+AllReply ts = AllByRecursion (λ (t : Turn). 0 < length t.reply) ts
+
+all_reply : (levels : Levels) (n : ℕ) (ps : List Played) → AllReply (turns_from levels n ps)
+unfolding turns_from
+all_reply levels n [] = tt
+all_reply levels n (p ∷ ps) = (reply_pos levels p, all_reply levels (n + 1) ps)
+
+replies_pos : (ts : List Turn) (m : ℕ) → AllReply ts → suc m ≤ length ts → 0 < length (replies_of (take (suc m) ts))
+replies_pos [] m all le = absurd (omega arith)
+replies_pos (t ∷ ts) m all le = let p = all.0 in omega (arith, length-append t.reply (replies_of (take m ts)))
+
+-- ---- fronts
+
+-- among records nothing stands in the output
+none_out : (r : List ℕ) (x y : List Sent) → to_trail r ≡ x ++ y → length (out_of x) ≡ 0
+none_out r x y e = let h = ap length (sym (out_of-to_trail r) ∙ ap out_of e ∙ out_of-append x y) in omega (arith, h, length-append (out_of x) (out_of y))
+
+some_out : (p : List ℕ) (x y : List Sent) → to_out p ≡ x ++ y → length (out_of x) ≤ length p
+some_out p x y e = let h = ap length (sym (out_of-to_out p) ∙ ap out_of e ∙ out_of-append x y) in omega (arith, h, length-append (out_of x) (out_of y))
+
+none_trail : (p : List ℕ) (x y : List Sent) → to_out p ≡ x ++ y → length (trail_of x) ≡ 0
+none_trail p x y e = let h = ap length (sym (trail_of-to_out p) ∙ ap trail_of e ∙ trail_of-append x y) in omega (arith, h, length-append (trail_of x) (trail_of y))
+
+some_trail : (r : List ℕ) (x y : List Sent) → to_trail r ≡ x ++ y → length (trail_of x) ≤ length r
+some_trail r x y e = let h = ap length (sym (trail_of-to_trail r) ∙ ap trail_of e ∙ trail_of-append x y) in omega (arith, h, length-append (trail_of x) (trail_of y))
+
+-- the first turn's records, its reply, and what is behind them
+turn_parts : (t : Turn) (ts : List Turn) (tail : List ℕ) → flat_map told (t ∷ ts) ++ to_out tail ≡ to_trail t.recs ++ (to_out t.reply ++ (flat_map told ts ++ to_out tail))
+unfolding told
+turn_parts t ts tail =
+    append_assoc (to_trail t.recs ++ to_out t.reply) (flat_map told ts) (to_out tail) ∙ append_assoc (to_trail t.recs) (to_out t.reply) (flat_map told ts ++ to_out tail)
+
+after_records : (t : Turn) (ts : List Turn) (behind x rest : List Sent) → AllReply ts
+    → (again : (z rest : List Sent) → behind ≡ z ++ rest → (m : ℕ) → suc m ≤ length ts → IsFront (replies_of (take (suc m) ts)) (out_of z) → IsFront (records_of (take (suc m) ts)) (trail_of z))
+    → to_out t.reply ++ behind ≡ x ++ rest
+    → (sent : List Sent) → sent ≡ to_trail t.recs ++ x
+    → (m : ℕ) → suc m ≤ length (t ∷ ts) → IsFront (replies_of (take (suc m) (t ∷ ts))) (out_of sent) → IsFront (records_of (take (suc m) (t ∷ ts))) (trail_of sent)
+after_records t ts behind x rest all again eq sent is zero le f = record {
+  rest = trail_of x;
+  whole_is = ap trail_of is ∙ trail_behind t.recs x ∙ ap (λ (z : List ℕ). z ++ trail_of x) (sym (append-nil t.recs));
+}
+after_records t ts behind x rest all again eq sent is (suc m) le f =
+    let r = t.recs in
+    let p = t.reply in
+    let reps = replies_of (take (suc m) ts) in
+    let out_x : out_of x ≡ (p ++ reps) ++ f.rest = sym (out_behind r x) ∙ ap out_of (sym is) ∙ f.whole_is in
+    let fewer : suc m ≤ length ts = omega arith in
+    let more = replies_pos ts m all fewer in
+    elim (split (to_out p) behind x rest eq) [
+      | Within y a_is ↦ absurd (omega (arith, some_out p x y a_is, ap length out_x, length-append (p ++ reps) f.rest, length-append p reps))
+      | Past z front_is b_is ↦
+          let out_z : out_of z ≡ reps ++ f.rest = append_cancel_left p (out_of z) (reps ++ f.rest) (sym (out_reply p z) ∙ ap out_of (sym front_is) ∙ out_x ∙ append_assoc p reps f.rest) in
+          let next : IsFront (records_of (take (suc m) ts)) (trail_of z) = again z rest b_is m fewer (record { rest = f.rest; whole_is = out_z }) in
+          record {
+            rest = next.rest;
+            whole_is = ap trail_of is ∙ trail_behind r x ∙ ap (λ (q : List ℕ). r ++ q) (ap trail_of front_is ∙ trail_reply p z ∙ next.whole_is) ∙ sym (append_assoc r _ next.rest);
+          }
+    ]
+
+covered_from : (ts : List Turn) (tail : List ℕ) (sent rest : List Sent) → AllReply ts → flat_map told ts ++ to_out tail ≡ sent ++ rest
+    → (m : ℕ) → suc m ≤ length ts → IsFront (replies_of (take (suc m) ts)) (out_of sent) → IsFront (records_of (take (suc m) ts)) (trail_of sent)
+covered_from [] tail sent rest all eq m le f = absurd (omega arith)
+covered_from (t ∷ ts) tail sent rest all eq m le f =
+    let behind = flat_map told ts ++ to_out tail in
+    let pos = all.0 in
+    elim (split (to_trail t.recs) (to_out t.reply ++ behind) sent rest (sym (turn_parts t ts tail) ∙ eq)) [
+      | Within y a_is ↦ absurd (omega (arith, none_out t.recs sent y a_is, ap length f.whole_is, length-append (t.reply ++ replies_of (take m ts)) f.rest, length-append t.reply (replies_of (take m ts))))
+      | Past x front_is b_is ↦ after_records t ts behind x rest all.1 (λ z rest h m le f. covered_from ts tail z rest all.1 h m le f) b_is sent front_is m le f
+    ]
+
+-- the same behind the head of the trail
+covered_behind : (head : List ℕ) (ts : List Turn) (tail : List ℕ) (sent rest : List Sent) → AllReply ts → to_trail head ++ (flat_map told ts ++ to_out tail) ≡ sent ++ rest
+    → (m : ℕ) → suc m ≤ length ts → IsFront (replies_of (take (suc m) ts)) (out_of sent) → IsFront (head ++ records_of (take (suc m) ts)) (trail_of sent)
+covered_behind head ts tail sent rest all e m le f =
+    let pos = replies_pos ts m all le in
+    elim (split (to_trail head) (flat_map told ts ++ to_out tail) sent rest e) [
+      | Within y a_is ↦ absurd (omega (arith, none_out head sent y a_is, ap length f.whole_is, length-append (replies_of (take (suc m) ts)) f.rest))
+      | Past x front_is b_is ↦
+          let h : IsFront (replies_of (take (suc m) ts)) (out_of x) = record { rest = f.rest; whole_is = sym (out_behind head x) ∙ ap out_of (sym front_is) ∙ f.whole_is } in
+          let r = covered_from ts tail x rest all b_is m le h in
+          record { rest = r.rest; whole_is = ap trail_of front_is ∙ trail_behind head x ∙ ap (λ (q : List ℕ). head ++ q) r.whole_is ∙ sym (append_assoc head _ r.rest) }
+    ]
+
+-- a reply line that stands has its call's records in front of it
+pub covered : (a : Accepted) (m : Script) (sent rest : List Sent) → order_by (Some a) m ≡ sent ++ rest → (k : ℕ) → k + 1 ≤ length (turns_of a m)
+    → IsFront (replies_of (take (k + 1) (turns_of a m))) (out_of sent) → IsFront (head_text a ++ records_of (take (k + 1) (turns_of a m))) (trail_of sent)
+unfolding order_by order_in
+covered a m sent rest e k le f =
+    let next : k + 1 ≡ suc k = omega arith in
+    let less : suc k ≤ length (turns_of a m) = omega arith in
+    let g : IsFront (replies_of (take (suc k) (turns_of a m))) (out_of sent) = subst (λ j. IsFront (replies_of (take j (turns_of a m))) (out_of sent)) next f in
+    subst (λ j. IsFront (head_text a ++ records_of (take j (turns_of a m))) (trail_of sent)) (sym next)
+    (covered_behind (head_text a) (turns_of a m) (tail_text a.policy.levels 0 (boot a.world) m) sent rest (all_reply a.policy.levels 1 (run (boot a.world) m.items)) e k less g)
+
+replies_from : (ts : List Turn) (tail : List ℕ) (sent rest : List Sent) → flat_map told ts ++ to_out tail ≡ sent ++ rest
+    → (m : ℕ) → m ≤ length ts → length (records_of (take m ts)) < length (trail_of sent) → IsFront (replies_of (take m ts)) (out_of sent)
+replies_from ts tail sent rest eq zero le h = record { rest = out_of sent; whole_is = refl }
+replies_from [] tail sent rest eq (suc m) le h = absurd (omega arith)
+replies_from (t ∷ ts) tail sent rest eq (suc m) le h =
+    let r = t.recs in
+    let p = t.reply in
+    let behind = flat_map told ts ++ to_out tail in
+    let recs = records_of (take m ts) in
+    let all = length-append r recs in
+    let fewer : m ≤ length ts = omega arith in
+    elim (split (to_trail r) (to_out p ++ behind) sent rest (sym (turn_parts t ts tail) ∙ eq)) [
+      | Within y a_is ↦ absurd (omega (arith, some_trail r sent y a_is))
+      | Past x front_is b_is ↦
+          elim (split (to_out p) behind x rest b_is) [
+            | Within y a_is ↦ absurd (omega (arith, none_trail p x y a_is, ap length (ap trail_of front_is ∙ trail_behind r x), length-append r (trail_of x)))
+            | Past z x_is z_is ↦
+                let trail_is = ap length (ap trail_of front_is ∙ trail_behind r x ∙ ap (λ (q : List ℕ). r ++ q) (ap trail_of x_is ∙ trail_reply p z)) in
+                let more : length recs < length (trail_of z) = omega (arith, length-append r (trail_of z)) in
+                let next = replies_from ts tail z rest z_is m fewer more in
+                record {
+                  rest = next.rest;
+                  whole_is = ap out_of front_is ∙ out_behind r x ∙ ap out_of x_is ∙ out_reply p z ∙ ap (λ (q : List ℕ). p ++ q) next.whole_is ∙ sym (append_assoc p (replies_of (take m ts)) next.rest);
+                }
+          ]
+    ]
+
+first_behind : (head : List ℕ) (ts : List Turn) (tail : List ℕ) (sent rest : List Sent) → to_trail head ++ (flat_map told ts ++ to_out tail) ≡ sent ++ rest
+    → (m : ℕ) → m ≤ length ts → length (head ++ records_of (take m ts)) < length (trail_of sent) → IsFront (replies_of (take m ts)) (out_of sent)
+first_behind head ts tail sent rest e m le h =
+    let all = length-append head (records_of (take m ts)) in
+    elim (split (to_trail head) (flat_map told ts ++ to_out tail) sent rest e) [
+      | Within y a_is ↦ absurd (omega (arith, some_trail head sent y a_is))
+      | Past x front_is b_is ↦
+          let trail_is = ap length (ap trail_of front_is ∙ trail_behind head x) in
+          let more : length (records_of (take m ts)) < length (trail_of x) = omega (arith, length-append head (trail_of x)) in
+          let r = replies_from ts tail x rest b_is m le more in
+          record { rest = r.rest; whole_is = ap out_of front_is ∙ out_behind head x ∙ r.whole_is }
+    ]
+
+-- a record stands only behind the replies of the calls before
+pub replies_first : (a : Accepted) (m : Script) (sent rest : List Sent) → order_by (Some a) m ≡ sent ++ rest → (k : ℕ) → k ≤ length (turns_of a m)
+    → length (head_text a ++ records_of (take k (turns_of a m))) < length (trail_of sent) → IsFront (replies_of (take k (turns_of a m))) (out_of sent)
+unfolding order_by order_in
+replies_first a m sent rest e k le h = first_behind (head_text a) (turns_of a m) (tail_text a.policy.levels 0 (boot a.world) m) sent rest e k le h

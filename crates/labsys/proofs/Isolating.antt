@@ -1,0 +1,111 @@
+-- How many replies stand in an output, and what they have of the part alone.
+use Rattle.std.proofs.Common.{◌≡◌, ℕ, ◌+◌, ◌≤◌, ◌<◌, true, false, cond, List, [], ◌∷◌, ◌++◌, length, take, suc, zero, refl, sym, ◌∙◌, ap, subst, append_assoc, arith}
+use Rattle.std.proofs.lemmas.List.{append-nil, length-append}
+use Rattle.std.specs.Prelude.{nat_lt}
+use Rattle.lab_lattice.specs.Label.{Label}
+use Rattle.kern_model.specs.Run.{Played}
+use Rattle.kern_model.specs.Isolation.{answers, alone, crossing, up_to}
+use Rattle.kern_model.specs.Fronts.{IsFront, Agree}
+use Rattle.kern_model.specs.Valid.{IsWorld}
+use Rattle.iso_laws.proofs.Worlds.{isolated_front, isolated_whole, two_fronts, two_wholes}
+use Rattle.labsys.specs.Input.{Accepted, Script}
+use Rattle.labsys.specs.Order.{Turn, replies_of, turns_of}
+use Rattle.labsys.proofs.InputLemmas.{is_more, not_more}
+use Rattle.labsys.specs.Clauses.{Written, Isolated, IsolatedWhole, SameBelow, TwoInputs, TwoWhole, run_of}
+
+-- ---- written replies
+
+-- an output that is long enough begins with the first piece
+record Behind (a b out more : List ℕ) : Type 0 where
+  rest : List ℕ
+  out_is : out ≡ a ++ rest
+  b_is : b ≡ rest ++ more
+
+behind : (a b out more : List ℕ) → a ++ b ≡ out ++ more → length a ≤ length out → Behind a b out more
+behind [] b out more e le = record { rest = out; out_is = refl; b_is = e }
+behind (x ∷ a) b [] more e le = absurd (omega arith)
+behind (x ∷ a) b (y ∷ out) more e le =
+    let h : x ≡ y = cc in
+    let t : a ++ b ≡ out ++ more = cc in
+    let less : length a ≤ length out = omega arith in
+    let r = behind a b out more t less in
+    record {
+      rest = r.rest;
+      out_is = ap (λ (z : List ℕ). y ∷ z) r.out_is ∙ ap (λ q. q ∷ (a ++ r.rest)) (sym h);
+      b_is = r.b_is;
+    }
+
+-- no reply stands there whole
+none_written : (t : Turn) (ts : List Turn) (out : List ℕ) → length out < length t.reply → Written (t ∷ ts) out
+none_written t ts out short = record {
+  count = 0;
+  few = omega arith;
+  begins = record { rest = out; whole_is = refl };
+  no_more = λ _. let len = ap length (append-nil t.reply) in omega arith;
+}
+
+-- one more than behind the first reply
+one_more : (t : Turn) (ts : List Turn) (out rest : List ℕ) → out ≡ t.reply ++ rest → Written ts rest → Written (t ∷ ts) out
+one_more t ts out rest is w =
+    let k : w.count + 1 ≡ suc w.count = omega arith in
+    record {
+      count = suc w.count;
+      few = let le = w.few in omega arith;
+      begins = record {
+        rest = w.begins.rest;
+        whole_is = is ∙ ap (λ (z : List ℕ). t.reply ++ z) w.begins.whole_is ∙ sym (append_assoc t.reply (replies_of (take w.count ts)) w.begins.rest);
+      };
+      no_more = λ le.
+          let fewer : w.count + 1 ≤ length ts = omega arith in
+          let less : length rest < length (replies_of (take (suc w.count) ts)) = subst (λ j. length rest < length (replies_of (take j ts))) k (w.no_more fewer) in
+          let all : length out ≡ length (t.reply ++ rest) = ap length is in
+          let both : suc w.count + 1 ≡ suc (suc w.count) = omega arith in
+          subst (λ j. length out < length (replies_of (take j (t ∷ ts)))) (sym both)
+          (omega (arith, all, length-append t.reply rest, length-append t.reply (replies_of (take (suc w.count) ts))));
+    }
+
+-- of a front of replies and what is behind them some number is whole
+pub written : (ts : List Turn) (tail out more : List ℕ) → replies_of ts ++ tail ≡ out ++ more → Written ts out
+written [] tail out more e = record { count = 0; few = omega arith; begins = record { rest = out; whole_is = refl }; no_more = λ le. absurd (omega arith) }
+written (t ∷ ts) tail out more e =
+    elim (nat_lt (length out) (length t.reply)) as (λ b. nat_lt (length out) (length t.reply) ≡ b → Written (t ∷ ts) out) [
+      | true ↦ λ short. none_written t ts out (is_more _ _ short)
+      | false ↦ λ long.
+          let h = behind t.reply (replies_of ts ++ tail) out more (sym (append_assoc t.reply (replies_of ts) tail) ∙ e) (not_more _ _ long) in
+          one_more t ts out h.rest h.out_is (written ts tail h.rest more h.b_is)
+    ] refl
+
+-- ---- the first calls
+
+-- before the first crossing the first calls are the first of all
+pub take_up_to : (l : Label) (m : ℕ) (ps : List Played) → m ≤ length (up_to l ps) → take m ps ≡ take m (up_to l ps)
+take_up_to l zero ps le = refl
+take_up_to l (suc m) [] le = refl
+take_up_to l (suc m) (p ∷ ps) le =
+    elim (crossing l p.recs) as (λ b. suc m ≤ length (cond b [] (p ∷ up_to l ps)) → p ∷ take m ps ≡ take (suc m) (cond b [] (p ∷ up_to l ps))) [
+      | true ↦ λ le. absurd (omega arith)
+      | false ↦ λ le. let less : m ≤ length (up_to l ps) = omega arith in ap (λ (r : List Played). p ∷ r) (take_up_to l m ps less)
+    ] le
+
+module _ (l : Label) (a : Accepted) (script : Script) (is : IsWorld a.world) where
+  pub is_isolated : (out : List ℕ) → Written (turns_of a script) out → Isolated l a script out
+  is_isolated out w = record {
+    written = w;
+    told = λ m few before. subst (λ ps. IsFront (answers l ps) (alone l a.world script.items)) (sym (take_up_to l m (run_of a script) before)) (isolated_front l a.world script.items m is);
+  }
+
+  pub is_isolated_whole : (out : List ℕ) → IsFront (replies_of (turns_of a script)) out → IsolatedWhole l a script out
+  is_isolated_whole out w = record { written = w; told = λ none. isolated_whole l a.world script.items is none }
+
+  module _ (b : Accepted) (script' : Script) (is' : IsWorld b.world) (same : SameBelow l a script b script') where
+    pub two_agree : (out : List ℕ) → Written (turns_of a script) out → TwoInputs l a script b script' out
+    two_agree out w = record {
+      written = w;
+      agree = λ m n few before before'.
+          subst (λ ps. Agree (answers l ps) (answers l (take n (run_of b script')))) (sym (take_up_to l m (run_of a script) before))
+          (subst (λ ps. Agree (answers l (take m (up_to l (run_of a script)))) (answers l ps)) (sym (take_up_to l n (run_of b script') before'))
+          (two_fronts l a.world b.world script.items script'.items same.world same.items m n is is'));
+    }
+
+    pub two_whole : (out : List ℕ) → IsFront (replies_of (turns_of a script)) out → TwoWhole l a script b script' out
+    two_whole out w = record { written = w; equal = λ none none'. two_wholes l a.world b.world script.items script'.items same.world same.items is is' none none' }
