@@ -61,24 +61,15 @@ found_equal Equal h = refl
 found_equal Greater h = absurd (cc h)
 
 module _ {K X : Type 0} {R : K → K → Ordering} (o : IsTotalOrder R) where
-  holds_at : (P : X → Type 0) (d x : X) (b : Bool) (old : Option X) → P x → P (or_default d old) → P (or_default d (cond b (Some x) old))
-  holds_at P d x true old h g = h
-  holds_at P d x false old h g = g
-
   is_default : (m : FinMap R X) (q : K) (d : X) → get_or m q d ≡ or_default d (get m q)
   unfolding get_or
   is_default m q d = elim (get m q) as (λ v. (elim v [ None ↦ d | Some x ↦ x ]) ≡ or_default d v) [ None ↦ refl | Some x ↦ refl ]
-
-  -- what holds of the new value, and held of each value, holds of each
-  pub each_set : (P : X → Type 0) (d : X) (m : FinMap R X) (k : K) (x : X) → P x → ((q : K) → P (get_or m q d)) → (q : K) → P (get_or (insert m k x) q d)
-  each_set P d m k x h g q =
-      subst P (sym (is_default (insert m k x) q d)) (subst (λ v. P (or_default d v)) (sym (get-insert o m k x q)) (holds_at P d x _ (get m q) h (subst P (is_default m q d) (g q))))
 
   there_at : (P : K → X → Type 0) (d x : X) (q k : K) (b : Bool) (old : Option X) → (b ≡ true → q ≡ k) → P k x → P q (or_default d old) → P q (or_default d (cond b (Some x) old))
   there_at P d x q k true old same h g = subst (λ z. P z x) (sym (same refl)) h
   there_at P d x q k false old same h g = g
 
-  -- the same for what is said of a key and its value
+  -- what holds of a key and its new value, and held of each key and its value, holds of each
   pub each_set_at : IsAntisymmetric R → (P : K → X → Type 0) (d : X) (m : FinMap R X) (k : K) (x : X) → P k x → ((q : K) → P q (get_or m q d)) → (q : K) → P q (get_or (insert m k x) q d)
   each_set_at exact P d m k x h g q =
       subst (P q) (sym (is_default (insert m k x) q d)) (subst (λ v. P q (or_default d v)) (sym (get-insert o m k x q))

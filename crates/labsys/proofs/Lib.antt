@@ -1,6 +1,5 @@
 pub mod LineLemmas
 pub mod WordLemmas
-pub mod LabelLemmas
 pub mod FixtureLemmas
 pub mod ReadLemmas
 pub mod WalkLemmas

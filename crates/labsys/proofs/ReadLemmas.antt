@@ -24,8 +24,8 @@ use Rattle.labsys.specs.declared.lines.Fixture.TheVariants as read
 use Rattle.labsys.specs.Lines.{cut, pieces}
 use Rattle.labsys.specs.Grammar.{Levels, Fixture, OfObject, OfProcess, keep_if, then, same_bytes, exactly, levels_line, categories_line, bound_line, root_line, fixture_line, script_line, top_of}
 use Rattle.labsys.specs.Input.{Input, Script, Fixtures, due, said, short, no_world, refused, script, script_from, after_item, fits, added, next_fixture, or_script, fixtures_from, read_lines, with_script, world_of, same_place}
-use Rattle.labsys.specs.Fixture.{as_fixture, label_in}
-use Rattle.labsys.specs.Reading.{next_short, next_of, ends_at, GoesOn, Stops, Begins, IsSound, ComesTo, EndsInScript, EndsBefore, Reads, ReadsNone, PlaysLine, Ends}
+use Rattle.labsys.specs.Fixture.{as_fixture}
+use Rattle.labsys.specs.Reading.{next_short, next_of, ends_at, GoesOn, Stops, Begins, HasSpace, ComesTo, EndsInScript, EndsBefore, Reads, ReadsNone, PlaysLine, Ends}
 use Rattle.labsys.proofs.LineLemmas.{pieces_some, pieces_none, pieces_first, cut_longer}
 use Rattle.labsys.proofs.FixtureLemmas.{objects_at_more, procs_at_more}
 
@@ -261,37 +261,18 @@ comes_to_end over policy n t text m u now h comes next e = subst (EndsBefore ove
     here : EndsBefore over policy n t text (halt.Ended (ends_at over m part.World now))
     here = λ (bound : CapSet). comes bound ∙ fixtures_are over policy bound m u now ∙ ap (fixtures_next over policy bound m u now) next
 
--- ---- a sound world
-
-all_more : {X : Type 0} (P : X → Type 0) (xs : List X) (x : X) → AllByRecursion P xs → P x → AllByRecursion P (xs ++ x ∷ [])
-all_more P [] x all one = (one, tt)
-all_more P (y ∷ ys) x all one = (all.0, all_more P ys x all.1 one)
+-- ---- room
 
 -- the root alone
-pub sound_root : (top : Label) (root : WorldObject) (t : Fixtures) → t ≡ record { objects = root ∷ []; procs = [] } → root.path.names ≡ [] → dominates bottom root.label ≡ true → root.body ≡ body.Dir → IsSound top t
-sound_root top root t e no_names lowest is_dir = subst (IsSound top) (sym e) here
+pub space_root : (root : WorldObject) (t : Fixtures) → t ≡ record { objects = root ∷ []; procs = [] } → HasSpace t
+space_root root t e = subst HasSpace (sym e) here
   where
     one : (v : Bool) → 0 + cond v 1 0 ≤ 65535
     one true = omega arith
     one false = omega arith
 
-    is_bottom : root.label ≡ bottom
-    is_bottom = dominates_both root.label bottom (dominates_bottom root.label) lowest
-
-    here : IsSound top (record { objects = root ∷ []; procs = [] })
-    here = λ (bound : CapSet). (
-      record {
-        first = root;
-        others = [];
-        objects_are = refl;
-        no_names = no_names;
-        root_body = is_dir;
-        root_label = is_bottom;
-        objects_below = (subst (λ (l : Label). dominates top l ≡ true) (sym is_bottom) (dominates_bottom top), tt);
-        procs_below = tt;
-      },
-      record { objects = λ l. one (same_label root.label l); procs = λ l. omega arith },
-    )
+    here : HasSpace (record { objects = root ∷ []; procs = [] })
+    here = λ (top : Label) (bound : CapSet). record { objects = λ l. one (same_label root.label l); procs = λ l. omega arith }
 
 few_more : (high many : ℕ) (v : Bool) → (v ≡ true → many < high) → many ≤ high → many + cond v 1 0 ≤ high
 few_more high many true room few = let less = room refl in omega arith
@@ -303,53 +284,29 @@ room_at at a l xs high room e =
     subst (λ (x : Label). at x xs < high) (dominates_both a l parts.0 parts.1) room
 
 -- one more, for which there is room
-pub sound_more : (top : Label) (t u : Fixtures) (f : Read) → IsSound top t → fits t (as_fixture f) ≡ true → dominates top (label_in f) ≡ true → u ≡ added t (as_fixture f) → IsSound top u
-sound_more top t u (read.Object o) s room below e = subst (IsSound top) (sym e) here
+pub space_more : (t u : Fixtures) (f : Read) → HasSpace t → fits t (as_fixture f) ≡ true → u ≡ added t (as_fixture f) → HasSpace u
+space_more t u (read.Object o) s room e = subst HasSpace (sym e) here
   where
     less : objects_at o.label t.objects < 65535
     less = ltb-true (objects_at o.label t.objects) 65535 (and_parts (not (list_any (same_place o) t.objects)) (nat_lt (objects_at o.label t.objects) 65535) room).1
 
-    here : IsSound top (added t (OfObject o))
-    here = λ (bound : CapSet). (
-      record {
-        first = (s bound).0.first;
-        others = (s bound).0.others ++ o ∷ [];
-        objects_are = ap (λ (q : List WorldObject). q ++ o ∷ []) (s bound).0.objects_are;
-        no_names = (s bound).0.no_names;
-        root_body = (s bound).0.root_body;
-        root_label = (s bound).0.root_label;
-        objects_below = all_more (λ (o : WorldObject). dominates top o.label ≡ true) t.objects o (s bound).0.objects_below below;
-        procs_below = (s bound).0.procs_below;
-      },
-      record {
-        objects = λ l. subst (λ k. k ≤ 65535) (sym (objects_at_more l t.objects o))
-            (few_more 65535 (objects_at l t.objects) (same_label o.label l) (room_at objects_at o.label l t.objects 65535 less) ((s bound).1.objects l));
-        procs = (s bound).1.procs;
-      },
-    )
-sound_more top t u (read.Process p) s room below e = subst (IsSound top) (sym e) here
+    here : HasSpace (added t (OfObject o))
+    here = λ (top : Label) (bound : CapSet). record {
+      objects = λ l. subst (λ k. k ≤ 65535) (sym (objects_at_more l t.objects o))
+          (few_more 65535 (objects_at l t.objects) (same_label o.label l) (room_at objects_at o.label l t.objects 65535 less) ((s top bound).objects l));
+      procs = (s top bound).procs;
+    }
+space_more t u (read.Process p) s room e = subst HasSpace (sym e) here
   where
     less : procs_at p.label t.procs < 4095
     less = ltb-true (procs_at p.label t.procs) 4095 room
 
-    here : IsSound top (added t (OfProcess p))
-    here = λ (bound : CapSet). (
-      record {
-        first = (s bound).0.first;
-        others = (s bound).0.others;
-        objects_are = (s bound).0.objects_are;
-        no_names = (s bound).0.no_names;
-        root_body = (s bound).0.root_body;
-        root_label = (s bound).0.root_label;
-        objects_below = (s bound).0.objects_below;
-        procs_below = all_more (λ (p : WorldProc). dominates top p.label ≡ true) t.procs p (s bound).0.procs_below below;
-      },
-      record {
-        objects = (s bound).1.objects;
-        procs = λ l. subst (λ k. k ≤ 4095) (sym (procs_at_more l t.procs p))
-            (few_more 4095 (procs_at l t.procs) (same_label p.label l) (room_at procs_at p.label l t.procs 4095 less) ((s bound).1.procs l));
-      },
-    )
+    here : HasSpace (added t (OfProcess p))
+    here = λ (top : Label) (bound : CapSet). record {
+      objects = (s top bound).objects;
+      procs = λ l. subst (λ k. k ≤ 4095) (sym (procs_at_more l t.procs p))
+          (few_more 4095 (procs_at l t.procs) (same_label p.label l) (room_at procs_at p.label l t.procs 4095 less) ((s top bound).procs l));
+    }
 
 -- ---- a world, from each of its lines on
 
@@ -421,14 +378,12 @@ world_is levels bound t top lists e f =
 -- a world as it was read
 pub read_whole : (over : Bool) (text behind rest : List ℕ) (policy : Policy) (bound : CapSet) (root : WorldObject) (t : Fixtures) (n : ℕ) (world : World)
     → Begins over text policy bound root behind → EndsInScript over policy 6 (record { objects = root ∷ []; procs = [] }) behind n t rest
-    → world_of policy.levels bound t ≡ world → IsSound (top_of policy.levels) t → 1 ≤ length policy.levels → length policy.levels ≤ 16 → length rest + n ≤ length behind + 6 → length behind + 5 ≤ length text
+    → world_of policy.levels bound t ≡ world → HasSpace t → length policy.levels ≤ 16 → length rest + n ≤ length behind + 6 → length behind + 5 ≤ length text
     → Reads over text policy world n rest
 unfolding EndsInScript
-read_whole over text behind rest policy bound root t n world b f w s some few numbered shorter = subst (λ (w : World). Reads over text policy w n rest) w (record {
+read_whole over text behind rest policy bound root t n world b f w s few numbered shorter = subst (λ (w : World). Reads over text policy w n rest) w (record {
   says = b ∙ f bound;
-  some_level = some;
   few_levels = few;
-  is_world = (s bound).0;
-  has_room = (s bound).1;
+  has_room = s (top_of policy.levels) bound;
   numbered = omega arith;
 })

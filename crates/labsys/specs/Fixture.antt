@@ -19,10 +19,6 @@ abbrev pub as_fixture : Read → Fixture
 as_fixture (read.Object o) = OfObject o
 as_fixture (read.Process p) = OfProcess p
 
-abbrev pub label_in : Read → Label
-label_in (read.Object o) = o.label
-label_in (read.Process p) = p.label
-
 -- the path of an object has one name
 abbrev pub IsInRoot : Read → Type 0
 IsInRoot (read.Object o) = length o.path.names ≡ 1

@@ -5,7 +5,7 @@ use Rattle.lab_lattice.specs.Label.{Label}
 use Rattle.kern_model.specs.declared.world.WorldObject.{WorldObject}
 use Rattle.kern_model.specs.declared.world.World.{World}
 use Rattle.kern_model.specs.declared.world.ScriptItem.{ScriptItem}
-use Rattle.kern_model.specs.Valid.{HasRoom, IsWorld}
+use Rattle.kern_model.specs.Valid.{HasRoom}
 use Rattle.labsys.specs.declared.status.Ending.{Ending}
 use Rattle.labsys.specs.declared.status.Part.{Part}
 use Rattle.labsys.specs.declared.reading.Halt.{Halt}
@@ -42,9 +42,9 @@ Begins over text policy bound root rest = read_lines over (pieces 10 text) ≡ f
 abbrev pub next_of : Levels → Fixtures → List ℕ → Option Fixture
 next_of levels t line = then (fixture_line levels line) (λ f. keep_if (fits t f) f)
 
--- objects and processes make up a valid world that has room, whatever the bound
-abbrev pub IsSound : Label → Fixtures → Type 0
-IsSound top t = (bound : CapSet) → IsWorld (record { top = top; bound = bound; objects = t.objects; procs = t.procs }) × HasRoom (record { top = top; bound = bound; objects = t.objects; procs = t.procs })
+-- there is room for objects and processes, whatever the top and the bound
+abbrev pub HasSpace : Fixtures → Type 0
+HasSpace t = (top : Label) (bound : CapSet) → HasRoom (record { top = top; bound = bound; objects = t.objects; procs = t.procs })
 
 -- from line n on the same is read as from line m on
 unfoldable pub ComesTo : Bool → Policy → ℕ → Fixtures → List ℕ → ℕ → Fixtures → List ℕ → Type 0
@@ -62,9 +62,7 @@ EndsBefore over policy n t text halt.NoMemory = Unit {0}
 -- a world was read, and this text is its script, from line n on
 pub record Reads (over : Bool) (text : List ℕ) (policy : Policy) (world : World) (n : ℕ) (rest : List ℕ) : Type 0 where
   pub says : read_lines over (pieces 10 text) ≡ record { accepted = Some (record { policy = policy; world = world }); script = script_from over policy.levels n (pieces 10 rest) }
-  pub some_level : 1 ≤ length policy.levels
   pub few_levels : length policy.levels ≤ 16
-  pub is_world : IsWorld world
   pub has_room : HasRoom world
   pub numbered : length rest + n ≤ length text + 1
 

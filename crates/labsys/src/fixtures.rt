@@ -1,5 +1,5 @@
 // Objects and processes of a world, as many as were read so far.
-ghost use Rattle.std.specs.Prelude.{◌≡◌, ℕ, [], ◌∷◌, ◌++◌, ◌+◌, ◌<◌, IfOk, OnOk, cond, true, length};
+ghost use Rattle.std.specs.Prelude.{◌≡◌, [], ◌∷◌, ◌++◌, ◌+◌, ◌<◌, IfOk, OnOk, cond, true, length};
 ghost use Rattle.std.specs.List.{list_any};
 ghost use Rattle.lab_lattice.specs.Label.{Label};
 ghost use Rattle.kern_model.specs.Valid.{same_label, objects_at, procs_at};

@@ -1,5 +1,5 @@
 // Labels by the names of their levels.
-ghost use Rattle.std.specs.Prelude.{◌≡◌, ◌≤◌, ◌<◌, length, IfSome, position, true};
+ghost use Rattle.std.specs.Prelude.{◌≡◌, ◌≤◌, ◌<◌, length, IfSome, position};
 ghost use Rattle.lab_lattice.specs.Label.{dominates, bottom};
 ghost use Rattle.labsys.specs.Grammar.{label_of, top_of, same_bytes};
 ghost use Rattle.labsys.specs.Texts.{label_text};
@@ -15,12 +15,10 @@ fn place_of(levels: &Levels, word: &[u8]) -> Option<usize>
     levels.items().iter().position(|name| word == name.items())
 }
 
-/// The label with this name, which the highest one dominates.
-#[tactic(auto, using(crate::proofs::LabelLemmas::place_below))]
+/// The label with this name.
 pub fn label_of(levels: &Levels, word: &[u8]) -> Option<Label>
     requires { length levels.now ≤ 16 }
-    ensures label { result ≡ label_of levels.now word.now }
-    ensures below { IfSome result (λ label. dominates (top_of levels.now) label ≡ true) }
+    ensures { result ≡ label_of levels.now word.now }
 {
     let place = place_of(levels, word)?;
     Level::new(place as u8)

@@ -1,10 +1,8 @@
 // The lines of an input.
-ghost use Rattle.std.specs.Prelude.{◌≡◌, ◌≤◌, IfOk, IfSome, MatchOption, None, Some, [], length, true, option_map};
-ghost use Rattle.lab_lattice.specs.Label.{dominates, bottom};
-ghost use Rattle.labsys.specs.Grammar.{names_line, levels_line, categories_line, bound_line, root_line, file_line, proc_line, fixture_line, script_line, top_of};
+ghost use Rattle.std.specs.Prelude.{◌≡◌, ◌≤◌, IfOk, IfSome, MatchOption, None, Some, [], length, option_map};
+ghost use Rattle.labsys.specs.Grammar.{names_line, levels_line, categories_line, bound_line, root_line, file_line, proc_line, fixture_line, script_line};
 ghost use Rattle.labsys.specs.Words.{file_words, file_of};
-ghost use Rattle.kern_model.specs.declared.objects.Body.TheVariants as body;
-ghost use Rattle.labsys.specs.Fixture.{as_fixture, label_in, IsInRoot};
+ghost use Rattle.labsys.specs.Fixture.{as_fixture, IsInRoot};
 
 use crate::labels::{is_bottom, label_of};
 use crate::pieces::{behind, cut};
@@ -71,8 +69,6 @@ pub fn root_line(alloc: Global, levels: &Levels, line: &[u8]) -> Option<WorldObj
     requires { length levels.now ≤ 16 }
     ensures line { result ≡ root_line levels.now line.now }
     ensures no_names { IfSome result (λ root. root.path.names ≡ []) }
-    ensures lowest { IfSome result (λ root. dominates bottom root.label ≡ true) }
-    ensures is_dir { IfSome result (λ root. root.body ≡ body.Dir) }
 {
     let line = behind(b"dir / ", line)?;
     let (mode, line) = cut(line, b' ')?;
@@ -132,7 +128,6 @@ fn file_of(
 ) -> Result<Option<WorldObject>, NoMemory>
     requires { length levels.now ≤ 16 }
     ensures words { IfOk result (λ said. said ≡ file_of levels.now (record { name = words.entry.name.now; mode = words.entry.mode.now; uid = words.entry.uid.now; gid = words.entry.gid.now; label = words.entry.label.now; bytes = words.entry.bytes.now })) }
-    ensures below { IfOk result (λ said. IfSome said (λ file. dominates (top_of levels.now) file.label ≡ true)) }
     ensures in_root { IfOk result (λ said. IfSome said (λ file. length file.path.names ≡ 1)) }
 {
     let Some(name) = entry_of(alloc, words.name)? else {
@@ -169,7 +164,6 @@ pub fn file_line(
 ) -> Result<Option<WorldObject>, NoMemory>
     requires { length levels.now ≤ 16 }
     ensures line { IfOk result (λ said. said ≡ file_line levels.now line.now) }
-    ensures below { IfOk result (λ said. IfSome said (λ file. dominates (top_of levels.now) file.label ≡ true)) }
     ensures in_root { IfOk result (λ said. IfSome said (λ file. length file.path.names ≡ 1)) }
 {
     match file_words(line) {
@@ -182,7 +176,6 @@ pub fn file_line(
 pub fn proc_line(alloc: Global, levels: &Levels, line: &[u8]) -> Option<WorldProc>
     requires { length levels.now ≤ 16 }
     ensures line { result ≡ proc_line levels.now line.now }
-    ensures below { IfSome result (λ process. dominates (top_of levels.now) process.label ≡ true) }
 {
     let line = behind(b"proc ", line)?;
     let (label, line) = cut(line, b' ')?;
@@ -222,7 +215,6 @@ pub fn fixture_line(
 ) -> Result<Option<Fixture>, NoMemory>
     requires { length levels.now ≤ 16 }
     ensures line { IfOk result (λ said. option_map as_fixture said ≡ fixture_line levels.now line.now) }
-    ensures below { IfOk result (λ said. IfSome said (λ fixture. dominates (top_of levels.now) (label_in fixture) ≡ true)) }
     ensures in_root { IfOk result (λ said. IfSome said IsInRoot) }
 {
     if let Some(object) = file_line(alloc, levels, line)? {

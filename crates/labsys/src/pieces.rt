@@ -1,5 +1,5 @@
 // Pieces of a text.
-ghost use Rattle.std.specs.Prelude.{◌≡◌, ℕ, ◌==◌, ◌&&◌, ◌<◌, ◌≤◌, ◌^◌, cond, nat_le, MatchOption, IfSome, position, Some, None, length};
+ghost use Rattle.std.specs.Prelude.{◌≡◌, ◌==◌, ◌&&◌, ◌<◌, ◌≤◌, ◌^◌, cond, nat_le, MatchOption, IfSome, position, Some, None};
 ghost use Rattle.std.specs.List.{list_all};
 ghost use Rattle.labsys.specs.Lines.{cut, behind, numeral, is_digit, worth};
 

@@ -3,15 +3,15 @@ ghost use Rattle.std.specs.Prelude.{◌≡◌, ◌≤◌, ◌+◌, ◌^◌, ◌+
 ghost use Rattle.std.specs.List.{flat_map};
 ghost use Rattle.std.specs.Io.KnownBytes.{Appends};
 ghost use Rattle.io_ends.specs.Causes.{Rose};
-ghost use Rattle.kern_model.specs.Boot.{boot, boot_recs};
+ghost use Rattle.kern_model.specs.Boot.{boot};
 ghost use Rattle.kern_model.specs.Run.{played};
 ghost use Rattle.kern_model.specs.Step.{step};
 ghost use Rattle.kern_model.specs.Valid.{HasRoom};
 ghost use Rattle.labsys.specs.Lines.{pieces};
-ghost use Rattle.labsys.specs.Input.{script_from, read_lines, no_world};
+ghost use Rattle.labsys.specs.Input.{script_from, read_lines};
 ghost use Rattle.labsys.specs.Kernel.{state_of};
 ghost use Rattle.labsys.specs.Texts.{rec_text, end_text, label_in, caps_in, ends_text, last_text, header_text};
-ghost use Rattle.labsys.specs.Order.{turn_of, told, to_trail, to_out, order_in, order_by, order_of};
+ghost use Rattle.labsys.specs.Order.{turn_of, told, order_in, order_by, order_of};
 ghost use Rattle.labsys.specs.Playing.{AppendsFront, Sends, SendsFront, Caused, Finishes, Takes, Plays};
 
 use crate::kernel::Kernel;

@@ -1,13 +1,11 @@
 //! An input, read line by line.
 ghost use Rattle.std.specs.Prelude.{◌≡◌, ◌<◌, ◌≤◌, ◌+◌, ◌∷◌, [], None, Some, MatchOption, MatchResult, IfSome, IfOk, length, true, option_map, ◌==◌, ◌&&◌, not};
-ghost use Rattle.lab_lattice.specs.Label.{dominates, bottom};
-ghost use Rattle.kern_model.specs.declared.objects.Body.TheVariants as body;
 ghost use Rattle.labsys.specs.Grammar.{exactly, levels_line, categories_line, bound_line, root_line, top_of};
 ghost use Rattle.labsys.specs.declared.status.Part.TheVariants as part;
 ghost use Rattle.labsys.specs.declared.reading.Halt.TheVariants as halt;
 ghost use Rattle.labsys.specs.Input.{fits, refused};
-ghost use Rattle.labsys.specs.Fixture.{as_fixture, label_in, IsInRoot};
-ghost use Rattle.labsys.specs.Reading.{next_short, next_of, ends_at, GoesOn, Stops, Begins, IsSound, EndsInScript, EndsBefore, Reads, ReadsNone, Follows};
+ghost use Rattle.labsys.specs.Fixture.{as_fixture, IsInRoot};
+ghost use Rattle.labsys.specs.Reading.{next_short, next_of, ends_at, GoesOn, Stops, Begins, HasSpace, EndsInScript, EndsBefore, Reads, ReadsNone, Follows};
 
 use crate::fixtures::Draft;
 use crate::labels::top_of;
@@ -145,8 +143,6 @@ fn root_due<'a>(
     requires { length levels.now ≤ 16 }
     ensures due { MatchResult result (λ said. GoesOn over (root_line levels.now) 5 text.now said.0 said.1.now) (λ halt. Stops over (root_line levels.now) 5 text.now halt) }
     ensures no_names { IfOk result (λ said. said.0.path.names ≡ []) }
-    ensures lowest { IfOk result (λ said. dominates bottom said.0.label ≡ true) }
-    ensures is_dir { IfOk result (λ said. said.0.body ≡ body.Dir) }
     ensures shorter { IfOk result (λ said. length said.1.now < length text.now) }
 {
     let Some((line, rest)) = next_line(text) else {
@@ -173,8 +169,6 @@ fn read_head(alloc: Global, over: bool, text: &[u8]) -> Result<Head<'_>, Halt>
     ensures some { IfOk result (λ head. 1 ≤ length head.policy.levels) }
     ensures few { IfOk result (λ head. length head.policy.levels ≤ 16) }
     ensures no_names { IfOk result (λ head. head.root.path.names ≡ []) }
-    ensures lowest { IfOk result (λ head. dominates bottom head.root.label ≡ true) }
-    ensures is_dir { IfOk result (λ head. head.root.body ≡ body.Dir) }
     ensures shorter { IfOk result (λ head. length head.rest.now + 5 ≤ length text.now) }
 {
     let after_head = exact_due(over, b"world 1", 1, text)?;
@@ -203,7 +197,6 @@ fn next_fixture(
     requires { length levels.now ≤ 16 }
     ensures says { IfOk result (λ said. option_map as_fixture said ≡ next_of levels.now draft.now line.now) }
     ensures room { IfOk result (λ said. IfSome said (λ fixture. fits draft.now (as_fixture fixture) ≡ true)) }
-    ensures below { IfOk result (λ said. IfSome said (λ fixture. dominates (top_of levels.now) (label_in fixture) ≡ true)) }
     ensures in_root { IfOk result (λ said. IfSome said IsInRoot) }
 {
     let Some(fixture) = fixture_line(alloc, levels, line)? else {
@@ -235,10 +228,8 @@ fn read_fixtures<'a>(
     requires small { length text.now ≤ 16777216 }
     requires few { length policy.now.levels ≤ 16 }
     requires no_names { root.path.names ≡ [] }
-    requires lowest { dominates bottom root.label ≡ true }
-    requires is_dir { root.body ≡ body.Dir }
     ensures says { MatchResult result (λ f. EndsInScript over policy.now 6 (record { objects = root ∷ []; procs = [] }) text.now f.number f.draft f.script.now) (λ halt. EndsBefore over policy.now 6 (record { objects = root ∷ []; procs = [] }) text.now halt) }
-    ensures sound { IfOk result (λ f. IsSound (top_of policy.now.levels) f.draft) }
+    ensures space { IfOk result (λ f. HasSpace f.draft) }
     ensures numbered { IfOk result (λ f. length f.script.now + f.number ≤ length text.now + 6) }
 {
     let mut draft = Draft::new(alloc, root)?;

@@ -1,8 +1,7 @@
 // Words of a line.
-ghost use Rattle.std.specs.Prelude.{◌≡◌, ℕ, ◌≤◌, ◌∷◌, IfOk, IfSome, length};
+ghost use Rattle.std.specs.Prelude.{◌≡◌, ◌≤◌, ◌∷◌, IfOk, length};
 ghost use Rattle.std.specs.List.{list_all, list_any};
 ghost use Rattle.std.specs.Option.{option_copied};
-ghost use Rattle.fs_path.specs.Name.{is_name};
 ghost use Rattle.labsys.specs.Lines.{pieces};
 ghost use Rattle.labsys.specs.Grammar.{is_letter, is_name_part, is_label_name, same_bytes, keep_if, number_of, mode_of, is_bare, entry_of, is_plain, quoted_of, tag_of, caps_of};
 ghost use Rattle.labsys.specs.Words.{words_in, left_in, are_names};

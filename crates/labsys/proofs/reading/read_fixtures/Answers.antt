@@ -5,13 +5,13 @@ use Rattle.labsys.specs.declared.lines.Fixture.{Fixture}
 use Rattle.labsys.specs.Grammar.{same_bytes, top_of}
 use Rattle.labsys.specs.Input.{fits}
 use Rattle.labsys.specs.Fixture.{as_fixture, label_in}
-use Rattle.labsys.proofs.ReadLemmas.{comes_here, comes_further, comes_to_script, comes_to_refused, comes_to_end, sound_root, sound_more, is_exact, is_not_exact}
+use Rattle.labsys.proofs.ReadLemmas.{comes_here, comes_further, comes_to_script, comes_to_refused, comes_to_end, space_root, space_more, is_exact, is_not_exact}
 use Rattle.labsys.proofs.reading.read_fixtures.Goals as goal
 
 pub loop-line-init : goal.loop-line-init
 loop-line-init c = record {
   comes = comes_here c.args.over c.args.policy.now 6 (record { objects = c.args.root ∷ []; procs = [] }) c.in_ok-draft.draft c.args.text.now c.in_ok-draft.ensures;
-  sound = sound_root (top_of c.args.policy.now.levels) c.args.root c.in_ok-draft.draft c.in_ok-draft.ensures c.requires.no_names c.requires.lowest c.requires.is_dir;
+  space = space_root c.args.root c.in_ok-draft.draft c.in_ok-draft.ensures;
   numbered = omega arith;
 }
 
@@ -36,7 +36,6 @@ returns-in_default-2-clause-says c =
 pub loop-line-preserved : goal.loop-line-preserved
 loop-line-preserved c =
     let room : fits c.loop-line.draft (as_fixture c.in-Some-2.fixture) ≡ true = subst (λ (o : Option Fixture). IfSome o (λ f. fits c.loop-line.draft (as_fixture f) ≡ true)) c.in-Some-2.is c.in_ok-fixture.ensures.room in
-    let below : dominates (top_of c.args.policy.now.levels) (label_in c.in-Some-2.fixture) ≡ true = subst (λ (o : Option Fixture). IfSome o (λ f. dominates (top_of c.args.policy.now.levels) (label_in f) ≡ true)) c.in-Some-2.is c.in_ok-fixture.ensures.below in
     let less : length c.in-Some.behind.now < length c.loop-line.rest.now = c.in-Some.ensures.shorter in
     let bound : length c.loop-line.rest.now + c.loop-line.number ≤ length c.args.text.now + 6 = c.loop-line.invariant.numbered in
     record {
@@ -45,6 +44,6 @@ loop-line-preserved c =
           c.loop-line.invariant.comes c.in-Some.ensures.line
           (is_not_exact (codes "script") c.in-Some.line.now (ap (same_bytes c.in-Some.line.now) (sym c.as_slice.ensures) ∙ sym c.eq.ensures ∙ c.if-eq.false))
           (sym (ap (option_map as_fixture) c.in-Some-2.is) ∙ c.in_ok-fixture.ensures.says) c.in_ok-draft-2.ensures;
-      sound = sound_more (top_of c.args.policy.now.levels) c.loop-line.draft c.in_ok-draft-2.draft c.in-Some-2.fixture c.loop-line.invariant.sound room below c.in_ok-draft-2.ensures;
+      space = space_more c.loop-line.draft c.in_ok-draft-2.draft c.in-Some-2.fixture c.loop-line.invariant.space room c.in_ok-draft-2.ensures;
       numbered = omega arith;
     }
