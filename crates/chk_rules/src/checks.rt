@@ -24,11 +24,12 @@ impl Model for Checks {
     ghost use Rattle.std.specs.FinSet as set;
     ghost use Rattle.std.specs.Coded.{codes};
     ghost use Rattle.cap_bits.specs.Cap.{cap_cmp, cap_code};
+    ghost use Rattle.lab_lattice.specs.Label.{label_code};
     ghost use Rattle.chk_rules.specs.Asking.{Asking};
 
     ghost Value = { Asking };
 
-    ghost coded = { Prim.hlevel (codes, set.code {R = cap_cmp} cap_code) };
+    ghost coded = { Prim.hlevel (codes, set.code {R = cap_cmp} cap_code, label_code) };
 
     ghost view = { λ c. record { asker = record { who = c.who; label = c.label; effective = c.effective }; used = c.used } };
 }

@@ -8,7 +8,6 @@ use kern_model::{Attr, Gid, Ids, Want};
 use lab_lattice::{Label, Lattice};
 
 /// The rule of mac_read: whether the process's label dominates that of the thing.
-#[tactic(auto, unfolding(lab_lattice::specs::Label::dominates))]
 pub fn mac_read_ok(process: &Label, thing: &Label) -> bool
     ensures { result ≡ dominates process.now thing.now }
 {

@@ -4,8 +4,8 @@ ghost use Rattle.std.specs.Prelude.{◌≡◌, ◌≤◌, ◌↔◌, IsSome, IfS
 use crate::Lattice;
 use std::marker::Model;
 
-/// The highest number of a level.
-pub const MAX_LEVEL: u8 = 15;
+// The highest number of a level.
+const MAX_LEVEL: u8 = 15;
 
 /// A level of secrecy, seen as its number: 0 is the lowest, 15 the highest that a value can have.
 #[derive(Clone, Copy, Debug, PartialEq, Eq, PartialOrd, Ord)]
@@ -36,6 +36,13 @@ impl Level {
         } else {
             None
         }
+    }
+
+    /// The lowest level.
+    pub fn lowest() -> Level
+        ensures { result ≡ 0 }
+    {
+        Level { number: 0 }
     }
 
     /// Its number.

@@ -1,11 +1,33 @@
 //! Labels and their order, seen through the laws of a lattice alone.
 #![tactic(auto)]
 
+ghost use Rattle.std.specs.Prelude.{◌≡◌};
+ghost use Rattle.lab_lattice.specs.Label.{bottom};
+
+mod cats;
+mod dual;
 mod lattice;
 mod level;
+mod pair;
+#[cfg(test)]
+mod tests;
 
+pub use cats::Cats;
+pub use dual::Dual;
 pub use lattice::Lattice;
 pub use level::Level;
+pub use pair::Pair;
 
 /// The label of a process or an object. Its meaning is in `specs/Label.antt`.
-pub type Label = Level;
+pub type Label = Pair<Level, Cats>;
+
+/// The label that each label dominates.
+#[tactic(auto, unfolding(crate::specs::Label::bottom))]
+pub fn bottom() -> Label
+    ensures { result ≡ bottom }
+{
+    Pair {
+        first: Level::lowest(),
+        second: Cats::empty(),
+    }
+}

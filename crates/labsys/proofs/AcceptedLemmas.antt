@@ -1,7 +1,5 @@
 -- A world that is accepted has its root first, and its top dominates each label.
-use Rattle.std.proofs.Common.{◌≡◌, ℕ, ◌+◌, Bool, true, false, cond, List, [], ◌∷◌, ◌++◌, length, take, refl, ap, subst, arith}
-use Rattle.std.proofs.lemmas.Bool.Decides.{nat_tests}
-use Rattle.std.proofs.lemmas.List.Quantifiers.{position-Some}
+use Rattle.std.proofs.Common.{◌≡◌, ℕ, ◌+◌, Bool, true, false, cond, List, [], ◌∷◌, ◌++◌, length, take, refl, ap, subst}
 use Rattle.std.specs.Prelude.{⊤, Option, Some, None, nat_lt, nat_le, codes}
 use Rattle.std.specs.List.{AllByRecursion}
 use Rattle.std.specs.Option.{MatchOption}
@@ -11,9 +9,11 @@ use Rattle.kern_model.specs.declared.objects.Body.TheVariants as body
 use Rattle.kern_model.specs.declared.world.WorldObject.{WorldObject}
 use Rattle.kern_model.specs.declared.world.WorldProc.{WorldProc}
 use Rattle.kern_model.specs.Valid.{IsWorld}
-use Rattle.labsys.specs.declared.policy.Policy.{Policy}
+use Rattle.lab_text.specs.Policy.{PolicyNames, top_of}
+use Rattle.lab_text.specs.Text.{label_said}
+use Rattle.lab_text.specs.Said.{said_valid}
 use Rattle.labsys.specs.Lines.{cut, pieces, behind}
-use Rattle.labsys.specs.Grammar.{Levels, same_bytes, keep_if, split_then, word_then, then, label_of, top_of, number_of, mode_of, entry_of, quoted_of, caps_of, exactly, levels_line, categories_line, bound_line, root_line, file_line, proc_line, Fixture, OfObject, OfProcess, first_of, fixture_line}
+use Rattle.labsys.specs.Grammar.{keep_if, split_then, word_then, then, number_of, mode_of, entry_of, quoted_of, caps_of, exactly, levels_line, categories_line, bound_line, root_line, file_line, proc_line, Fixture, OfObject, OfProcess, first_of, fixture_line}
 use Rattle.labsys.specs.Input.{Accepted, Input, Fixtures, short, said, due, fits, added, next_fixture, world_of, with_script, or_script, fixtures_from, read_lines, input_of}
 
 -- what may be there passes
@@ -46,49 +46,48 @@ short_is {X = X} form line = elim (nat_le (length line) 2048) as (λ b. Gives (c
 
 -- ---- lines
 
-label_below : (levels : Levels) (word : List ℕ) → Gives (label_of levels word) (λ l. dominates (top_of levels) l ≡ true)
-unfolding dominates
-label_below levels word = record { gives = λ l e. let h = (position-Some (same_bytes word) levels l [] e).0 in grind (arith, nat_tests) }
+label_below : (policy : PolicyNames) (word : List ℕ) → Gives (label_said policy word) (λ l. dominates (top_of policy) l ≡ true)
+label_below policy word = record { gives = λ l e. said_valid policy word l e }
 
-record IsRoot (levels : Levels) (o : WorldObject) : Type 0 where
+record IsRoot (policy : PolicyNames) (o : WorldObject) : Type 0 where
   no_names : o.path.names ≡ []
   is_dir : o.body ≡ body.Dir
   lowest : o.label ≡ bottom
-  below : dominates (top_of levels) o.label ≡ true
+  below : dominates (top_of policy) o.label ≡ true
 
-root_gives : (levels : Levels) (line : List ℕ) → Gives (root_line levels line) (λ o. IsRoot levels o)
-root_gives levels line =
+root_gives : (policy : PolicyNames) (line : List ℕ) → Gives (root_line policy line) (λ o. IsRoot policy o)
+root_gives policy line =
     then_gives (behind (codes "dir / ") line) _ (λ line _. word_gives line _ (λ mode line. word_gives line _ (λ uid line. word_gives line _ (λ gid name.
-    then_gives (mode_of mode) _ (λ mode _. then_gives (number_of uid) _ (λ owner _. then_gives (number_of gid) _ (λ group _. then_gives (label_of levels name) _ (λ label is.
-    keep_gives (dominates bottom label) _ (λ low. record { no_names = refl; is_dir = refl; lowest = dominates_both label bottom (dominates_bottom label) low; below = (label_below levels name).gives label is })))))))))
+    then_gives (mode_of mode) _ (λ mode _. then_gives (number_of uid) _ (λ owner _. then_gives (number_of gid) _ (λ group _. then_gives (label_said policy name) _ (λ label is.
+    keep_gives (dominates bottom label) _ (λ low. record { no_names = refl; is_dir = refl; lowest = dominates_both label bottom (dominates_bottom label) low; below = (label_below policy name).gives label is })))))))))
 
 abbrev Below : Label → Fixture → Type 0
 Below top (OfObject o) = dominates top o.label ≡ true
 Below top (OfProcess p) = dominates top p.label ≡ true
 
-file_gives : (levels : Levels) (line : List ℕ) → Gives (file_line levels line) (λ o. dominates (top_of levels) o.label ≡ true)
-file_gives levels line =
+file_gives : (policy : PolicyNames) (line : List ℕ) → Gives (file_line policy line) (λ o. dominates (top_of policy) o.label ≡ true)
+file_gives policy line =
     then_gives (behind (codes "file /") line) _ (λ line _. word_gives line _ (λ name line. word_gives line _ (λ mode line. word_gives line _ (λ uid line. word_gives line _ (λ gid line. word_gives line _ (λ label bytes.
-    then_gives (entry_of name) _ (λ name _. then_gives (mode_of mode) _ (λ mode _. then_gives (number_of uid) _ (λ owner _. then_gives (number_of gid) _ (λ group _. then_gives (label_of levels label) _ (λ l is. then_gives (quoted_of bytes) _ (λ bytes _.
-    some_gives _ ((label_below levels label).gives l is)))))))))))))
+    then_gives (entry_of name) _ (λ name _. then_gives (mode_of mode) _ (λ mode _. then_gives (number_of uid) _ (λ owner _. then_gives (number_of gid) _ (λ group _. then_gives (label_said policy label) _ (λ l is. then_gives (quoted_of bytes) _ (λ bytes _.
+    some_gives _ ((label_below policy label).gives l is)))))))))))))
 
-proc_gives : (levels : Levels) (line : List ℕ) → Gives (proc_line levels line) (λ p. dominates (top_of levels) p.label ≡ true)
-proc_gives levels line =
+proc_gives : (policy : PolicyNames) (line : List ℕ) → Gives (proc_line policy line) (λ p. dominates (top_of policy) p.label ≡ true)
+proc_gives policy line =
     then_gives (behind (codes "proc ") line) _ (λ line _. word_gives line _ (λ label line. word_gives line _ (λ uid line. word_gives line _ (λ gid rest.
-    then_gives (label_of levels label) _ (λ l is. then_gives (number_of uid) _ (λ user _. then_gives (number_of gid) _ (λ group _. then_gives (behind (codes "- ") rest) _ (λ word _. then_gives (caps_of word) _ (λ caps _.
-    some_gives _ ((label_below levels label).gives l is))))))))))
+    then_gives (label_said policy label) _ (λ l is. then_gives (number_of uid) _ (λ user _. then_gives (number_of gid) _ (λ group _. then_gives (behind (codes "- ") rest) _ (λ word _. then_gives (caps_of word) _ (λ caps _.
+    some_gives _ ((label_below policy label).gives l is))))))))))
 
 first_gives : (top : Label) (o : Option WorldObject) (p : Option WorldProc) → Gives o (λ o. dominates top o.label ≡ true) → Gives p (λ p. dominates top p.label ≡ true) → Gives (first_of o p) (λ f. Below top f)
 first_gives top (Some o) p f g = some_gives (OfObject o) (f.gives o refl)
 first_gives top None (Some p) f g = some_gives (OfProcess p) (g.gives p refl)
 first_gives top None None f g = none_gives
 
-fixture_gives : (levels : Levels) (line : List ℕ) → Gives (fixture_line levels line) (λ f. Below (top_of levels) f)
-fixture_gives levels line = first_gives (top_of levels) (file_line levels line) (proc_line levels line) (file_gives levels line) (proc_gives levels line)
+fixture_gives : (policy : PolicyNames) (line : List ℕ) → Gives (fixture_line policy line) (λ f. Below (top_of policy) f)
+fixture_gives policy line = first_gives (top_of policy) (file_line policy line) (proc_line policy line) (file_gives policy line) (proc_gives policy line)
 
-next_gives : (levels : Levels) (t : Fixtures) (line : List ℕ) → Gives (next_fixture levels t line) (λ f. Below (top_of levels) f)
-next_gives levels t line =
-    then_gives (short (fixture_line levels) line) _ (λ f is. keep_gives (fits t f) f (λ _. (fixture_gives levels line).gives f ((short_is (fixture_line levels) line).gives f is)))
+next_gives : (policy : PolicyNames) (t : Fixtures) (line : List ℕ) → Gives (next_fixture policy t line) (λ f. Below (top_of policy) f)
+next_gives policy t line =
+    then_gives (short (fixture_line policy) line) _ (λ f is. keep_gives (fits t f) f (λ _. (fixture_gives policy line).gives f ((short_is (fixture_line policy) line).gives f is)))
 
 -- ---- the world
 
@@ -96,18 +95,18 @@ all_more : {X : Type 0} (P : X → Type 0) (xs : List X) (x : X) → AllByRecurs
 all_more P [] x all p = (p, tt)
 all_more P (y ∷ ys) x all p = (all.0, all_more P ys x all.1 p)
 
-added_world : (levels : Levels) (bound : CapSet) (t : Fixtures) (f : Fixture) → IsWorld (world_of levels bound t) → Below (top_of levels) f → IsWorld (world_of levels bound (added t f))
-added_world levels bound t (OfObject o) w below = record {
+added_world : (policy : PolicyNames) (bound : CapSet) (t : Fixtures) (f : Fixture) → IsWorld (world_of policy bound t) → Below (top_of policy) f → IsWorld (world_of policy bound (added t f))
+added_world policy bound t (OfObject o) w below = record {
   first = w.first;
   others = w.others ++ o ∷ [];
   objects_are = ap (λ (os : List WorldObject). os ++ o ∷ []) w.objects_are;
   no_names = w.no_names;
   root_body = w.root_body;
   root_label = w.root_label;
-  objects_below = all_more (λ (o : WorldObject). dominates (top_of levels) o.label ≡ true) t.objects o w.objects_below below;
+  objects_below = all_more (λ (o : WorldObject). dominates (top_of policy) o.label ≡ true) t.objects o w.objects_below below;
   procs_below = w.procs_below;
 }
-added_world levels bound t (OfProcess p) w below = record {
+added_world policy bound t (OfProcess p) w below = record {
   first = w.first;
   others = w.others;
   objects_are = w.objects_are;
@@ -115,11 +114,11 @@ added_world levels bound t (OfProcess p) w below = record {
   root_body = w.root_body;
   root_label = w.root_label;
   objects_below = w.objects_below;
-  procs_below = all_more (λ (p : WorldProc). dominates (top_of levels) p.label ≡ true) t.procs p w.procs_below below;
+  procs_below = all_more (λ (p : WorldProc). dominates (top_of policy) p.label ≡ true) t.procs p w.procs_below below;
 }
 
-root_world : (levels : Levels) (bound : CapSet) (root : WorldObject) → IsRoot levels root → IsWorld (world_of levels bound (record { objects = root ∷ []; procs = [] }))
-root_world levels bound root is = record {
+root_world : (policy : PolicyNames) (bound : CapSet) (root : WorldObject) → IsRoot policy root → IsWorld (world_of policy bound (record { objects = root ∷ []; procs = [] }))
+root_world policy bound root is = record {
   first = root;
   others = [];
   objects_are = refl;
@@ -149,23 +148,23 @@ or_holds : (o : Option (Unit {0})) (i j : Input) → Holds i → Holds j → Hol
 or_holds (Some u) i j p q = p
 or_holds None i j p q = q
 
-fixtures_holds : (over : Bool) (policy : Policy) (bound : CapSet) (n : ℕ) (t : Fixtures) (ls : List (List ℕ)) → IsWorld (world_of policy.levels bound t) → Holds (fixtures_from over policy bound n t ls)
+fixtures_holds : (over : Bool) (policy : PolicyNames) (bound : CapSet) (n : ℕ) (t : Fixtures) (ls : List (List ℕ)) → IsWorld (world_of policy bound t) → Holds (fixtures_from over policy bound n t ls)
 unfolding fixtures_from
 fixtures_holds over policy bound n t [] w = none_gives
 fixtures_holds over policy bound n t (last ∷ []) w = none_gives
 fixtures_holds over policy bound n t (line ∷ next ∷ ls) w =
     or_holds (short (exactly (codes "script")) line) (with_script over policy bound t (n + 1) (next ∷ ls)) _ (some_gives _ w)
-    (said_holds (next_fixture policy.levels t line) n (λ f. fixtures_from over policy bound (n + 1) (added t f) (next ∷ ls)) (λ f is.
-    fixtures_holds over policy bound (n + 1) (added t f) (next ∷ ls) (added_world policy.levels bound t f w ((next_gives policy.levels t line).gives f is))))
+    (said_holds (next_fixture policy t line) n (λ f. fixtures_from over policy bound (n + 1) (added t f) (next ∷ ls)) (λ f is.
+    fixtures_holds over policy bound (n + 1) (added t f) (next ∷ ls) (added_world policy bound t f w ((next_gives policy t line).gives f is))))
 
 lines_holds : (over : Bool) (ls : List (List ℕ)) → Holds (read_lines over ls)
 lines_holds over ls =
     due_holds over (exactly (codes "world 1")) 1 ls _ (λ _ _ _ ls.
     due_holds over levels_line 2 ls _ (λ _ levels _ ls.
-    due_holds over categories_line 3 ls _ (λ _ categories _ ls.
+    due_holds over (categories_line levels) 3 ls _ (λ _ policy _ ls.
     due_holds over bound_line 4 ls _ (λ _ bound _ ls.
-    due_holds over (root_line levels) 5 ls _ (λ line root is ls.
-    fixtures_holds over _ bound 6 _ ls (root_world levels bound root ((root_gives levels line).gives root is)))))))
+    due_holds over (root_line policy) 5 ls _ (λ line root is ls.
+    fixtures_holds over policy bound 6 _ ls (root_world policy bound root ((root_gives policy line).gives root is)))))))
 
 pub accepted_world : (over : Bool) (ls : List (List ℕ)) (a : Accepted) → (read_lines over ls).accepted ≡ Some a → IsWorld a.world
 accepted_world over ls a is = (lines_holds over ls).gives a is

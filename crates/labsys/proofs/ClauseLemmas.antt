@@ -74,7 +74,7 @@ by_world text a sent rest is e = ap (λ (w : Option Accepted). order_by w (input
 
 -- the output of an accepted input
 out_is : (text : List ℕ) (a : Accepted) (sent rest : List Sent) → (input_of text).accepted ≡ Some a → order_of (input_of text) ≡ sent ++ rest
-    → replies_of (turns_of a (input_of text).script) ++ tail_text a.policy.levels 0 (boot a.world) (input_of text).script ≡ out_of sent ++ out_of rest
+    → replies_of (turns_of a (input_of text).script) ++ tail_text a.policy 0 (boot a.world) (input_of text).script ≡ out_of sent ++ out_of rest
 unfolding out_by
 out_is text a sent rest is e = sym (order_out (Some a) (input_of text).script) ∙ ap out_of (by_world text a sent rest is e) ∙ out_of-append sent rest
 
@@ -84,7 +84,7 @@ world_written text a out sent rest is e so = subst (Written (turns_of a (input_o
 -- where the whole output stands all replies do
 all_written : (text : List ℕ) (a : Accepted) (out : List ℕ) → (input_of text).accepted ≡ Some a → out ≡ out_text (input_of text) → IsFront (replies_of (turns_of a (input_of text).script)) out
 unfolding out_by
-all_written text a out is so = record { rest = tail_text a.policy.levels 0 (boot a.world) (input_of text).script; whole_is = so ∙ ap (λ (w : Option Accepted). out_by w (input_of text).script) is }
+all_written text a out is so = record { rest = tail_text a.policy 0 (boot a.world) (input_of text).script; whole_is = so ∙ ap (λ (w : Option Accepted). out_by w (input_of text).script) is }
 
 module _ (r : Result Ending Fault) (s : Status) (l l' o o' t t' : Option (List ℕ)) (x : Plays r l l' o o' t t') where
   -- what holds of all that was sent holds where the ends tell

@@ -7,7 +7,7 @@ use Rattle.kern_model.specs.Boot.{boot}
 use Rattle.kern_model.specs.Fronts.{IsFront}
 use Rattle.kern_model.specs.Rules.{name_of}
 use Rattle.kern_model.specs.Run.{Played, run}
-use Rattle.labsys.specs.Grammar.{Levels}
+use Rattle.lab_text.specs.Policy.{PolicyNames}
 use Rattle.labsys.specs.Input.{Accepted, Script}
 use Rattle.labsys.specs.Texts.{pid_text, call_text, outcome_text, last_text, reply_text}
 use Rattle.labsys.specs.Order.{Sent, Turn, out_of, trail_of, to_out, to_trail, turns_from, told, replies_of, records_of, tail_text, order_in, head_text, order_by, turns_of, out_by, trail_by}
@@ -66,28 +66,28 @@ pub order_out : (a : Option Accepted) (m : Script) → out_of (order_by a m) ≡
 unfolding order_by out_by order_in
 order_out None m = out_of-to_out (last_text 0 m.ending)
 order_out (Some a) m =
-    out_behind (head_text a) (flat_map told (turns_of a m) ++ to_out (tail_text a.policy.levels 0 (boot a.world) m)) ∙ turns_out (turns_of a m) (tail_text a.policy.levels 0 (boot a.world) m)
+    out_behind (head_text a) (flat_map told (turns_of a m) ++ to_out (tail_text a.policy 0 (boot a.world) m)) ∙ turns_out (turns_of a m) (tail_text a.policy 0 (boot a.world) m)
 
 pub order_trail : (a : Option Accepted) (m : Script) → trail_of (order_by a m) ≡ trail_by a m
 unfolding order_by trail_by order_in
 order_trail None m = trail_of-to_out (last_text 0 m.ending)
 order_trail (Some a) m =
-    trail_behind (head_text a) (flat_map told (turns_of a m) ++ to_out (tail_text a.policy.levels 0 (boot a.world) m)) ∙ ap (λ (z : List ℕ). head_text a ++ z) (turns_trail (turns_of a m) (tail_text a.policy.levels 0 (boot a.world) m))
+    trail_behind (head_text a) (flat_map told (turns_of a m) ++ to_out (tail_text a.policy 0 (boot a.world) m)) ∙ ap (λ (z : List ℕ). head_text a ++ z) (turns_trail (turns_of a m) (tail_text a.policy 0 (boot a.world) m))
 
 -- ---- no reply line is empty
 
-reply_pos : (levels : Levels) (p : Played) → 0 < length (reply_text levels p)
+reply_pos : (policy : PolicyNames) (p : Played) → 0 < length (reply_text policy p)
 unfolding reply_text
-reply_pos levels p = omega (arith, length-append (pid_text levels p.who) (32 ∷ (call_text (name_of p.call) ++ 32 ∷ (outcome_text levels p.reply ++ 10 ∷ []))))
+reply_pos policy p = omega (arith, length-append (pid_text policy p.who) (32 ∷ (call_text (name_of p.call) ++ 32 ∷ (outcome_text policy p.reply ++ 10 ∷ []))))
 
 -- each turn has a reply
 abbrev AllReply : List Turn → Type 0
 AllReply ts = AllByRecursion (λ (t : Turn). 0 < length t.reply) ts
 
-all_reply : (levels : Levels) (n : ℕ) (ps : List Played) → AllReply (turns_from levels n ps)
+all_reply : (policy : PolicyNames) (n : ℕ) (ps : List Played) → AllReply (turns_from policy n ps)
 unfolding turns_from
-all_reply levels n [] = tt
-all_reply levels n (p ∷ ps) = (reply_pos levels p, all_reply levels (n + 1) ps)
+all_reply policy n [] = tt
+all_reply policy n (p ∷ ps) = (reply_pos policy p, all_reply policy (n + 1) ps)
 
 replies_pos : (ts : List Turn) (m : ℕ) → AllReply ts → suc m ≤ length ts → 0 < length (replies_of (take (suc m) ts))
 replies_pos [] m all le = absurd (omega arith)
@@ -174,7 +174,7 @@ covered a m sent rest e k le f =
     let less : suc k ≤ length (turns_of a m) = omega arith in
     let g : IsFront (replies_of (take (suc k) (turns_of a m))) (out_of sent) = subst (λ j. IsFront (replies_of (take j (turns_of a m))) (out_of sent)) next f in
     subst (λ j. IsFront (head_text a ++ records_of (take j (turns_of a m))) (trail_of sent)) (sym next)
-    (covered_behind (head_text a) (turns_of a m) (tail_text a.policy.levels 0 (boot a.world) m) sent rest (all_reply a.policy.levels 1 (run (boot a.world) m.items)) e k less g)
+    (covered_behind (head_text a) (turns_of a m) (tail_text a.policy 0 (boot a.world) m) sent rest (all_reply a.policy 1 (run (boot a.world) m.items)) e k less g)
 
 replies_from : (ts : List Turn) (tail : List ℕ) (sent rest : List Sent) → flat_map told ts ++ to_out tail ≡ sent ++ rest
     → (m : ℕ) → m ≤ length ts → length (records_of (take m ts)) < length (trail_of sent) → IsFront (replies_of (take m ts)) (out_of sent)
@@ -220,4 +220,4 @@ first_behind head ts tail sent rest e m le h =
 pub replies_first : (a : Accepted) (m : Script) (sent rest : List Sent) → order_by (Some a) m ≡ sent ++ rest → (k : ℕ) → k ≤ length (turns_of a m)
     → length (head_text a ++ records_of (take k (turns_of a m))) < length (trail_of sent) → IsFront (replies_of (take k (turns_of a m))) (out_of sent)
 unfolding order_by order_in
-replies_first a m sent rest e k le h = first_behind (head_text a) (turns_of a m) (tail_text a.policy.levels 0 (boot a.world) m) sent rest e k le h
+replies_first a m sent rest e k le h = first_behind (head_text a) (turns_of a m) (tail_text a.policy 0 (boot a.world) m) sent rest e k le h

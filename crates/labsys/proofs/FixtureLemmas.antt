@@ -1,5 +1,5 @@
 -- One more object or process: names that are taken, and counts at labels.
-use Rattle.std.proofs.Common.{◌≡◌, ℕ, ◌+◌, Bool, true, false, ◌&&◌, ◌||◌, cond, List, [], ◌∷◌, ◌++◌, length, get_or, refl, sym, ◌∙◌, ap, arith, Option, Some}
+use Rattle.std.proofs.Common.{◌≡◌, ℕ, ◌+◌, Bool, true, false, ◌&&◌, ◌||◌, ◌==◌, cond, List, [], ◌∷◌, ◌++◌, length, get_or, refl, sym, ◌∙◌, ap, arith, Option, Some}
 use Rattle.std.specs.Prelude.{unwrap_or}
 use Rattle.std.specs.List.{list_any}
 use Rattle.std.specs.Ordering.{nat_cmp, is_eq}
@@ -10,6 +10,7 @@ use Rattle.std.specs.declared.cmp.Ordering.TheVariants.{Less, Equal, Greater}
 use Rattle.std.specs.Cmp.{tied_itself}
 use Rattle.std.specs.Cmp.Lexicographic.{slice_cmp, pointwise}
 use Rattle.std.proofs.lemmas.Bool.{and_from, and_parts}
+use Rattle.std.proofs.lemmas.Bool.Decides.{nat_tests}
 use Rattle.std.proofs.lemmas.List.Folds.{list_any-append}
 use Rattle.std.proofs.lemmas.List.Sums.{sum_by-append}
 use Rattle.std.proofs.lemmas.Map.Text.{is_eq-slice_cmp}
@@ -19,8 +20,16 @@ use Rattle.lab_lattice.specs.Label.{Label, dominates, dominates_itself, dominate
 use Rattle.kern_model.specs.Valid.{same_label, objects_at, procs_at}
 use Rattle.kern_model.specs.declared.world.WorldProc.{WorldProc}
 use Rattle.labsys.specs.Fixture.{count_in, has_path}
-use Rattle.labsys.specs.Grammar.{same_bytes}
-use Rattle.labsys.proofs.WordLemmas.{same_turn}
+use Rattle.lab_text.specs.Names.{same_bytes}
+
+eq_turn : (a b : ℕ) → (a == b) ≡ (b == a)
+eq_turn a b = grind (arith, nat_tests)
+
+same_turn : (xs ys : List ℕ) → same_bytes xs ys ≡ same_bytes ys xs
+same_turn [] [] = refl
+same_turn [] (y ∷ ys) = refl
+same_turn (x ∷ xs) [] = refl
+same_turn (x ∷ xs) (y ∷ ys) = ap (λ v. v && same_bytes xs ys) (eq_turn x y) ∙ ap (λ v. (y == x) && v) (same_turn xs ys)
 
 -- labels that compare equal are the same
 same_by_cmp : (a b : Label) → is_eq (label_cmp a b) ≡ same_label a b

@@ -12,11 +12,11 @@ use Rattle.labsys.specs.declared.status.Part.{Part}
 use Rattle.labsys.specs.declared.status.Part.TheVariants as part
 use Rattle.labsys.specs.declared.status.Fault.{Fault}
 use Rattle.labsys.specs.declared.status.Fault.TheVariants.{Read, Write, Trail, NoMemory}
-use Rattle.labsys.specs.declared.policy.Policy.{Policy}
+use Rattle.lab_text.specs.Policy.{PolicyNames}
 use Rattle.cap_bits.specs.CapSet.{CapSet}
 use Rattle.kern_model.specs.declared.world.ScriptItem.{ScriptItem}
 use Rattle.labsys.specs.Lines.{pieces}
-use Rattle.labsys.specs.Grammar.{Levels, exactly, levels_line, categories_line, bound_line, root_line, script_line}
+use Rattle.labsys.specs.Grammar.{exactly, levels_line, categories_line, bound_line, root_line, script_line}
 use Rattle.labsys.specs.Input.{Input, Script, Fixtures, no_world, refused, cut_off, short, said, due, after_item, script_from, next_fixture, added, or_script, with_script, fixtures_from, read_lines, input_of}
 use Rattle.labsys.specs.Texts.{last_text}
 use Rattle.labsys.specs.Order.{order_by, order_of}
@@ -82,10 +82,10 @@ item_not : (o : Option ScriptItem) (n : ℕ) (more : Script) → NotWhole more.e
 item_not None n more h = λ e. cc
 item_not (Some item) n more h = h
 
-script_not : (levels : Levels) (n : ℕ) (l : List ℕ) (ls : List (List ℕ)) → NotWhole (script_from true levels n (l ∷ ls)).ending
+script_not : (policy : PolicyNames) (n : ℕ) (l : List ℕ) (ls : List (List ℕ)) → NotWhole (script_from true policy n (l ∷ ls)).ending
 unfolding script_from
-script_not levels n l [] = cut_not n part.Script l
-script_not levels n l (next ∷ ls) = item_not (short (script_line levels) l) n (script_from true levels (n + 1) (next ∷ ls)) (script_not levels (n + 1) next ls)
+script_not policy n l [] = cut_not n part.Script l
+script_not policy n l (next ∷ ls) = item_not (short (script_line policy) l) n (script_from true policy (n + 1) (next ∷ ls)) (script_not policy (n + 1) next ls)
 
 abbrev InputNot : Input → Type 0
 InputNot i = NotWhole i.script.ending
@@ -103,20 +103,20 @@ or_not : (o : Option (Unit {0})) (i j : Input) → InputNot i → InputNot j →
 or_not (Some u) i j p q = p
 or_not None i j p q = q
 
-fixtures_not : (policy : Policy) (bound : CapSet) (n : ℕ) (t : Fixtures) (l : List ℕ) (ls : List (List ℕ)) → InputNot (fixtures_from true policy bound n t (l ∷ ls))
+fixtures_not : (policy : PolicyNames) (bound : CapSet) (n : ℕ) (t : Fixtures) (l : List ℕ) (ls : List (List ℕ)) → InputNot (fixtures_from true policy bound n t (l ∷ ls))
 unfolding fixtures_from
 fixtures_not policy bound n t l [] = cut_not n part.World l
 fixtures_not policy bound n t l (next ∷ ls) =
-    or_not (short (exactly (codes "script")) l) (with_script true policy bound t (n + 1) (next ∷ ls)) _ (script_not policy.levels (n + 1) next ls)
-    (said_not (next_fixture policy.levels t l) n (λ f. fixtures_from true policy bound (n + 1) (added t f) (next ∷ ls)) (λ f. fixtures_not policy bound (n + 1) (added t f) next ls))
+    or_not (short (exactly (codes "script")) l) (with_script true policy bound t (n + 1) (next ∷ ls)) _ (script_not policy (n + 1) next ls)
+    (said_not (next_fixture policy t l) n (λ f. fixtures_from true policy bound (n + 1) (added t f) (next ∷ ls)) (λ f. fixtures_not policy bound (n + 1) (added t f) next ls))
 
 pub lines_not : (ls : List (List ℕ)) → InputNot (read_lines true ls)
 lines_not ls =
     due_not (exactly (codes "world 1")) 1 ls _ (λ _ l ls.
     due_not levels_line 2 (l ∷ ls) _ (λ levels l ls.
-    due_not categories_line 3 (l ∷ ls) _ (λ categories l ls.
+    due_not (categories_line levels) 3 (l ∷ ls) _ (λ policy l ls.
     due_not bound_line 4 (l ∷ ls) _ (λ bound l ls.
-    due_not (root_line levels) 5 (l ∷ ls) _ (λ root l ls.
+    due_not (root_line policy) 5 (l ∷ ls) _ (λ root l ls.
     fixtures_not _ bound 6 _ l ls)))))
 
 -- ---- what a run leaves

@@ -17,16 +17,16 @@ use Rattle.labsys.specs.Clauses.{last_state, told_text}
 module _ (a : Accepted) (script : Script) where
   -- an end line by what is found of the process
   abbrev line : Pid → Option Process → List ℕ
-  line who found = end_text a.policy.levels who (option_map (λ (p : Process). p.label) found) (option_map (λ (p : Process). p.caps) found)
+  line who found = end_text a.policy who (option_map (λ (p : Process). p.label) found) (option_map (λ (p : Process). p.caps) found)
 
   abbrev told_line : Pid → Option Process → List ℕ
-  told_line who found = end_text a.policy.levels who (option_map (λ (p : Process). p.label) found) (Some (caps_of (all_recs a.world script.items) who))
+  told_line who found = end_text a.policy who (option_map (λ (p : Process). p.label) found) (Some (caps_of (all_recs a.world script.items) who))
 
   same_line : (who : Pid) → line who (map.get (last_state a script).procs who) ≡ told_line who (map.get (last_state a script).procs who)
   same_line who =
       elim (map.get (last_state a script).procs who) as (λ found. map.get (last_state a script).procs who ≡ found → line who found ≡ told_line who found) [
         | None ↦ λ _. refl
-        | Some p ↦ λ is. ap (λ c. end_text a.policy.levels who (Some p.label) (Some c)) (caps_are_told a.world script.items who p is)
+        | Some p ↦ λ is. ap (λ c. end_text a.policy who (Some p.label) (Some c)) (caps_are_told a.world script.items who p is)
       ] refl
 
   -- the output is the one in which the records tell the capability sets

@@ -1,28 +1,29 @@
 -- Inputs from one line on.
-use Rattle.std.proofs.Common.{◌≡◌, ℕ, ◌+◌, ◌≤◌, ◌<◌, Bool, true, false, cond, nat_le, nat_lt, ◌&&◌, not, List, [], ◌∷◌, ◌++◌, length, refl, sym, ◌∙◌, ap, subst, arith, Option, Some, None}
+use Rattle.std.proofs.Common.{◌≡◌, ℕ, ◌+◌, ◌≤◌, ◌<◌, Bool, true, false, cond, nat_le, nat_lt, ◌&&◌, not, List, [], ◌∷◌, length, refl, sym, ◌∙◌, ap, subst, arith, Option, Some, None}
 use Rattle.std.specs.Prelude.{◌==◌, option_and_then, codes}
-use Rattle.std.specs.List.{AllByRecursion, list_any}
+use Rattle.std.specs.List.{list_any}
 use Rattle.std.proofs.lemmas.Bool.{and_parts, eqb-true, ltb-true, not-true}
 use Rattle.std.proofs.lemmas.Bool.Decides.{nat_tests}
 use Rattle.cap_bits.specs.CapSet.{CapSet}
-use Rattle.lab_lattice.specs.Label.{Label, dominates, dominates_both, dominates_bottom, bottom}
-use Rattle.kern_model.specs.declared.objects.Body.TheVariants as body
+use Rattle.lab_lattice.specs.Label.{Label, dominates, dominates_both}
 use Rattle.kern_model.specs.declared.world.ScriptItem.{ScriptItem}
 use Rattle.kern_model.specs.declared.world.World.{World}
 use Rattle.kern_model.specs.declared.world.WorldObject.{WorldObject}
 use Rattle.kern_model.specs.declared.world.WorldProc.{WorldProc}
 use Rattle.kern_model.specs.Valid.{same_label, objects_at, procs_at}
+use Rattle.lab_text.specs.Names.{Names}
+use Rattle.lab_text.specs.Policy.{PolicyNames, top_of}
 use Rattle.labsys.specs.declared.reading.Halt.{Halt}
 use Rattle.labsys.specs.declared.status.Ending.{Ending}
 use Rattle.labsys.specs.declared.status.Ending.TheVariants.{Whole, TooMuch}
 use Rattle.labsys.specs.declared.status.Part.{Part}
 use Rattle.labsys.specs.declared.status.Part.TheVariants as part
 use Rattle.labsys.specs.declared.reading.Halt.TheVariants as halt
-use Rattle.labsys.specs.declared.policy.Policy.{Policy}
 use Rattle.labsys.specs.declared.lines.Fixture.{Fixture as Read}
 use Rattle.labsys.specs.declared.lines.Fixture.TheVariants as read
 use Rattle.labsys.specs.Lines.{cut, pieces}
-use Rattle.labsys.specs.Grammar.{Levels, Fixture, OfObject, OfProcess, keep_if, then, same_bytes, exactly, levels_line, categories_line, bound_line, root_line, fixture_line, script_line, top_of}
+use Rattle.lab_text.specs.Names.{same_bytes}
+use Rattle.labsys.specs.Grammar.{Fixture, OfObject, OfProcess, keep_if, then, exactly, levels_line, categories_line, bound_line, root_line, fixture_line, script_line}
 use Rattle.labsys.specs.Input.{Input, Script, Fixtures, due, said, short, no_world, refused, script, script_from, after_item, fits, added, next_fixture, or_script, fixtures_from, read_lines, with_script, world_of, same_place}
 use Rattle.labsys.specs.Fixture.{as_fixture}
 use Rattle.labsys.specs.Reading.{next_short, next_of, ends_at, GoesOn, Stops, Begins, HasSpace, ComesTo, EndsInScript, EndsBefore, Reads, ReadsNone, PlaysLine, Ends}
@@ -100,20 +101,20 @@ is_not_exact text line e = sym (ap (λ v. keep_if v tt) e)
 
 -- ---- a script
 
-abbrev script_next : Bool → Levels → ℕ → List ℕ → Option (List ℕ × List ℕ) → Script
-script_next over levels n text None = script [] (ends_at over n part.Script text)
-script_next over levels n text (Some p) = after_item (script_line levels p.0) n (script_from over levels (n + 1) (pieces 10 p.1))
+abbrev script_next : Bool → PolicyNames → ℕ → List ℕ → Option (List ℕ × List ℕ) → Script
+script_next over policy n text None = script [] (ends_at over n part.Script text)
+script_next over policy n text (Some p) = after_item (script_line policy p.0) n (script_from over policy (n + 1) (pieces 10 p.1))
 
-script_more : (over : Bool) (levels : Levels) (n : ℕ) (line : List ℕ) (ls : List (List ℕ)) (p : List ℕ) (ps : List (List ℕ)) → ls ≡ p ∷ ps
-    → script_from over levels n (line ∷ ls) ≡ after_item (short (script_line levels) line) n (script_from over levels (n + 1) ls)
+script_more : (over : Bool) (policy : PolicyNames) (n : ℕ) (line : List ℕ) (ls : List (List ℕ)) (p : List ℕ) (ps : List (List ℕ)) → ls ≡ p ∷ ps
+    → script_from over policy n (line ∷ ls) ≡ after_item (short (script_line policy) line) n (script_from over policy (n + 1) ls)
 unfolding script_from
-script_more over levels n line ls p ps e =
-    ap (λ (q : List (List ℕ)). script_from over levels n (line ∷ q)) e ∙ sym (ap (λ (q : List (List ℕ)). after_item (short (script_line levels) line) n (script_from over levels (n + 1) q)) e)
+script_more over policy n line ls p ps e =
+    ap (λ (q : List (List ℕ)). script_from over policy n (line ∷ q)) e ∙ sym (ap (λ (q : List (List ℕ)). after_item (short (script_line policy) line) n (script_from over policy (n + 1) q)) e)
 
-short_item : (over : Bool) (levels : Levels) (n : ℕ) (text line rest : List ℕ) → length line ≤ length text → (v : Bool) → nat_le (length line) 2048 ≡ v
-    → after_item (cond v (script_line levels line) None) n (script_from over levels (n + 1) (pieces 10 rest)) ≡ script_next over levels n text (keep_if v (line, rest))
-short_item over levels n text line rest less true e = refl
-short_item over levels n text line rest less false e = sym (ap (script []) (ends_long over n part.Script text line less e))
+short_item : (over : Bool) (policy : PolicyNames) (n : ℕ) (text line rest : List ℕ) → length line ≤ length text → (v : Bool) → nat_le (length line) 2048 ≡ v
+    → after_item (cond v (script_line policy line) None) n (script_from over policy (n + 1) (pieces 10 rest)) ≡ script_next over policy n text (keep_if v (line, rest))
+short_item over policy n text line rest less true e = refl
+short_item over policy n text line rest less false e = sym (ap (script []) (ends_long over n part.Script text line less e))
 
 -- whether there is more to read, or a last line
 abbrev pub is_open : Bool → List ℕ → Bool
@@ -121,45 +122,45 @@ is_open true text = true
 is_open false [] = false
 is_open false (b ∷ bs) = true
 
-script_last : (over : Bool) (levels : Levels) (n : ℕ) (text : List ℕ) → is_open over text ≡ true → script_from over levels n (text ∷ []) ≡ script [] (ends_at over n part.Script text)
+script_last : (over : Bool) (policy : PolicyNames) (n : ℕ) (text : List ℕ) → is_open over text ≡ true → script_from over policy n (text ∷ []) ≡ script [] (ends_at over n part.Script text)
 unfolding script_from
-script_last true levels n text some = refl
-script_last false levels n [] some = absurd (cc)
-script_last false levels n (b ∷ bs) some = refl
+script_last true policy n text some = refl
+script_last false policy n [] some = absurd (cc)
+script_last false policy n (b ∷ bs) some = refl
 
-script_is : (over : Bool) (levels : Levels) (n : ℕ) (text : List ℕ) → is_open over text ≡ true → script_from over levels n (pieces 10 text) ≡ script_next over levels n text (next_short text)
+script_is : (over : Bool) (policy : PolicyNames) (n : ℕ) (text : List ℕ) → is_open over text ≡ true → script_from over policy n (pieces 10 text) ≡ script_next over policy n text (next_short text)
 unfolding next_short
-script_is over levels n text some = by_cut (cut 10 text) refl
+script_is over policy n text some = by_cut (cut 10 text) refl
   where
-    by_cut : (o : Option (List ℕ × List ℕ)) → cut 10 text ≡ o → script_from over levels n (pieces 10 text) ≡ script_next over levels n text (short_of (cut 10 text))
+    by_cut : (o : Option (List ℕ × List ℕ)) → cut 10 text ≡ o → script_from over policy n (pieces 10 text) ≡ script_next over policy n text (short_of (cut 10 text))
     by_cut None e =
-        ap (script_from over levels n) (pieces_none 10 text e) ∙ script_last over levels n text some
-        ∙ sym (ap (λ (o : Option (List ℕ × List ℕ)). script_next over levels n text (short_of o)) e)
+        ap (script_from over policy n) (pieces_none 10 text e) ∙ script_last over policy n text some
+        ∙ sym (ap (λ (o : Option (List ℕ × List ℕ)). script_next over policy n text (short_of o)) e)
     by_cut (Some p) e =
         let first = pieces_first 10 p.1 in
-        ap (script_from over levels n) (pieces_some 10 text p.0 p.1 e)
-        ∙ script_more over levels n p.0 (pieces 10 p.1) first.0 first.1 first.2
-        ∙ short_item over levels n text p.0 p.1 (cut_longer 10 text p.0 p.1 e) (nat_le (length p.0) 2048) refl
-        ∙ sym (ap (λ (o : Option (List ℕ × List ℕ)). script_next over levels n text (short_of o)) e)
+        ap (script_from over policy n) (pieces_some 10 text p.0 p.1 e)
+        ∙ script_more over policy n p.0 (pieces 10 p.1) first.0 first.1 first.2
+        ∙ short_item over policy n text p.0 p.1 (cut_longer 10 text p.0 p.1 e) (nat_le (length p.0) 2048) refl
+        ∙ sym (ap (λ (o : Option (List ℕ × List ℕ)). script_next over policy n text (short_of o)) e)
 
-pub ends_whole : (over : Bool) (levels : Levels) (n : ℕ) (text : List ℕ) → over ≡ false → length text ≡ 0 → Ends over levels n text Whole
+pub ends_whole : (over : Bool) (policy : PolicyNames) (n : ℕ) (text : List ℕ) → over ≡ false → length text ≡ 0 → Ends over policy n text Whole
 unfolding script_from pieces
-ends_whole true levels n text whole e = absurd (cc)
-ends_whole false levels n [] whole e = refl
-ends_whole false levels n (b ∷ bs) whole e = absurd (omega arith)
+ends_whole true policy n text whole e = absurd (cc)
+ends_whole false policy n [] whole e = refl
+ends_whole false policy n (b ∷ bs) whole e = absurd (omega arith)
 
-pub ends_without : (over : Bool) (levels : Levels) (n : ℕ) (text : List ℕ) (ending : Ending) → is_open over text ≡ true → next_short text ≡ None → ending ≡ ends_at over n part.Script text → Ends over levels n text ending
-ends_without over levels n text ending some next e = script_is over levels n text some ∙ ap (script_next over levels n text) next ∙ sym (ap (script []) e)
+pub ends_without : (over : Bool) (policy : PolicyNames) (n : ℕ) (text : List ℕ) (ending : Ending) → is_open over text ≡ true → next_short text ≡ None → ending ≡ ends_at over n part.Script text → Ends over policy n text ending
+ends_without over policy n text ending some next e = script_is over policy n text some ∙ ap (script_next over policy n text) next ∙ sym (ap (script []) e)
 
-pub ends_at_line : (over : Bool) (levels : Levels) (n : ℕ) (text line rest : List ℕ) → is_open over text ≡ true → next_short text ≡ Some (line, rest) → None ≡ script_line levels line
-    → Ends over levels n text (refused n part.Script)
-ends_at_line over levels n text line rest some next is =
-    script_is over levels n text some ∙ ap (script_next over levels n text) next ∙ sym (ap (λ (o : Option ScriptItem). after_item o n (script_from over levels (n + 1) (pieces 10 rest))) is)
+pub ends_at_line : (over : Bool) (policy : PolicyNames) (n : ℕ) (text line rest : List ℕ) → is_open over text ≡ true → next_short text ≡ Some (line, rest) → None ≡ script_line policy line
+    → Ends over policy n text (refused n part.Script)
+ends_at_line over policy n text line rest some next is =
+    script_is over policy n text some ∙ ap (script_next over policy n text) next ∙ sym (ap (λ (o : Option ScriptItem). after_item o n (script_from over policy (n + 1) (pieces 10 rest))) is)
 
-pub plays_line : (over : Bool) (levels : Levels) (n : ℕ) (text line rest : List ℕ) (item : ScriptItem) → is_open over text ≡ true → next_short text ≡ Some (line, rest) → Some item ≡ script_line levels line
-    → length rest < length text → PlaysLine over levels n text item rest
-plays_line over levels n text line rest item some next is less = record {
-  says = script_is over levels n text some ∙ ap (script_next over levels n text) next ∙ sym (ap (λ (o : Option ScriptItem). after_item o n (script_from over levels (n + 1) (pieces 10 rest))) is);
+pub plays_line : (over : Bool) (policy : PolicyNames) (n : ℕ) (text line rest : List ℕ) (item : ScriptItem) → is_open over text ≡ true → next_short text ≡ Some (line, rest) → Some item ≡ script_line policy line
+    → length rest < length text → PlaysLine over policy n text item rest
+plays_line over policy n text line rest item some next is less = record {
+  says = script_is over policy n text some ∙ ap (script_next over policy n text) next ∙ sym (ap (λ (o : Option ScriptItem). after_item o n (script_from over policy (n + 1) (pieces 10 rest))) is);
   shorter = less;
 }
 
@@ -175,33 +176,33 @@ closed over text e =
 
 -- ---- files and processes
 
-abbrev fixtures_next : Bool → Policy → CapSet → ℕ → Fixtures → List ℕ → Option (List ℕ × List ℕ) → Input
+abbrev fixtures_next : Bool → PolicyNames → CapSet → ℕ → Fixtures → List ℕ → Option (List ℕ × List ℕ) → Input
 fixtures_next over policy bound n t text None = no_world (ends_at over n part.World text)
 fixtures_next over policy bound n t text (Some p) =
     or_script (exactly (codes "script") p.0) (with_script over policy bound t (n + 1) (pieces 10 p.1))
-    (said (next_of policy.levels t p.0) n (λ f. fixtures_from over policy bound (n + 1) (added t f) (pieces 10 p.1)))
+    (said (next_of policy t p.0) n (λ f. fixtures_from over policy bound (n + 1) (added t f) (pieces 10 p.1)))
 
-fixtures_more : (over : Bool) (policy : Policy) (bound : CapSet) (n : ℕ) (t : Fixtures) (line : List ℕ) (ls : List (List ℕ)) (p : List ℕ) (ps : List (List ℕ)) → ls ≡ p ∷ ps
+fixtures_more : (over : Bool) (policy : PolicyNames) (bound : CapSet) (n : ℕ) (t : Fixtures) (line : List ℕ) (ls : List (List ℕ)) (p : List ℕ) (ps : List (List ℕ)) → ls ≡ p ∷ ps
     → fixtures_from over policy bound n t (line ∷ ls) ≡ or_script (short (exactly (codes "script")) line) (with_script over policy bound t (n + 1) ls)
-    (said (next_fixture policy.levels t line) n (λ f. fixtures_from over policy bound (n + 1) (added t f) ls))
+    (said (next_fixture policy t line) n (λ f. fixtures_from over policy bound (n + 1) (added t f) ls))
 unfolding fixtures_from
 fixtures_more over policy bound n t line ls p ps e =
     ap (λ (q : List (List ℕ)). fixtures_from over policy bound n t (line ∷ q)) e
     ∙ sym (ap (λ (q : List (List ℕ)). or_script (short (exactly (codes "script")) line) (with_script over policy bound t (n + 1) q)
-    (said (next_fixture policy.levels t line) n (λ f. fixtures_from over policy bound (n + 1) (added t f) q))) e)
+    (said (next_fixture policy t line) n (λ f. fixtures_from over policy bound (n + 1) (added t f) q))) e)
 
-short_fixture : (over : Bool) (policy : Policy) (bound : CapSet) (n : ℕ) (t : Fixtures) (text line rest : List ℕ) → length line ≤ length text → (v : Bool) → nat_le (length line) 2048 ≡ v
+short_fixture : (over : Bool) (policy : PolicyNames) (bound : CapSet) (n : ℕ) (t : Fixtures) (text line rest : List ℕ) → length line ≤ length text → (v : Bool) → nat_le (length line) 2048 ≡ v
     → or_script (cond v (exactly (codes "script") line) None) (with_script over policy bound t (n + 1) (pieces 10 rest))
-    (said (then (cond v (fixture_line policy.levels line) None) (λ f. keep_if (fits t f) f)) n (λ f. fixtures_from over policy bound (n + 1) (added t f) (pieces 10 rest)))
+    (said (then (cond v (fixture_line policy line) None) (λ f. keep_if (fits t f) f)) n (λ f. fixtures_from over policy bound (n + 1) (added t f) (pieces 10 rest)))
     ≡ fixtures_next over policy bound n t text (keep_if v (line, rest))
 short_fixture over policy bound n t text line rest less true e = refl
 short_fixture over policy bound n t text line rest less false e = sym (ap no_world (ends_long over n part.World text line less e))
 
-fixtures_last : (over : Bool) (policy : Policy) (bound : CapSet) (n : ℕ) (t : Fixtures) (text : List ℕ) → fixtures_from over policy bound n t (text ∷ []) ≡ no_world (ends_at over n part.World text)
+fixtures_last : (over : Bool) (policy : PolicyNames) (bound : CapSet) (n : ℕ) (t : Fixtures) (text : List ℕ) → fixtures_from over policy bound n t (text ∷ []) ≡ no_world (ends_at over n part.World text)
 unfolding fixtures_from
 fixtures_last over policy bound n t text = refl
 
-fixtures_are : (over : Bool) (policy : Policy) (bound : CapSet) (n : ℕ) (t : Fixtures) (text : List ℕ) → fixtures_from over policy bound n t (pieces 10 text) ≡ fixtures_next over policy bound n t text (next_short text)
+fixtures_are : (over : Bool) (policy : PolicyNames) (bound : CapSet) (n : ℕ) (t : Fixtures) (text : List ℕ) → fixtures_from over policy bound n t (pieces 10 text) ≡ fixtures_next over policy bound n t text (next_short text)
 unfolding next_short
 fixtures_are over policy bound n t text = by_cut (cut 10 text) refl
   where
@@ -216,32 +217,32 @@ fixtures_are over policy bound n t text = by_cut (cut 10 text) refl
         ∙ short_fixture over policy bound n t text p.0 p.1 (cut_longer 10 text p.0 p.1 e) (nat_le (length p.0) 2048) refl
         ∙ sym (ap (λ (o : Option (List ℕ × List ℕ)). fixtures_next over policy bound n t text (short_of o)) e)
 
-pub comes_here : (over : Bool) (policy : Policy) (n : ℕ) (t u : Fixtures) (text : List ℕ) → u ≡ t → ComesTo over policy n t text n u text
+pub comes_here : (over : Bool) (policy : PolicyNames) (n : ℕ) (t u : Fixtures) (text : List ℕ) → u ≡ t → ComesTo over policy n t text n u text
 unfolding ComesTo
 comes_here over policy n t u text e = λ (bound : CapSet). sym (ap (λ (v : Fixtures). fixtures_from over policy bound n v (pieces 10 text)) e)
 
 -- one line on
-pub comes_further : (over : Bool) (policy : Policy) (n : ℕ) (t : Fixtures) (text : List ℕ) (m : ℕ) (u : Fixtures) (now line rest : List ℕ) (f : Fixture) (w : Fixtures)
-    → ComesTo over policy n t text m u now → next_short now ≡ Some (line, rest) → None ≡ exactly (codes "script") line → Some f ≡ next_of policy.levels u line → w ≡ added u f
+pub comes_further : (over : Bool) (policy : PolicyNames) (n : ℕ) (t : Fixtures) (text : List ℕ) (m : ℕ) (u : Fixtures) (now line rest : List ℕ) (f : Fixture) (w : Fixtures)
+    → ComesTo over policy n t text m u now → next_short now ≡ Some (line, rest) → None ≡ exactly (codes "script") line → Some f ≡ next_of policy u line → w ≡ added u f
     → ComesTo over policy n t text (m + 1) w rest
 unfolding ComesTo
 comes_further over policy n t text m u now line rest f w comes next no_script is e = λ (bound : CapSet).
     comes bound ∙ fixtures_are over policy bound m u now ∙ ap (fixtures_next over policy bound m u now) next
     ∙ sym (ap (λ (o : Option (Unit {0})). or_script o (with_script over policy bound u (m + 1) (pieces 10 rest))
-    (said (next_of policy.levels u line) m (λ f. fixtures_from over policy bound (m + 1) (added u f) (pieces 10 rest)))) no_script)
+    (said (next_of policy u line) m (λ f. fixtures_from over policy bound (m + 1) (added u f) (pieces 10 rest)))) no_script)
     ∙ sym (ap (λ (o : Option Fixture). said o m (λ f. fixtures_from over policy bound (m + 1) (added u f) (pieces 10 rest))) is)
     ∙ sym (ap (λ (v : Fixtures). fixtures_from over policy bound (m + 1) v (pieces 10 rest)) e)
 
-pub comes_to_script : (over : Bool) (policy : Policy) (n : ℕ) (t : Fixtures) (text : List ℕ) (m : ℕ) (u : Fixtures) (now line rest : List ℕ)
+pub comes_to_script : (over : Bool) (policy : PolicyNames) (n : ℕ) (t : Fixtures) (text : List ℕ) (m : ℕ) (u : Fixtures) (now line rest : List ℕ)
     → ComesTo over policy n t text m u now → next_short now ≡ Some (line, rest) → Some tt ≡ exactly (codes "script") line → EndsInScript over policy n t text (m + 1) u rest
 unfolding ComesTo EndsInScript
 comes_to_script over policy n t text m u now line rest comes next begins = λ (bound : CapSet).
     comes bound ∙ fixtures_are over policy bound m u now ∙ ap (fixtures_next over policy bound m u now) next
     ∙ sym (ap (λ (o : Option (Unit {0})). or_script o (with_script over policy bound u (m + 1) (pieces 10 rest))
-    (said (next_of policy.levels u line) m (λ f. fixtures_from over policy bound (m + 1) (added u f) (pieces 10 rest)))) begins)
+    (said (next_of policy u line) m (λ f. fixtures_from over policy bound (m + 1) (added u f) (pieces 10 rest)))) begins)
 
-pub comes_to_refused : (over : Bool) (policy : Policy) (n : ℕ) (t : Fixtures) (text : List ℕ) (m : ℕ) (u : Fixtures) (now line rest : List ℕ) (h : Halt)
-    → ComesTo over policy n t text m u now → next_short now ≡ Some (line, rest) → None ≡ exactly (codes "script") line → None ≡ next_of policy.levels u line → h ≡ halt.Ended (refused m part.World)
+pub comes_to_refused : (over : Bool) (policy : PolicyNames) (n : ℕ) (t : Fixtures) (text : List ℕ) (m : ℕ) (u : Fixtures) (now line rest : List ℕ) (h : Halt)
+    → ComesTo over policy n t text m u now → next_short now ≡ Some (line, rest) → None ≡ exactly (codes "script") line → None ≡ next_of policy u line → h ≡ halt.Ended (refused m part.World)
     → EndsBefore over policy n t text h
 unfolding ComesTo EndsBefore
 comes_to_refused over policy n t text m u now line rest h comes next no_script is e = subst (EndsBefore over policy n t text) (sym e) here
@@ -250,10 +251,10 @@ comes_to_refused over policy n t text m u now line rest h comes next no_script i
     here = λ (bound : CapSet).
         comes bound ∙ fixtures_are over policy bound m u now ∙ ap (fixtures_next over policy bound m u now) next
         ∙ sym (ap (λ (o : Option (Unit {0})). or_script o (with_script over policy bound u (m + 1) (pieces 10 rest))
-        (said (next_of policy.levels u line) m (λ f. fixtures_from over policy bound (m + 1) (added u f) (pieces 10 rest)))) no_script)
+        (said (next_of policy u line) m (λ f. fixtures_from over policy bound (m + 1) (added u f) (pieces 10 rest)))) no_script)
         ∙ sym (ap (λ (o : Option Fixture). said o m (λ f. fixtures_from over policy bound (m + 1) (added u f) (pieces 10 rest))) is)
 
-pub comes_to_end : (over : Bool) (policy : Policy) (n : ℕ) (t : Fixtures) (text : List ℕ) (m : ℕ) (u : Fixtures) (now : List ℕ) (h : Halt)
+pub comes_to_end : (over : Bool) (policy : PolicyNames) (n : ℕ) (t : Fixtures) (text : List ℕ) (m : ℕ) (u : Fixtures) (now : List ℕ) (h : Halt)
     → ComesTo over policy n t text m u now → next_short now ≡ None → h ≡ halt.Ended (ends_at over m part.World now) → EndsBefore over policy n t text h
 unfolding ComesTo EndsBefore
 comes_to_end over policy n t text m u now h comes next e = subst (EndsBefore over policy n t text) (sym e) here
@@ -310,17 +311,14 @@ space_more t u (read.Process p) s room e = subst HasSpace (sym e) here
 
 -- ---- a world, from each of its lines on
 
-abbrev policy_of : Levels → Levels → Policy
-policy_of levels categories = record { levels = levels; categories = categories }
+abbrev from5 : Bool → PolicyNames → CapSet → List (List ℕ) → Input
+from5 over policy bound ls = due over (root_line policy) 5 ls (λ root ls. fixtures_from over policy bound 6 (record { objects = root ∷ []; procs = [] }) ls)
 
-abbrev from5 : Bool → Levels → Levels → CapSet → List (List ℕ) → Input
-from5 over levels categories bound ls = due over (root_line levels) 5 ls (λ root ls. fixtures_from over (policy_of levels categories) bound 6 (record { objects = root ∷ []; procs = [] }) ls)
+abbrev from4 : Bool → PolicyNames → List (List ℕ) → Input
+from4 over policy ls = due over bound_line 4 ls (λ bound ls. from5 over policy bound ls)
 
-abbrev from4 : Bool → Levels → Levels → List (List ℕ) → Input
-from4 over levels categories ls = due over bound_line 4 ls (λ bound ls. from5 over levels categories bound ls)
-
-abbrev from3 : Bool → Levels → List (List ℕ) → Input
-from3 over levels ls = due over categories_line 3 ls (λ categories ls. from4 over levels categories ls)
+abbrev from3 : Bool → Names → List (List ℕ) → Input
+from3 over levels ls = due over (categories_line levels) 3 ls (λ policy ls. from4 over policy ls)
 
 abbrev from2 : Bool → List (List ℕ) → Input
 from2 over ls = due over levels_line 2 ls (λ levels ls. from3 over levels ls)
@@ -335,24 +333,24 @@ pub at2 : (over : Bool) (text t : List ℕ) → GoesOn over (exactly (codes "wor
 unfolding GoesOn
 at2 over text t g = g (λ _ ls. from2 over ls)
 
-pub at3 : (over : Bool) (text t rest : List ℕ) (levels : Levels) → read_lines over (pieces 10 text) ≡ from2 over (pieces 10 t) → GoesOn over levels_line 2 t levels rest → read_lines over (pieces 10 text) ≡ from3 over levels (pieces 10 rest)
+pub at3 : (over : Bool) (text t rest : List ℕ) (levels : Names) → read_lines over (pieces 10 text) ≡ from2 over (pieces 10 t) → GoesOn over levels_line 2 t levels rest → read_lines over (pieces 10 text) ≡ from3 over levels (pieces 10 rest)
 unfolding GoesOn
 at3 over text t rest levels e g = e ∙ g (λ levels ls. from3 over levels ls)
 
-pub at4 : (over : Bool) (text t rest : List ℕ) (levels categories : Levels) → read_lines over (pieces 10 text) ≡ from3 over levels (pieces 10 t) → GoesOn over categories_line 3 t categories rest
-    → read_lines over (pieces 10 text) ≡ from4 over levels categories (pieces 10 rest)
+pub at4 : (over : Bool) (text t rest : List ℕ) (levels : Names) (policy : PolicyNames) → read_lines over (pieces 10 text) ≡ from3 over levels (pieces 10 t) → GoesOn over (categories_line levels) 3 t policy rest
+    → read_lines over (pieces 10 text) ≡ from4 over policy (pieces 10 rest)
 unfolding GoesOn
-at4 over text t rest levels categories e g = e ∙ g (λ categories ls. from4 over levels categories ls)
+at4 over text t rest levels policy e g = e ∙ g (λ policy ls. from4 over policy ls)
 
-pub at5 : (over : Bool) (text t rest : List ℕ) (levels categories : Levels) (bound : CapSet) → read_lines over (pieces 10 text) ≡ from4 over levels categories (pieces 10 t) → GoesOn over bound_line 4 t bound rest
-    → read_lines over (pieces 10 text) ≡ from5 over levels categories bound (pieces 10 rest)
+pub at5 : (over : Bool) (text t rest : List ℕ) (policy : PolicyNames) (bound : CapSet) → read_lines over (pieces 10 text) ≡ from4 over policy (pieces 10 t) → GoesOn over bound_line 4 t bound rest
+    → read_lines over (pieces 10 text) ≡ from5 over policy bound (pieces 10 rest)
 unfolding GoesOn
-at5 over text t rest levels categories bound e g = e ∙ g (λ bound ls. from5 over levels categories bound ls)
+at5 over text t rest policy bound e g = e ∙ g (λ bound ls. from5 over policy bound ls)
 
-pub at6 : (over : Bool) (text t rest : List ℕ) (levels categories : Levels) (bound : CapSet) (root : WorldObject) → read_lines over (pieces 10 text) ≡ from5 over levels categories bound (pieces 10 t)
-    → GoesOn over (root_line levels) 5 t root rest → Begins over text (policy_of levels categories) bound root rest
+pub at6 : (over : Bool) (text t rest : List ℕ) (policy : PolicyNames) (bound : CapSet) (root : WorldObject) → read_lines over (pieces 10 text) ≡ from5 over policy bound (pieces 10 t)
+    → GoesOn over (root_line policy) 5 t root rest → Begins over text policy bound root rest
 unfolding GoesOn
-at6 over text t rest levels categories bound root e g = e ∙ g (λ root ls. fixtures_from over (policy_of levels categories) bound 6 (record { objects = root ∷ []; procs = [] }) ls)
+at6 over text t rest policy bound root e g = e ∙ g (λ root ls. fixtures_from over policy bound 6 (record { objects = root ∷ []; procs = [] }) ls)
 
 -- the line that is due is not there: so no world is read
 pub stopped : {X : Type 0} (over : Bool) (form : List ℕ → Option X) (n : ℕ) (text t : List ℕ) (k : X → List (List ℕ) → Input) (h : Halt)
@@ -361,7 +359,7 @@ unfolding Stops
 stopped over form n text t k (halt.Ended ending) e s = e ∙ s k
 stopped over form n text t k halt.NoMemory e s = tt
 
-pub failed : (over : Bool) (text rest : List ℕ) (policy : Policy) (bound : CapSet) (root : WorldObject) (h : Halt) → Begins over text policy bound root rest
+pub failed : (over : Bool) (text rest : List ℕ) (policy : PolicyNames) (bound : CapSet) (root : WorldObject) (h : Halt) → Begins over text policy bound root rest
     → EndsBefore over policy 6 (record { objects = root ∷ []; procs = [] }) rest h → ReadsNone over text h
 unfolding EndsBefore
 failed over text rest policy bound root (halt.Ended ending) e s = e ∙ s bound
@@ -370,20 +368,19 @@ failed over text rest policy bound root halt.NoMemory e s = tt
 abbrev made : Label → CapSet → List WorldObject × List WorldProc → World
 made top bound lists = record { top = top; bound = bound; objects = lists.0; procs = lists.1 }
 
-pub world_is : (levels : Levels) (bound : CapSet) (t : Fixtures) (top : Label) (lists : List WorldObject × List WorldProc) → top ≡ top_of levels → lists ≡ (t.objects, t.procs)
-    → world_of levels bound t ≡ made top bound lists
-world_is levels bound t top lists e f =
-    sym (ap (λ (x : Label). made x bound lists) e ∙ ap (λ (p : List WorldObject × List WorldProc). made (top_of levels) bound p) f)
+pub world_is : (policy : PolicyNames) (bound : CapSet) (t : Fixtures) (top : Label) (lists : List WorldObject × List WorldProc) → top ≡ top_of policy → lists ≡ (t.objects, t.procs)
+    → world_of policy bound t ≡ made top bound lists
+world_is policy bound t top lists e f =
+    sym (ap (λ (x : Label). made x bound lists) e ∙ ap (λ (p : List WorldObject × List WorldProc). made (top_of policy) bound p) f)
 
 -- a world as it was read
-pub read_whole : (over : Bool) (text behind rest : List ℕ) (policy : Policy) (bound : CapSet) (root : WorldObject) (t : Fixtures) (n : ℕ) (world : World)
+pub read_whole : (over : Bool) (text behind rest : List ℕ) (policy : PolicyNames) (bound : CapSet) (root : WorldObject) (t : Fixtures) (n : ℕ) (world : World)
     → Begins over text policy bound root behind → EndsInScript over policy 6 (record { objects = root ∷ []; procs = [] }) behind n t rest
-    → world_of policy.levels bound t ≡ world → HasSpace t → length policy.levels ≤ 16 → length rest + n ≤ length behind + 6 → length behind + 5 ≤ length text
+    → world_of policy bound t ≡ world → HasSpace t → length rest + n ≤ length behind + 6 → length behind + 5 ≤ length text
     → Reads over text policy world n rest
 unfolding EndsInScript
-read_whole over text behind rest policy bound root t n world b f w s few numbered shorter = subst (λ (w : World). Reads over text policy w n rest) w (record {
+read_whole over text behind rest policy bound root t n world b f w s numbered shorter = subst (λ (w : World). Reads over text policy w n rest) w (record {
   says = b ∙ f bound;
-  few_levels = few;
-  has_room = s (top_of policy.levels) bound;
+  has_room = s (top_of policy) bound;
   numbered = omega arith;
 })

@@ -10,9 +10,9 @@ use Rattle.kern_model.specs.Boot.{boot, boot_recs}
 use Rattle.kern_model.specs.State.{State}
 use Rattle.kern_model.specs.Step.{step}
 use Rattle.kern_model.specs.Run.{played, run, state_after_run}
+use Rattle.lab_text.specs.Policy.{PolicyNames}
 use Rattle.labsys.specs.declared.status.Ending.{Ending}
 use Rattle.labsys.specs.declared.status.Fault.{Fault}
-use Rattle.labsys.specs.Grammar.{Levels}
 use Rattle.labsys.specs.Input.{Accepted, Script, script}
 use Rattle.labsys.specs.Texts.{ends_text, last_text, header_text, rec_text}
 use Rattle.labsys.specs.Order.{Sent, to_out, to_trail, turn_of, turns_from, told, tail_text, order_in, head_text, order_by}
@@ -20,94 +20,94 @@ use Rattle.labsys.specs.Playing.{AppendsFront, Sends, SendsFront, Finishes}
 use Rattle.labsys.proofs.Sending.{sends_nothing, sends_more, sends_on, sends_longer, sends_reply, sends_out, sends_recs, sends_behind, sends_trail}
 
 -- the first item's turn goes out first
-pub order_item : (levels : Levels) (count : ℕ) (s : State) (i : ScriptItem) (m : Script)
-    → order_in levels count s (script (i ∷ m.items) m.ending) ≡ told (turn_of levels (count + 1) (played s i)) ++ order_in levels (count + 1) (step s i.who i.call).state m
+pub order_item : (policy : PolicyNames) (count : ℕ) (s : State) (i : ScriptItem) (m : Script)
+    → order_in policy count s (script (i ∷ m.items) m.ending) ≡ told (turn_of policy (count + 1) (played s i)) ++ order_in policy (count + 1) (step s i.who i.call).state m
 unfolding order_in turns_from tail_text
-order_item levels count s i m =
+order_item policy count s i m =
     let more : count + length (i ∷ m.items) ≡ (count + 1) + length m.items = omega arith in
-    let t = told (turn_of levels (count + 1) (played s i)) in
-    let ts = flat_map told (turns_from levels ((count + 1) + 1) (run (step s i.who i.call).state m.items)) in
-    let ends = ends_text levels (state_after_run (step s i.who i.call).state m.items) in
+    let t = told (turn_of policy (count + 1) (played s i)) in
+    let ts = flat_map told (turns_from policy ((count + 1) + 1) (run (step s i.who i.call).state m.items)) in
+    let ends = ends_text policy (state_after_run (step s i.who i.call).state m.items) in
     append_assoc t ts (to_out (ends ++ last_text (count + length (i ∷ m.items)) m.ending))
     ∙ ap (λ k. t ++ (ts ++ to_out (ends ++ last_text k m.ending))) more
 
 -- without items the end lines and the last line are left
-pub order_end : (levels : Levels) (count : ℕ) (s : State) (e : Ending) → order_in levels count s (script [] e) ≡ to_out (ends_text levels s ++ last_text count e)
+pub order_end : (policy : PolicyNames) (count : ℕ) (s : State) (e : Ending) → order_in policy count s (script [] e) ≡ to_out (ends_text policy s ++ last_text count e)
 unfolding order_in turns_from tail_text
-order_end levels count s e = let none : count + 0 ≡ count = omega arith in ap (λ k. to_out (ends_text levels s ++ last_text k e)) none
+order_end policy count s e = let none : count + 0 ≡ count = omega arith in ap (λ k. to_out (ends_text policy s ++ last_text k e)) none
 
 -- so much went out, and what is left of the script still has to
-pub record Underway (out out' trail trail' : Option (List ℕ)) (whole : List Sent) (ending : Ending) (levels : Levels) (count : ℕ) (s : State) (left : Script) : Type 0 where
+pub record Underway (out out' trail trail' : Option (List ℕ)) (whole : List Sent) (ending : Ending) (policy : PolicyNames) (count : ℕ) (s : State) (left : Script) : Type 0 where
   pub sent : List Sent
   pub sends : Sends out out' trail trail' sent
-  pub order : whole ≡ sent ++ order_in levels count s left
+  pub order : whole ≡ sent ++ order_in policy count s left
   pub ends : ending ≡ left.ending
 
-module _ (o o' t t' : Option (List ℕ)) (whole : List Sent) (ending : Ending) (levels : Levels) (count : ℕ) (s : State) (left : Script) (u : Underway o o' t t' whole ending levels count s left) where
+module _ (o o' t t' : Option (List ℕ)) (whole : List Sent) (ending : Ending) (policy : PolicyNames) (count : ℕ) (s : State) (left : Script) (u : Underway o o' t t' whole ending policy count s left) where
   -- a front of what is left went out
-  pub underway_front : (o'' t'' : Option (List ℕ)) → SendsFront o' o'' t' t'' (order_in levels count s left) → SendsFront o o'' t t'' whole
+  pub underway_front : (o'' t'' : Option (List ℕ)) → SendsFront o' o'' t' t'' (order_in policy count s left) → SendsFront o o'' t t'' whole
   underway_front o'' t'' f = subst (λ w. SendsFront o o'' t t'' w) (sym u.order) (sends_on o o' o'' t t' t'' u.sent _ u.sends f)
 
   module _ (item : ScriptItem) (more : Script) (says : left ≡ script (item ∷ more.items) more.ending) where
-    goes : order_in levels count s left ≡ told (turn_of levels (count + 1) (played s item)) ++ order_in levels (count + 1) (step s item.who item.call).state more
-    goes = ap (λ m. order_in levels count s m) says ∙ order_item levels count s item more
+    goes : order_in policy count s left ≡ told (turn_of policy (count + 1) (played s item)) ++ order_in policy (count + 1) (step s item.who item.call).state more
+    goes = ap (λ m. order_in policy count s m) says ∙ order_item policy count s item more
 
     -- a front of the item's turn went out
-    pub underway_cut : (o'' t'' : Option (List ℕ)) → SendsFront o' o'' t' t'' (told (turn_of levels (count + 1) (played s item))) → SendsFront o o'' t t'' whole
+    pub underway_cut : (o'' t'' : Option (List ℕ)) → SendsFront o' o'' t' t'' (told (turn_of policy (count + 1) (played s item))) → SendsFront o o'' t t'' whole
     underway_cut o'' t'' f = underway_front o'' t'' (subst (λ w. SendsFront o' o'' t' t'' w) (sym goes) (sends_longer o' o'' t' t'' _ _ f))
 
     -- all of it did
-    pub underway_item : (o'' t'' : Option (List ℕ)) (next : State) → Sends o' o'' t' t'' (told (turn_of levels (count + 1) (played s item))) → next ≡ (step s item.who item.call).state
-        → Underway o o'' t t'' whole ending levels (count + 1) next more
+    pub underway_item : (o'' t'' : Option (List ℕ)) (next : State) → Sends o' o'' t' t'' (told (turn_of policy (count + 1) (played s item))) → next ≡ (step s item.who item.call).state
+        → Underway o o'' t t'' whole ending policy (count + 1) next more
     underway_item o'' t'' next w same = record {
-      sent = u.sent ++ told (turn_of levels (count + 1) (played s item));
+      sent = u.sent ++ told (turn_of policy (count + 1) (played s item));
       sends = sends_more o o' o'' t t' t'' _ _ u.sends w;
-      order = u.order ∙ ap (λ (x : List Sent). u.sent ++ x) goes ∙ sym (append_assoc u.sent (told (turn_of levels (count + 1) (played s item))) _)
-          ∙ ap (λ (x : State). (u.sent ++ told (turn_of levels (count + 1) (played s item))) ++ order_in levels (count + 1) x more) (sym same);
+      order = u.order ∙ ap (λ (x : List Sent). u.sent ++ x) goes ∙ sym (append_assoc u.sent (told (turn_of policy (count + 1) (played s item))) _)
+          ∙ ap (λ (x : State). (u.sent ++ told (turn_of policy (count + 1) (played s item))) ++ order_in policy (count + 1) x more) (sym same);
       ends = u.ends ∙ ap (λ (m : Script). m.ending) says;
     }
 
   module _ (e : Ending) (says : left ≡ script [] e) where
-    ends_so : order_in levels count s left ≡ to_out (ends_text levels s ++ last_text count e)
-    ends_so = ap (λ m. order_in levels count s m) says ∙ order_end levels count s e
+    ends_so : order_in policy count s left ≡ to_out (ends_text policy s ++ last_text count e)
+    ends_so = ap (λ m. order_in policy count s m) says ∙ order_end policy count s e
 
     -- a front of the end lines went out
-    pub underway_end_cut : (o'' : Option (List ℕ)) → AppendsFront o' o'' (ends_text levels s ++ last_text count e) → SendsFront o o'' t t' whole
+    pub underway_end_cut : (o'' : Option (List ℕ)) → AppendsFront o' o'' (ends_text policy s ++ last_text count e) → SendsFront o o'' t t' whole
     underway_end_cut o'' f = underway_front o'' t' (subst (λ w. SendsFront o' o'' t' t' w) (sym ends_so) (sends_reply o' o'' t' _ f))
 
     -- all of them did
-    pub underway_end : (o'' : Option (List ℕ)) → Appends o' o'' (ends_text levels s ++ last_text count e) → Finishes o o'' t t' whole e ending
+    pub underway_end : (o'' : Option (List ℕ)) → Appends o' o'' (ends_text policy s ++ last_text count e) → Finishes o o'' t t' whole e ending
     underway_end o'' w = record {
       all = subst (λ x. Sends o o'' t t' x) (sym (u.order ∙ ap (λ (x : List Sent). u.sent ++ x) ends_so)) (sends_more o o' o'' t t' t' _ _ u.sends (sends_out o' o'' t' _ w));
       ends = sym (u.ends ∙ ap (λ (m : Script). m.ending) says);
     }
 
 -- nothing went out yet
-pub underway_begins : (o t : Option (List ℕ)) (levels : Levels) (count : ℕ) (s : State) (left : Script) → Underway o o t t (order_in levels count s left) left.ending levels count s left
-underway_begins o t levels count s left = record { sent = []; sends = sends_nothing o t; order = refl; ends = refl }
+pub underway_begins : (o t : Option (List ℕ)) (policy : PolicyNames) (count : ℕ) (s : State) (left : Script) → Underway o o t t (order_in policy count s left) left.ending policy count s left
+underway_begins o t policy count s left = record { sent = []; sends = sends_nothing o t; order = refl; ends = refl }
 
 -- ---- an accepted world
 
 module _ (a : Accepted) (m : Script) (recs : List Rec) (recs_are : recs ≡ boot_recs a.world) (s : State) (s_is : s ≡ boot a.world) where
-  head_is : header_text a.policy a.world.bound ++ flat_map (rec_text a.policy.levels 0) recs ≡ head_text a
+  head_is : header_text a.policy a.world.bound ++ flat_map (rec_text a.policy 0) recs ≡ head_text a
   unfolding head_text
-  head_is = ap (λ (rs : List Rec). header_text a.policy a.world.bound ++ flat_map (rec_text a.policy.levels 0) rs) recs_are
+  head_is = ap (λ (rs : List Rec). header_text a.policy a.world.bound ++ flat_map (rec_text a.policy 0) rs) recs_are
 
   -- the head of the trail was cut
-  pub world_head_cut : (o t t' : Option (List ℕ)) → AppendsFront t t' (header_text a.policy a.world.bound ++ flat_map (rec_text a.policy.levels 0) recs) → SendsFront o o t t' (order_by (Some a) m)
+  pub world_head_cut : (o t t' : Option (List ℕ)) → AppendsFront t t' (header_text a.policy a.world.bound ++ flat_map (rec_text a.policy 0) recs) → SendsFront o o t t' (order_by (Some a) m)
   unfolding order_by
-  world_head_cut o t t' f = sends_recs o t t' (head_text a) (order_in a.policy.levels 0 (boot a.world) m) (subst (λ (x : List ℕ). AppendsFront t t' x) head_is f)
+  world_head_cut o t t' f = sends_recs o t t' (head_text a) (order_in a.policy 0 (boot a.world) m) (subst (λ (x : List ℕ). AppendsFront t t' x) head_is f)
 
   -- the head went out, and a front of the script's order
-  pub world_front : (o o' t t' t'' : Option (List ℕ)) → Appends t t' (header_text a.policy a.world.bound ++ flat_map (rec_text a.policy.levels 0) recs) → SendsFront o o' t' t'' (order_in a.policy.levels 0 s m) → SendsFront o o' t t'' (order_by (Some a) m)
+  pub world_front : (o o' t t' t'' : Option (List ℕ)) → Appends t t' (header_text a.policy a.world.bound ++ flat_map (rec_text a.policy 0) recs) → SendsFront o o' t' t'' (order_in a.policy 0 s m) → SendsFront o o' t t'' (order_by (Some a) m)
   unfolding order_by
-  world_front o o' t t' t'' w f = sends_behind o o' t t' t'' (head_text a) (order_in a.policy.levels 0 (boot a.world) m) (subst (λ (x : List ℕ). Appends t t' x) head_is w) (subst (λ (x : State). SendsFront o o' t' t'' (order_in a.policy.levels 0 x m)) s_is f)
+  world_front o o' t t' t'' w f = sends_behind o o' t t' t'' (head_text a) (order_in a.policy 0 (boot a.world) m) (subst (λ (x : List ℕ). Appends t t' x) head_is w) (subst (λ (x : State). SendsFront o o' t' t'' (order_in a.policy 0 x m)) s_is f)
 
   -- the head went out, and all of it
-  pub world_whole : (r : Result Ending Fault) (o o' t t' t'' : Option (List ℕ)) (ending : Ending) → Appends t t' (header_text a.policy a.world.bound ++ flat_map (rec_text a.policy.levels 0) recs) → IfOk r (λ e. Finishes o o' t' t'' (order_in a.policy.levels 0 s m) e ending) → IfOk r (λ e. Finishes o o' t t'' (order_by (Some a) m) e ending)
+  pub world_whole : (r : Result Ending Fault) (o o' t t' t'' : Option (List ℕ)) (ending : Ending) → Appends t t' (header_text a.policy a.world.bound ++ flat_map (rec_text a.policy 0) recs) → IfOk r (λ e. Finishes o o' t' t'' (order_in a.policy 0 s m) e ending) → IfOk r (λ e. Finishes o o' t t'' (order_by (Some a) m) e ending)
   unfolding order_by
   world_whole (Ok e) o o' t t' t'' ending w f = record {
-    all = sends_more o o o' t t' t'' (to_trail (head_text a)) _ (sends_trail o t t' (head_text a) (subst (λ (x : List ℕ). Appends t t' x) head_is w)) (subst (λ (x : State). Sends o o' t' t'' (order_in a.policy.levels 0 x m)) s_is f.all);
+    all = sends_more o o o' t t' t'' (to_trail (head_text a)) _ (sends_trail o t t' (head_text a) (subst (λ (x : List ℕ). Appends t t' x) head_is w)) (subst (λ (x : State). Sends o o' t' t'' (order_in a.policy 0 x m)) s_is f.all);
     ends = f.ends;
   }
   world_whole (Err fault) o o' t t' t'' ending w f = tt

@@ -12,7 +12,8 @@ use Rattle.kern_model.specs.declared.world.WorldProc.{WorldProc}
 use Rattle.kern_model.specs.Valid.{objects_at, procs_at}
 use Rattle.labsys.specs.declared.lines.Fixture.{Fixture as Read}
 use Rattle.labsys.specs.declared.lines.Fixture.TheVariants as read
-use Rattle.labsys.specs.Grammar.{Fixture, OfObject, OfProcess, same_bytes}
+use Rattle.lab_text.specs.Names.{same_bytes}
+use Rattle.labsys.specs.Grammar.{Fixture, OfObject, OfProcess}
 
 -- what is read, as the definitions have it
 abbrev pub as_fixture : Read → Fixture

@@ -1,15 +1,17 @@
 -- The lines of an input, each by its words.
-use Rattle.std.specs.Prelude.{ℕ, ◌-◌, ◌/◌, ◌%◌, ◌==◌, ◌&&◌, ◌||◌, not, Bool, true, false, cond, nat_le, nat_eq, List, [], ◌∷◌, length, Option, Some, None, codes, position}
-use Rattle.std.specs.List.{list_all, list_any}
+use Rattle.std.specs.Prelude.{ℕ, ◌/◌, ◌%◌, ◌==◌, ◌&&◌, not, Bool, true, cond, nat_le, List, [], ◌∷◌, Option, Some, None, codes, is_none}
+use Rattle.std.specs.List.{list_all}
 use Rattle.std.specs.Option.{option_and_then}
-use Rattle.std.specs.Cmp.Lexicographic.{pointwise}
 use Rattle.cap_bits.specs.declared.cap.Cap.TheVariants as cap
 use Rattle.cap_bits.specs.declared.state.CapState.{CapState}
 use Rattle.cap_bits.specs.CapSet.{CapSet, no_caps, all_of_caps, with_cap}
 use Rattle.cap_bits.specs.State.{no_flags}
 use Rattle.fs_path.specs.Name.{Name, is_name}
 use Rattle.fs_path.specs.Path.{PathValue}
-use Rattle.lab_lattice.specs.Label.{Label, dominates, bottom}
+use Rattle.lab_lattice.specs.Label.{dominates, bottom}
+use Rattle.lab_text.specs.Names.{Names, same_bytes}
+use Rattle.lab_text.specs.Policy.{PolicyNames, names_fault}
+use Rattle.lab_text.specs.Text.{label_said}
 use Rattle.kern_model.specs.declared.numbers.Pid.{Pid}
 use Rattle.kern_model.specs.declared.numbers.Ids.{Ids}
 use Rattle.kern_model.specs.declared.calls.Call.TheVariants as call
@@ -18,13 +20,6 @@ use Rattle.kern_model.specs.declared.world.WorldObject.{WorldObject}
 use Rattle.kern_model.specs.declared.world.WorldProc.{WorldProc}
 use Rattle.kern_model.specs.declared.world.ScriptItem.{ScriptItem}
 use Rattle.labsys.specs.Lines.{cut, pieces, behind, numeral}
-
--- the names of a world's levels, lowest first
-abbrev pub Levels : Type 0
-Levels = List (List ℕ)
-
-abbrev pub same_bytes : List ℕ → List ℕ → Bool
-same_bytes a b = pointwise nat_eq a b
 
 -- the value, where it passes
 abbrev pub keep_if : {X : Type 0} → Bool → X → Option X
@@ -44,39 +39,14 @@ then o k = option_and_then k o
 
 -- ---- words
 
-abbrev pub is_letter : ℕ → Bool
-is_letter b = (nat_le 65 b && nat_le b 90) || (nat_le 97 b && nat_le b 122)
+-- the policy of names, where they make one
+abbrev pub policy_of : Names → Names → Option PolicyNames
+policy_of levels cats = keep_if (is_none (names_fault levels cats)) (record { levels = levels; cats = cats })
 
--- a letter, a digit, `_` or `-`
-abbrev pub is_name_part : ℕ → Bool
-is_name_part b = is_letter b || (nat_le 48 b && nat_le b 57) || b == 95 || b == 45
-
--- the name of a level or a category: a letter, and up to 30 name parts
-abbrev pub is_label_name : List ℕ → Bool
-is_label_name [] = false
-is_label_name (b ∷ bs) = is_letter b && nat_le (length bs) 30 && list_all is_name_part bs
-
--- no name stands twice
-abbrev pub are_distinct : List (List ℕ) → Bool
-are_distinct [] = true
-are_distinct (x ∷ xs) = not (list_any (same_bytes x) xs) && are_distinct xs
-
-abbrev pub words_behind : List ℕ → List (List ℕ) → Option (List (List ℕ))
+-- the words behind a keyword
+abbrev pub words_behind : List ℕ → List (List ℕ) → Option Names
 words_behind keyword [] = None
 words_behind keyword (w ∷ ws) = keep_if (same_bytes w keyword) ws
-
--- from `low` to `high` distinct names behind a keyword
-abbrev pub names_line : List ℕ → ℕ → ℕ → List ℕ → Option (List (List ℕ))
-names_line keyword low high line = then (words_behind keyword (pieces 32 line)) (λ names.
-    keep_if (nat_le low (length names) && nat_le (length names) high && list_all is_label_name names && are_distinct names) names)
-
--- a label: the name of a level
-abbrev pub label_of : Levels → List ℕ → Option Label
-label_of levels word = position (same_bytes word) levels
-
--- the highest level
-abbrev pub top_of : Levels → Label
-top_of levels = length levels - 1
 
 -- a number of a user or a group
 abbrev pub number_of : List ℕ → Option ℕ
@@ -104,9 +74,9 @@ quoted_of word = then (behind (34 ∷ []) word) (λ inner. split_then (cut 34 in
     keep_if (same_bytes rest [] && list_all is_plain bytes) bytes))
 
 -- `n@label`
-abbrev pub tag_of : Levels → List ℕ → Option Pid
-tag_of levels word = split_then (cut 64 word) (λ n name.
-    then (numeral 10 10 1 4095 n) (λ n. then (label_of levels name) (λ label. Some (record { label = label; n = n }))))
+abbrev pub tag_of : PolicyNames → List ℕ → Option Pid
+tag_of policy word = split_then (cut 64 word) (λ n name.
+    then (numeral 10 10 1 4095 n) (λ n. then (label_said policy name) (λ label. Some (record { label = label; n = n }))))
 
 -- ---- lines
 
@@ -114,11 +84,13 @@ tag_of levels word = split_then (cut 64 word) (λ n name.
 abbrev pub exactly : List ℕ → List ℕ → Option (Unit {0})
 exactly text line = keep_if (same_bytes line text) tt
 
-abbrev pub levels_line : List ℕ → Option Levels
-levels_line line = names_line (codes "levels") 1 16 line
+-- the names of levels, lowest first
+abbrev pub levels_line : List ℕ → Option Names
+levels_line line = then (words_behind (codes "levels") (pieces 32 line)) (λ levels. then (policy_of levels []) (λ _. Some levels))
 
-abbrev pub categories_line : List ℕ → Option (List (List ℕ))
-categories_line line = names_line (codes "categories") 0 64 line
+-- the names of categories, which make a policy with those of the levels
+abbrev pub categories_line : Names → List ℕ → Option PolicyNames
+categories_line levels line = then (words_behind (codes "categories") (pieces 32 line)) (λ cats. policy_of levels cats)
 
 -- `bound all` or `bound none`
 abbrev pub bound_line : List ℕ → Option CapSet
@@ -128,18 +100,18 @@ abbrev pub in_root : Name → PathValue
 in_root name = record { absolute = true; names = name ∷ [] }
 
 -- `dir / MODE UID GID LABEL`, with the lowest level as label
-abbrev pub root_line : Levels → List ℕ → Option WorldObject
-root_line levels line =
+abbrev pub root_line : PolicyNames → List ℕ → Option WorldObject
+root_line policy line =
     then (behind (codes "dir / ") line) (λ line. word_then line (λ mode line. word_then line (λ uid line. word_then line (λ gid name.
-    then (mode_of mode) (λ mode. then (number_of uid) (λ owner. then (number_of gid) (λ group. then (label_of levels name) (λ label.
+    then (mode_of mode) (λ mode. then (number_of uid) (λ owner. then (number_of gid) (λ group. then (label_said policy name) (λ label.
     keep_if (dominates bottom label)
     (record { path = record { absolute = true; names = [] }; label = label; attr = record { owner = owner; group = group; mode = mode }; body = body.Dir })))))))))
 
 -- `file /NAME MODE UID GID LABEL BYTES`
-abbrev pub file_line : Levels → List ℕ → Option WorldObject
-file_line levels line =
+abbrev pub file_line : PolicyNames → List ℕ → Option WorldObject
+file_line policy line =
     then (behind (codes "file /") line) (λ line. word_then line (λ name line. word_then line (λ mode line. word_then line (λ uid line. word_then line (λ gid line. word_then line (λ label bytes.
-    then (entry_of name) (λ name. then (mode_of mode) (λ mode. then (number_of uid) (λ owner. then (number_of gid) (λ group. then (label_of levels label) (λ label. then (quoted_of bytes) (λ bytes.
+    then (entry_of name) (λ name. then (mode_of mode) (λ mode. then (number_of uid) (λ owner. then (number_of gid) (λ group. then (label_said policy label) (λ label. then (quoted_of bytes) (λ bytes.
     Some (record { path = in_root name; label = label; attr = record { owner = owner; group = group; mode = mode }; body = body.File bytes })))))))))))))
 
 -- the ids of a process: its user and its group are real, effective and saved, and it has no supplementary groups
@@ -155,10 +127,10 @@ abbrev pub caps_of : List ℕ → Option CapState
 caps_of word = cond (same_bytes word (codes "\"=\"")) (Some no_flags) (keep_if (same_bytes word (codes "\"cap_mac_read=ep\"")) reads_labels)
 
 -- `proc LABEL UID GID - CAPS`
-abbrev pub proc_line : Levels → List ℕ → Option WorldProc
-proc_line levels line =
+abbrev pub proc_line : PolicyNames → List ℕ → Option WorldProc
+proc_line policy line =
     then (behind (codes "proc ") line) (λ line. word_then line (λ label line. word_then line (λ uid line. word_then line (λ gid rest.
-    then (label_of levels label) (λ label. then (number_of uid) (λ user. then (number_of gid) (λ group. then (behind (codes "- ") rest) (λ word. then (caps_of word) (λ caps.
+    then (label_said policy label) (λ label. then (number_of uid) (λ user. then (number_of gid) (λ group. then (behind (codes "- ") rest) (λ word. then (caps_of word) (λ caps.
     Some (record { label = label; ids = ids_of user group; caps = caps }))))))))))
 
 -- an object or a process of a world
@@ -172,10 +144,10 @@ first_of None (Some p) = Some (OfProcess p)
 first_of None None = None
 
 -- a file or a process
-abbrev pub fixture_line : Levels → List ℕ → Option Fixture
-fixture_line levels line = first_of (file_line levels line) (proc_line levels line)
+abbrev pub fixture_line : PolicyNames → List ℕ → Option Fixture
+fixture_line policy line = first_of (file_line policy line) (proc_line policy line)
 
 -- `TAG mac_get_file /NAME`
-abbrev pub script_line : Levels → List ℕ → Option ScriptItem
-script_line levels line = word_then line (λ tag line. then (behind (codes "mac_get_file /") line) (λ name.
-    then (tag_of levels tag) (λ who. then (entry_of name) (λ name. Some (record { who = who; call = call.MacGetFile (in_root name) })))))
+abbrev pub script_line : PolicyNames → List ℕ → Option ScriptItem
+script_line policy line = word_then line (λ tag line. then (behind (codes "mac_get_file /") line) (λ name.
+    then (tag_of policy tag) (λ who. then (entry_of name) (λ name. Some (record { who = who; call = call.MacGetFile (in_root name) })))))

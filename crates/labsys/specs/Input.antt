@@ -8,18 +8,19 @@ use Rattle.kern_model.specs.declared.world.WorldObject.{WorldObject}
 use Rattle.kern_model.specs.declared.world.WorldProc.{WorldProc}
 use Rattle.kern_model.specs.declared.world.ScriptItem.{ScriptItem}
 use Rattle.kern_model.specs.Valid.{objects_at, procs_at}
+use Rattle.lab_text.specs.Names.{same_bytes}
+use Rattle.lab_text.specs.Policy.{PolicyNames, top_of}
 use Rattle.labsys.specs.declared.status.Ending.{Ending}
 use Rattle.labsys.specs.declared.status.Ending.TheVariants.{Whole, Refused, TooMuch}
 use Rattle.labsys.specs.declared.status.Part.{Part}
 use Rattle.labsys.specs.declared.status.Part.TheVariants as part
 use Rattle.labsys.specs.declared.status.Refusal.TheVariants as refusal
 use Rattle.labsys.specs.Lines.{pieces}
-use Rattle.labsys.specs.declared.policy.Policy.{Policy}
-use Rattle.labsys.specs.Grammar.{Levels, Fixture, OfObject, OfProcess, same_bytes, keep_if, then, exactly, levels_line, categories_line, bound_line, root_line, fixture_line, script_line, top_of}
+use Rattle.labsys.specs.Grammar.{Fixture, OfObject, OfProcess, keep_if, then, exactly, levels_line, categories_line, bound_line, root_line, fixture_line, script_line}
 
 -- a world that was accepted, with the names that it gives
 pub record Accepted : Type 0 where
-  pub policy : Policy
+  pub policy : PolicyNames
   pub world : World
 
 -- the items of a script up to the first refused line, and how the input ends
@@ -76,10 +77,10 @@ whole_or_refused n [] = Whole
 whole_or_refused n (b ∷ bs) = refused n part.Script
 
 -- the script from line n on: its lines up to the first refused one, or to the end
-unfoldable pub script_from : Bool → Levels → ℕ → List (List ℕ) → Script
-script_from over levels n [] = script [] Whole
-script_from over levels n (last ∷ []) = script [] (cond over (cut_off n part.Script last) (whole_or_refused n last))
-script_from over levels n (line ∷ next ∷ ls) = after_item (short (script_line levels) line) n (script_from over levels (n + 1) (next ∷ ls))
+unfoldable pub script_from : Bool → PolicyNames → ℕ → List (List ℕ) → Script
+script_from over policy n [] = script [] Whole
+script_from over policy n (last ∷ []) = script [] (cond over (cut_off n part.Script last) (whole_or_refused n last))
+script_from over policy n (line ∷ next ∷ ls) = after_item (short (script_line policy) line) n (script_from over policy (n + 1) (next ∷ ls))
 
 -- ---- the world
 
@@ -102,37 +103,37 @@ added t (OfObject o) = record t { objects = t.objects ++ o ∷ [] }
 added t (OfProcess p) = record t { procs = t.procs ++ p ∷ [] }
 
 -- a line of the world behind the root's
-abbrev pub next_fixture : Levels → Fixtures → List ℕ → Option Fixture
-next_fixture levels t line = then (short (fixture_line levels) line) (λ f. keep_if (fits t f) f)
+abbrev pub next_fixture : PolicyNames → Fixtures → List ℕ → Option Fixture
+next_fixture policy t line = then (short (fixture_line policy) line) (λ f. keep_if (fits t f) f)
 
-abbrev pub world_of : Levels → CapSet → Fixtures → World
-world_of levels bound t = record { top = top_of levels; bound = bound; objects = t.objects; procs = t.procs }
+abbrev pub world_of : PolicyNames → CapSet → Fixtures → World
+world_of policy bound t = record { top = top_of policy; bound = bound; objects = t.objects; procs = t.procs }
 
-abbrev pub with_script : Bool → Policy → CapSet → Fixtures → ℕ → List (List ℕ) → Input
+abbrev pub with_script : Bool → PolicyNames → CapSet → Fixtures → ℕ → List (List ℕ) → Input
 with_script over policy bound t n ls =
-    record { accepted = Some (record { policy = policy; world = world_of policy.levels bound t }); script = script_from over policy.levels n ls }
+    record { accepted = Some (record { policy = policy; world = world_of policy bound t }); script = script_from over policy n ls }
 
 abbrev pub or_script : Option (Unit {0}) → Input → Input → Input
 or_script (Some u) begins more = begins
 or_script None begins more = more
 
 -- files and processes from line n on, up to the line `script`
-unfoldable pub fixtures_from : Bool → Policy → CapSet → ℕ → Fixtures → List (List ℕ) → Input
+unfoldable pub fixtures_from : Bool → PolicyNames → CapSet → ℕ → Fixtures → List (List ℕ) → Input
 fixtures_from over policy bound n t [] = world_ends over n []
 fixtures_from over policy bound n t (last ∷ []) = world_ends over n last
 fixtures_from over policy bound n t (line ∷ next ∷ ls) =
     or_script (short (exactly (codes "script")) line) (with_script over policy bound t (n + 1) (next ∷ ls))
-    (said (next_fixture policy.levels t line) n (λ f. fixtures_from over policy bound (n + 1) (added t f) (next ∷ ls)))
+    (said (next_fixture policy t line) n (λ f. fixtures_from over policy bound (n + 1) (added t f) (next ∷ ls)))
 
 -- the lines of a world, each in its turn, and then the script
 abbrev pub read_lines : Bool → List (List ℕ) → Input
 read_lines over ls =
     due over (exactly (codes "world 1")) 1 ls (λ _ ls.
     due over levels_line 2 ls (λ levels ls.
-    due over categories_line 3 ls (λ categories ls.
+    due over (categories_line levels) 3 ls (λ policy ls.
     due over bound_line 4 ls (λ bound ls.
-    due over (root_line levels) 5 ls (λ root ls.
-    fixtures_from over (record { levels = levels; categories = categories }) bound 6 (record { objects = root ∷ []; procs = [] }) ls)))))
+    due over (root_line policy) 5 ls (λ root ls.
+    fixtures_from over policy bound 6 (record { objects = root ∷ []; procs = [] }) ls)))))
 
 -- what bytes say: the lines that stand in the first 16 MiB, and whether there is more
 unfoldable pub input_of : List ℕ → Input

@@ -4,7 +4,7 @@ use Rattle.std.specs.List.{flat_map}
 use Rattle.kern_model.specs.State.{State}
 use Rattle.kern_model.specs.Boot.{boot, boot_recs}
 use Rattle.kern_model.specs.Run.{Played, run, state_after_run}
-use Rattle.labsys.specs.Grammar.{Levels}
+use Rattle.lab_text.specs.Policy.{PolicyNames}
 use Rattle.labsys.specs.Input.{Accepted, Script, Input}
 use Rattle.labsys.specs.Texts.{reply_text, rec_text, ends_text, last_text, header_text}
 
@@ -37,13 +37,13 @@ pub record Turn : Type 0 where
   pub reply : List ℕ
 
 -- the turn of the n-th call
-abbrev pub turn_of : Levels → ℕ → Played → Turn
-turn_of levels n p = record { recs = flat_map (rec_text levels n) p.recs; reply = reply_text levels p }
+abbrev pub turn_of : PolicyNames → ℕ → Played → Turn
+turn_of policy n p = record { recs = flat_map (rec_text policy n) p.recs; reply = reply_text policy p }
 
 -- the turns of calls from the n-th on
-unfoldable pub turns_from : Levels → ℕ → List Played → List Turn
-turns_from levels n [] = []
-turns_from levels n (p ∷ ps) = turn_of levels n p ∷ turns_from levels (n + 1) ps
+unfoldable pub turns_from : PolicyNames → ℕ → List Played → List Turn
+turns_from policy n [] = []
+turns_from policy n (p ∷ ps) = turn_of policy n p ∷ turns_from policy (n + 1) ps
 
 -- a call's records, and then its reply
 unfoldable pub told : Turn → List Sent
@@ -58,21 +58,21 @@ abbrev pub records_of : List Turn → List ℕ
 records_of ts = flat_map (λ (t : Turn). t.recs) ts
 
 -- the end lines and the last line of a script that is played from a state on, after so many calls
-unfoldable pub tail_text : Levels → ℕ → State → Script → List ℕ
-tail_text levels count s script = ends_text levels (state_after_run s script.items) ++ last_text (count + length script.items) script.ending
+unfoldable pub tail_text : PolicyNames → ℕ → State → Script → List ℕ
+tail_text policy count s script = ends_text policy (state_after_run s script.items) ++ last_text (count + length script.items) script.ending
 
 -- what goes out of a script that is played from a state on, after so many calls
-unfoldable pub order_in : Levels → ℕ → State → Script → List Sent
-order_in levels count s script = flat_map told (turns_from levels (count + 1) (run s script.items)) ++ to_out (tail_text levels count s script)
+unfoldable pub order_in : PolicyNames → ℕ → State → Script → List Sent
+order_in policy count s script = flat_map told (turns_from policy (count + 1) (run s script.items)) ++ to_out (tail_text policy count s script)
 
 -- what stands at the head of the trail: its header and the boot records
 unfoldable pub head_text : Accepted → List ℕ
-head_text a = header_text a.policy a.world.bound ++ flat_map (rec_text a.policy.levels 0) (boot_recs a.world)
+head_text a = header_text a.policy a.world.bound ++ flat_map (rec_text a.policy 0) (boot_recs a.world)
 
 -- what goes out of an input: of an accepted world the head of the trail, the turns of its calls, the end lines and the last line; else the last line alone
 unfoldable pub order_by : Option Accepted → Script → List Sent
 order_by None script = to_out (last_text 0 script.ending)
-order_by (Some a) script = to_trail (head_text a) ++ order_in a.policy.levels 0 (boot a.world) script
+order_by (Some a) script = to_trail (head_text a) ++ order_in a.policy 0 (boot a.world) script
 
 abbrev pub order_of : Input → List Sent
 order_of i = order_by i.accepted i.script
@@ -81,12 +81,12 @@ order_of i = order_by i.accepted i.script
 
 -- the turns of all calls
 abbrev pub turns_of : Accepted → Script → List Turn
-turns_of a script = turns_from a.policy.levels 1 (run (boot a.world) script.items)
+turns_of a script = turns_from a.policy 1 (run (boot a.world) script.items)
 
 -- the output: the reply lines, the end lines, the last line
 unfoldable pub out_by : Option Accepted → Script → List ℕ
 out_by None script = last_text 0 script.ending
-out_by (Some a) script = replies_of (turns_of a script) ++ tail_text a.policy.levels 0 (boot a.world) script
+out_by (Some a) script = replies_of (turns_of a script) ++ tail_text a.policy 0 (boot a.world) script
 
 abbrev pub out_text : Input → List ℕ
 out_text i = out_by i.accepted i.script

@@ -13,8 +13,8 @@ use Rattle.labsys.specs.declared.reading.Halt.TheVariants as halt
 use Rattle.labsys.specs.declared.reading.Next.{Next}
 use Rattle.labsys.specs.declared.reading.Next.TheVariants as next
 use Rattle.labsys.specs.Lines.{cut, pieces}
-use Rattle.labsys.specs.declared.policy.Policy.{Policy}
-use Rattle.labsys.specs.Grammar.{Levels, Fixture, keep_if, then, fixture_line}
+use Rattle.lab_text.specs.Policy.{PolicyNames}
+use Rattle.labsys.specs.Grammar.{Fixture, keep_if, then, fixture_line}
 use Rattle.labsys.specs.Input.{Input, Fixtures, no_world, refused, cut_off, due, fits, fixtures_from, with_script, read_lines, script, script_from}
 
 -- the next line, where it has at most 2,048 bytes, and what stands behind its line feed
@@ -35,34 +35,33 @@ Stops {X} over form n text (halt.Ended ending) = (k : X → List (List ℕ) → 
 Stops over form n text halt.NoMemory = Unit {0}
 
 -- the lines of a world up to its root were read, and this text is what stands behind them
-abbrev pub Begins : Bool → List ℕ → Policy → CapSet → WorldObject → List ℕ → Type 0
+abbrev pub Begins : Bool → List ℕ → PolicyNames → CapSet → WorldObject → List ℕ → Type 0
 Begins over text policy bound root rest = read_lines over (pieces 10 text) ≡ fixtures_from over policy bound 6 (record { objects = root ∷ []; procs = [] }) (pieces 10 rest)
 
 -- what a line of the world behind the root's says, where there is room for it
-abbrev pub next_of : Levels → Fixtures → List ℕ → Option Fixture
-next_of levels t line = then (fixture_line levels line) (λ f. keep_if (fits t f) f)
+abbrev pub next_of : PolicyNames → Fixtures → List ℕ → Option Fixture
+next_of policy t line = then (fixture_line policy line) (λ f. keep_if (fits t f) f)
 
 -- there is room for objects and processes, whatever the top and the bound
 abbrev pub HasSpace : Fixtures → Type 0
 HasSpace t = (top : Label) (bound : CapSet) → HasRoom (record { top = top; bound = bound; objects = t.objects; procs = t.procs })
 
 -- from line n on the same is read as from line m on
-unfoldable pub ComesTo : Bool → Policy → ℕ → Fixtures → List ℕ → ℕ → Fixtures → List ℕ → Type 0
+unfoldable pub ComesTo : Bool → PolicyNames → ℕ → Fixtures → List ℕ → ℕ → Fixtures → List ℕ → Type 0
 ComesTo over policy n t text m u rest = (bound : CapSet) → fixtures_from over policy bound n t (pieces 10 text) ≡ fixtures_from over policy bound m u (pieces 10 rest)
 
 -- from line n on files and processes are read, and then the script from line m on
-unfoldable pub EndsInScript : Bool → Policy → ℕ → Fixtures → List ℕ → ℕ → Fixtures → List ℕ → Type 0
+unfoldable pub EndsInScript : Bool → PolicyNames → ℕ → Fixtures → List ℕ → ℕ → Fixtures → List ℕ → Type 0
 EndsInScript over policy n t text m u rest = (bound : CapSet) → fixtures_from over policy bound n t (pieces 10 text) ≡ with_script over policy bound u m (pieces 10 rest)
 
 -- from line n on no world is read, if memory did not run out
-unfoldable pub EndsBefore : Bool → Policy → ℕ → Fixtures → List ℕ → Halt → Type 0
+unfoldable pub EndsBefore : Bool → PolicyNames → ℕ → Fixtures → List ℕ → Halt → Type 0
 EndsBefore over policy n t text (halt.Ended ending) = (bound : CapSet) → fixtures_from over policy bound n t (pieces 10 text) ≡ no_world ending
 EndsBefore over policy n t text halt.NoMemory = Unit {0}
 
 -- a world was read, and this text is its script, from line n on
-pub record Reads (over : Bool) (text : List ℕ) (policy : Policy) (world : World) (n : ℕ) (rest : List ℕ) : Type 0 where
-  pub says : read_lines over (pieces 10 text) ≡ record { accepted = Some (record { policy = policy; world = world }); script = script_from over policy.levels n (pieces 10 rest) }
-  pub few_levels : length policy.levels ≤ 16
+pub record Reads (over : Bool) (text : List ℕ) (policy : PolicyNames) (world : World) (n : ℕ) (rest : List ℕ) : Type 0 where
+  pub says : read_lines over (pieces 10 text) ≡ record { accepted = Some (record { policy = policy; world = world }); script = script_from over policy n (pieces 10 rest) }
   pub has_room : HasRoom world
   pub numbered : length rest + n ≤ length text + 1
 
@@ -72,15 +71,15 @@ ReadsNone over text (halt.Ended ending) = read_lines over (pieces 10 text) ≡ n
 ReadsNone over text halt.NoMemory = Unit {0}
 
 -- a line of a script says this item, and this text is what stands behind it
-pub record PlaysLine (over : Bool) (levels : Levels) (n : ℕ) (text : List ℕ) (item : ScriptItem) (rest : List ℕ) : Type 0 where
-  pub says : script_from over levels n (pieces 10 text) ≡ script (item ∷ (script_from over levels (n + 1) (pieces 10 rest)).items) (script_from over levels (n + 1) (pieces 10 rest)).ending
+pub record PlaysLine (over : Bool) (policy : PolicyNames) (n : ℕ) (text : List ℕ) (item : ScriptItem) (rest : List ℕ) : Type 0 where
+  pub says : script_from over policy n (pieces 10 text) ≡ script (item ∷ (script_from over policy (n + 1) (pieces 10 rest)).items) (script_from over policy (n + 1) (pieces 10 rest)).ending
   pub shorter : length rest < length text
 
 -- a script ends here
-abbrev pub Ends : Bool → Levels → ℕ → List ℕ → Ending → Type 0
-Ends over levels n text ending = script_from over levels n (pieces 10 text) ≡ script [] ending
+abbrev pub Ends : Bool → PolicyNames → ℕ → List ℕ → Ending → Type 0
+Ends over policy n text ending = script_from over policy n (pieces 10 text) ≡ script [] ending
 
 -- what is next in a script
-abbrev pub Follows : Bool → Levels → ℕ → List ℕ → Next → Type 0
-Follows over levels n text (next.Item item rest) = PlaysLine over levels n text item rest.now
-Follows over levels n text (next.Ended ending) = Ends over levels n text ending
+abbrev pub Follows : Bool → PolicyNames → ℕ → List ℕ → Next → Type 0
+Follows over policy n text (next.Item item rest) = PlaysLine over policy n text item rest.now
+Follows over policy n text (next.Ended ending) = Ends over policy n text ending

@@ -1,5 +1,5 @@
 -- The texts that are written.
-use Rattle.std.specs.Prelude.{ℕ, List, [], ◌∷◌, ◌++◌, Option, Some, None, cond, codes, slice_get, unwrap_or}
+use Rattle.std.specs.Prelude.{ℕ, List, [], ◌∷◌, ◌++◌, Option, Some, None, cond, codes}
 use Rattle.std.specs.List.{flat_map}
 use Rattle.std.specs.Option.{option_map}
 use Rattle.std.specs.Fmt.{decimal}
@@ -36,21 +36,18 @@ use Rattle.labsys.specs.declared.status.Part.{Part}
 use Rattle.labsys.specs.declared.status.Part.TheVariants as part
 use Rattle.labsys.specs.declared.status.Refusal.{Refusal}
 use Rattle.labsys.specs.declared.status.Refusal.TheVariants as refusal
-use Rattle.labsys.specs.declared.policy.Policy.{Policy}
-use Rattle.labsys.specs.Grammar.{Levels}
+use Rattle.lab_text.specs.Names.{Names}
+use Rattle.lab_text.specs.Policy.{PolicyNames}
+use Rattle.lab_text.specs.Text.{label_text}
 
 -- ---- words
 
--- the name of the label's level
-unfoldable pub label_text : Levels → Label → List ℕ
-label_text levels l = unwrap_or (slice_get levels l) []
-
-unfoldable pub number_text : Levels → ℕ → Label → List ℕ
-number_text levels n l = decimal n ++ 64 ∷ label_text levels l
+unfoldable pub number_text : PolicyNames → ℕ → Label → List ℕ
+number_text policy n l = decimal n ++ 64 ∷ label_text policy l
 
 -- `n@label`
-unfoldable pub pid_text : Levels → Pid → List ℕ
-pid_text levels who = number_text levels who.n who.label
+unfoldable pub pid_text : PolicyNames → Pid → List ℕ
+pid_text policy who = number_text policy who.n who.label
 
 unfoldable pub place_text : Place → List ℕ
 place_text (place.First n) = 112 ∷ decimal n
@@ -73,14 +70,14 @@ unfoldable pub call_text : CallName → List ℕ
 call_text call.MacGetFile = codes "mac_get_file"
 
 -- `obj:OID` or `proc:PID`
-unfoldable pub thing_text : Levels → Thing → List ℕ
-thing_text levels (thing.Object id) = codes "obj:" ++ number_text levels id.n id.label
-thing_text levels (thing.Process who) = codes "proc:" ++ number_text levels who.n who.label
+unfoldable pub thing_text : PolicyNames → Thing → List ℕ
+thing_text policy (thing.Object id) = codes "obj:" ++ number_text policy id.n id.label
+thing_text policy (thing.Process who) = codes "proc:" ++ number_text policy who.n who.label
 
 -- a new label, or `-`
-unfoldable pub new_label_text : Levels → Option Label → List ℕ
-new_label_text levels None = codes "-"
-new_label_text levels (Some l) = label_text levels l
+unfoldable pub new_label_text : PolicyNames → Option Label → List ℕ
+new_label_text policy None = codes "-"
+new_label_text policy (Some l) = label_text policy l
 
 -- the capability states so far
 unfoldable pub caps_text : CapState → List ℕ
@@ -90,29 +87,29 @@ caps_text caps = cond (has caps.e cap.MacRead) (codes "\"cap_mac_read=ep\"") (co
 unfoldable pub bound_text : CapSet → List ℕ
 bound_text bound = cond (is_within all_of_caps bound) (codes "all") (codes "none")
 
-unfoldable pub answer_text : Levels → Answer → List ℕ
-answer_text levels (answer.Mark l) = codes "ok " ++ label_text levels l
+unfoldable pub answer_text : PolicyNames → Answer → List ℕ
+answer_text policy (answer.Mark l) = codes "ok " ++ label_text policy l
 
-unfoldable pub outcome_text : Levels → Reply → List ℕ
-outcome_text levels (reply.Done answer) = answer_text levels answer
-outcome_text levels (reply.Denied e check place) = errno_text e ++ 32 ∷ (check_text check ++ 32 ∷ place_text place)
-outcome_text levels (reply.Refused e) = errno_text e
+unfoldable pub outcome_text : PolicyNames → Reply → List ℕ
+outcome_text policy (reply.Done answer) = answer_text policy answer
+outcome_text policy (reply.Denied e check place) = errno_text e ++ 32 ∷ (check_text check ++ 32 ∷ place_text place)
+outcome_text policy (reply.Refused e) = errno_text e
 
 -- ---- lines of the output
 
 -- the reply line of a call: `TAG CALL OUTCOME`
-unfoldable pub reply_text : Levels → Played → List ℕ
-reply_text levels p = pid_text levels p.who ++ 32 ∷ (call_text (name_of p.call) ++ 32 ∷ (outcome_text levels p.reply ++ 10 ∷ []))
+unfoldable pub reply_text : PolicyNames → Played → List ℕ
+reply_text policy p = pid_text policy p.who ++ 32 ∷ (call_text (name_of p.call) ++ 32 ∷ (outcome_text policy p.reply ++ 10 ∷ []))
 
 -- the end line of a process that lives: `end PID LABEL CAPS`
-unfoldable pub life_text : Levels → Pid → Label → CapState → List ℕ
-life_text levels who l caps = codes "end " ++ (pid_text levels who ++ 32 ∷ (label_text levels l ++ 32 ∷ (caps_text caps ++ 10 ∷ [])))
+unfoldable pub life_text : PolicyNames → Pid → Label → CapState → List ℕ
+life_text policy who l caps = codes "end " ++ (pid_text policy who ++ 32 ∷ (label_text policy l ++ 32 ∷ (caps_text caps ++ 10 ∷ [])))
 
 -- the end line, where the process lives
-abbrev pub end_text : Levels → Pid → Option Label → Option CapState → List ℕ
-end_text levels who (Some l) (Some caps) = life_text levels who l caps
-end_text levels who (Some l) None = []
-end_text levels who None caps = []
+abbrev pub end_text : PolicyNames → Pid → Option Label → Option CapState → List ℕ
+end_text policy who (Some l) (Some caps) = life_text policy who l caps
+end_text policy who (Some l) None = []
+end_text policy who None caps = []
 
 -- the label of a process that lives
 abbrev pub label_in : State → Pid → Option Label
@@ -123,8 +120,8 @@ abbrev pub caps_in : State → Pid → Option CapState
 caps_in s who = option_map (λ (p : Process). p.caps) (map.get s.procs who)
 
 -- the end lines of all that live, in the order of their numbers
-unfoldable pub ends_text : Levels → State → List ℕ
-ends_text levels s = flat_map (λ who. end_text levels who (label_in s who) (caps_in s who)) (map.keys s.procs)
+unfoldable pub ends_text : PolicyNames → State → List ℕ
+ends_text policy s = flat_map (λ who. end_text policy who (label_in s who) (caps_in s who)) (map.keys s.procs)
 
 unfoldable pub part_text : Part → List ℕ
 part_text part.World = codes "world"
@@ -142,21 +139,21 @@ last_text count TooMuch = codes "too long\n"
 -- ---- lines of the trail
 
 -- a keyword and names behind it
-unfoldable pub names_text : List ℕ → List (List ℕ) → List ℕ
+unfoldable pub names_text : List ℕ → Names → List ℕ
 names_text keyword names = keyword ++ (flat_map (λ name. 32 ∷ name) names ++ 10 ∷ [])
 
 -- the header of the trail: its format, and the world's lines of levels, categories and bound
-unfoldable pub header_text : Policy → CapSet → List ℕ
-header_text policy bound = codes "trail 1\n" ++ (names_text (codes "levels") policy.levels ++ (names_text (codes "categories") policy.categories ++ (codes "bound " ++ (bound_text bound ++ 10 ∷ []))))
+unfoldable pub header_text : PolicyNames → CapSet → List ℕ
+header_text policy bound = codes "trail 1\n" ++ (names_text (codes "levels") policy.levels ++ (names_text (codes "categories") policy.cats ++ (codes "bound " ++ (bound_text bound ++ 10 ∷ []))))
 
 -- the words of a record
-unfoldable pub rec_words : Levels → Rec → List ℕ
-rec_words levels (rec.Boot who l caps) = codes "boot " ++ (pid_text levels who ++ 32 ∷ (label_text levels l ++ 32 ∷ caps_text caps))
-rec_words levels (rec.Exercise who l with check thing thing_label new_label place) =
-    codes "exercise " ++ (pid_text levels who ++ 32 ∷ (label_text levels l ++ 32 ∷ (cap_name with ++ 32 ∷ (check_text check ++ 32 ∷ (thing_text levels thing ++ 32 ∷ (label_text levels thing_label
-    ++ 32 ∷ (new_label_text levels new_label ++ 32 ∷ place_text place)))))))
-rec_words levels (rec.Deny who call e check place) = codes "deny " ++ (pid_text levels who ++ 32 ∷ (call_text call ++ 32 ∷ (errno_text e ++ 32 ∷ (check_text check ++ 32 ∷ place_text place))))
+unfoldable pub rec_words : PolicyNames → Rec → List ℕ
+rec_words policy (rec.Boot who l caps) = codes "boot " ++ (pid_text policy who ++ 32 ∷ (label_text policy l ++ 32 ∷ caps_text caps))
+rec_words policy (rec.Exercise who l with check thing thing_label new_label place) =
+    codes "exercise " ++ (pid_text policy who ++ 32 ∷ (label_text policy l ++ 32 ∷ (cap_name with ++ 32 ∷ (check_text check ++ 32 ∷ (thing_text policy thing ++ 32 ∷ (label_text policy thing_label
+    ++ 32 ∷ (new_label_text policy new_label ++ 32 ∷ place_text place)))))))
+rec_words policy (rec.Deny who call e check place) = codes "deny " ++ (pid_text policy who ++ 32 ∷ (call_text call ++ 32 ∷ (errno_text e ++ 32 ∷ (check_text check ++ 32 ∷ place_text place))))
 
 -- a record of a call, with the call's number; 0 stands for the start
-unfoldable pub rec_text : Levels → ℕ → Rec → List ℕ
-rec_text levels n r = decimal n ++ 32 ∷ (rec_words levels r ++ 10 ∷ [])
+unfoldable pub rec_text : PolicyNames → ℕ → Rec → List ℕ
+rec_text policy n r = decimal n ++ 32 ∷ (rec_words policy r ++ 10 ∷ [])

@@ -1,13 +1,15 @@
 -- Words of a line as they are read one after another.
-use Rattle.std.specs.Prelude.{ℕ, ◌+◌, ◌&&◌, Bool, nat_le, List, [], length, Option, Some, None, codes}
-use Rattle.std.specs.List.{list_all}
+use Rattle.std.specs.Prelude.{ℕ, ◌+◌, List, [], length, Option, Some, None, codes}
 use Rattle.kern_model.specs.declared.objects.Body.TheVariants as body
 use Rattle.kern_model.specs.declared.world.WorldObject.{WorldObject}
+use Rattle.lab_text.specs.Names.{Names}
+use Rattle.lab_text.specs.Policy.{PolicyNames}
+use Rattle.lab_text.specs.Text.{label_said}
 use Rattle.labsys.specs.Lines.{pieces, behind}
-use Rattle.labsys.specs.Grammar.{Levels, is_label_name, are_distinct, then, word_then, entry_of, mode_of, number_of, label_of, quoted_of, in_root}
+use Rattle.labsys.specs.Grammar.{then, word_then, entry_of, mode_of, number_of, quoted_of, in_root}
 
 -- the words that are left of a line, where a text is left
-abbrev pub words_in : Option (List ℕ) → List (List ℕ)
+abbrev pub words_in : Option (List ℕ) → Names
 words_in None = []
 words_in (Some text) = pieces 32 text
 
@@ -15,10 +17,6 @@ words_in (Some text) = pieces 32 text
 abbrev pub left_in : Option (List ℕ) → ℕ
 left_in None = 0
 left_in (Some text) = length text + 1
-
--- at most `high` distinct names of levels or categories
-abbrev pub are_names : ℕ → List (List ℕ) → Bool
-are_names high names = nat_le (length names) high && list_all is_label_name names && are_distinct names
 
 -- the words of a `file` line
 pub record FileWords : Type 0 where
@@ -35,7 +33,7 @@ file_words line =
     Some (record { name = name; mode = mode; uid = uid; gid = gid; label = label; bytes = bytes })))))))
 
 -- what the words of a `file` line say
-unfoldable pub file_of : Levels → FileWords → Option WorldObject
-file_of levels w =
-    then (entry_of w.name) (λ name. then (mode_of w.mode) (λ mode. then (number_of w.uid) (λ owner. then (number_of w.gid) (λ group. then (label_of levels w.label) (λ label. then (quoted_of w.bytes) (λ bytes.
+unfoldable pub file_of : PolicyNames → FileWords → Option WorldObject
+file_of policy w =
+    then (entry_of w.name) (λ name. then (mode_of w.mode) (λ mode. then (number_of w.uid) (λ owner. then (number_of w.gid) (λ group. then (label_said policy w.label) (λ label. then (quoted_of w.bytes) (λ bytes.
     Some (record { path = in_root name; label = label; attr = record { owner = owner; group = group; mode = mode }; body = body.File bytes })))))))

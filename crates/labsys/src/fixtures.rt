@@ -21,20 +21,19 @@ const MAX_PROCS: u32 = 4_095;
 /// How many there are at each label.
 type Counts = BTreeMap<Label, u32>;
 
-#[tactic(auto, unfolding(lab_lattice::specs::Label::label_cmp))]
-fn count_at(counts: &Counts, label: Label) -> u32
-    ensures { result ≡ count_in counts.now label }
+fn count_at(counts: &Counts, label: &Label) -> u32
+    ensures { result ≡ count_in counts.now label.now }
 {
-    counts.get(&label).copied().unwrap_or(0)
+    counts.get(label).copied().unwrap_or(0)
 }
 
 // Counts one more.
-fn count_one(counts: &mut Counts, label: Label) -> Result<(), NoMemory>
-    requires { count_in counts.old label < 65535 }
-    ensures { OnOk result ((l : Label) → count_in counts.new l ≡ count_in counts.old l + cond (same_label label l) 1 0) }
+fn count_one(counts: &mut Counts, label: &Label) -> Result<(), NoMemory>
+    requires { count_in counts.old label.now < 65535 }
+    ensures { OnOk result ((l : Label) → count_in counts.new l ≡ count_in counts.old l + cond (same_label label.now l) 1 0) }
 {
     let count = count_at(counts, label);
-    counts.insert(label, count + 1)?;
+    counts.insert(*label, count + 1)?;
     Ok(())
 }
 
@@ -53,11 +52,12 @@ impl Model for Draft {
     ghost use Rattle.labsys.specs.Input.{Fixtures};
     ghost use Rattle.labsys.specs.Fixture.{IsCounted};
     ghost use Rattle.std.specs.Coded.{codes};
+    ghost use Rattle.lab_lattice.specs.Label.{label_code};
     ghost use Rattle.cap_bits.specs.contracts.set.CapSet as caps;
 
     ghost Value = { Fixtures };
 
-    ghost coded = { Prim.hlevel (codes, caps.the_row.coded) };
+    ghost coded = { Prim.hlevel (codes, caps.the_row.coded, label_code) };
 
     ghost view = { λ d. record { objects = d.objects; procs = d.procs } };
 
@@ -71,7 +71,7 @@ impl Draft {
         ensures { IfOk result (λ draft. draft ≡ record { objects = root ∷ []; procs = [] }) }
     {
         let mut object_counts = BTreeMap::new(alloc);
-        count_one(&mut object_counts, root.label)?;
+        count_one(&mut object_counts, &root.label)?;
         let mut objects = List::new(alloc);
         objects.push(root)?;
         Ok(Draft {
@@ -99,9 +99,9 @@ impl Draft {
         match fixture {
             Fixture::Object(object) => {
                 !self.has_path(&object.path)
-                    && count_at(&self.object_counts, object.label) < MAX_OBJECTS
+                    && count_at(&self.object_counts, &object.label) < MAX_OBJECTS
             }
-            Fixture::Process(process) => count_at(&self.proc_counts, process.label) < MAX_PROCS,
+            Fixture::Process(process) => count_at(&self.proc_counts, &process.label) < MAX_PROCS,
         }
     }
 
@@ -114,7 +114,7 @@ impl Draft {
         let mut draft = self;
         let name = object.path.components()[0].copy(alloc)?;
         draft.names.insert(name)?;
-        count_one(&mut draft.object_counts, object.label)?;
+        count_one(&mut draft.object_counts, &object.label)?;
         draft.objects.push(object)?;
         Ok(draft)
     }
@@ -125,7 +125,7 @@ impl Draft {
         ensures { IfOk result (λ draft. draft ≡ record self { procs = self.procs ++ process ∷ [] }) }
     {
         let mut draft = self;
-        count_one(&mut draft.proc_counts, process.label)?;
+        count_one(&mut draft.proc_counts, &process.label)?;
         draft.procs.push(process)?;
         Ok(draft)
     }

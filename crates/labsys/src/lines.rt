@@ -1,54 +1,68 @@
 // The lines of an input.
-ghost use Rattle.std.specs.Prelude.{◌≡◌, ◌≤◌, IfOk, IfSome, MatchOption, None, Some, [], length, option_map};
-ghost use Rattle.labsys.specs.Grammar.{names_line, levels_line, categories_line, bound_line, root_line, file_line, proc_line, fixture_line, script_line};
+ghost use Rattle.std.specs.Prelude.{◌≡◌, IfOk, IfSome, MatchOption, None, Some, [], length, option_map};
+ghost use Rattle.labsys.specs.Grammar.{words_behind, policy_of, levels_line, categories_line, bound_line, root_line, file_line, proc_line, fixture_line, script_line};
+ghost use Rattle.labsys.specs.Lines.{pieces};
 ghost use Rattle.labsys.specs.Words.{file_words, file_of};
 ghost use Rattle.labsys.specs.Fixture.{as_fixture, IsInRoot};
 
-use crate::labels::{is_bottom, label_of};
 use crate::pieces::{behind, cut};
 use crate::words::{
-    Levels, caps_of, entry_of, first_word, mode_of, names_in, number_of, quoted_of, tag_of,
+    caps_of, entry_of, first_word, mode_of, number_of, quoted_of, tag_of, words_of,
 };
 use cap_bits::CapSet;
 use fs_path::{List, NoMemory, Path};
 use kern_model::{Attr, Body, Call, Ids, ScriptItem, WorldObject, WorldProc};
+use lab_lattice::Lattice;
+use lab_text::{Policy, PolicyError, Word, bottom, mac_from_text};
 use std::alloc::Global;
 
-/// From `low` to `high` distinct names behind a keyword.
-fn names_line(
-    alloc: Global,
-    keyword: &[u8],
-    low: usize,
-    high: usize,
-    line: &[u8],
-) -> Result<Option<Levels>, NoMemory>
-    ensures { IfOk result (λ said. said ≡ names_line keyword.now low high line.now) }
+// The words behind a keyword.
+fn words_behind(alloc: Global, keyword: &[u8], line: &[u8]) -> Result<Option<List<Word>>, NoMemory>
+    ensures { IfOk result (λ said. said ≡ words_behind keyword.now (pieces 32 line.now)) }
 {
     let (word, rest) = first_word(line);
     if word != keyword {
         return Ok(None);
     }
-    let Some(names) = names_in(alloc, high, rest)? else {
-        return Ok(None);
-    };
-    if names.items().len() < low {
-        return Ok(None);
+    Ok(Some(words_of(alloc, rest)?))
+}
+
+// The policy of these names, where they make one.
+fn policy_of(alloc: Global, levels: &[Word], cats: &[Word]) -> Result<Option<Policy>, NoMemory>
+    ensures { IfOk result (λ said. said ≡ policy_of levels.now cats.now) }
+{
+    match Policy::new(alloc, levels, cats) {
+        Ok(policy) => Ok(Some(policy)),
+        Err(PolicyError::NoMemory(e)) => Err(e),
+        Err(_) => Ok(None),
     }
-    Ok(Some(names))
 }
 
 /// The names of the levels, lowest first.
-pub fn levels_line(alloc: Global, line: &[u8]) -> Result<Option<Levels>, NoMemory>
+pub fn levels_line(alloc: Global, line: &[u8]) -> Result<Option<List<Word>>, NoMemory>
     ensures { IfOk result (λ said. said ≡ levels_line line.now) }
 {
-    names_line(alloc, b"levels", 1, 16, line)
+    let Some(levels) = words_behind(alloc, b"levels", line)? else {
+        return Ok(None);
+    };
+    match policy_of(alloc, levels.items(), &[])? {
+        Some(_) => Ok(Some(levels)),
+        None => Ok(None),
+    }
 }
 
-/// The names of the categories.
-pub fn categories_line(alloc: Global, line: &[u8]) -> Result<Option<Levels>, NoMemory>
-    ensures { IfOk result (λ said. said ≡ categories_line line.now) }
+/// The names of the categories, and with those of the levels the policy.
+pub fn categories_line(
+    alloc: Global,
+    levels: &List<Word>,
+    line: &[u8],
+) -> Result<Option<Policy>, NoMemory>
+    ensures { IfOk result (λ said. said ≡ categories_line levels.now line.now) }
 {
-    names_line(alloc, b"categories", 0, 64, line)
+    match words_behind(alloc, b"categories", line)? {
+        Some(cats) => policy_of(alloc, levels.items(), cats.items()),
+        None => Ok(None),
+    }
 }
 
 /// The capabilities that a program can give to a process.
@@ -65,9 +79,8 @@ pub fn bound_line(line: &[u8]) -> Option<CapSet>
 }
 
 /// The root directory, which has the lowest label.
-pub fn root_line(alloc: Global, levels: &Levels, line: &[u8]) -> Option<WorldObject>
-    requires { length levels.now ≤ 16 }
-    ensures line { result ≡ root_line levels.now line.now }
+pub fn root_line(alloc: Global, policy: &Policy, line: &[u8]) -> Option<WorldObject>
+    ensures line { result ≡ root_line policy.now line.now }
     ensures no_names { IfSome result (λ root. root.path.names ≡ []) }
 {
     let line = behind(b"dir / ", line)?;
@@ -77,8 +90,8 @@ pub fn root_line(alloc: Global, levels: &Levels, line: &[u8]) -> Option<WorldObj
     let mode = mode_of(mode)?;
     let owner = number_of(uid)?;
     let group = number_of(gid)?;
-    let label = label_of(levels, name)?;
-    if !is_bottom(&label) {
+    let label = mac_from_text(policy, name).ok()?;
+    if !bottom(policy).dominates(&label) {
         return None;
     }
     Some(WorldObject {
@@ -123,11 +136,10 @@ fn file_words(line: &[u8]) -> Option<FileWords<'_>>
 #[tactic(auto, unfolding(crate::specs::Words::file_of))]
 fn file_of(
     alloc: Global,
-    levels: &Levels,
+    policy: &Policy,
     words: FileWords<'_>,
 ) -> Result<Option<WorldObject>, NoMemory>
-    requires { length levels.now ≤ 16 }
-    ensures words { IfOk result (λ said. said ≡ file_of levels.now (record { name = words.entry.name.now; mode = words.entry.mode.now; uid = words.entry.uid.now; gid = words.entry.gid.now; label = words.entry.label.now; bytes = words.entry.bytes.now })) }
+    ensures words { IfOk result (λ said. said ≡ file_of policy.now (record { name = words.entry.name.now; mode = words.entry.mode.now; uid = words.entry.uid.now; gid = words.entry.gid.now; label = words.entry.label.now; bytes = words.entry.bytes.now })) }
     ensures in_root { IfOk result (λ said. IfSome said (λ file. length file.path.names ≡ 1)) }
 {
     let Some(name) = entry_of(alloc, words.name)? else {
@@ -142,7 +154,7 @@ fn file_of(
     let Some(group) = number_of(words.gid) else {
         return Ok(None);
     };
-    let Some(label) = label_of(levels, words.label) else {
+    let Ok(label) = mac_from_text(policy, words.label) else {
         return Ok(None);
     };
     let Some(bytes) = quoted_of(alloc, words.bytes)? else {
@@ -159,29 +171,27 @@ fn file_of(
 /// A file in the root directory.
 pub fn file_line(
     alloc: Global,
-    levels: &Levels,
+    policy: &Policy,
     line: &[u8],
 ) -> Result<Option<WorldObject>, NoMemory>
-    requires { length levels.now ≤ 16 }
-    ensures line { IfOk result (λ said. said ≡ file_line levels.now line.now) }
+    ensures line { IfOk result (λ said. said ≡ file_line policy.now line.now) }
     ensures in_root { IfOk result (λ said. IfSome said (λ file. length file.path.names ≡ 1)) }
 {
     match file_words(line) {
-        Some(words) => file_of(alloc, levels, words),
+        Some(words) => file_of(alloc, policy, words),
         None => Ok(None),
     }
 }
 
 /// A process.
-pub fn proc_line(alloc: Global, levels: &Levels, line: &[u8]) -> Option<WorldProc>
-    requires { length levels.now ≤ 16 }
-    ensures line { result ≡ proc_line levels.now line.now }
+pub fn proc_line(alloc: Global, policy: &Policy, line: &[u8]) -> Option<WorldProc>
+    ensures line { result ≡ proc_line policy.now line.now }
 {
     let line = behind(b"proc ", line)?;
     let (label, line) = cut(line, b' ')?;
     let (uid, line) = cut(line, b' ')?;
     let (gid, rest) = cut(line, b' ')?;
-    let label = label_of(levels, label)?;
+    let label = mac_from_text(policy, label).ok()?;
     let user = number_of(uid)?;
     let group = number_of(gid)?;
     let caps = caps_of(behind(b"- ", rest)?)?;
@@ -210,17 +220,16 @@ pub enum Fixture {
 /// A file or a process.
 pub fn fixture_line(
     alloc: Global,
-    levels: &Levels,
+    policy: &Policy,
     line: &[u8],
 ) -> Result<Option<Fixture>, NoMemory>
-    requires { length levels.now ≤ 16 }
-    ensures line { IfOk result (λ said. option_map as_fixture said ≡ fixture_line levels.now line.now) }
+    ensures line { IfOk result (λ said. option_map as_fixture said ≡ fixture_line policy.now line.now) }
     ensures in_root { IfOk result (λ said. IfSome said IsInRoot) }
 {
-    if let Some(object) = file_line(alloc, levels, line)? {
+    if let Some(object) = file_line(alloc, policy, line)? {
         return Ok(Some(Fixture::Object(object)));
     }
-    match proc_line(alloc, levels, line) {
+    match proc_line(alloc, policy, line) {
         Some(process) => Ok(Some(Fixture::Process(process))),
         None => Ok(None),
     }
@@ -229,11 +238,10 @@ pub fn fixture_line(
 /// A call and its caller.
 pub fn script_line(
     alloc: Global,
-    levels: &Levels,
+    policy: &Policy,
     line: &[u8],
 ) -> Result<Option<ScriptItem>, NoMemory>
-    requires { length levels.now ≤ 16 }
-    ensures { IfOk result (λ said. said ≡ script_line levels.now line.now) }
+    ensures { IfOk result (λ said. said ≡ script_line policy.now line.now) }
 {
     let Some((tag, line)) = cut(line, b' ') else {
         return Ok(None);
@@ -241,7 +249,7 @@ pub fn script_line(
     let Some(name) = behind(b"mac_get_file /", line) else {
         return Ok(None);
     };
-    let Some(who) = tag_of(levels, tag) else {
+    let Some(who) = tag_of(policy, tag) else {
         return Ok(None);
     };
     let Some(name) = entry_of(alloc, name)? else {

@@ -3,11 +3,9 @@
 
 mod fixtures;
 mod kernel;
-mod labels;
 mod lines;
 mod pieces;
 mod playing;
-mod policy;
 mod reading;
 mod running;
 mod status;

@@ -15,14 +15,13 @@ ghost use Rattle.labsys.specs.Order.{turn_of, told, order_in, order_by, order_of
 ghost use Rattle.labsys.specs.Playing.{AppendsFront, Sends, SendsFront, Caused, Finishes, Takes, Plays};
 
 use crate::kernel::Kernel;
-use crate::policy::Policy;
 use crate::reading::{Halt, Next, ReadWorld, next_item, read_world};
 use crate::texts::{end_line, header, last_line, record_line, reply_line};
-use crate::words::Levels;
 use crate::{Ending, Fault};
 use cap_bits::CapSet;
 use io_ends::{LineFault, Sink, Source, Whole, read_whole, write_whole};
 use kern_model::{Pid, Rec, ScriptItem};
+use lab_text::Policy;
 use std::alloc::Global;
 
 // How many bytes an input may have.
@@ -57,18 +56,18 @@ fn answer<K: Sink>(out: &mut K, piece: &[u8]) -> Result<(), Fault>
 // One piece for each record of a call.
 fn note_all<T: Sink>(
     alloc: Global,
-    levels: &Levels,
+    policy: &Policy,
     call: u64,
     recs: &[Rec],
     trail: &mut T,
 ) -> Result<(), Fault>
-    ensures ok { OnOk result (Appends (T.held trail.old) (T.held trail.new) (flat_map (rec_text levels.now call) recs.now)) }
-    ensures front { AppendsFront (T.held trail.old) (T.held trail.new) (flat_map (rec_text levels.now call) recs.now) }
+    ensures ok { OnOk result (Appends (T.held trail.old) (T.held trail.new) (flat_map (rec_text policy.now call) recs.now)) }
+    ensures front { AppendsFront (T.held trail.old) (T.held trail.new) (flat_map (rec_text policy.now call) recs.now) }
     ensures later { T.faults trail.old ≤ T.faults trail.new }
     ensures cause { IfErr result (λ fault. Caused fault ⊥ ⊥ (Rose (T.faults trail.old) (T.faults trail.new))) }
 {
     for rec in recs {
-        let text = record_line(alloc, levels, call, rec)?;
+        let text = record_line(alloc, policy, call, rec)?;
         note(trail, &text)?;
     }
     Ok(())
@@ -78,22 +77,22 @@ fn note_all<T: Sink>(
 fn play_item<K: Sink, T: Sink>(
     alloc: Global,
     kernel: &mut Kernel,
-    levels: &Levels,
+    policy: &Policy,
     call: u64,
     item: &ScriptItem,
     out: &mut K,
     trail: &mut T,
 ) -> Result<(), Fault>
-    ensures ok { OnOk result (Sends (K.held out.old) (K.held out.new) (T.held trail.old) (T.held trail.new) (told (turn_of levels.now call (played (state_of kernel.old) item.now)))) }
+    ensures ok { OnOk result (Sends (K.held out.old) (K.held out.new) (T.held trail.old) (T.held trail.new) (told (turn_of policy.now call (played (state_of kernel.old) item.now)))) }
     ensures state { OnOk result (state_of kernel.new ≡ (step (state_of kernel.old) item.now.who item.now.call).state) }
-    ensures front { SendsFront (K.held out.old) (K.held out.new) (T.held trail.old) (T.held trail.new) (told (turn_of levels.now call (played (state_of kernel.old) item.now))) }
+    ensures front { SendsFront (K.held out.old) (K.held out.new) (T.held trail.old) (T.held trail.new) (told (turn_of policy.now call (played (state_of kernel.old) item.now))) }
     ensures out_later { K.faults out.old ≤ K.faults out.new }
     ensures trail_later { T.faults trail.old ≤ T.faults trail.new }
     ensures cause { IfErr result (λ fault. Caused fault ⊥ (Rose (K.faults out.old) (K.faults out.new)) (Rose (T.faults trail.old) (T.faults trail.new))) }
 {
     let outcome = kernel.call(item.who, &item.call)?;
-    note_all(alloc, levels, call, outcome.recs.items(), trail)?;
-    let text = reply_line(alloc, levels, item, outcome.reply)?;
+    note_all(alloc, policy, call, outcome.recs.items(), trail)?;
+    let text = reply_line(alloc, policy, item, outcome.reply)?;
     answer(out, &text)
 }
 
@@ -101,18 +100,18 @@ fn play_item<K: Sink, T: Sink>(
 fn tell_end<K: Sink>(
     alloc: Global,
     kernel: &Kernel,
-    levels: &Levels,
+    policy: &Policy,
     who: &Pid,
     out: &mut K,
 ) -> Result<(), Fault>
-    ensures ok { OnOk result (Appends (K.held out.old) (K.held out.new) (end_text levels.now who.now (label_in (state_of kernel.now) who.now) (caps_in (state_of kernel.now) who.now))) }
-    ensures front { AppendsFront (K.held out.old) (K.held out.new) (end_text levels.now who.now (label_in (state_of kernel.now) who.now) (caps_in (state_of kernel.now) who.now)) }
+    ensures ok { OnOk result (Appends (K.held out.old) (K.held out.new) (end_text policy.now who.now (label_in (state_of kernel.now) who.now) (caps_in (state_of kernel.now) who.now))) }
+    ensures front { AppendsFront (K.held out.old) (K.held out.new) (end_text policy.now who.now (label_in (state_of kernel.now) who.now) (caps_in (state_of kernel.now) who.now)) }
     ensures later { K.faults out.old ≤ K.faults out.new }
     ensures cause { IfErr result (λ fault. Caused fault ⊥ (Rose (K.faults out.old) (K.faults out.new)) ⊥) }
 {
     match (kernel.label_of(who), kernel.caps_of(who)) {
         (Some(label), Some(caps)) => {
-            let text = end_line(alloc, levels, who, &label, &caps)?;
+            let text = end_line(alloc, policy, who, &label, &caps)?;
             answer(out, &text)
         }
         _ => Ok(()),
@@ -124,17 +123,17 @@ fn tell_end<K: Sink>(
 fn tell_ends<K: Sink>(
     alloc: Global,
     kernel: &Kernel,
-    levels: &Levels,
+    policy: &Policy,
     out: &mut K,
 ) -> Result<(), Fault>
-    ensures ok { OnOk result (Appends (K.held out.old) (K.held out.new) (ends_text levels.now (state_of kernel.now))) }
-    ensures front { AppendsFront (K.held out.old) (K.held out.new) (ends_text levels.now (state_of kernel.now)) }
+    ensures ok { OnOk result (Appends (K.held out.old) (K.held out.new) (ends_text policy.now (state_of kernel.now))) }
+    ensures front { AppendsFront (K.held out.old) (K.held out.new) (ends_text policy.now (state_of kernel.now)) }
     ensures later { K.faults out.old ≤ K.faults out.new }
     ensures cause { IfErr result (λ fault. Caused fault ⊥ (Rose (K.faults out.old) (K.faults out.new)) ⊥) }
 {
     let numbers = kernel.live()?;
     for who in numbers.items() {
-        tell_end(alloc, kernel, levels, who, out)?;
+        tell_end(alloc, kernel, policy, who, out)?;
     }
     Ok(())
 }
@@ -154,17 +153,17 @@ fn tell_last<K: Sink>(alloc: Global, count: u64, ending: Ending, out: &mut K) ->
 fn finish<K: Sink>(
     alloc: Global,
     kernel: &Kernel,
-    levels: &Levels,
+    policy: &Policy,
     count: u64,
     ending: Ending,
     out: &mut K,
 ) -> Result<(), Fault>
-    ensures ok { OnOk result (Appends (K.held out.old) (K.held out.new) (ends_text levels.now (state_of kernel.now) ++ last_text count ending)) }
-    ensures front { AppendsFront (K.held out.old) (K.held out.new) (ends_text levels.now (state_of kernel.now) ++ last_text count ending) }
+    ensures ok { OnOk result (Appends (K.held out.old) (K.held out.new) (ends_text policy.now (state_of kernel.now) ++ last_text count ending)) }
+    ensures front { AppendsFront (K.held out.old) (K.held out.new) (ends_text policy.now (state_of kernel.now) ++ last_text count ending) }
     ensures later { K.faults out.old ≤ K.faults out.new }
     ensures cause { IfErr result (λ fault. Caused fault ⊥ (Rose (K.faults out.old) (K.faults out.new)) ⊥) }
 {
-    tell_ends(alloc, kernel, levels, out)?;
+    tell_ends(alloc, kernel, policy, out)?;
     tell_last(alloc, count, ending, out)
 }
 
@@ -172,17 +171,16 @@ fn finish<K: Sink>(
 fn play_script<K: Sink, T: Sink>(
     alloc: Global,
     kernel: &mut Kernel,
-    levels: &Levels,
+    policy: &Policy,
     first: u64,
     script: &[u8],
     over: bool,
     out: &mut K,
     trail: &mut T,
 ) -> Result<Ending, Fault>
-    requires levels { length levels.now ≤ 16 }
     requires small { first + length script.now ≤ 2 ^ 60 }
-    ensures whole { IfOk result (λ e. Finishes (K.held out.old) (K.held out.new) (T.held trail.old) (T.held trail.new) (order_in levels.now 0 (state_of kernel.old) (script_from over levels.now first (pieces 10 script.now))) e (script_from over levels.now first (pieces 10 script.now)).ending) }
-    ensures front { SendsFront (K.held out.old) (K.held out.new) (T.held trail.old) (T.held trail.new) (order_in levels.now 0 (state_of kernel.old) (script_from over levels.now first (pieces 10 script.now))) }
+    ensures whole { IfOk result (λ e. Finishes (K.held out.old) (K.held out.new) (T.held trail.old) (T.held trail.new) (order_in policy.now 0 (state_of kernel.old) (script_from over policy.now first (pieces 10 script.now))) e (script_from over policy.now first (pieces 10 script.now)).ending) }
+    ensures front { SendsFront (K.held out.old) (K.held out.new) (T.held trail.old) (T.held trail.new) (order_in policy.now 0 (state_of kernel.old) (script_from over policy.now first (pieces 10 script.now))) }
     ensures out_later { K.faults out.old ≤ K.faults out.new }
     ensures trail_later { T.faults trail.old ≤ T.faults trail.new }
     ensures cause { IfErr result (λ fault. Caused fault ⊥ (Rose (K.faults out.old) (K.faults out.new)) (Rose (T.faults trail.old) (T.faults trail.new))) }
@@ -191,15 +189,15 @@ fn play_script<K: Sink, T: Sink>(
     let mut number = first;
     let mut count = 0u64;
     loop {
-        match next_item(alloc, levels, number, rest, over)? {
+        match next_item(alloc, policy, number, rest, over)? {
             Next::Item(item, behind) => {
-                play_item(alloc, kernel, levels, count + 1, &item, out, trail)?;
+                play_item(alloc, kernel, policy, count + 1, &item, out, trail)?;
                 rest = behind;
                 number += 1;
                 count += 1;
             }
             Next::Ended(ending) => {
-                finish(alloc, kernel, levels, count, ending, out)?;
+                finish(alloc, kernel, policy, count, ending, out)?;
                 return Ok(ending);
             }
         }
@@ -214,14 +212,14 @@ fn begin<T: Sink>(
     recs: &[Rec],
     trail: &mut T,
 ) -> Result<(), Fault>
-    ensures ok { OnOk result (Appends (T.held trail.old) (T.held trail.new) (header_text policy.now bound.now ++ flat_map (rec_text policy.now.levels 0) recs.now)) }
-    ensures front { AppendsFront (T.held trail.old) (T.held trail.new) (header_text policy.now bound.now ++ flat_map (rec_text policy.now.levels 0) recs.now) }
+    ensures ok { OnOk result (Appends (T.held trail.old) (T.held trail.new) (header_text policy.now bound.now ++ flat_map (rec_text policy.now 0) recs.now)) }
+    ensures front { AppendsFront (T.held trail.old) (T.held trail.new) (header_text policy.now bound.now ++ flat_map (rec_text policy.now 0) recs.now) }
     ensures later { T.faults trail.old ≤ T.faults trail.new }
     ensures cause { IfErr result (λ fault. Caused fault ⊥ ⊥ (Rose (T.faults trail.old) (T.faults trail.new))) }
 {
     let text = header(alloc, policy, bound)?;
     note(trail, &text)?;
-    note_all(alloc, &policy.levels, 0, recs, trail)
+    note_all(alloc, policy, 0, recs, trail)
 }
 
 // Plays a world that was accepted, with its script.
@@ -232,13 +230,12 @@ fn play_world<K: Sink, T: Sink>(
     out: &mut K,
     trail: &mut T,
 ) -> Result<Ending, Fault>
-    requires levels { length read.now.policy.levels ≤ 16 }
     requires room { HasRoom read.now.world }
     requires small { read.now.number + length read.now.script.now ≤ 2 ^ 60 }
     ensures whole { IfOk result (λ e. Finishes (K.held out.old) (K.held out.new) (T.held trail.old) (T.held trail.new)
-        (order_by (Some (record { policy = read.now.policy; world = read.now.world })) (script_from over read.now.policy.levels read.now.number (pieces 10 read.now.script.now))) e (script_from over read.now.policy.levels read.now.number (pieces 10 read.now.script.now)).ending) }
+        (order_by (Some (record { policy = read.now.policy; world = read.now.world })) (script_from over read.now.policy read.now.number (pieces 10 read.now.script.now))) e (script_from over read.now.policy read.now.number (pieces 10 read.now.script.now)).ending) }
     ensures front { SendsFront (K.held out.old) (K.held out.new) (T.held trail.old) (T.held trail.new)
-        (order_by (Some (record { policy = read.now.policy; world = read.now.world })) (script_from over read.now.policy.levels read.now.number (pieces 10 read.now.script.now))) }
+        (order_by (Some (record { policy = read.now.policy; world = read.now.world })) (script_from over read.now.policy read.now.number (pieces 10 read.now.script.now))) }
     ensures out_later { K.faults out.old ≤ K.faults out.new }
     ensures trail_later { T.faults trail.old ≤ T.faults trail.new }
     ensures cause { IfErr result (λ fault. Caused fault ⊥ (Rose (K.faults out.old) (K.faults out.new)) (Rose (T.faults trail.old) (T.faults trail.new))) }
@@ -254,7 +251,7 @@ fn play_world<K: Sink, T: Sink>(
     play_script(
         alloc,
         &mut booted.kernel,
-        &read.policy.levels,
+        &read.policy,
         read.number,
         read.script,
         over,

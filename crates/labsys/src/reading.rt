@@ -1,6 +1,6 @@
 //! An input, read line by line.
 ghost use Rattle.std.specs.Prelude.{◌≡◌, ◌<◌, ◌≤◌, ◌+◌, ◌∷◌, [], None, Some, MatchOption, MatchResult, IfSome, IfOk, length, true, option_map, ◌==◌, ◌&&◌, not};
-ghost use Rattle.labsys.specs.Grammar.{exactly, levels_line, categories_line, bound_line, root_line, top_of};
+ghost use Rattle.labsys.specs.Grammar.{exactly, levels_line, categories_line, bound_line, root_line};
 ghost use Rattle.labsys.specs.declared.status.Part.TheVariants as part;
 ghost use Rattle.labsys.specs.declared.reading.Halt.TheVariants as halt;
 ghost use Rattle.labsys.specs.Input.{fits, refused};
@@ -8,17 +8,15 @@ ghost use Rattle.labsys.specs.Fixture.{as_fixture, IsInRoot};
 ghost use Rattle.labsys.specs.Reading.{next_short, next_of, ends_at, GoesOn, Stops, Begins, HasSpace, EndsInScript, EndsBefore, Reads, ReadsNone, Follows};
 
 use crate::fixtures::Draft;
-use crate::labels::top_of;
 use crate::lines::{
     Fixture, bound_line, categories_line, fixture_line, levels_line, root_line, script_line,
 };
 use crate::pieces::cut;
-use crate::policy::Policy;
-use crate::words::Levels;
 use crate::{Ending, Part, Refusal};
 use cap_bits::CapSet;
-use fs_path::NoMemory;
+use fs_path::{List, NoMemory};
 use kern_model::{ScriptItem, World, WorldObject};
+use lab_text::{Policy, Word, top};
 use std::alloc::Global;
 
 const MAX_LINE: usize = 2048;
@@ -92,10 +90,8 @@ fn exact_due<'a>(over: bool, wanted: &[u8], number: u64, text: &'a [u8]) -> Resu
 }
 
 #[tactic(auto, unfolding(crate::specs::Reading::Stops))]
-fn levels_due(alloc: Global, over: bool, text: &[u8]) -> Result<(Levels, &[u8]), Halt>
+fn levels_due(alloc: Global, over: bool, text: &[u8]) -> Result<(List<Word>, &[u8]), Halt>
     ensures due { MatchResult result (λ said. GoesOn over levels_line 2 text.now said.0 said.1.now) (λ halt. Stops over levels_line 2 text.now halt) }
-    ensures some { IfOk result (λ said. 1 ≤ length said.0) }
-    ensures few { IfOk result (λ said. length said.0 ≤ 16) }
     ensures shorter { IfOk result (λ said. length said.1.now < length text.now) }
 {
     let Some((line, rest)) = next_line(text) else {
@@ -108,14 +104,19 @@ fn levels_due(alloc: Global, over: bool, text: &[u8]) -> Result<(Levels, &[u8]),
 }
 
 #[tactic(auto, unfolding(crate::specs::Reading::Stops))]
-fn categories_due(alloc: Global, over: bool, text: &[u8]) -> Result<(Levels, &[u8]), Halt>
-    ensures due { MatchResult result (λ said. GoesOn over categories_line 3 text.now said.0 said.1.now) (λ halt. Stops over categories_line 3 text.now halt) }
+fn categories_due<'a>(
+    alloc: Global,
+    over: bool,
+    levels: &List<Word>,
+    text: &'a [u8],
+) -> Result<(Policy, &'a [u8]), Halt>
+    ensures due { MatchResult result (λ said. GoesOn over (categories_line levels.now) 3 text.now said.0 said.1.now) (λ halt. Stops over (categories_line levels.now) 3 text.now halt) }
     ensures shorter { IfOk result (λ said. length said.1.now < length text.now) }
 {
     let Some((line, rest)) = next_line(text) else {
         return Err(no_line(over, 3, text));
     };
-    let Some(said) = categories_line(alloc, line)? else {
+    let Some(said) = categories_line(alloc, levels, line)? else {
         return Err(refused(3));
     };
     Ok((said, rest))
@@ -137,18 +138,17 @@ fn bound_due(over: bool, text: &[u8]) -> Result<(CapSet, &[u8]), Halt>
 fn root_due<'a>(
     alloc: Global,
     over: bool,
-    levels: &Levels,
+    policy: &Policy,
     text: &'a [u8],
 ) -> Result<(WorldObject, &'a [u8]), Halt>
-    requires { length levels.now ≤ 16 }
-    ensures due { MatchResult result (λ said. GoesOn over (root_line levels.now) 5 text.now said.0 said.1.now) (λ halt. Stops over (root_line levels.now) 5 text.now halt) }
+    ensures due { MatchResult result (λ said. GoesOn over (root_line policy.now) 5 text.now said.0 said.1.now) (λ halt. Stops over (root_line policy.now) 5 text.now halt) }
     ensures no_names { IfOk result (λ said. said.0.path.names ≡ []) }
     ensures shorter { IfOk result (λ said. length said.1.now < length text.now) }
 {
     let Some((line, rest)) = next_line(text) else {
         return Err(no_line(over, 5, text));
     };
-    let Some(said) = root_line(alloc, levels, line) else {
+    let Some(said) = root_line(alloc, policy, line) else {
         return Err(refused(5));
     };
     Ok((said, rest))
@@ -166,21 +166,19 @@ struct Head<'a> {
 // The lines of a world up to its root, each in its turn.
 fn read_head(alloc: Global, over: bool, text: &[u8]) -> Result<Head<'_>, Halt>
     ensures says { MatchResult result (λ head. Begins over text.now head.policy head.bound head.root head.rest.now) (λ halt. ReadsNone over text.now halt) }
-    ensures some { IfOk result (λ head. 1 ≤ length head.policy.levels) }
-    ensures few { IfOk result (λ head. length head.policy.levels ≤ 16) }
     ensures no_names { IfOk result (λ head. head.root.path.names ≡ []) }
     ensures shorter { IfOk result (λ head. length head.rest.now + 5 ≤ length text.now) }
 {
     let after_head = exact_due(over, b"world 1", 1, text)?;
     let (levels, after_levels) = levels_due(alloc, over, after_head)?;
-    let (categories, after_categories) = categories_due(alloc, over, after_levels)?;
-    let (bound, after_bound) = match bound_due(over, after_categories) {
+    let (policy, after_policy) = categories_due(alloc, over, &levels, after_levels)?;
+    let (bound, after_bound) = match bound_due(over, after_policy) {
         Ok(said) => said,
         Err(halt) => return Err(halt),
     };
-    let (root, rest) = root_due(alloc, over, &levels, after_bound)?;
+    let (root, rest) = root_due(alloc, over, &policy, after_bound)?;
     Ok(Head {
-        policy: Policy { levels, categories },
+        policy,
         bound,
         root,
         rest,
@@ -190,16 +188,15 @@ fn read_head(alloc: Global, over: bool, text: &[u8]) -> Result<Head<'_>, Halt>
 // A file or a process, where there is room for it.
 fn next_fixture(
     alloc: Global,
-    levels: &Levels,
+    policy: &Policy,
     draft: &Draft,
     line: &[u8],
 ) -> Result<Option<Fixture>, NoMemory>
-    requires { length levels.now ≤ 16 }
-    ensures says { IfOk result (λ said. option_map as_fixture said ≡ next_of levels.now draft.now line.now) }
+    ensures says { IfOk result (λ said. option_map as_fixture said ≡ next_of policy.now draft.now line.now) }
     ensures room { IfOk result (λ said. IfSome said (λ fixture. fits draft.now (as_fixture fixture) ≡ true)) }
     ensures in_root { IfOk result (λ said. IfSome said IsInRoot) }
 {
-    let Some(fixture) = fixture_line(alloc, levels, line)? else {
+    let Some(fixture) = fixture_line(alloc, policy, line)? else {
         return Ok(None);
     };
     if !draft.fits(&fixture) {
@@ -226,7 +223,6 @@ fn read_fixtures<'a>(
     text: &'a [u8],
 ) -> Result<Furnished<'a>, Halt>
     requires small { length text.now ≤ 16777216 }
-    requires few { length policy.now.levels ≤ 16 }
     requires no_names { root.path.names ≡ [] }
     ensures says { MatchResult result (λ f. EndsInScript over policy.now 6 (record { objects = root ∷ []; procs = [] }) text.now f.number f.draft f.script.now) (λ halt. EndsBefore over policy.now 6 (record { objects = root ∷ []; procs = [] }) text.now halt) }
     ensures space { IfOk result (λ f. HasSpace f.draft) }
@@ -246,7 +242,7 @@ fn read_fixtures<'a>(
                 number: number + 1,
             });
         }
-        let Some(fixture) = next_fixture(alloc, &policy.levels, &draft, line)? else {
+        let Some(fixture) = next_fixture(alloc, policy, &draft, line)? else {
             return Err(refused(number));
         };
         draft = draft.with(alloc, fixture)?;
@@ -283,7 +279,7 @@ pub fn read_world(alloc: Global, text: &[u8], over: bool) -> Result<ReadWorld<'_
     } = read_fixtures(alloc, over, &policy, root, rest)?;
     let (objects, procs) = draft.into_lists();
     let world = World {
-        top: top_of(&policy.levels),
+        top: top(&policy),
         bound,
         objects,
         procs,
@@ -315,13 +311,12 @@ pub enum Next<'a> {
 /// The next item of a script, whose line has this number; `over` where the input goes on past the limit.
 pub fn next_item<'a>(
     alloc: Global,
-    levels: &Levels,
+    policy: &Policy,
     number: u64,
     text: &'a [u8],
     over: bool,
 ) -> Result<Next<'a>, NoMemory>
-    requires { length levels.now ≤ 16 }
-    ensures { IfOk result (Follows over levels.now number text.now) }
+    ensures { IfOk result (Follows over policy.now number text.now) }
 {
     if is_whole(over, text) {
         return Ok(Next::Ended(Ending::Whole));
@@ -329,7 +324,7 @@ pub fn next_item<'a>(
     let Some((line, rest)) = next_line(text) else {
         return Ok(Next::Ended(ends_at(over, number, Part::Script, text)));
     };
-    let Some(item) = script_line(alloc, levels, line)? else {
+    let Some(item) = script_line(alloc, policy, line)? else {
         let refused = Ending::Refused(number, Part::Script, Refusal::NotBuilt);
         return Ok(Next::Ended(refused));
     };

@@ -4,17 +4,16 @@ ghost use Rattle.std.specs.Fmt.{decimal};
 ghost use Rattle.std.specs.List.{flat_map};
 ghost use Rattle.std.specs.Prelude.{List};
 ghost use Rattle.kern_model.specs.declared.records.Rec.{Rec as RecValue};
-ghost use Rattle.labsys.specs.Texts.{label_text, number_text, pid_text, place_text, errno_text, check_text, call_text, outcome_text, reply_text, life_text, answer_text, part_text, refusal_text, last_text, thing_text, new_label_text, caps_text, bound_text, names_text, header_text, rec_words, rec_text};
+ghost use Rattle.lab_text.specs.Text.{label_text};
+ghost use Rattle.labsys.specs.Texts.{number_text, pid_text, place_text, errno_text, check_text, call_text, outcome_text, reply_text, life_text, answer_text, part_text, refusal_text, last_text, thing_text, new_label_text, caps_text, bound_text, names_text, header_text, rec_words, rec_text};
 
-use crate::labels::label_name;
-use crate::policy::Policy;
-use crate::words::Levels;
 use crate::{Ending, Part, Refusal};
 use cap_bits::{Cap, CapSet, CapState};
 use kern_model::{
     Answer, CallName, CheckName, Errno, NoMemory, Pid, Place, Rec, Reply, ScriptItem, Thing,
 };
 use lab_lattice::Label;
+use lab_text::{Policy, Word, mac_to_text};
 use std::alloc::Global;
 
 #[tactic(auto, unfolding(crate::specs::Texts::errno_text))]
@@ -67,6 +66,18 @@ fn refusal_word(why: Refusal) -> &'static [u8]
     }
 }
 
+fn put_label(
+    alloc: Global,
+    text: &mut Vec<u8>,
+    policy: &Policy,
+    label: &Label,
+) -> Result<(), NoMemory>
+    ensures { OnOk result (text.new.items ≡ text.old.items ++ label_text policy.now label.now) }
+{
+    let label = mac_to_text(alloc, policy, label)?;
+    text.extend_from_slice(label.as_slice())
+}
+
 fn put_number(alloc: Global, text: &mut Vec<u8>, n: u64) -> Result<(), NoMemory>
     ensures { OnOk result (text.new.items ≡ text.old.items ++ decimal n) }
 {
@@ -78,52 +89,57 @@ fn put_number(alloc: Global, text: &mut Vec<u8>, n: u64) -> Result<(), NoMemory>
 fn put_drawn(
     alloc: Global,
     text: &mut Vec<u8>,
-    levels: &Levels,
+    policy: &Policy,
     n: u16,
     label: &Label,
 ) -> Result<(), NoMemory>
-    ensures { OnOk result (text.new.items ≡ text.old.items ++ number_text levels.now n label.now) }
+    ensures { OnOk result (text.new.items ≡ text.old.items ++ number_text policy.now n label.now) }
 {
     put_number(alloc, text, u64::from(n))?;
     text.push(b'@')?;
-    text.extend_from_slice(label_name(levels, label))
+    put_label(alloc, text, policy, label)
 }
 
 #[tactic(auto, unfolding(crate::specs::Texts::pid_text))]
-fn put_pid(alloc: Global, text: &mut Vec<u8>, levels: &Levels, who: &Pid) -> Result<(), NoMemory>
-    ensures { OnOk result (text.new.items ≡ text.old.items ++ pid_text levels.now who.now) }
+fn put_pid(alloc: Global, text: &mut Vec<u8>, policy: &Policy, who: &Pid) -> Result<(), NoMemory>
+    ensures { OnOk result (text.new.items ≡ text.old.items ++ pid_text policy.now who.now) }
 {
-    put_drawn(alloc, text, levels, who.n, &who.label)
+    put_drawn(alloc, text, policy, who.n, &who.label)
 }
 
 #[tactic(auto, unfolding(crate::specs::Texts::thing_text))]
 fn put_thing(
     alloc: Global,
     text: &mut Vec<u8>,
-    levels: &Levels,
+    policy: &Policy,
     thing: &Thing,
 ) -> Result<(), NoMemory>
-    ensures { OnOk result (text.new.items ≡ text.old.items ++ thing_text levels.now thing.now) }
+    ensures { OnOk result (text.new.items ≡ text.old.items ++ thing_text policy.now thing.now) }
 {
     match thing {
         Thing::Object(id) => {
             text.extend_from_slice(b"obj:")?;
-            put_drawn(alloc, text, levels, id.n, &id.label)
+            put_drawn(alloc, text, policy, id.n, &id.label)
         }
         Thing::Process(who) => {
             text.extend_from_slice(b"proc:")?;
-            put_drawn(alloc, text, levels, who.n, &who.label)
+            put_drawn(alloc, text, policy, who.n, &who.label)
         }
     }
 }
 
 #[tactic(auto, unfolding(crate::specs::Texts::new_label_text))]
-fn new_label_word<'a>(levels: &'a Levels, label: &Option<Label>) -> &'a [u8]
-    ensures { result.now ≡ new_label_text levels.now label.now }
+fn put_new_label(
+    alloc: Global,
+    text: &mut Vec<u8>,
+    policy: &Policy,
+    label: &Option<Label>,
+) -> Result<(), NoMemory>
+    ensures { OnOk result (text.new.items ≡ text.old.items ++ new_label_text policy.now label.now) }
 {
     match label {
-        Some(label) => label_name(levels, label),
-        None => b"-",
+        Some(label) => put_label(alloc, text, policy, label),
+        None => text.extend_from_slice(b"-"),
     }
 }
 
@@ -169,13 +185,18 @@ fn put_place(alloc: Global, text: &mut Vec<u8>, place: Place) -> Result<(), NoMe
 }
 
 #[tactic(auto, unfolding(crate::specs::Texts::answer_text))]
-fn put_answer(text: &mut Vec<u8>, levels: &Levels, answer: Answer) -> Result<(), NoMemory>
-    ensures { OnOk result (text.new.items ≡ text.old.items ++ answer_text levels.now answer) }
+fn put_answer(
+    alloc: Global,
+    text: &mut Vec<u8>,
+    policy: &Policy,
+    answer: Answer,
+) -> Result<(), NoMemory>
+    ensures { OnOk result (text.new.items ≡ text.old.items ++ answer_text policy.now answer) }
 {
     match answer {
         Answer::Mark(label) => {
             text.extend_from_slice(b"ok ")?;
-            text.extend_from_slice(label_name(levels, &label))
+            put_label(alloc, text, policy, &label)
         }
     }
 }
@@ -184,13 +205,13 @@ fn put_answer(text: &mut Vec<u8>, levels: &Levels, answer: Answer) -> Result<(),
 fn put_outcome(
     alloc: Global,
     text: &mut Vec<u8>,
-    levels: &Levels,
+    policy: &Policy,
     reply: Reply,
 ) -> Result<(), NoMemory>
-    ensures { OnOk result (text.new.items ≡ text.old.items ++ outcome_text levels.now reply) }
+    ensures { OnOk result (text.new.items ≡ text.old.items ++ outcome_text policy.now reply) }
 {
     match reply {
-        Reply::Done(answer) => put_answer(text, levels, answer),
+        Reply::Done(answer) => put_answer(alloc, text, policy, answer),
         Reply::Denied {
             errno,
             check,
@@ -210,18 +231,18 @@ fn put_outcome(
 #[tactic(auto, unfolding(crate::specs::Texts::reply_text))]
 pub fn reply_line(
     alloc: Global,
-    levels: &Levels,
+    policy: &Policy,
     item: &ScriptItem,
     reply: Reply,
 ) -> Result<Vec<u8>, NoMemory>
-    ensures { IfOk result (λ text. (recs : List RecValue) → text.items ≡ reply_text levels.now (record { who = item.now.who; call = item.now.call; reply = reply; recs = recs })) }
+    ensures { IfOk result (λ text. (recs : List RecValue) → text.items ≡ reply_text policy.now (record { who = item.now.who; call = item.now.call; reply = reply; recs = recs })) }
 {
     let mut text = Vec::new(alloc);
-    put_pid(alloc, &mut text, levels, &item.who)?;
+    put_pid(alloc, &mut text, policy, &item.who)?;
     text.push(b' ')?;
     text.extend_from_slice(call_word(item.call.name()))?;
     text.push(b' ')?;
-    put_outcome(alloc, &mut text, levels, reply)?;
+    put_outcome(alloc, &mut text, policy, reply)?;
     text.push(b'\n')?;
     Ok(text)
 }
@@ -230,18 +251,18 @@ pub fn reply_line(
 #[tactic(auto, unfolding(crate::specs::Texts::life_text))]
 pub fn end_line(
     alloc: Global,
-    levels: &Levels,
+    policy: &Policy,
     who: &Pid,
     label: &Label,
     caps: &CapState,
 ) -> Result<Vec<u8>, NoMemory>
-    ensures { IfOk result (λ text. text.items ≡ life_text levels.now who.now label.now caps.now) }
+    ensures { IfOk result (λ text. text.items ≡ life_text policy.now who.now label.now caps.now) }
 {
     let mut text = Vec::new(alloc);
     text.extend_from_slice(b"end ")?;
-    put_pid(alloc, &mut text, levels, who)?;
+    put_pid(alloc, &mut text, policy, who)?;
     text.push(b' ')?;
-    text.extend_from_slice(label_name(levels, label))?;
+    put_label(alloc, &mut text, policy, label)?;
     text.push(b' ')?;
     text.extend_from_slice(caps_word(caps))?;
     text.push(b'\n')?;
@@ -273,18 +294,18 @@ pub fn last_line(alloc: Global, count: u64, ending: Ending) -> Result<Vec<u8>, N
     Ok(text)
 }
 
-fn put_names(text: &mut Vec<u8>, names: &Levels) -> Result<(), NoMemory>
+fn put_names(text: &mut Vec<u8>, names: &[Word]) -> Result<(), NoMemory>
     ensures { OnOk result (text.new.items ≡ text.old.items ++ flat_map (λ name. 32 ∷ name) names.now) }
 {
-    for name in names.items() {
+    for name in names {
         text.push(b' ')?;
-        text.extend_from_slice(name.items())?;
+        text.extend_from_slice(name.bytes())?;
     }
     Ok(())
 }
 
 #[tactic(auto, unfolding(crate::specs::Texts::names_text))]
-fn put_names_line(text: &mut Vec<u8>, keyword: &[u8], names: &Levels) -> Result<(), NoMemory>
+fn put_names_line(text: &mut Vec<u8>, keyword: &[u8], names: &[Word]) -> Result<(), NoMemory>
     ensures { OnOk result (text.new.items ≡ text.old.items ++ names_text keyword.now names.now) }
 {
     text.extend_from_slice(keyword)?;
@@ -300,8 +321,8 @@ pub fn header(alloc: Global, policy: &Policy, bound: &CapSet) -> Result<Vec<u8>,
 {
     let mut text = Vec::new(alloc);
     text.extend_from_slice(b"trail 1\n")?;
-    put_names_line(&mut text, b"levels", &policy.levels)?;
-    put_names_line(&mut text, b"categories", &policy.categories)?;
+    put_names_line(&mut text, b"levels", policy.levels())?;
+    put_names_line(&mut text, b"categories", policy.cats())?;
     text.extend_from_slice(b"bound ")?;
     text.extend_from_slice(bound_word(bound))?;
     text.push(b'\n')?;
@@ -316,6 +337,19 @@ fn put_word(text: &mut Vec<u8>, word: &[u8]) -> Result<(), NoMemory>
     text.extend_from_slice(word)
 }
 
+// A label behind a space.
+fn put_label_word(
+    alloc: Global,
+    text: &mut Vec<u8>,
+    policy: &Policy,
+    label: &Label,
+) -> Result<(), NoMemory>
+    ensures { OnOk result (text.new.items ≡ text.old.items ++ 32 ∷ label_text policy.now label.now) }
+{
+    text.push(b' ')?;
+    put_label(alloc, text, policy, label)
+}
+
 // A place behind a space.
 fn put_place_word(alloc: Global, text: &mut Vec<u8>, place: Place) -> Result<(), NoMemory>
     ensures { OnOk result (text.new.items ≡ text.old.items ++ 32 ∷ place_text place) }
@@ -328,43 +362,44 @@ fn put_place_word(alloc: Global, text: &mut Vec<u8>, place: Place) -> Result<(),
 fn put_subject(
     alloc: Global,
     text: &mut Vec<u8>,
-    levels: &Levels,
+    policy: &Policy,
     thing: &Thing,
     thing_label: &Label,
     new_label: &Option<Label>,
     place: Place,
 ) -> Result<(), NoMemory>
-    ensures { OnOk result (text.new.items ≡ text.old.items ++ 32 ∷ (thing_text levels.now thing.now ++ 32 ∷ (label_text levels.now thing_label.now ++ 32 ∷ (new_label_text levels.now new_label.now ++ 32 ∷ place_text place)))) }
+    ensures { OnOk result (text.new.items ≡ text.old.items ++ 32 ∷ (thing_text policy.now thing.now ++ 32 ∷ (label_text policy.now thing_label.now ++ 32 ∷ (new_label_text policy.now new_label.now ++ 32 ∷ place_text place)))) }
 {
     text.push(b' ')?;
-    put_thing(alloc, text, levels, thing)?;
-    put_word(text, label_name(levels, thing_label))?;
-    put_word(text, new_label_word(levels, new_label))?;
+    put_thing(alloc, text, policy, thing)?;
+    put_label_word(alloc, text, policy, thing_label)?;
+    text.push(b' ')?;
+    put_new_label(alloc, text, policy, new_label)?;
     put_place_word(alloc, text, place)
 }
 
 #[tactic(auto, unfolding(crate::specs::Texts::rec_words))]
-fn put_record(alloc: Global, text: &mut Vec<u8>, levels: &Levels, rec: &Rec) -> Result<(), NoMemory>
-    ensures { OnOk result (text.new.items ≡ text.old.items ++ rec_words levels.now rec.now) }
+fn put_record(alloc: Global, text: &mut Vec<u8>, policy: &Policy, rec: &Rec) -> Result<(), NoMemory>
+    ensures { OnOk result (text.new.items ≡ text.old.items ++ rec_words policy.now rec.now) }
 {
     match rec {
         Rec::Boot(who, label, caps) => {
             text.extend_from_slice(b"boot ")?;
-            put_pid(alloc, text, levels, who)?;
-            put_word(text, label_name(levels, label))?;
+            put_pid(alloc, text, policy, who)?;
+            put_label_word(alloc, text, policy, label)?;
             put_word(text, caps_word(caps))
         }
         Rec::Exercise(who, label, with, check, thing, thing_label, new_label, place) => {
             text.extend_from_slice(b"exercise ")?;
-            put_pid(alloc, text, levels, who)?;
-            put_word(text, label_name(levels, label))?;
+            put_pid(alloc, text, policy, who)?;
+            put_label_word(alloc, text, policy, label)?;
             put_word(text, with.name())?;
             put_word(text, check_word(*check))?;
-            put_subject(alloc, text, levels, thing, thing_label, new_label, *place)
+            put_subject(alloc, text, policy, thing, thing_label, new_label, *place)
         }
         Rec::Deny(who, call, errno, check, place) => {
             text.extend_from_slice(b"deny ")?;
-            put_pid(alloc, text, levels, who)?;
+            put_pid(alloc, text, policy, who)?;
             put_word(text, call_word(*call))?;
             put_word(text, errno_word(*errno))?;
             put_word(text, check_word(*check))?;
@@ -377,16 +412,16 @@ fn put_record(alloc: Global, text: &mut Vec<u8>, levels: &Levels, rec: &Rec) -> 
 #[tactic(auto, unfolding(crate::specs::Texts::rec_text))]
 pub fn record_line(
     alloc: Global,
-    levels: &Levels,
+    policy: &Policy,
     call: u64,
     rec: &Rec,
 ) -> Result<Vec<u8>, NoMemory>
-    ensures { IfOk result (λ text. text.items ≡ rec_text levels.now call rec.now) }
+    ensures { IfOk result (λ text. text.items ≡ rec_text policy.now call rec.now) }
 {
     let mut text = Vec::new(alloc);
     put_number(alloc, &mut text, call)?;
     text.push(b' ')?;
-    put_record(alloc, &mut text, levels, rec)?;
+    put_record(alloc, &mut text, policy, rec)?;
     text.push(b'\n')?;
     Ok(text)
 }

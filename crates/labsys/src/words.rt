@@ -1,58 +1,21 @@
 // Words of a line.
 ghost use Rattle.std.specs.Prelude.{◌≡◌, ◌≤◌, ◌∷◌, IfOk, length};
-ghost use Rattle.std.specs.List.{list_all, list_any};
+ghost use Rattle.std.specs.List.{list_all};
 ghost use Rattle.std.specs.Option.{option_copied};
 ghost use Rattle.labsys.specs.Lines.{pieces};
-ghost use Rattle.labsys.specs.Grammar.{is_letter, is_name_part, is_label_name, same_bytes, keep_if, number_of, mode_of, is_bare, entry_of, is_plain, quoted_of, tag_of, caps_of};
-ghost use Rattle.labsys.specs.Words.{words_in, left_in, are_names};
+ghost use Rattle.labsys.specs.Grammar.{number_of, mode_of, is_bare, entry_of, is_plain, quoted_of, tag_of, caps_of};
+ghost use Rattle.labsys.specs.Words.{words_in, left_in};
 
-use crate::labels::label_of;
 use crate::pieces::{behind, cut, numeral};
 use cap_bits::{Cap, CapSet, CapState};
 use fs_path::{ByteList, List, Name, NoMemory};
 use kern_model::{Gid, Mode, Pid};
+use lab_text::{Policy, Word, mac_from_text};
 use std::alloc::Global;
-
-/// The names of a world's levels, lowest first.
-pub type Levels = List<ByteList>;
 
 const MAX_NUMBER: u64 = u32::MAX as u64;
 
 const STICKY: u64 = 0o1000;
-
-fn is_letter(byte: u8) -> bool
-    ensures { result ≡ is_letter byte }
-{
-    matches!(byte, b'A'..=b'Z' | b'a'..=b'z')
-}
-
-fn is_name_part(byte: u8) -> bool
-    ensures { result ≡ is_name_part byte }
-{
-    is_letter(byte) || matches!(byte, b'0'..=b'9' | b'_' | b'-')
-}
-
-fn are_name_parts(bytes: &[u8]) -> bool
-    ensures { result ≡ list_all is_name_part bytes.now }
-{
-    bytes.iter().all(|byte| is_name_part(*byte))
-}
-
-// Whether a level or a category may have this name.
-fn is_label_name(word: &[u8]) -> bool
-    ensures { result ≡ is_label_name word.now }
-{
-    match word {
-        [first, rest @ ..] => is_letter(*first) && rest.len() <= 30 && are_name_parts(rest),
-        [] => false,
-    }
-}
-
-fn has_name(names: &Levels, word: &[u8]) -> bool
-    ensures { result ≡ list_any (same_bytes word.now) names.now }
-{
-    names.items().iter().any(|name| word == name.items())
-}
 
 // The first word, and what stands behind the space, if there is one.
 pub fn first_word(text: &[u8]) -> (&[u8], Option<&[u8]>)
@@ -65,21 +28,18 @@ pub fn first_word(text: &[u8]) -> (&[u8], Option<&[u8]>)
     }
 }
 
-/// At most `high` distinct names of levels or categories, and no other words.
-pub fn names_in(alloc: Global, high: usize, text: Option<&[u8]>) -> Result<Option<Levels>, NoMemory>
-    ensures { IfOk result (λ said. said ≡ keep_if (are_names high (words_in (option_copied text.entry))) (words_in (option_copied text.entry))) }
+/// The words of a text, if there is one.
+pub fn words_of(alloc: Global, text: Option<&[u8]>) -> Result<List<Word>, NoMemory>
+    ensures { IfOk result (λ words. words ≡ words_in (option_copied text.entry)) }
 {
-    let mut names = List::new(alloc);
+    let mut words = List::new(alloc);
     let mut rest = text;
     while let Some(text) = rest {
         let (word, more) = first_word(text);
-        if names.items().len() >= high || !is_label_name(word) || has_name(&names, word) {
-            return Ok(None);
-        }
-        names.push(ByteList::from_slice(alloc, word)?)?;
+        words.push(Word::new(alloc, word)?)?;
         rest = more;
     }
-    Ok(Some(names))
+    Ok(words)
 }
 
 /// A number of a user or a group.
@@ -140,13 +100,12 @@ pub fn quoted_of(alloc: Global, word: &[u8]) -> Result<Option<ByteList>, NoMemor
 }
 
 /// The number of a process, as `n@label`.
-pub fn tag_of(levels: &Levels, word: &[u8]) -> Option<Pid>
-    requires { length levels.now ≤ 16 }
-    ensures { result ≡ tag_of levels.now word.now }
+pub fn tag_of(policy: &Policy, word: &[u8]) -> Option<Pid>
+    ensures { result ≡ tag_of policy.now word.now }
 {
     let (number, name) = cut(word, b'@')?;
     let number = numeral(number, 10, 10, 1, 4095)?;
-    let label = label_of(levels, name)?;
+    let label = mac_from_text(policy, name).ok()?;
     Some(Pid {
         label,
         n: number as u16,

@@ -24,12 +24,13 @@ pub struct Objects {
 impl Model for Objects {
     ghost use Rattle.std.specs.FinMap as map;
     ghost use Rattle.std.specs.Coded.{codes};
+    ghost use Rattle.lab_lattice.specs.Label.{label_code};
     ghost use Rattle.kern_model.specs.Keys.{oid_cmp};
     ghost use Rattle.kern_model.specs.declared.objects.Object.{Object};
 
     ghost Value = { map.FinMap oid_cmp Object };
 
-    ghost coded = { map.code (Prim.hlevel codes) (Prim.hlevel codes) };
+    ghost coded = { map.code (Prim.hlevel (codes, label_code)) (Prim.hlevel (codes, label_code)) };
 
     ghost view = { λ a. map.from_entries a.kept.entries };
 }
@@ -69,12 +70,13 @@ pub struct Entries {
 impl Model for Entries {
     ghost use Rattle.std.specs.FinMap as map;
     ghost use Rattle.std.specs.Coded.{codes};
+    ghost use Rattle.lab_lattice.specs.Label.{label_code};
     ghost use Rattle.kern_model.specs.Keys.{spot_cmp};
     ghost use Rattle.kern_model.specs.declared.numbers.Oid.{Oid};
 
     ghost Value = { map.FinMap spot_cmp Oid };
 
-    ghost coded = { map.code (Prim.hlevel codes) (Prim.hlevel codes) };
+    ghost coded = { map.code (Prim.hlevel (codes, label_code)) (Prim.hlevel (codes, label_code)) };
 
     ghost view = { λ a. map.from_entries a.kept.entries };
 }
@@ -115,13 +117,14 @@ impl Model for Procs {
     ghost use Rattle.std.specs.FinMap as map;
     ghost use Rattle.std.specs.FinSet as set;
     ghost use Rattle.std.specs.Coded.{codes};
+    ghost use Rattle.lab_lattice.specs.Label.{label_code};
     ghost use Rattle.cap_bits.specs.Cap.{cap_cmp, cap_code};
     ghost use Rattle.kern_model.specs.Keys.{pid_cmp};
     ghost use Rattle.kern_model.specs.declared.objects.Process.{Process};
 
     ghost Value = { map.FinMap pid_cmp Process };
 
-    ghost coded = { map.code (Prim.hlevel codes) (Prim.hlevel (codes, set.code {R = cap_cmp} cap_code)) };
+    ghost coded = { map.code (Prim.hlevel (codes, label_code)) (Prim.hlevel (codes, set.code {R = cap_cmp} cap_code, label_code)) };
 
     ghost view = { λ a. map.from_entries a.kept.entries };
 }
@@ -203,11 +206,11 @@ impl Model for Numbers {
     ghost use Rattle.std.specs.Prelude.{ℕ};
     ghost use Rattle.std.specs.FinMap as map;
     ghost use Rattle.std.specs.Coded.{codes};
-    ghost use Rattle.lab_lattice.specs.Label.{label_cmp};
+    ghost use Rattle.lab_lattice.specs.Label.{label_cmp, label_code};
 
     ghost Value = { map.FinMap label_cmp ℕ };
 
-    ghost coded = { map.code (Prim.hlevel codes) (Prim.hlevel codes) };
+    ghost coded = { map.code (Prim.hlevel (codes, label_code)) (Prim.hlevel (codes, label_code)) };
 
     ghost view = { λ a. map.from_entries a.kept.entries };
 }

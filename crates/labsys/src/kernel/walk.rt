@@ -1,6 +1,5 @@
 // The walk of a path.
 ghost use Rattle.std.specs.Prelude.{◌≡◌, ◌≤◌, ◌+◌, [], ◌∷◌, IfOk, IfErr, OnOk, length};
-ghost use Rattle.lab_lattice.specs.Label.{bottom};
 ghost use Rattle.kern_model.specs.State.{look, object_at, root};
 ghost use Rattle.kern_model.specs.Rules.{dac_search, is_dir, mac_read, on_object};
 ghost use Rattle.kern_model.specs.Walk.{start_of};
@@ -9,7 +8,7 @@ ghost use Rattle.labsys.specs.Kernel.{state_of, FindsFrom, StopsFrom, Enters, St
 use super::Kernel;
 use chk_rules::{Checks, Stop, Want, mac_read_ok, mode_allows, must};
 use kern_model::{Check, CheckName, Errno, Kind, Name, NoMemory, Oid, Path, Place, Process, Thing};
-use lab_lattice::{Label, Level};
+use lab_lattice::bottom;
 
 /// What a walk found: the last directory and the last name, if the path has names, and what it leads to, if that
 /// is there.
@@ -20,23 +19,12 @@ pub struct Found {
     pub object: Option<Oid>,
 }
 
-/// The label that each label dominates.
-#[tactic(auto, unfolding(lab_lattice::specs::Label::bottom))]
-fn bottom_label() -> Label
-    ensures { result ≡ bottom }
-{
-    match Level::new(0) {
-        Some(label) => label,
-        None => unreachable!(),
-    }
-}
-
 /// The number of the root directory.
 pub fn root_directory() -> Oid
     ensures { result ≡ root }
 {
     Oid {
-        label: bottom_label(),
+        label: bottom(),
         n: 1,
     }
 }

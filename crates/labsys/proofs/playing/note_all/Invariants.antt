@@ -6,6 +6,6 @@ use Rattle.labsys.proofs.playing.note_all.Given as goal
 
 abbrev pub invariant-loop-rec : goal.invariant-loop-rec
 invariant-loop-rec g l = record {
-  noted : Appends (g.T.Sink.held l.initial.trail) (g.T.Sink.held l.trail) (flat_map (rec_text l.levels l.call) (take l.rec-index l.recs));
+  noted : Appends (g.T.Sink.held l.initial.trail) (g.T.Sink.held l.trail) (flat_map (rec_text l.policy l.call) (take l.rec-index l.recs));
   later : g.T.Sink.faults l.initial.trail ≤ g.T.Sink.faults l.trail;
 }

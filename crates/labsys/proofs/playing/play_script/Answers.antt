@@ -18,12 +18,12 @@ returns-in_err-item-clause-front g c = underway_front _ _ _ _ _ _ _ _ _ _ c.loop
 
 pub returns-in_err-play_item-in-Item-clause-front : goal.returns-in_err-play_item-in-Item-clause-front
 returns-in_err-play_item-in-Item-clause-front g c =
-    let line = subst (λ x. Follows c.args.over c.args.levels.now c.loop-item.number c.loop-item.rest.now x) c.in-Item.is c.in_ok-item.ensures in
+    let line = subst (λ x. Follows c.args.over c.args.policy.now c.loop-item.number c.loop-item.rest.now x) c.in-Item.is c.in_ok-item.ensures in
     underway_cut _ _ _ _ _ _ _ _ _ _ c.loop-item.invariant.underway _ _ line.says _ _ c.play_item.ensures.front
 
 pub loop-item-preserved : goal.loop-item-preserved
 loop-item-preserved g c =
-    let line = subst (λ x. Follows c.args.over c.args.levels.now c.loop-item.number c.loop-item.rest.now x) c.in-Item.is c.in_ok-item.ensures in
+    let line = subst (λ x. Follows c.args.over c.args.policy.now c.loop-item.number c.loop-item.rest.now x) c.in-Item.is c.in_ok-item.ensures in
     let shorter = line.shorter in
     let i = c.loop-item.invariant in
     record {
@@ -36,11 +36,11 @@ loop-item-preserved g c =
 
 pub returns-in_err-finish-in-Ended-clause-front : goal.returns-in_err-finish-in-Ended-clause-front
 returns-in_err-finish-in-Ended-clause-front g c =
-    underway_end_cut _ _ _ _ _ _ _ _ _ _ c.loop-item.invariant.underway _ (subst (λ x. Follows c.args.over c.args.levels.now c.loop-item.number c.loop-item.rest.now x) c.in-Ended.is c.in_ok-item.ensures) _ c.finish.ensures.front
+    underway_end_cut _ _ _ _ _ _ _ _ _ _ c.loop-item.invariant.underway _ (subst (λ x. Follows c.args.over c.args.policy.now c.loop-item.number c.loop-item.rest.now x) c.in-Ended.is c.in_ok-item.ensures) _ c.finish.ensures.front
 
 pub returns-in-Ended-clause-whole : goal.returns-in-Ended-clause-whole
 returns-in-Ended-clause-whole g c =
-    underway_end _ _ _ _ _ _ _ _ _ _ c.loop-item.invariant.underway _ (subst (λ x. Follows c.args.over c.args.levels.now c.loop-item.number c.loop-item.rest.now x) c.in-Ended.is c.in_ok-item.ensures) _ c.in_ok-finish-in-Ended.ensures.ok
+    underway_end _ _ _ _ _ _ _ _ _ _ c.loop-item.invariant.underway _ (subst (λ x. Follows c.args.over c.args.policy.now c.loop-item.number c.loop-item.rest.now x) c.in-Ended.is c.in_ok-item.ensures) _ c.in_ok-finish-in-Ended.ensures.ok
 
 pub returns-in-Ended-clause-front : goal.returns-in-Ended-clause-front
 returns-in-Ended-clause-front g c = sends_all _ _ _ _ _ (returns-in-Ended-clause-whole g c).all

@@ -9,8 +9,8 @@ use Rattle.labsys.proofs.playing.play_script.Given as goal
 abbrev pub invariant-loop-item : goal.invariant-loop-item
 invariant-loop-item g l = record {
   underway : Underway (g.K.Sink.held l.initial.out) (g.K.Sink.held l.out) (g.T.Sink.held l.initial.trail) (g.T.Sink.held l.trail)
-      (order_in l.levels 0 (state_of l.fn.kernel) (script_from l.over l.levels l.first (pieces 10 l.script))) (script_from l.over l.levels l.first (pieces 10 l.script)).ending
-      l.levels l.count (state_of l.kernel) (script_from l.over l.levels l.number (pieces 10 l.rest));
+      (order_in l.policy 0 (state_of l.fn.kernel) (script_from l.over l.policy l.first (pieces 10 l.script))) (script_from l.over l.policy l.first (pieces 10 l.script)).ending
+      l.policy l.count (state_of l.kernel) (script_from l.over l.policy l.number (pieces 10 l.rest));
   few : l.number + length l.rest ≤ 2 ^ 60;
   counted : l.count ≤ l.number;
   out_later : g.K.Sink.faults l.initial.out ≤ g.K.Sink.faults l.out;

@@ -8,6 +8,6 @@ use Rattle.labsys.proofs.playing.tell_ends.Given as goal
 
 abbrev pub invariant-loop-who : goal.invariant-loop-who
 invariant-loop-who g l = record {
-  told : Appends (g.K.Sink.held l.initial.out) (g.K.Sink.held l.out) (flat_map (λ (who : Pid). end_text l.levels who (label_in (state_of l.kernel) who) (caps_in (state_of l.kernel) who)) (take l.who-index l.who-items));
+  told : Appends (g.K.Sink.held l.initial.out) (g.K.Sink.held l.out) (flat_map (λ (who : Pid). end_text l.policy who (label_in (state_of l.kernel) who) (caps_in (state_of l.kernel) who)) (take l.who-index l.who-items));
   later : g.K.Sink.faults l.initial.out ≤ g.K.Sink.faults l.out;
 }

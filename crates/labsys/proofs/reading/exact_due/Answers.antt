@@ -1,6 +1,7 @@
 use Rattle.std.proofs.Common.{sym, ◌∙◌}
 use Rattle.std.proofs.lemmas.Bool.{not-true, not-false}
-use Rattle.labsys.specs.Grammar.{exactly, same_bytes}
+use Rattle.lab_text.specs.Names.{same_bytes}
+use Rattle.labsys.specs.Grammar.{exactly}
 use Rattle.labsys.proofs.ReadLemmas.{goes_on, stops_at_line, stops_without, is_exact, is_not_exact}
 use Rattle.labsys.proofs.reading.exact_due.Goals as goal
 

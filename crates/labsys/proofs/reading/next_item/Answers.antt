@@ -5,19 +5,19 @@ use Rattle.labsys.proofs.reading.next_item.Goals as goal
 pub returns-then-is_whole : goal.returns-then-is_whole
 returns-then-is_whole c =
     let whole = closed c.args.over c.args.text.now (sym c.is_whole.ensures ∙ c.if-is_whole.true) in
-    ends_whole c.args.over c.args.levels.now c.args.number c.args.text.now whole.0 whole.1
+    ends_whole c.args.over c.args.policy.now c.args.number c.args.text.now whole.0 whole.1
 
 pub returns-in_default : goal.returns-in_default
 returns-in_default c =
-    ends_without c.args.over c.args.levels.now c.args.number c.args.text.now c.ends_at.result (opened c.args.over c.args.text.now (sym c.is_whole.ensures ∙ c.if-is_whole.false))
+    ends_without c.args.over c.args.policy.now c.args.number c.args.text.now c.ends_at.result (opened c.args.over c.args.text.now (sym c.is_whole.ensures ∙ c.if-is_whole.false))
     c.in_default.ensures.line c.ends_at.ensures
 
 pub returns-in_default-2 : goal.returns-in_default-2
 returns-in_default-2 c =
-    ends_at_line c.args.over c.args.levels.now c.args.number c.args.text.now c.in-Some.line.now c.in-Some.rest.now (opened c.args.over c.args.text.now (sym c.is_whole.ensures ∙ c.if-is_whole.false))
+    ends_at_line c.args.over c.args.policy.now c.args.number c.args.text.now c.in-Some.line.now c.in-Some.rest.now (opened c.args.over c.args.text.now (sym c.is_whole.ensures ∙ c.if-is_whole.false))
     c.in-Some.ensures.line (sym c.in_default-2.is ∙ c.in_ok-item.ensures)
 
 pub returns : goal.returns
 returns c =
-    plays_line c.args.over c.args.levels.now c.args.number c.args.text.now c.in-Some.line.now c.in-Some.rest.now c.in-Some-2.item (opened c.args.over c.args.text.now (sym c.is_whole.ensures ∙ c.if-is_whole.false))
+    plays_line c.args.over c.args.policy.now c.args.number c.args.text.now c.in-Some.line.now c.in-Some.rest.now c.in-Some-2.item (opened c.args.over c.args.text.now (sym c.is_whole.ensures ∙ c.if-is_whole.false))
     c.in-Some.ensures.line (sym c.in-Some-2.is ∙ c.in_ok-item.ensures) c.in-Some.ensures.shorter

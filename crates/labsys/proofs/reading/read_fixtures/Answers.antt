@@ -1,10 +1,9 @@
 use Rattle.std.proofs.Common.{◌≡◌, ◌+◌, ◌≤◌, ◌<◌, ◌∷◌, [], true, length, sym, ◌∙◌, ap, subst, arith, Option}
 use Rattle.std.specs.Prelude.{IfSome, option_map, codes}
-use Rattle.lab_lattice.specs.Label.{dominates}
 use Rattle.labsys.specs.declared.lines.Fixture.{Fixture}
-use Rattle.labsys.specs.Grammar.{same_bytes, top_of}
+use Rattle.lab_text.specs.Names.{same_bytes}
 use Rattle.labsys.specs.Input.{fits}
-use Rattle.labsys.specs.Fixture.{as_fixture, label_in}
+use Rattle.labsys.specs.Fixture.{as_fixture}
 use Rattle.labsys.proofs.ReadLemmas.{comes_here, comes_further, comes_to_script, comes_to_refused, comes_to_end, space_root, space_more, is_exact, is_not_exact}
 use Rattle.labsys.proofs.reading.read_fixtures.Goals as goal
 

@@ -12,5 +12,5 @@ pub returns : goal.returns
 returns c =
     read_whole c.args.over c.args.text.now c.in_ok-policy.field-0.rest.now c.in_ok-draft.field-0.script.now c.in_ok-policy.field-0.policy c.in_ok-policy.field-0.bound c.in_ok-policy.field-0.root c.in_ok-draft.field-0.draft
     c.in_ok-draft.field-0.number _ c.in_ok-policy.ensures.says c.in_ok-draft.ensures.says
-    (world_is c.in_ok-policy.field-0.policy.levels c.in_ok-policy.field-0.bound c.in_ok-draft.field-0.draft c.top_of.result c.into_lists-objects.result c.top_of.ensures c.into_lists-objects.ensures)
-    c.in_ok-draft.ensures.space c.in_ok-policy.ensures.few c.in_ok-draft.ensures.numbered c.in_ok-policy.ensures.shorter
+    (world_is c.in_ok-policy.field-0.policy c.in_ok-policy.field-0.bound c.in_ok-draft.field-0.draft c.top.result c.into_lists-objects.result c.top.ensures c.into_lists-objects.ensures)
+    c.in_ok-draft.ensures.space c.in_ok-draft.ensures.numbered c.in_ok-policy.ensures.shorter

@@ -3,4 +3,4 @@ use Rattle.std.specs.List.{flat_map}
 use Rattle.labsys.proofs.texts.put_names.Given as goal
 
 abbrev pub invariant-loop-name : goal.invariant-loop-name
-invariant-loop-name l = l.text.items ≡ l.initial.text.items ++ flat_map (λ (name : List ℕ). 32 ∷ name) (take l.name-index l.name-items)
+invariant-loop-name l = l.text.items ≡ l.initial.text.items ++ flat_map (λ (name : List ℕ). 32 ∷ name) (take l.name-index l.names)

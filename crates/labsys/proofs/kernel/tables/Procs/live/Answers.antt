@@ -1,13 +1,12 @@
 use Rattle.std.proofs.Common.{◌∙◌, ap, sym, ◌++◌}
 use Rattle.std.specs.Map.{keys_of}
 use Rattle.std.specs.FinMap as map
-use Rattle.lab_lattice.specs.Label.{label_cmp}
 use Rattle.kern_model.specs.Keys.{pid_cmp, pid_cmp_total, pid_cmp_exact}
 use Rattle.kern_model.proofs.TableLemmas.{entries_view}
 use Rattle.labsys.proofs.kernel.tables.Procs.live.Goals as goal
 
 pub loop-who-init : goal.loop-who-init
-unfolding pid_cmp label_cmp
+unfolding pid_cmp
 loop-who-init c =
     ap (λ xs. xs ++ keys_of c.into_iter-who-iterator.result) c.new-numbers.ensures
     ∙ ap keys_of (c.into_iter-who-iterator.ensures.into_iter_gives ∙ c.iter-who-items.ensures.rest)

@@ -1,0 +1,151 @@
+// Sets of categories.
+ghost use Rattle.std.specs.Prelude.{◌≡◌, ◌<◌, ◌↔◌, IsSome, IfSome, refl};
+ghost use Rattle.std.specs.Cmp.{partial_equiv_from_equiv, po};
+ghost use Rattle.std.specs.Ordering.{as_partial_cmp};
+ghost use Rattle.lab_lattice.specs.Cats.{no_cats, one_cat, has_cat, same_sets, same_sets-equiv, same_sets-ties, cats_cmp, cats_cmp_total};
+
+use crate::Lattice;
+use std::cmp::Ordering;
+use std::marker::Model;
+
+// How many categories there can be.
+const MAX_CATS: u8 = 64;
+
+/// A set of categories, which are numbers below 64.
+#[derive(Clone, Copy, Debug)]
+pub struct Cats {
+    // The bit with a category's number says whether the category is there.
+    word: u64,
+}
+
+impl Model for Cats {
+    ghost use Rattle.std.specs.Prelude.{◌<◌, ◌^◌};
+    ghost use Rattle.lab_lattice.specs.Cats.{CatSet, cats_code, cats_number};
+    ghost use Rattle.lab_lattice.specs.Word.{cats_of_word, word_back};
+
+    ghost Value = { CatSet };
+
+    ghost coded = { cats_code };
+
+    ghost view = { λ s. cats_of_word s.word };
+
+    ghost invariant = { λ s. s.word < 2 ^ 64 };
+
+    ghost inverse = { λ cats. record { word = cats_number cats } };
+
+    ghost inverse_ok = { λ s h. λ i. record { word = word_back s.word h i } };
+}
+
+impl Cats {
+    /// The set with no category.
+    pub fn empty() -> Cats
+        ensures { result ≡ no_cats }
+    {
+        Cats { word: 0 }
+    }
+
+    /// The set with this category alone, where its number is below 64.
+    pub fn one(i: u8) -> Option<Cats>
+        ensures some { IsSome result ↔ (i < 64) }
+        ensures one { IfSome result (λ cats. cats ≡ one_cat i) }
+    {
+        if i < MAX_CATS {
+            Some(Cats { word: 1 << i })
+        } else {
+            None
+        }
+    }
+
+    /// Whether the category is there.
+    pub fn has(&self, i: u8) -> bool
+        ensures { result ≡ has_cat self.now i }
+    {
+        i < MAX_CATS && self.word >> i & 1 == 1
+    }
+}
+
+impl Lattice for Cats {
+    ghost use Rattle.lab_lattice.specs.Cats.{cats_cover, cats_join, cats_meet, cover_itself, cover_through, cover_both, cats_join_first, cats_join_second, cats_join_under, cats_meet_first, cats_meet_second, cats_meet_over};
+
+    ghost covers = { cats_cover };
+
+    ghost join = { cats_join };
+
+    ghost meet = { cats_meet };
+
+    ghost reflexive = { cover_itself };
+
+    ghost transitive = { cover_through };
+
+    ghost antisymmetric = { cover_both };
+
+    ghost join_above_first = { cats_join_first };
+
+    ghost join_above_second = { cats_join_second };
+
+    ghost join_least = { cats_join_under };
+
+    ghost meet_below_first = { cats_meet_first };
+
+    ghost meet_below_second = { cats_meet_second };
+
+    ghost meet_greatest = { cats_meet_over };
+
+    fn dominates(&self, other: &Self) -> bool {
+        self.word & other.word == other.word
+    }
+
+    fn equal(&self, other: &Self) -> bool {
+        self.word == other.word
+    }
+
+    fn lub(&self, other: &Self) -> Self {
+        Cats {
+            word: self.word | other.word,
+        }
+    }
+
+    fn glb(&self, other: &Self) -> Self {
+        Cats {
+            word: self.word & other.word,
+        }
+    }
+}
+
+impl PartialEq for Cats {
+    ghost eq = { same_sets };
+
+    ghost laws = { partial_equiv_from_equiv same_sets-equiv };
+
+    fn eq(&self, other: &Cats) -> bool {
+        self.word == other.word
+    }
+}
+
+impl Eq for Cats {
+    ghost laws = { same_sets-equiv };
+}
+
+impl PartialOrd for Cats {
+    ghost partial_cmp = { as_partial_cmp cats_cmp };
+
+    ghost laws = { po cats_cmp_total same_sets-ties };
+
+    fn partial_cmp(&self, other: &Cats) -> Option<Ordering> {
+        Some(self.cmp(other))
+    }
+}
+
+impl Ord for Cats {
+    ghost cmp = { cats_cmp };
+
+    ghost total = { cats_cmp_total };
+
+    ghost matches_partial_cmp = { λ x y. refl };
+
+    ghost matches_eq = { same_sets-ties };
+
+    fn cmp(&self, other: &Cats) -> Ordering {
+        self.word.cmp(&other.word)
+    }
+}

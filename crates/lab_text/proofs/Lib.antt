@@ -1,0 +1,4 @@
+pub mod ScanLemmas
+pub mod PolicyLemmas
+pub mod NameLemmas
+pub mod LabelLemmas

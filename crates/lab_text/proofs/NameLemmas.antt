@@ -1,0 +1,139 @@
+-- What the names in a text come to, one after another.
+use Rattle.std.proofs.Common.{◌≡◌, ℕ, ◌+◌, ◌-◌, Bool, true, false, ◌==◌, ◌||◌, nat_eq, cond, List, [], ◌∷◌, length, take, drop, Option, Some, None, refl, ap, sym, ◌∙◌, arith}
+use Rattle.std.specs.Prelude.{option_and_then, position}
+use Rattle.std.specs.FinSet as set
+use Rattle.std.specs.List.{list_any, before_first, after_first, slice_split, position_or_len, onto_first}
+use Rattle.std.specs.Option.{option_map}
+use Rattle.std.proofs.lemmas.Bool.{ltb-true, ltb-false, or_parts}
+use Rattle.std.proofs.lemmas.Bool.Decides.{nat_tests}
+use Rattle.std.proofs.Math.Bool.{or-false}
+use Rattle.std.proofs.lemmas.List.{take_all, take_rest}
+use Rattle.std.proofs.lemmas.Option.{same_Some}
+use Rattle.std.proofs.lemmas.List.Splits.{slice_split_first, slice_split-cons_no}
+use Rattle.lab_lattice.specs.Cats.{CatSet, has_cat, no_cats, one_cat, cats_join, has-no_cats, has-one_cat, has-cats_join, same_cats}
+use Rattle.lab_text.specs.Names.{Names, same_bytes, place_of}
+use Rattle.lab_text.specs.Text.{is_comma, places_of, first_unknown}
+use Rattle.lab_text.specs.Scan.{names_behind, behind_first}
+use Rattle.lab_text.specs.Made.{any_before_end, position_found, position_missing}
+
+-- ---- cuts
+
+pub cut_behind : (p : ℕ → Bool) (t : List ℕ) (n : ℕ) → position p t ≡ Some n → Some (take (length t - (n + 1)) (drop (n + 1) t)) ≡ behind_first p t
+cut_behind p t n h =
+    let found = position_found p t n h in
+    ap Some (take_rest t (n + 1) ∙ ap (λ k. drop (k + 1) t) (sym found.1)) ∙ ap (λ v. cond v (Some (after_first p t)) None) (sym found.2)
+
+pub uncut_behind : (p : ℕ → Bool) (t : List ℕ) → position p t ≡ None → None ≡ behind_first p t
+uncut_behind p t h = ap (λ v. cond v (Some (after_first p t)) None) (sym (position_missing p t h).1)
+
+uncut_split : (t : List ℕ) → list_any is_comma t ≡ false → slice_split is_comma t ≡ t ∷ []
+uncut_split [] h = refl
+uncut_split (b ∷ bs) h =
+    let both = or_parts (is_comma b) (list_any is_comma bs) h in
+    slice_split-cons_no is_comma b bs both.0 ∙ ap (onto_first b) (uncut_split bs both.1)
+
+-- the first name in a comma list, and those behind it
+names_cut : (t : List ℕ) → slice_split is_comma t ≡ before_first is_comma t ∷ names_behind (behind_first is_comma t)
+names_cut t = by_comma (list_any is_comma t) refl
+  where
+    by_comma : (v : Bool) → list_any is_comma t ≡ v → slice_split is_comma t ≡ before_first is_comma t ∷ names_behind (cond v (Some (after_first is_comma t)) None)
+    by_comma true h = slice_split_first is_comma t 0 (ltb-true (position_or_len is_comma t) (length t) (sym (any_before_end is_comma t) ∙ h))
+    by_comma false h =
+        uncut_split t h
+        ∙ ap (λ n. n ∷ []) (sym (take_all (position_or_len is_comma t) t (ltb-false (position_or_len is_comma t) (length t) (sym (any_before_end is_comma t) ∙ h))))
+
+-- ---- categories
+
+-- the categories of names, added one after another
+abbrev pub gathered : Names → CatSet → Names → Option CatSet
+gathered known cats [] = Some cats
+gathered known cats (w ∷ ws) = option_and_then (λ i. gathered known (cats_join cats (one_cat i)) ws) (place_of known w)
+
+regroup : (a b c d : Bool) → b ≡ d → ((a || b) || c) ≡ (a || (d || c))
+regroup true b c d e = refl
+regroup false b c d e = ap (λ v. v || c) e
+
+turn : (q i : ℕ) → (q == i) ≡ nat_eq i q
+turn q i = grind (arith, nat_tests)
+
+-- a set with one more category and then others, and with all of these at once
+one_more : (cats : CatSet) (i : ℕ) (is : List ℕ) → cats_join (cats_join cats (one_cat i)) (set.from_list is) ≡ cats_join cats (set.from_list (i ∷ is))
+one_more cats i is = same_cats _ _ (λ q.
+    has-cats_join (cats_join cats (one_cat i)) (set.from_list is) q
+    ∙ (λ j. (has-cats_join cats (one_cat i) q ∙ ap (λ v. has_cat cats q || v) (has-one_cat i q)) j || set.contains-from_list_nat is q j)
+    ∙ regroup (has_cat cats q) (q == i) (list_any (λ y. nat_eq y q) is) (nat_eq i q) (turn q i)
+    ∙ sym (has-cats_join cats (set.from_list (i ∷ is)) q ∙ ap (λ v. has_cat cats q || v) (set.contains-from_list_nat (i ∷ is) q)))
+
+none_more : (cats : CatSet) → cats ≡ cats_join cats (set.from_list [])
+none_more cats = same_cats _ _ (λ q. sym (has-cats_join cats no_cats q ∙ ap (λ v. has_cat cats q || v) (has-no_cats q) ∙ or-false (has_cat cats q)))
+
+gathered_onto : (known : Names) (cats : CatSet) (ws : Names) → gathered known cats ws ≡ option_map (λ is. cats_join cats (set.from_list is)) (places_of known ws)
+gathered_onto known cats [] = ap Some (none_more cats)
+gathered_onto known cats (w ∷ ws) = by_place (λ i. gathered_onto known (cats_join cats (one_cat i)) ws) (place_of known w)
+  where
+    through : (i : ℕ) (r : Option (List ℕ)) → option_map (λ is. cats_join (cats_join cats (one_cat i)) (set.from_list is)) r ≡ option_map (λ is. cats_join cats (set.from_list is)) (option_map (λ is. i ∷ is) r)
+    through i None = refl
+    through i (Some is) = ap Some (one_more cats i is)
+
+    by_place : ((i : ℕ) → gathered known (cats_join cats (one_cat i)) ws ≡ option_map (λ is. cats_join (cats_join cats (one_cat i)) (set.from_list is)) (places_of known ws))
+        → (o : Option ℕ) → option_and_then (λ i. gathered known (cats_join cats (one_cat i)) ws) o ≡ option_map (λ is. cats_join cats (set.from_list is)) (option_and_then (λ i. option_map (λ is. i ∷ is) (places_of known ws)) o)
+    by_place rest None = refl
+    by_place rest (Some i) = rest i ∙ through i (places_of known ws)
+
+gathered_all : (known : Names) (ws : Names) → option_map set.from_list (places_of known ws) ≡ gathered known no_cats ws
+gathered_all known ws = from_none (places_of known ws) ∙ sym (gathered_onto known no_cats ws)
+  where
+    alone : (is : List ℕ) → set.from_list is ≡ cats_join no_cats (set.from_list is)
+    alone is = same_cats _ _ (λ q. sym (has-cats_join no_cats (set.from_list is) q ∙ ap (λ v. v || has_cat (set.from_list is) q) (has-no_cats q)))
+
+    from_none : (r : Option (List ℕ)) → option_map set.from_list r ≡ option_map (λ is. cats_join no_cats (set.from_list is)) r
+    from_none None = refl
+    from_none (Some is) = ap Some (alone is)
+
+gathered_step : (known : Names) (cats cat new : CatSet) (w : List ℕ) (ws : Names) → option_map one_cat (place_of known w) ≡ Some cat → new ≡ cats_join cats cat → gathered known cats (w ∷ ws) ≡ gathered known new ws
+gathered_step known cats cat new w ws h is = by_place (place_of known w) h
+  where
+    by_place : (o : Option ℕ) → option_map one_cat o ≡ Some cat → option_and_then (λ i. gathered known (cats_join cats (one_cat i)) ws) o ≡ gathered known new ws
+    by_place None h = absurd (cc)
+    by_place (Some i) h = ap (λ (c : CatSet). gathered known c ws) (ap (cats_join cats) (same_Some (one_cat i) cat h) ∙ sym is)
+
+unknown_step : (known : Names) (at : ℕ) (cat : CatSet) (w : List ℕ) (ws : Names) → option_map one_cat (place_of known w) ≡ Some cat → first_unknown known at (w ∷ ws) ≡ first_unknown known (at + (length w + 1)) ws
+unknown_step known at cat w ws h =
+    let next : at + length w + 1 ≡ at + (length w + 1) = omega arith in
+    by_place (place_of known w) refl h ∙ ap (λ a. first_unknown known a ws) next
+  where
+    by_place : (o : Option ℕ) → place_of known w ≡ o → option_map one_cat o ≡ Some cat → first_unknown known at (w ∷ ws) ≡ first_unknown known (at + length w + 1) ws
+    by_place None e h = absurd (cc)
+    by_place (Some i) e h = ap (λ v. cond v (first_unknown known (at + length w + 1) ws) (Some at)) (position_found (same_bytes w) known i e).2
+
+unknown_here : (known : Names) (at : ℕ) (w : List ℕ) (ws : Names) → option_map one_cat (place_of known w) ≡ None → first_unknown known at (w ∷ ws) ≡ Some at
+unknown_here known at w ws h = by_place (place_of known w) refl h
+  where
+    by_place : (o : Option ℕ) → place_of known w ≡ o → option_map one_cat o ≡ None → first_unknown known at (w ∷ ws) ≡ Some at
+    by_place None e h = ap (λ v. cond v (first_unknown known (at + length w + 1) ws) (Some at)) (position_missing (same_bytes w) known e).1
+    by_place (Some i) e h = absurd (cc)
+
+-- a name that was cut off, and what is left behind it
+pub record IsCut (rest : Option (List ℕ)) (word : List ℕ) (more : Option (List ℕ)) (text : List ℕ) : Type 0 where
+  pub some : rest ≡ Some text
+  pub before : word ≡ before_first is_comma text
+  pub behind : more ≡ behind_first is_comma text
+
+names_left : {rest more : Option (List ℕ)} {word text : List ℕ} → IsCut rest word more text → names_behind rest ≡ word ∷ names_behind more
+names_left {text = text} h = ap names_behind h.some ∙ names_cut text ∙ sym (λ i. h.before i ∷ names_behind (h.behind i))
+
+pub gathered_more : {rest more : Option (List ℕ)} {word text : List ℕ} → IsCut rest word more text → (known : Names) (cats cat new : CatSet) → option_map one_cat (place_of known word) ≡ Some cat → new ≡ cats_join cats cat
+    → gathered known cats (names_behind rest) ≡ gathered known new (names_behind more)
+gathered_more {more = more} {word = word} cut known cats cat new h is = ap (gathered known cats) (names_left cut) ∙ gathered_step known cats cat new word (names_behind more) h is
+
+pub unknown_more : {rest more : Option (List ℕ)} {word text : List ℕ} → IsCut rest word more text → (known : Names) (at : ℕ) (cat : CatSet) → option_map one_cat (place_of known word) ≡ Some cat
+    → first_unknown known at (names_behind rest) ≡ first_unknown known (at + (length word + 1)) (names_behind more)
+unknown_more {more = more} {word = word} cut known at cat h = ap (first_unknown known at) (names_left cut) ∙ unknown_step known at cat word (names_behind more) h
+
+pub unknown_now : {rest more : Option (List ℕ)} {word text : List ℕ} → IsCut rest word more text → (known : Names) (at : ℕ) → option_map one_cat (place_of known word) ≡ None
+    → first_unknown known at (names_behind rest) ≡ Some at
+unknown_now {more = more} {word = word} cut known at h = ap (first_unknown known at) (names_left cut) ∙ unknown_here known at word (names_behind more) h
+
+pub gathered_end : (known : Names) (cats : CatSet) (all rest : Option (List ℕ)) → gathered known no_cats (names_behind all) ≡ gathered known cats (names_behind rest) → rest ≡ None
+    → option_map set.from_list (places_of known (names_behind all)) ≡ Some cats
+gathered_end known cats all rest same none = gathered_all known (names_behind all) ∙ same ∙ ap (λ o. gathered known cats (names_behind o)) none

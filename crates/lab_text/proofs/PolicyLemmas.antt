@@ -1,0 +1,48 @@
+-- The levels and categories of a policy, as numbers and sets.
+use Rattle.std.proofs.Common.{◌≡◌, ℕ, ◌+◌, ◌-◌, ◌≤◌, ◌<◌, false, ◌==◌, ◌||◌, nat_lt, List, length, Option, Some, None, ap, sym, ◌∙◌, arith}
+use Rattle.std.specs.Prelude.{◌↔◌, IsSome, IfSome}
+use Rattle.std.specs.FinSet as set
+use Rattle.std.specs.List.{range_with_len}
+use Rattle.std.proofs.lemmas.Bool.Decides.{nat_tests}
+use Rattle.lab_lattice.specs.Cats.{CatSet, has_cat, no_cats, one_cat, cats_join, has-no_cats, has-one_cat, has-cats_join, same_cats}
+use Rattle.lab_text.specs.Names.{same_bytes, place_of}
+use Rattle.lab_text.specs.Policy.{PolicyNames, MakePolicy, top_of}
+use Rattle.lab_text.specs.Made.{made, position_found}
+use Rattle.lab_text.specs.Said.{has-first_cats}
+
+-- ---- places fit
+
+pub level_low : (p : PolicyNames) (name : List ℕ) (i : ℕ) → MakePolicy p → place_of p.levels name ≡ Some i → i ≤ 15
+level_low p name i h e = let few = (made p h).few_levels in let found = position_found (same_bytes name) p.levels i e in omega arith
+
+pub cat_low : (p : PolicyNames) (name : List ℕ) (i : ℕ) → MakePolicy p → place_of p.cats name ≡ Some i → i < 64
+cat_low p name i h e = let few = (made p h).few_cats in let found = position_found (same_bytes name) p.cats i e in omega arith
+
+-- what a call answers that answers where its number is low enough
+pub answered : {A : Type 0} (r : Option A) (x : A) (P : Type 0) → (IsSome r ↔ P) → IfSome r (λ y. y ≡ x) → P → r ≡ Some x
+answered None x P s i p = let some = s.1 p in absurd (cc)
+answered (Some y) x P s i p = ap Some i
+
+-- the highest level with the categories below their count
+pub is_top : (p : PolicyNames) (level : ℕ) (cats : CatSet) (n m : ℕ) → level ≡ n - 1 → n ≡ length p.levels → cats ≡ set.from_list (range_with_len 0 m) → m ≡ length p.cats → record { first = level; second = cats } ≡ top_of p
+unfolding top_of
+is_top p level cats n m e f g h = λ i. record { first = (e ∙ ap (λ k. k - 1) f) i; second = (g ∙ ap (λ k. set.from_list (range_with_len 0 k)) h) i }
+
+-- ---- the categories below a number
+
+below_zero : (q : ℕ) → false ≡ nat_lt q 0
+below_zero q = grind (arith, nat_tests)
+
+below_next : (q i : ℕ) → (nat_lt q i || (q == i)) ≡ nat_lt q (i + 1)
+below_next q i = grind (arith, nat_tests)
+
+pub none_below : (cats : CatSet) (q : ℕ) → cats ≡ no_cats → has_cat cats q ≡ nat_lt q 0
+none_below cats q e = ap (λ (c : CatSet). has_cat c q) e ∙ has-no_cats q ∙ below_zero q
+
+pub more_below : (cats one new : CatSet) (i : ℕ) → ((q : ℕ) → has_cat cats q ≡ nat_lt q i) → one ≡ one_cat i → new ≡ cats_join cats one → (q : ℕ) → has_cat new q ≡ nat_lt q (i + 1)
+more_below cats one new i below e is q =
+    ap (λ (c : CatSet). has_cat c q) (is ∙ ap (cats_join cats) e) ∙ has-cats_join cats (one_cat i) q
+    ∙ (λ j. below q j || has-one_cat i q j) ∙ below_next q i
+
+pub all_below : (cats : CatSet) (n : ℕ) → ((q : ℕ) → has_cat cats q ≡ nat_lt q n) → cats ≡ set.from_list (range_with_len 0 n)
+all_below cats n below = same_cats cats (set.from_list (range_with_len 0 n)) (λ q. below q ∙ sym (has-first_cats n q))

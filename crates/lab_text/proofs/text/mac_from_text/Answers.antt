@@ -1,0 +1,52 @@
+use Rattle.std.proofs.Common.{sym, ◌∙◌, arith}
+use Rattle.std.specs.Option.{option_copied}
+use Rattle.std.proofs.lemmas.Result.{err_from_is_err_and}
+use Rattle.lab_text.specs.declared.text.LabelError.TheVariants as error
+use Rattle.lab_text.specs.Said.{says_none, said_valid}
+use Rattle.lab_text.proofs.LabelLemmas.{IsRead, read_said, level_unknown, cat_unknown}
+use Rattle.lab_text.proofs.text.mac_from_text.Goals as goal
+use Rattle.lab_text.proofs.text.mac_from_text.Goals.{After-cut}
+
+read : (c : After-cut) → IsRead c.args.text.now c.cut.result.0.now (option_copied c.cut.result.1)
+read c = record {
+  form = c.in_default.ensures;
+  before = c.cut.ensures.before;
+  behind = c.cut.ensures.behind;
+}
+
+pub cats_named-requires : goal.cats_named-requires
+cats_named-requires c = let few = c.cut.ensures.fewer in omega arith
+
+pub returns-in-Some-clause-none : goal.returns-in-Some-clause-none
+returns-in-Some-clause-none c = says_none c.args.policy.now c.args.text.now (error.Syntax c.in-Some.at) c.in-Some.ensures
+
+pub returns-in_default-level_named-clause-cause : goal.returns-in_default-level_named-clause-cause
+returns-in_default-level_named-clause-cause c =
+    level_unknown (read (goal.at.returns-in_default-level_named-clause-cause c).After-cut) c.args.policy.now (sym c.level_named.ensures ∙ c.in_default-level_named.is)
+
+pub returns-in_default-level_named-clause-none : goal.returns-in_default-level_named-clause-none
+returns-in_default-level_named-clause-none c =
+    says_none c.args.policy.now c.args.text.now (error.UnknownLevel 0)
+    (level_unknown (read (goal.at.returns-in_default-level_named-clause-none c).After-cut) c.args.policy.now (sym c.level_named.ensures ∙ c.in_default-level_named.is))
+
+pub returns-in_err-second-clause-cause : goal.returns-in_err-second-clause-cause
+returns-in_err-second-clause-cause c =
+    let p = err_from_is_err_and c.from_residual.result c.from_residual.ensures.1 in
+    rw (p.1, p.2)
+    (cat_unknown (read (goal.at.returns-in_err-second-clause-cause c).After-cut) c.args.policy.now c.in-Some-level_named.first c.in_err-second.field-0.0 (sym c.level_named.ensures ∙ c.in-Some-level_named.is) c.in_err-second.ensures.unknown)
+
+pub returns-in_err-second-clause-none : goal.returns-in_err-second-clause-none
+returns-in_err-second-clause-none c =
+    let p = err_from_is_err_and c.from_residual.result c.from_residual.ensures.1 in
+    rw p.1
+    (says_none c.args.policy.now c.args.text.now c.in_err-second.field-0.0
+    (cat_unknown (read (goal.at.returns-in_err-second-clause-none c).After-cut) c.args.policy.now c.in-Some-level_named.first c.in_err-second.field-0.0 (sym c.level_named.ensures ∙ c.in-Some-level_named.is) c.in_err-second.ensures.unknown))
+
+pub returns-clause-said : goal.returns-clause-said
+returns-clause-said c =
+    read_said (read (goal.at.returns-clause-said c).After-cut) c.args.policy.now c.in-Some-level_named.first c.in_ok-second.second (sym c.level_named.ensures ∙ c.in-Some-level_named.is) c.in_ok-second.ensures.cats
+
+pub returns-clause-valid : goal.returns-clause-valid
+returns-clause-valid c =
+    said_valid c.args.policy.now c.args.text.now _
+    (read_said (read (goal.at.returns-clause-valid c).After-cut) c.args.policy.now c.in-Some-level_named.first c.in_ok-second.second (sym c.level_named.ensures ∙ c.in-Some-level_named.is) c.in_ok-second.ensures.cats)

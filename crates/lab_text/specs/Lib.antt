@@ -1,0 +1,6 @@
+pub mod Names
+pub mod Policy
+pub mod Text
+pub mod Scan
+pub mod Made
+pub mod Said

@@ -1,0 +1,109 @@
+-- What names have that make a policy, and where a name stands in its list.
+use Rattle.std.specs.Prelude.{◌≡◌, ℕ, ◌+◌, ◌≤◌, ◌<◌, Bool, true, false, not, ◌||◌, ◌==◌, nat_lt, cond, List, [], ◌∷◌, length, get_or, Option, None, Some, position, refl, zero, suc}
+use Rattle.std.specs.List.{list_all, list_any, position_or_len}
+use Rattle.std.proofs.Common.{ap, sym, ◌∙◌, arith}
+use Rattle.std.proofs.lemmas.Bool.{ltb-true, lt-ltb, ltb-false, or_parts, and_parts, not-true, both_ways, false_from_ne_true}
+use Rattle.std.proofs.lemmas.Bool.Decides.{nat_tests}
+use Rattle.std.proofs.lemmas.Cmp.{nat_list_eq_equiv}
+use Rattle.std.proofs.lemmas.List.Folds.{list_any_at}
+use Rattle.std.proofs.lemmas.List.Sums.{position_or_len_is}
+use Rattle.lab_text.specs.Names.{Names, same_bytes, is_label_name, are_distinct, place_of}
+use Rattle.lab_text.specs.Policy.{PolicyNames, names_fault, MakePolicy}
+use Rattle.lab_text.specs.declared.policy.PolicyError.{PolicyError}
+
+-- what names have that make a policy
+pub record AreMade (p : PolicyNames) : Type 0 where
+  pub some : 1 ≤ length p.levels
+  pub few_levels : length p.levels ≤ 16
+  pub few_cats : length p.cats ≤ 64
+  pub level_names : list_all is_label_name p.levels ≡ true
+  pub cat_names : list_all is_label_name p.cats ≡ true
+  pub levels_apart : are_distinct p.levels ≡ true
+  pub cats_apart : are_distinct p.cats ≡ true
+
+no_fault : (b : Bool) (e : PolicyError) (o : Option PolicyError) → cond b (Some e) o ≡ None → (b ≡ false) × (o ≡ None)
+no_fault true e o h = absurd (cc)
+no_fault false e o h = (refl, h)
+
+not_false : (b : Bool) → not b ≡ false → b ≡ true
+not_false true h = refl
+not_false false h = cc
+
+at_least_one : (n : ℕ) → (n == 0) ≡ false → 1 ≤ n
+at_least_one n h = grind (arith, nat_tests)
+
+pub made : (p : PolicyNames) → MakePolicy p → AreMade p
+unfolding names_fault
+made p h =
+    let one = no_fault _ _ _ h in
+    let two = no_fault _ _ _ one.1 in
+    let three = no_fault _ _ _ two.1 in
+    let four = no_fault _ _ _ three.1 in
+    let sizes = or_parts (nat_lt 16 (length p.levels)) (nat_lt 64 (length p.cats)) two.0 in
+    let names = and_parts (list_all is_label_name p.levels) (list_all is_label_name p.cats) (not_false _ three.0) in
+    let apart = and_parts (are_distinct p.levels) (are_distinct p.cats) (not_false _ four.0) in
+    record {
+      some = at_least_one (length p.levels) one.0;
+      few_levels = ltb-false 16 (length p.levels) sizes.0;
+      few_cats = ltb-false 64 (length p.cats) sizes.1;
+      level_names = names.0;
+      cat_names = names.1;
+      levels_apart = apart.0;
+      cats_apart = apart.1;
+    }
+
+-- ---- places
+
+-- an item passes a test where the first place is within the list
+pub any_before_end : {X : Type 0} (p : X → Bool) (xs : List X) → list_any p xs ≡ nat_lt (position_or_len p xs) (length xs)
+any_before_end p [] = refl
+any_before_end p (x ∷ xs) = elim (p x) as (λ v. (v || list_any p xs) ≡ nat_lt (cond (not v) (1 + position_or_len p xs) 0) (suc (length xs))) [
+  | true ↦ first (length xs)
+  | false ↦ any_before_end p xs ∙ later (position_or_len p xs) (length xs)
+]
+  where
+    first : (n : ℕ) → true ≡ nat_lt 0 (suc n)
+    first n = grind (arith, nat_tests)
+
+    later : (k n : ℕ) → nat_lt k n ≡ nat_lt (1 + k) (suc n)
+    later k n = grind (arith, nat_tests)
+
+-- what a place says
+pub position_found : {X : Type 0} (p : X → Bool) (xs : List X) (i : ℕ) → position p xs ≡ Some i → (i < length xs) × (position_or_len p xs ≡ i) × (list_any p xs ≡ true)
+position_found p xs i h = by_place (nat_lt (position_or_len p xs) (length xs)) refl h
+  where
+    by_place : (v : Bool) → nat_lt (position_or_len p xs) (length xs) ≡ v → cond v (Some (position_or_len p xs)) None ≡ Some i → (i < length xs) × (position_or_len p xs ≡ i) × (list_any p xs ≡ true)
+    by_place true lt h =
+        let same : position_or_len p xs ≡ i = cc in
+        let below = ltb-true (position_or_len p xs) (length xs) lt in
+        (omega arith, same, any_before_end p xs ∙ lt)
+    by_place false lt h = absurd (cc)
+
+pub position_missing : {X : Type 0} (p : X → Bool) (xs : List X) → position p xs ≡ None → (length xs ≤ position_or_len p xs) × (list_any p xs ≡ false)
+position_missing p xs h = by_place (nat_lt (position_or_len p xs) (length xs)) refl h
+  where
+    by_place : (v : Bool) → nat_lt (position_or_len p xs) (length xs) ≡ v → cond v (Some (position_or_len p xs)) None ≡ None → (length xs ≤ position_or_len p xs) × (list_any p xs ≡ false)
+    by_place true lt h = absurd (cc)
+    by_place false lt h = (ltb-false (position_or_len p xs) (length xs) lt, any_before_end p xs ∙ lt)
+
+-- a name that is not in the list has no place
+pub unlisted_unplaced : (names : Names) (word : List ℕ) → list_any (same_bytes word) names ≡ false → place_of names word ≡ None
+unlisted_unplaced names word h = ap (λ v. cond v (Some (position_or_len (same_bytes word) names)) None) (sym (any_before_end (same_bytes word) names) ∙ h)
+
+-- a name differs from those before it, where no name stands twice
+apart_before : (names : Names) (i k : ℕ) → are_distinct names ≡ true → k < i → i < length names → same_bytes (get_or names i []) (get_or names k []) ≡ false
+apart_before [] i k d lt within = absurd (omega arith)
+apart_before (x ∷ xs) zero k d lt within = absurd (omega arith)
+apart_before (x ∷ xs) (suc i) zero d lt within =
+    let parts = and_parts (not (list_any (same_bytes x) xs)) (are_distinct xs) d in
+    false_from_ne_true _ (λ e. both_ways (list_any (same_bytes x) xs) (not-true _ parts.0)
+    (list_any_at (same_bytes x) xs i [] (omega arith) (nat_list_eq_equiv.symm x (get_or xs i []) ∙ e)))
+apart_before (x ∷ xs) (suc i) (suc k) d lt within =
+    apart_before xs i k (and_parts (not (list_any (same_bytes x) xs)) (are_distinct xs) d).1 (omega arith) (omega arith)
+
+-- each name has the place where it stands, where no name stands twice
+pub place_of_own : (names : Names) (i : ℕ) → are_distinct names ≡ true → i < length names → place_of names (get_or names i []) ≡ Some i
+place_of_own names i d within =
+    let first : position_or_len (same_bytes (get_or names i [])) names ≡ i =
+    position_or_len_is (same_bytes (get_or names i [])) names i [] (omega arith) (λ k lt. apart_before names i k d lt within) (λ _. nat_list_eq_equiv.refl (get_or names i [])) in
+    ap (λ k. cond (nat_lt k (length names)) (Some k) None) first ∙ ap (λ v. cond v (Some i) None) (lt-ltb i (length names) within)

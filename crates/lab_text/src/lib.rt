@@ -1,0 +1,15 @@
+//! The texts of labels, by the names that a world gives to levels and categories.
+#![tactic(auto)]
+
+mod names;
+mod policy;
+mod scan;
+#[cfg(test)]
+mod tests;
+mod text;
+mod word;
+
+pub use policy::{Policy, PolicyError, bottom, mac_valid, top};
+pub use std::alloc::AllocError as NoMemory;
+pub use text::{LabelError, mac_from_text, mac_to_text};
+pub use word::Word;

@@ -1,0 +1,110 @@
+// The texts of labels.
+ghost use Rattle.std.specs.Prelude.{◌≡◌, ◌+◌, ◌≤◌, ◌<◌, ◌^◌, ◌==◌, true, length, position, get_or, [], IfOk, IfErr, Some, None};
+ghost use Rattle.std.specs.FinSet as set;
+ghost use Rattle.std.specs.List.{before_first};
+ghost use Rattle.std.specs.Option.{option_copied, option_map};
+ghost use Rattle.lab_text.specs.Policy.{is_valid};
+ghost use Rattle.lab_text.specs.Scan.{names_behind, left_in, behind_first};
+ghost use Rattle.lab_text.specs.Text.{places_of, first_unknown, label_said, SaysNone, label_text};
+
+use crate::scan::syntax_fault;
+use crate::{NoMemory, Policy};
+use lab_lattice::{Cats, Label, Lattice, Level, Pair};
+use std::alloc::Global;
+
+/// Why a text stands for no label. Places are bytes, counted from 0.
+#[derive(Clone, Copy, Debug, PartialEq, Eq)]
+pub enum LabelError {
+    /// It is not a name, or a name, `:` and a comma list of names; from this place on no such text can go on as it does.
+    Syntax(usize),
+    /// The name of the level, which stands here, is not the policy's.
+    UnknownLevel(usize),
+    /// The name of a category, which stands here, is not the policy's; the first such one.
+    UnknownCategory(usize),
+}
+
+// The place of the first `at`.
+fn first_place(text: &[u8], at: u8) -> Option<usize>
+    ensures { result ≡ position (λ b. b == at) text.now }
+{
+    text.iter().position(|byte| *byte == at)
+}
+
+// What stands before the first `at`, and what stands behind it, if there is one.
+fn cut(text: &[u8], at: u8) -> (&[u8], Option<&[u8]>)
+    ensures before { result.0.now ≡ before_first (λ b. b == at) text.now }
+    ensures behind { option_copied result.1 ≡ behind_first (λ b. b == at) text.now }
+    ensures fewer { length result.0.now + left_in (option_copied result.1) ≤ length text.now }
+{
+    match first_place(text, at) {
+        Some(place) => (&text[..place], Some(&text[place + 1..])),
+        None => (text, None),
+    }
+}
+
+// The categories in a comma list that stands at `start`, if there is one, or the first that the policy does not know.
+fn cats_named(policy: &Policy, list: Option<&[u8]>, start: usize) -> Result<Cats, LabelError>
+    requires { start + left_in (option_copied list) < 2 ^ 64 }
+    ensures cats { IfOk result (λ cats. option_map set.from_list (places_of policy.now.cats (names_behind (option_copied list.entry))) ≡ Some cats) }
+    ensures unknown { IfErr result (λ e. option_map LabelError.UnknownCategory (first_unknown policy.now.cats start (names_behind (option_copied list.entry))) ≡ Some e) }
+{
+    let mut cats = Cats::empty();
+    let mut at = start;
+    let mut rest = list;
+    while let Some(text) = rest {
+        let (name, more) = cut(text, b',');
+        let Some(cat) = policy.cat_named(name) else {
+            return Err(LabelError::UnknownCategory(at));
+        };
+        cats = cats.lub(&cat);
+        at += name.len() + 1;
+        rest = more;
+    }
+    Ok(cats)
+}
+
+/// The label that a text stands for. Its form is judged before any name.
+pub fn mac_from_text(policy: &Policy, text: &[u8]) -> Result<Label, LabelError>
+    ensures said { IfOk result (λ label. label_said policy.now text.now ≡ Some label) }
+    ensures valid { IfOk result (λ label. is_valid policy.now label ≡ true) }
+    ensures cause { IfErr result (SaysNone policy.now text.now) }
+    ensures none { IfErr result (λ _. label_said policy.now text.now ≡ None) }
+{
+    if let Some(at) = syntax_fault(text) {
+        return Err(LabelError::Syntax(at));
+    }
+    let (level, list) = cut(text, b':');
+    let Some(first) = policy.level_named(level) else {
+        return Err(LabelError::UnknownLevel(0));
+    };
+    let second = cats_named(policy, list, level.len() + 1)?;
+    Ok(Pair { first, second })
+}
+
+// The name of a label's level, or no bytes where the policy has none.
+fn level_name<'a>(policy: &'a Policy, label: &Label) -> &'a [u8]
+    ensures { result.now ≡ get_or policy.now.levels label.now.first [] }
+{
+    match policy.levels().get(usize::from(label.first.number())) {
+        Some(name) => name.bytes(),
+        None => &[],
+    }
+}
+
+/// The text of a label: each of its categories once, in the policy's order. Of a label that is not valid in the policy
+/// only the names that the policy has are written.
+pub fn mac_to_text(alloc: Global, policy: &Policy, label: &Label) -> Result<Vec<u8>, NoMemory>
+    ensures text { IfOk result (λ text. text.items ≡ label_text policy.now label.now) }
+    ensures again { IfOk result (λ text. is_valid policy.now label.now ≡ true → label_said policy.now text.items ≡ Some label.now) }
+{
+    let mut text = Vec::from_slice(alloc, level_name(policy, label))?;
+    let mut mark = b':';
+    for (place, name) in policy.cats().iter().enumerate() {
+        if label.second.has(place as u8) {
+            text.push(mark)?;
+            text.extend_from_slice(name.bytes())?;
+            mark = b',';
+        }
+    }
+    Ok(text)
+}
