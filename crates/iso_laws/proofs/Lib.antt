@@ -6,6 +6,7 @@ pub mod Calls
 pub mod Steps
 pub mod FrontLemmas
 pub mod Runs
+pub mod Leading
 pub mod Booting
 pub mod Worlds
 pub mod Lineage

@@ -39,7 +39,7 @@ use Rattle.kern_model.specs.Step.{step, step_by, settled, asker, state_after, ow
 use Rattle.kern_model.specs.Boot.{entry_for, boot_object, boot_process, boot_objects, boot_processes, next_process, nothing, furnished, boot, started, boot_recs}
 use Rattle.kern_model.specs.Run.{Played, run, state_after_run}
 use Rattle.kern_model.specs.Lineage.{caps_behind, caps_told, caps_of, all_recs}
-use Rattle.kern_model.proofs.MapLemmas.{some_same}
+use Rattle.kern_model.proofs.MapLemmas.{some_same, never_some}
 
 -- each living process has the sets that the function says
 abbrev pub Told : State → (Pid → CapState) → Type 0
@@ -68,9 +68,6 @@ pub told_process : (s : State) (f : Pid → CapState) (who : Pid) (new : Process
 told_process s f who new told q p e = set_at q (eq_by_cmp pid_cmp q who) new p (map.get s.procs q) (f q) (told q p) (sym (get-insert pid_cmp_total s.procs who new q) ∙ e)
 
 -- ---- the start
-never_some : {X : Type 0} (w : Option X) (x : X) → w ≡ None → w ≡ Some x → ⊥
-never_some w x none some = let no : None ≡ Some x = sym none ∙ some in cc
-
 module _ (f : Pid → CapState) where
   told_entries : (s t : State) → Told t f → (dir : Oid) (names : List Name) (id : Oid) → Told (changed_by t (entry_for s dir names id)) f
   told_entries s t told dir [] id = told

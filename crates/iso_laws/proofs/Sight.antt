@@ -24,12 +24,12 @@ use Rattle.kern_model.specs.declared.records.Rec.{Rec}
 use Rattle.kern_model.specs.Maps.{where_key, get_or}
 use Rattle.kern_model.specs.Keys.{oid_cmp_total, oid_cmp_exact, pid_cmp_total, pid_cmp_exact, spot_cmp_total, spot_cmp_exact}
 use Rattle.kern_model.specs.State.{State, Change, drawn, object_at, look, stub, stub_object, root}
-use Rattle.kern_model.specs.Rules.{cap_of, is_dir, mode_allows, on_object, mac_read, dac_search}
+use Rattle.kern_model.specs.Rules.{cap_of, is_dir, same_label, mode_allows, on_object, mac_read, dac_search}
 use Rattle.kern_model.specs.Row.{Row, Need, Refuse, Asker, verdict_of, is_denied, noted, exercise_with, may}
 use Rattle.kern_model.specs.Walk.{Found, walk_from, walk, reach, start_of, enter, or_missing}
 use Rattle.kern_model.specs.Step.{asker}
 use Rattle.kern_model.specs.Isolation.{low, crosses, is_mac, differ, differs_from, Kept}
-use Rattle.kern_model.specs.Valid.{IsValid, IsThere, same_label}
+use Rattle.kern_model.specs.Valid.{IsValid, IsThere}
 use Rattle.kern_model.proofs.MapLemmas.{get-select, get_or-found, get_or-absent, get_or-same, some_same}
 use Rattle.iso_laws.proofs.Part.{by_number, shown, low_oid, low_pid, low_spot, same}
 use Rattle.iso_laws.proofs.Rows.{Alike, Ends, Passes, alike_same, alike_hidden, alike_refuse, alike_missing, ends_need, ends_refuse, ends_missing}
@@ -131,9 +131,9 @@ root_low l = dominates_bottom l
 
 -- ---- what is there
 -- a directory is there
-pub dir_there : (s : State) (id : Oid) → is_dir (object_at s id).kind ≡ true → IsThere s id
+pub dir_there : (s : State) (id : Oid) → is_dir (object_at s id).kind ≡ true → IsThere s.objects id
 dir_there s id h =
-    elim (map.get s.objects id) as (λ w. map.get s.objects id ≡ w → IsThere s id) [
+    elim (map.get s.objects id) as (λ w. map.get s.objects id ≡ w → IsThere s.objects id) [
       | None ↦ λ e. let no : false ≡ true = ap (λ (o : Object). is_dir o.kind) (sym (get_or-absent s.objects id (stub_object s.top) e)) ∙ h in cc
       | Some o ↦ λ e. record { object = o; is = e }
     ] refl
@@ -142,34 +142,39 @@ not_false : (b : Bool) → not b ≡ false → b ≡ true
 not_false true h = refl
 not_false false h = sym h
 
--- what is known of what any walk found: of what it leads to, where the root is there
+-- what is known of what any walk found
 pub record FoundIn (s : State) (found : Found) : Type 0 where
-  pub dir_there : (dir : Oid) → found.dir ≡ Some dir → IsThere s dir
-  pub there : (id : Oid) → found.object ≡ Some id → IsThere s root → IsThere s id
+  pub dir_there : (dir : Oid) → found.dir ≡ Some dir → IsThere s.objects dir
+  pub there : (id : Oid) → found.object ≡ Some id → IsThere s.objects id
+
+-- the root is there
+pub root_there : (s : State) → IsValid s → IsThere s.objects root
+root_there s valid = record { object = valid.root_is.object; is = valid.root_is.is }
+
+-- and where a path starts
+start_there : (s : State) → IsValid s → (who : Pid) (p : Process) (path : PathValue) → map.get s.procs who ≡ Some p → IsThere s.objects (start_of p path)
+start_there s valid who p path is = elim path.absolute as (λ b. IsThere s.objects (cond b root p.cwd)) [ true ↦ root_there s valid | false ↦ valid.cwd who p is ]
 
 -- ---- any process
 module _ (bad : Rec → Bool) (s : State) (valid : IsValid s) (who : Pid) (p : Process) (P : List Change → Type 0) (none : P []) where
   abbrev Meets : Row → Type 0
   Meets r = Ends bad (asker who p) P r
 
-  pub ends_enter : (dir : Oid) (place : Place) (r : Row) → (IsThere s dir → Meets r) → Meets (enter s p dir place r)
+  pub ends_enter : (dir : Oid) (place : Place) (r : Row) → (IsThere s.objects dir → Meets r) → Meets (enter s p dir place r)
   ends_enter dir place r h = ends_need bad (asker who p) P none _ _ (λ _. ends_refuse bad (asker who p) P none _ _ _ (λ is. ends_need bad (asker who p) P none _ _ (λ _. h (dir_there s dir (not_false _ is)))))
 
-  pub ends_walk_from : (place : ℕ → Place) (at : ℕ) (dir : Oid) (names : List Name) (k : Found → Row) → (IsThere s root → IsThere s dir) → ((found : Found) → FoundIn s found → Meets (k found)) → Meets (walk_from s p place at dir names k)
-  ends_walk_from place at dir [] k there h = h (record { dir = None; name = None; object = Some dir }) (record { dir_there = λ d e. cc; there = λ id e is. subst (IsThere s) (some_same dir id e) (there is) })
+  pub ends_walk_from : (place : ℕ → Place) (at : ℕ) (dir : Oid) (names : List Name) (k : Found → Row) → IsThere s.objects dir → ((found : Found) → FoundIn s found → Meets (k found)) → Meets (walk_from s p place at dir names k)
+  ends_walk_from place at dir [] k there h = h (record { dir = None; name = None; object = Some dir }) (record { dir_there = λ d e. cc; there = λ id e. subst (IsThere s.objects) (some_same dir id e) there })
   ends_walk_from place at dir (name ∷ []) k there h =
-      ends_enter dir (place at) _ (λ is. h (record { dir = Some dir; name = Some name; object = look s dir name }) (record { dir_there = λ d e. subst (IsThere s) (some_same dir d e) is; there = λ id e _. valid.held (dir, name) id e }))
+      ends_enter dir (place at) _ (λ is. h (record { dir = Some dir; name = Some name; object = look s dir name }) (record { dir_there = λ d e. subst (IsThere s.objects) (some_same dir d e) is; there = λ id e. valid.held (dir, name) id e }))
   ends_walk_from place at dir (name ∷ next ∷ names) k there h =
-      ends_enter dir (place at) _ (λ _. ends_missing bad (asker who p) P none (look s dir name) _ (λ id e. ends_walk_from place (at + 1) id (next ∷ names) k (λ _. valid.held (dir, name) id e) h))
-
-  start_there : (path : PathValue) → map.get s.procs who ≡ Some p → IsThere s root → IsThere s (start_of p path)
-  start_there path is there = elim path.absolute as (λ b. IsThere s (cond b root p.cwd)) [ true ↦ there | false ↦ valid.cwd who p is ]
+      ends_enter dir (place at) _ (λ _. ends_missing bad (asker who p) P none (look s dir name) _ (λ id e. ends_walk_from place (at + 1) id (next ∷ names) k (valid.held (dir, name) id e) h))
 
   pub ends_walk : map.get s.procs who ≡ Some p → (place : ℕ → Place) (path : PathValue) (k : Found → Row) → ((found : Found) → FoundIn s found → Meets (k found)) → Meets (walk s p place path k)
-  ends_walk is place path k h = ends_walk_from place 0 (start_of p path) path.names k (start_there path is) h
+  ends_walk is place path k h = ends_walk_from place 0 (start_of p path) path.names k (start_there s valid who p path is) h
 
   -- a walk to an object that is there
-  pub ends_reach : map.get s.procs who ≡ Some p → (place : ℕ → Place) (path : PathValue) (k : Oid → Row) → ((id : Oid) → (IsThere s root → IsThere s id) → Meets (k id)) → Meets (reach s p place path k)
+  pub ends_reach : map.get s.procs who ≡ Some p → (place : ℕ → Place) (path : PathValue) (k : Oid → Row) → ((id : Oid) → IsThere s.objects id → Meets (k id)) → Meets (reach s p place path k)
   ends_reach is place path k h = ends_walk is place path _ (λ found f. ends_missing bad (asker who p) P none found.object k (λ id e. h id (f.there id e)))
 
 -- ---- a Low process and the part
@@ -244,12 +249,11 @@ module _ (l : Label) (s : State) (kept : Kept l s) (valid : IsValid s) (who : Pi
   Same r r' = Alike (crosses l) l s.top (asker who p) r r'
 
   -- what passed a Low caller's mac_read is Low, and reads the same in the part
-  pub alike_mac_read : (id : Oid) → (low l id.label ≡ false → IsThere s id) → (place : Place) (r : Row) (r' : Oid → Row) → (low l id.label ≡ true → Same r (r' id)) → Same (Need (mac_read s p id place) r) (Need (mac_read (by_number l s) p (shown l s.top id) place) (r' (shown l s.top id)))
-  alike_mac_read id is_there place r r' rest =
+  pub alike_mac_read : (id : Oid) → IsThere s.objects id → (place : Place) (r : Row) (r' : Oid → Row) → (low l id.label ≡ true → Same r (r' id)) → Same (Need (mac_read s p id place) r) (Need (mac_read (by_number l s) p (shown l s.top id) place) (r' (shown l s.top id)))
+  alike_mac_read id there place r r' rest =
       elim (low l id.label) as (λ b. low l id.label ≡ b → Same (Need (mac_read s p id place) r) (Need (mac_read (by_number l s) p (cond b id (stub s.top)) place) (r' (cond b id (stub s.top))))) [
         | true ↦ λ h. alike_same (crosses l) l s.top (asker who p) _ _ r (r' id) (ap (λ o. on_object check.MacRead (dominates p.label o.label) id o place) (object_low l s id h)) (λ _. rest h)
         | false ↦ λ h.
-            let there : IsThere s id = is_there h in
             let at : object_at s id ≡ there.object = get_or-found _ _ _ _ there.is in
             let hidden : low l there.object.label ≡ false = sym (kept.objects id there.object there.is) ∙ h in
             let label : (object_at s id).label ≡ there.object.label = ap (λ o. o.label) at in
@@ -263,9 +267,9 @@ module _ (l : Label) (s : State) (kept : Kept l s) (valid : IsValid s) (who : Pi
             (crossed l (asker who p) (mac_read s p id place) cap.MacRead fails refl refl apart)
       ] refl
 
-  pub alike_enter : (dir : Oid) → (low l dir.label ≡ false → IsThere s dir) → (place : Place) (r : Row) (r' : Oid → Row) → (low l dir.label ≡ true → IsThere s dir → Same r (r' dir)) → Same (enter s p dir place r) (enter (by_number l s) p (shown l s.top dir) place (r' (shown l s.top dir)))
-  alike_enter dir is_there place r r' rest =
-      alike_mac_read dir is_there place
+  pub alike_enter : (dir : Oid) → IsThere s.objects dir → (place : Place) (r : Row) (r' : Oid → Row) → (low l dir.label ≡ true → IsThere s.objects dir → Same r (r' dir)) → Same (enter s p dir place r) (enter (by_number l s) p (shown l s.top dir) place (r' (shown l s.top dir)))
+  alike_enter dir there place r r' rest =
+      alike_mac_read dir there place
       (Refuse errno.ENOTDIR (not (is_dir (object_at s dir).kind)) (Need (dac_search s p dir place) r))
       (λ d. Refuse errno.ENOTDIR (not (is_dir (object_at (by_number l s) d).kind)) (Need (dac_search (by_number l s) p d place) (r' d)))
       (λ h. alike_refuse (crosses l) l s.top (asker who p) errno.ENOTDIR _ _ _ _ (ap (λ o. not (is_dir o.kind)) (object_low l s dir h))
@@ -279,13 +283,13 @@ module _ (l : Label) (s : State) (kept : Kept l s) (valid : IsValid s) (who : Pi
   -- what is known of what a Low process's walk found
   pub record Seen (found : Found) : Type 0 where
     pub dir_low : (dir : Oid) → found.dir ≡ Some dir → low l dir.label ≡ true
-    pub dir_there : (dir : Oid) → found.dir ≡ Some dir → IsThere s dir
-    pub there : (id : Oid) → found.object ≡ Some id → low l id.label ≡ false → IsThere s id
+    pub dir_there : (dir : Oid) → found.dir ≡ Some dir → IsThere s.objects dir
+    pub there : (id : Oid) → found.object ≡ Some id → IsThere s.objects id
 
-  pub alike_walk_from : (place : ℕ → Place) (at : ℕ) (dir : Oid) (names : List Name) (k k' : Found → Row) → (low l dir.label ≡ false → IsThere s dir) → ((found : Found) → Seen found → Same (k found) (k' (part_found found))) → Same (walk_from s p place at dir names k) (walk_from (by_number l s) p place at (shown l s.top dir) names k')
+  pub alike_walk_from : (place : ℕ → Place) (at : ℕ) (dir : Oid) (names : List Name) (k k' : Found → Row) → IsThere s.objects dir → ((found : Found) → Seen found → Same (k found) (k' (part_found found))) → Same (walk_from s p place at dir names k) (walk_from (by_number l s) p place at (shown l s.top dir) names k')
   alike_walk_from place at dir [] k k' there h =
       h (record { dir = None; name = None; object = Some dir })
-      (record { dir_low = λ d e. cc; dir_there = λ d e. cc; there = λ id e high. subst (IsThere s) (some_same dir id e) (there (ap (λ (x : Oid). low l x.label) (some_same dir id e) ∙ high)) })
+      (record { dir_low = λ d e. cc; dir_there = λ d e. cc; there = λ id e. subst (IsThere s.objects) (some_same dir id e) there })
   alike_walk_from place at dir (name ∷ []) k k' there h =
       alike_enter dir there (place at) (k (record { dir = Some dir; name = Some name; object = look s dir name }))
       (λ d. k' (record { dir = Some d; name = Some name; object = look (by_number l s) d name }))
@@ -293,15 +297,15 @@ module _ (l : Label) (s : State) (kept : Kept l s) (valid : IsValid s) (who : Pi
       (h (record { dir = Some dir; name = Some name; object = look s dir name })
       (record {
         dir_low = λ d e. subst (λ (x : Oid). low l x.label ≡ true) (some_same dir d e) is_low_dir;
-        dir_there = λ d e. subst (IsThere s) (some_same dir d e) is;
-        there = λ id e _. valid.held (dir, name) id e;
+        dir_there = λ d e. subst (IsThere s.objects) (some_same dir d e) is;
+        there = λ id e. valid.held (dir, name) id e;
       })))
   alike_walk_from place at dir (name ∷ next ∷ names) k k' there h =
       alike_enter dir there (place at) (or_missing (look s dir name) (λ id. walk_from s p place (at + 1) id (next ∷ names) k))
       (λ d. or_missing (look (by_number l s) d name) (λ id. walk_from (by_number l s) p place (at + 1) id (next ∷ names) k'))
       (λ is_low_dir _. subst (λ w. Same (or_missing (look s dir name) (λ id. walk_from s p place (at + 1) id (next ∷ names) k)) (or_missing w (λ id. walk_from (by_number l s) p place (at + 1) id (next ∷ names) k'))) (sym (look_low l s dir name is_low_dir))
       (alike_missing (crosses l) l s.top (asker who p) (look s dir name) _ _ (shown l s.top)
-      (λ id e. alike_walk_from place (at + 1) id (next ∷ names) k k' (λ _. valid.held (dir, name) id e) h)))
+      (λ id e. alike_walk_from place (at + 1) id (next ∷ names) k k' (valid.held (dir, name) id e) h)))
 
   start_low : (path : PathValue) → map.get s.procs who ≡ Some p → low l (start_of p path).label ≡ true
   start_low path is = elim path.absolute as (λ b. low l (cond b root p.cwd).label ≡ true) [ true ↦ root_low l | false ↦ kept.cwd who p is is_low ]
@@ -311,9 +315,9 @@ module _ (l : Label) (s : State) (kept : Kept l s) (valid : IsValid s) (who : Pi
   alike_walk is place path k k' h =
       let start : low l (start_of p path).label ≡ true = start_low path is in
       subst (λ d. Same (walk s p place path k) (walk_from (by_number l s) p place 0 d path.names k')) (shown_low l s (start_of p path) start)
-      (alike_walk_from place 0 (start_of p path) path.names k k' (λ high. let no : true ≡ false = sym start ∙ high in cc) h)
+      (alike_walk_from place 0 (start_of p path) path.names k k' (start_there s valid who p path is) h)
 
   -- a walk to an object that is there
-  pub alike_reach : map.get s.procs who ≡ Some p → (place : ℕ → Place) (path : PathValue) (k k' : Oid → Row) → ((id : Oid) → (low l id.label ≡ false → IsThere s id) → Same (k id) (k' (shown l s.top id))) → Same (reach s p place path k) (reach (by_number l s) p place path k')
+  pub alike_reach : map.get s.procs who ≡ Some p → (place : ℕ → Place) (path : PathValue) (k k' : Oid → Row) → ((id : Oid) → IsThere s.objects id → Same (k id) (k' (shown l s.top id))) → Same (reach s p place path k) (reach (by_number l s) p place path k')
   alike_reach is place path k k' h = alike_walk is place path _ _ (λ found seen.
       alike_missing (crosses l) l s.top (asker who p) found.object k k' (shown l s.top) (λ id e. h id (seen.there id e)))

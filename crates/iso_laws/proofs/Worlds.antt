@@ -7,7 +7,7 @@ use Rattle.kern_model.specs.declared.world.ScriptItem.{ScriptItem}
 use Rattle.kern_model.specs.Boot.{boot}
 use Rattle.kern_model.specs.Run.{run}
 use Rattle.kern_model.specs.Isolation.{part, part_script, answers, all_answers, alone, up_to}
-use Rattle.kern_model.specs.Valid.{IsWorld}
+use Rattle.kern_model.specs.World.{IsWorld}
 use Rattle.kern_model.specs.Fronts.{IsFront, Agree}
 use Rattle.iso_laws.proofs.FrontLemmas.{fronts_agree}
 use Rattle.iso_laws.proofs.Runs.{front_alone, whole_alone}

@@ -17,7 +17,8 @@ ghost use Rattle.kern_model.specs.Boot.{boot};
 ghost use Rattle.kern_model.specs.Run.{run, state_after_run};
 ghost use Rattle.kern_model.specs.Lineage.{caps_of, all_recs};
 ghost use Rattle.kern_model.specs.Isolation.{low, crossing, part, part_script, answers, alone, up_to, Kept};
-ghost use Rattle.kern_model.specs.Valid.{IsValid, IsWorld};
+ghost use Rattle.kern_model.specs.Valid.{IsValid};
+ghost use Rattle.kern_model.specs.World.{IsWorld};
 ghost use Rattle.kern_model.specs.Fronts.{IsFront, Agree};
 
 /// A step of a Low process that crosses nothing gives in the part the same reply, the same records, and the

@@ -9,6 +9,7 @@ use Rattle.std.specs.FinMap as map
 use Rattle.std.specs.FinMap.{FinMap, IsAntisymmetric, find, is_sorted, get-from_entries, get-entries, entries_sorted, same_map, get-insert}
 use Rattle.std.specs.FinMap.Entries.{below_all}
 use Rattle.std.proofs.Common.{sym, ◌∙◌, ap, subst, T}
+use Rattle.std.proofs.lemmas.Cmp.{tied_itself}
 use Rattle.kern_model.specs.Maps.{with_entry, selected, select, get_or, where_key}
 
 first : (a b : Bool) → T (a && b) → T a
@@ -114,6 +115,31 @@ select_agree o exact f g m h = same_map o exact _ _ (λ q. get-select exact f o 
 
 pub some_same : {X : Type 0} (x y : X) → Some x ≡ Some y → x ≡ y
 some_same x y e = cc
+
+pub never_some : {X : Type 0} (w : Option X) (x : X) → w ≡ None → w ≡ Some x → ⊥
+never_some w x none some = let no : None ≡ Some x = sym none ∙ some in cc
+
+-- what an insertion puts at a key is there
+pub get-insert_same : {K X : Type 0} {R : K → K → Ordering} → IsTotalOrder R → (m : FinMap R X) (k : K) (x : X) → map.get (map.insert m k x) k ≡ Some x
+get-insert_same o m k x = get-insert o m k x k ∙ ap (λ r. cond (is_eq r) (Some x) (map.get m k)) (tied_itself o k)
+
+-- an insertion where nothing was
+module _ {K X : Type 0} {R : K → K → Ordering} (o : IsTotalOrder R) (exact : IsAntisymmetric R) (m : FinMap R X) (k : K) (x : X) (absent : map.get m k ≡ None) where
+  -- what is there has another key
+  pub other_key : (q : K) (y : X) → map.get m q ≡ Some y → eq_by_cmp R q k ≡ false
+  other_key q y e =
+      elim (eq_by_cmp R q k) as (λ b. eq_by_cmp R q k ≡ b → b ≡ false) [
+        | true ↦ λ t. absurd (never_some (map.get m q) y (ap (map.get m) (same_key exact q k t) ∙ absent) e)
+        | false ↦ λ _. refl
+      ] refl
+
+  -- and stays
+  pub get-insert_kept : (q : K) (y : X) → map.get m q ≡ Some y → map.get (map.insert m k x) q ≡ Some y
+  get-insert_kept q y e = get-insert o m k x q ∙ ap (λ b. cond b (Some x) (map.get m q)) (other_key q y e) ∙ e
+
+  -- and is what there was
+  pub get-insert_old : (q : K) (y z : X) → map.get m q ≡ Some y → map.get (map.insert m k x) q ≡ Some z → map.get m q ≡ Some z
+  get-insert_old q y z e f = e ∙ sym (get-insert_kept q y e) ∙ f
 
 -- what holds of each entry, after a change
 module _ {K X : Type 0} {R : K → K → Ordering} (o : IsTotalOrder R) (exact : IsAntisymmetric R) (P : K → X → Type 0) (m : FinMap R X) (each : (k : K) (x : X) → map.get m k ≡ Some x → P k x) where

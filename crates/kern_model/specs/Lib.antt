@@ -10,5 +10,6 @@ pub mod Boot
 pub mod Run
 pub mod Isolation
 pub mod Valid
+pub mod World
 pub mod Fronts
 pub mod Lineage

@@ -1,15 +1,15 @@
 -- The rules of the checks, and what stands behind a check that fails.
-use Rattle.std.specs.Prelude.{ℕ, ◌+◌, ◌==◌, ◌||◌, Bool, true, false, Option, Some, None, cond}
+use Rattle.std.specs.Prelude.{ℕ, ◌+◌, ◌==◌, ◌&&◌, ◌||◌, Bool, true, false, Option, Some, None, cond}
 use Rattle.std.specs.List.{list_any}
 use Rattle.std.specs.Int.{bit_at}
 use Rattle.cap_bits.specs.declared.cap.Cap.{Cap}
 use Rattle.cap_bits.specs.declared.cap.Cap.TheVariants as cap
-use Rattle.lab_lattice.specs.Label.{dominates}
+use Rattle.lab_lattice.specs.Label.{Label, dominates}
 use Rattle.kern_model.specs.declared.numbers.Oid.{Oid}
 use Rattle.kern_model.specs.declared.numbers.Ids.{Ids}
 use Rattle.kern_model.specs.declared.objects.Attr.{Attr}
 use Rattle.kern_model.specs.declared.objects.Kind.{Kind}
-use Rattle.kern_model.specs.declared.objects.Kind.TheVariants.{Dir}
+use Rattle.kern_model.specs.declared.objects.Kind.TheVariants.{Dir, File}
 use Rattle.kern_model.specs.declared.objects.Object.{Object}
 use Rattle.kern_model.specs.declared.objects.Process.{Process}
 use Rattle.kern_model.specs.declared.checks.Check.{Check}
@@ -43,6 +43,14 @@ errno_of check.DacSearch = errno.EACCES
 abbrev pub is_dir : Kind → Bool
 is_dir Dir = true
 is_dir _ = false
+
+abbrev pub is_file : Kind → Bool
+is_file File = true
+is_file _ = false
+
+-- whether two labels are equal
+abbrev pub same_label : Label → Label → Bool
+same_label a b = dominates a b && dominates b a
 
 -- ---- the mode class
 

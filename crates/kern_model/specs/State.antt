@@ -3,6 +3,7 @@ use Rattle.std.specs.Prelude.{ℕ, List, [], ◌∷◌, Option}
 use Rattle.std.specs.FinMap as map
 use Rattle.std.specs.FinMap.{FinMap}
 use Rattle.cap_bits.specs.CapSet.{CapSet}
+use Rattle.cap_bits.specs.State.{no_flags}
 use Rattle.fs_path.specs.Name.{Name}
 use Rattle.lab_lattice.specs.Label.{Label, label_cmp, bottom}
 use Rattle.kern_model.specs.declared.numbers.Pid.{Pid}
@@ -48,7 +49,7 @@ changed_by s (c ∷ cs) = changed_by (changed s c) cs
 
 -- what is read where nothing is: an empty file of the highest label that nobody may use
 abbrev pub stub_object : Label → Object
-stub_object top = record { kind = File; label = top; attr = record { owner = 0; group = 0; mode = 0 }; bytes = [] }
+stub_object top = record { kind = File; label = top; attr = record { owner = 0; group = 0; mode = 0; caps = no_flags }; bytes = [] }
 
 -- the number of what is not seen: 0, which is never drawn
 abbrev pub stub : Label → Oid

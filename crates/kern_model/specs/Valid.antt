@@ -1,56 +1,51 @@
--- What holds of every world that is accepted and of every state, as far as the calls so far can tell.
-use Rattle.std.specs.Prelude.{◌≡◌, ℕ, ◌≤◌, Bool, true, ◌&&◌, List, ◌∷◌, [], Some, count_by}
-use Rattle.std.specs.List.{AllByRecursion}
+-- What holds of every state, as far as the calls so far can tell.
+use Rattle.std.specs.Prelude.{◌≡◌, ℕ, ◌≤◌, true, false, Some}
 use Rattle.std.specs.FinMap as map
-use Rattle.lab_lattice.specs.Label.{Label, bottom, dominates}
+use Rattle.std.specs.FinMap.{FinMap}
+use Rattle.cap_bits.specs.CapSet.{is_within}
+use Rattle.cap_bits.specs.State.{no_flags}
+use Rattle.lab_lattice.specs.Label.{bottom, dominates}
 use Rattle.kern_model.specs.declared.numbers.Pid.{Pid}
 use Rattle.kern_model.specs.declared.numbers.Oid.{Oid}
-use Rattle.kern_model.specs.declared.objects.Body.TheVariants as body
+use Rattle.kern_model.specs.declared.objects.Kind.TheVariants as kind
 use Rattle.kern_model.specs.declared.objects.Object.{Object}
 use Rattle.kern_model.specs.declared.objects.Process.{Process}
-use Rattle.kern_model.specs.declared.world.World.{World}
-use Rattle.kern_model.specs.declared.world.WorldObject.{WorldObject}
-use Rattle.kern_model.specs.declared.world.WorldProc.{WorldProc}
-use Rattle.kern_model.specs.Keys.{Spot}
-use Rattle.kern_model.specs.State.{State}
+use Rattle.kern_model.specs.Keys.{oid_cmp, Spot}
+use Rattle.kern_model.specs.State.{State, drawn, root}
+use Rattle.kern_model.specs.Rules.{is_file}
 
 -- an object has the number
-pub record IsThere (s : State) (id : Oid) : Type 0 where
+pub record IsThere (objects : FinMap oid_cmp Object) (id : Oid) : Type 0 where
   pub object : Object
-  pub is : map.get s.objects id ≡ Some object
+  pub is : map.get objects id ≡ Some object
 
--- what is referred to is there, and top dominates every label
+-- the root is there, a directory of the bottom label
+pub record IsRoot (objects : FinMap oid_cmp Object) : Type 0 where
+  pub object : Object
+  pub is : map.get objects root ≡ Some object
+  pub root_dir : object.kind ≡ kind.Dir
+  pub root_label : object.label ≡ bottom
+
+-- from 1 on, and drawn already
+abbrev pub IsDrawn : ℕ → ℕ → Type 0
+IsDrawn n last = (1 ≤ n) × (n ≤ last)
+
 pub record IsValid (s : State) : Type 0 where
-  pub holder : (spot : Spot) (id : Oid) → map.get s.entries spot ≡ Some id → IsThere s spot.0
-  pub held : (spot : Spot) (id : Oid) → map.get s.entries spot ≡ Some id → IsThere s id
-  pub cwd : (who : Pid) (p : Process) → map.get s.procs who ≡ Some p → IsThere s p.cwd
+  pub root_is : IsRoot s.objects
+  -- what is referred to is there
+  pub holder : (spot : Spot) (id : Oid) → map.get s.entries spot ≡ Some id → IsThere s.objects spot.0
+  pub held : (spot : Spot) (id : Oid) → map.get s.entries spot ≡ Some id → IsThere s.objects id
+  pub cwd : (who : Pid) (p : Process) → map.get s.procs who ≡ Some p → IsThere s.objects p.cwd
+  -- what holds an entry is a directory, whose label that of the entry's object dominates; no entry leads to the root
+  pub holder_dir : (spot : Spot) (id : Oid) (dir : Object) → map.get s.entries spot ≡ Some id → map.get s.objects spot.0 ≡ Some dir → dir.kind ≡ kind.Dir
+  pub order : (spot : Spot) (id : Oid) (dir o : Object) → map.get s.entries spot ≡ Some id → map.get s.objects spot.0 ≡ Some dir → map.get s.objects id ≡ Some o → dominates o.label dir.label ≡ true
+  pub root_not_held : (spot : Spot) (id : Oid) → map.get s.entries spot ≡ Some id → id ≡ root → ⊥
+  -- top dominates every label
   pub objects_below : (id : Oid) (o : Object) → map.get s.objects id ≡ Some o → dominates s.top o.label ≡ true
   pub procs_below : (who : Pid) (p : Process) → map.get s.procs who ≡ Some p → dominates s.top p.label ≡ true
-
--- whether two labels are equal
-abbrev pub same_label : Label → Label → Bool
-same_label a b = dominates a b && dominates b a
-
--- how many objects have a label
-abbrev pub objects_at : Label → List WorldObject → ℕ
-objects_at l os = count_by (λ (o : WorldObject). same_label o.label l) os
-
--- how many processes have a label
-abbrev pub procs_at : Label → List WorldProc → ℕ
-procs_at l ps = count_by (λ (p : WorldProc). same_label p.label l) ps
-
--- no label has more objects or processes than may be drawn
-pub record HasRoom (w : World) : Type 0 where
-  pub objects : (l : Label) → objects_at l w.objects ≤ 65535
-  pub procs : (l : Label) → procs_at l w.procs ≤ 4095
-
--- the first object of a world is its root, a directory of the bottom label, and top dominates every label
-pub record IsWorld (w : World) : Type 0 where
-  pub first : WorldObject
-  pub others : List WorldObject
-  pub objects_are : w.objects ≡ first ∷ others
-  pub no_names : first.path.names ≡ []
-  pub root_body : first.body ≡ body.Dir
-  pub root_label : first.label ≡ bottom
-  pub objects_below : AllByRecursion (λ (o : WorldObject). dominates w.top o.label ≡ true) w.objects
-  pub procs_below : AllByRecursion (λ (p : WorldProc). dominates w.top p.label ≡ true) w.procs
+  -- numbers were drawn
+  pub objects_drawn : (id : Oid) (o : Object) → map.get s.objects id ≡ Some o → IsDrawn id.n (drawn s.object_numbers id.label)
+  pub procs_drawn : (who : Pid) (p : Process) → map.get s.procs who ≡ Some p → IsDrawn who.n (drawn s.process_numbers who.label)
+  -- only a file has capabilities, and what is effective in a process is permitted
+  pub only_files : (id : Oid) (o : Object) → map.get s.objects id ≡ Some o → is_file o.kind ≡ false → o.attr.caps ≡ no_flags
+  pub within : (who : Pid) (p : Process) → map.get s.procs who ≡ Some p → is_within p.caps.e p.caps.p ≡ true

@@ -12,12 +12,14 @@ pub enum Kind {
     Pipe,
 }
 
-/// Who owns an object, and its permission bits.
+/// Who owns an object, its permission bits and its capability sets.
 #[derive(Clone, Copy, Debug, PartialEq, Eq)]
 pub struct Attr {
     pub owner: Uid,
     pub group: Gid,
     pub mode: Mode,
+    /// The capability sets of a file; none for anything else.
+    pub caps: CapState,
 }
 
 /// What a new object is, and what it holds.

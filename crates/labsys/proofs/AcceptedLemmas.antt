@@ -1,20 +1,29 @@
--- A world that is accepted has its root first, and its top dominates each label.
-use Rattle.std.proofs.Common.{◌≡◌, ℕ, ◌+◌, Bool, true, false, cond, List, [], ◌∷◌, ◌++◌, length, take, refl, ap, subst}
+-- A world that is accepted is one: its root stands first and its files in the root, and its top dominates each label.
+use Rattle.std.proofs.Common.{◌≡◌, ℕ, ◌+◌, Bool, true, false, not, cond, List, [], ◌∷◌, ◌++◌, length, take, refl, sym, ◌∙◌, ap, subst, append_assoc}
+use Rattle.std.proofs.lemmas.Bool.{true≢false, and_parts, or_parts, not-true}
+use Rattle.std.proofs.lemmas.List.{append-nil}
 use Rattle.std.specs.Prelude.{⊤, Option, Some, None, nat_lt, nat_le, codes}
-use Rattle.std.specs.List.{AllByRecursion}
+use Rattle.std.specs.List.{AllByRecursion, list_any}
 use Rattle.std.specs.Option.{MatchOption}
-use Rattle.cap_bits.specs.CapSet.{CapSet}
+use Rattle.cap_bits.specs.declared.state.CapState.{CapState}
+use Rattle.cap_bits.specs.CapSet.{CapSet, no_caps, is_within, has-within}
+use Rattle.cap_bits.specs.State.{no_flags}
+use Rattle.fs_path.specs.Name.{Name}
 use Rattle.lab_lattice.specs.Label.{Label, dominates, bottom, dominates_both, dominates_bottom}
 use Rattle.kern_model.specs.declared.objects.Body.TheVariants as body
 use Rattle.kern_model.specs.declared.world.WorldObject.{WorldObject}
 use Rattle.kern_model.specs.declared.world.WorldProc.{WorldProc}
-use Rattle.kern_model.specs.Valid.{IsWorld}
+use Rattle.kern_model.specs.Boot.{kind_of}
+use Rattle.kern_model.specs.Rules.{is_file}
+use Rattle.kern_model.specs.World.{IsWorld, IsPlaced, ArePlaced, same_names, parent_names, given, objects_at}
+use Rattle.iso_laws.proofs.Leading.{names_same, names_itself}
+use Rattle.lab_text.specs.Names.{same_bytes}
 use Rattle.lab_text.specs.Policy.{PolicyNames, top_of}
 use Rattle.lab_text.specs.Text.{label_said}
 use Rattle.lab_text.specs.Said.{said_valid}
 use Rattle.labsys.specs.Lines.{cut, pieces, behind}
-use Rattle.labsys.specs.Grammar.{keep_if, split_then, word_then, then, number_of, mode_of, entry_of, quoted_of, caps_of, exactly, levels_line, categories_line, bound_line, root_line, file_line, proc_line, Fixture, OfObject, OfProcess, first_of, fixture_line}
-use Rattle.labsys.specs.Input.{Accepted, Input, Fixtures, short, said, due, fits, added, next_fixture, world_of, with_script, or_script, fixtures_from, read_lines, input_of}
+use Rattle.labsys.specs.Grammar.{keep_if, split_then, word_then, then, number_of, mode_of, entry_of, quoted_of, caps_of, reads_labels, exactly, levels_line, categories_line, bound_line, root_line, file_line, proc_line, Fixture, OfObject, OfProcess, first_of, fixture_line}
+use Rattle.labsys.specs.Input.{Accepted, Input, Fixtures, short, said, due, same_place, fits, added, next_fixture, world_of, with_script, or_script, fixtures_from, read_lines, input_of}
 
 -- what may be there passes
 record Gives {X : Type 0} (o : Option X) (P : X → Type 0) : Type 0 where
@@ -54,40 +63,64 @@ record IsRoot (policy : PolicyNames) (o : WorldObject) : Type 0 where
   is_dir : o.body ≡ body.Dir
   lowest : o.label ≡ bottom
   below : dominates (top_of policy) o.label ≡ true
+  no_caps : o.attr.caps ≡ no_flags
 
 root_gives : (policy : PolicyNames) (line : List ℕ) → Gives (root_line policy line) (λ o. IsRoot policy o)
 root_gives policy line =
     then_gives (behind (codes "dir / ") line) _ (λ line _. word_gives line _ (λ mode line. word_gives line _ (λ uid line. word_gives line _ (λ gid name.
     then_gives (mode_of mode) _ (λ mode _. then_gives (number_of uid) _ (λ owner _. then_gives (number_of gid) _ (λ group _. then_gives (label_said policy name) _ (λ label is.
-    keep_gives (dominates bottom label) _ (λ low. record { no_names = refl; is_dir = refl; lowest = dominates_both label bottom (dominates_bottom label) low; below = (label_below policy name).gives label is })))))))))
+    keep_gives (dominates bottom label) _ (λ low. record { no_names = refl; is_dir = refl; lowest = dominates_both label bottom (dominates_bottom label) low; below = (label_below policy name).gives label is; no_caps = refl })))))))))
 
-abbrev Below : Label → Fixture → Type 0
-Below top (OfObject o) = dominates top o.label ≡ true
-Below top (OfProcess p) = dominates top p.label ≡ true
+-- a file in the root directory
+record IsFile (policy : PolicyNames) (o : WorldObject) : Type 0 where
+  name : Name
+  names_are : o.path.names ≡ name ∷ []
+  below : dominates (top_of policy) o.label ≡ true
+  no_caps : o.attr.caps ≡ no_flags
 
-file_gives : (policy : PolicyNames) (line : List ℕ) → Gives (file_line policy line) (λ o. dominates (top_of policy) o.label ≡ true)
+file_gives : (policy : PolicyNames) (line : List ℕ) → Gives (file_line policy line) (λ o. IsFile policy o)
 file_gives policy line =
     then_gives (behind (codes "file /") line) _ (λ line _. word_gives line _ (λ name line. word_gives line _ (λ mode line. word_gives line _ (λ uid line. word_gives line _ (λ gid line. word_gives line _ (λ label bytes.
     then_gives (entry_of name) _ (λ name _. then_gives (mode_of mode) _ (λ mode _. then_gives (number_of uid) _ (λ owner _. then_gives (number_of gid) _ (λ group _. then_gives (label_said policy label) _ (λ l is. then_gives (quoted_of bytes) _ (λ bytes _.
-    some_gives _ ((label_below policy label).gives l is)))))))))))))
+    some_gives _ (record { name = name; names_are = refl; below = (label_below policy label).gives l is; no_caps = refl })))))))))))))
 
-proc_gives : (policy : PolicyNames) (line : List ℕ) → Gives (proc_line policy line) (λ p. dominates (top_of policy) p.label ≡ true)
+-- a process whose effective capabilities are permitted
+record IsProc (policy : PolicyNames) (w : WorldProc) : Type 0 where
+  below : dominates (top_of policy) w.label ≡ true
+  within : is_within w.caps.e w.caps.p ≡ true
+
+caps_give : (word : List ℕ) → Gives (caps_of word) (λ caps. is_within caps.e caps.p ≡ true)
+caps_give word =
+    elim (same_bytes word (codes "\"=\"")) as (λ b. Gives (cond b (Some no_flags) (keep_if (same_bytes word (codes "\"cap_mac_read=ep\"")) reads_labels)) (λ (caps : CapState). is_within caps.e caps.p ≡ true)) [
+      | true ↦ some_gives no_flags (has-within no_caps no_caps (λ q h. h))
+      | false ↦ keep_gives (same_bytes word (codes "\"cap_mac_read=ep\"")) reads_labels (λ _. has-within reads_labels.e reads_labels.p (λ q h. h))
+    ]
+
+proc_gives : (policy : PolicyNames) (line : List ℕ) → Gives (proc_line policy line) (λ p. IsProc policy p)
 proc_gives policy line =
     then_gives (behind (codes "proc ") line) _ (λ line _. word_gives line _ (λ label line. word_gives line _ (λ uid line. word_gives line _ (λ gid rest.
-    then_gives (label_said policy label) _ (λ l is. then_gives (number_of uid) _ (λ user _. then_gives (number_of gid) _ (λ group _. then_gives (behind (codes "- ") rest) _ (λ word _. then_gives (caps_of word) _ (λ caps _.
-    some_gives _ ((label_below policy label).gives l is))))))))))
+    then_gives (label_said policy label) _ (λ l is. then_gives (number_of uid) _ (λ user _. then_gives (number_of gid) _ (λ group _. then_gives (behind (codes "- ") rest) _ (λ word _. then_gives (caps_of word) _ (λ caps said.
+    some_gives _ (record { below = (label_below policy label).gives l is; within = (caps_give word).gives caps said }))))))))))
 
-first_gives : (top : Label) (o : Option WorldObject) (p : Option WorldProc) → Gives o (λ o. dominates top o.label ≡ true) → Gives p (λ p. dominates top p.label ≡ true) → Gives (first_of o p) (λ f. Below top f)
-first_gives top (Some o) p f g = some_gives (OfObject o) (f.gives o refl)
-first_gives top None (Some p) f g = some_gives (OfProcess p) (g.gives p refl)
-first_gives top None None f g = none_gives
+abbrev IsFine : PolicyNames → Fixture → Type 0
+IsFine policy (OfObject o) = IsFile policy o
+IsFine policy (OfProcess p) = IsProc policy p
 
-fixture_gives : (policy : PolicyNames) (line : List ℕ) → Gives (fixture_line policy line) (λ f. Below (top_of policy) f)
-fixture_gives policy line = first_gives (top_of policy) (file_line policy line) (proc_line policy line) (file_gives policy line) (proc_gives policy line)
+first_gives : (policy : PolicyNames) (o : Option WorldObject) (p : Option WorldProc) → Gives o (λ o. IsFile policy o) → Gives p (λ p. IsProc policy p) → Gives (first_of o p) (λ f. IsFine policy f)
+first_gives policy (Some o) p f g = some_gives (OfObject o) (f.gives o refl)
+first_gives policy None (Some p) f g = some_gives (OfProcess p) (g.gives p refl)
+first_gives policy None None f g = none_gives
 
-next_gives : (policy : PolicyNames) (t : Fixtures) (line : List ℕ) → Gives (next_fixture policy t line) (λ f. Below (top_of policy) f)
+fixture_gives : (policy : PolicyNames) (line : List ℕ) → Gives (fixture_line policy line) (λ f. IsFine policy f)
+fixture_gives policy line = first_gives policy (file_line policy line) (proc_line policy line) (file_gives policy line) (proc_gives policy line)
+
+record Goes (policy : PolicyNames) (t : Fixtures) (f : Fixture) : Type 0 where
+  fine : IsFine policy f
+  room : fits t f ≡ true
+
+next_gives : (policy : PolicyNames) (t : Fixtures) (line : List ℕ) → Gives (next_fixture policy t line) (λ f. Goes policy t f)
 next_gives policy t line =
-    then_gives (short (fixture_line policy) line) _ (λ f is. keep_gives (fits t f) f (λ _. (fixture_gives policy line).gives f ((short_is (fixture_line policy) line).gives f is)))
+    then_gives (short (fixture_line policy) line) _ (λ f is. keep_gives (fits t f) f (λ room. record { fine = (fixture_gives policy line).gives f ((short_is (fixture_line policy) line).gives f is); room = room }))
 
 -- ---- the world
 
@@ -95,26 +128,59 @@ all_more : {X : Type 0} (P : X → Type 0) (xs : List X) (x : X) → AllByRecurs
 all_more P [] x all p = (p, tt)
 all_more P (y ∷ ys) x all p = (all.0, all_more P ys x all.1 p)
 
-added_world : (policy : PolicyNames) (bound : CapSet) (t : Fixtures) (f : Fixture) → IsWorld (world_of policy bound t) → Below (top_of policy) f → IsWorld (world_of policy bound (added t f))
-added_world policy bound t (OfObject o) w below = record {
+-- one more that may stand behind the others
+placed_more : (before os : List WorldObject) (o : WorldObject) → ArePlaced before os → IsPlaced (before ++ os) o → ArePlaced before (os ++ o ∷ [])
+placed_more before [] o are is = (subst (λ (q : List WorldObject). IsPlaced q o) (append-nil before) is, tt)
+placed_more before (x ∷ os) o are is = (are.0, placed_more (before ++ x ∷ []) os o are.1 (subst (λ (q : List WorldObject). IsPlaced q o) (sym (append_assoc before (x ∷ []) os)) is))
+
+-- what has another path than each of these was not given among them
+not_given : (os : List WorldObject) (o : WorldObject) → list_any (same_place o) os ≡ false → given os o.path.names ≡ None
+not_given [] o e = refl
+not_given (x ∷ os) o e = by_head (or_parts (same_place o x) (list_any (same_place o) os) e).0 (not_given os o (or_parts (same_place o x) (list_any (same_place o) os) e).1) (same_names x.path.names o.path.names) refl
+  where
+    by_head : same_place o x ≡ false → given os o.path.names ≡ None → (v : Bool) → same_names x.path.names o.path.names ≡ v → cond (same_names x.path.names o.path.names) (Some x) (given os o.path.names) ≡ None
+    by_head other rest true f = absurd (true≢false (sym (ap (λ (ns : List Name). same_names o.path.names ns) (names_same x.path.names o.path.names f) ∙ names_itself o.path.names) ∙ other))
+    by_head other rest false f = ap (λ v. cond v (Some x) (given os o.path.names)) f ∙ rest
+
+root_first : (o : WorldObject) (os : List WorldObject) → o.path.names ≡ [] → given (o ∷ os) [] ≡ Some o
+root_first o os e = ap (λ (ns : List Name). cond (same_names ns []) (Some o) (given os [])) e
+
+-- a file in the root directory stands in it
+placed : (policy : PolicyNames) (bound : CapSet) (t : Fixtures) (o : WorldObject) (w : IsWorld (world_of policy bound t)) → IsFile policy o → fits t (OfObject o) ≡ true → IsPlaced (w.first ∷ w.others) o
+placed policy bound t o w is room = record {
+  new = subst (λ (os : List WorldObject). given os o.path.names ≡ None) w.objects_are (not_given t.objects o (not-true _ (and_parts (not (list_any (same_place o) t.objects)) (nat_lt (objects_at o.label t.objects) 65535) room).0));
+  parent = w.first;
+  parent_given = ap (λ (ns : List Name). given (w.first ∷ w.others) (parent_names ns)) is.names_are ∙ root_first w.first w.others w.no_names;
+  parent_dir = w.root_body;
+  order = subst (λ (l : Label). dominates o.label l ≡ true) (sym w.root_label) (dominates_bottom o.label);
+}
+
+added_world : (policy : PolicyNames) (bound : CapSet) (t : Fixtures) (f : Fixture) → IsWorld (world_of policy bound t) → Goes policy t f → IsWorld (world_of policy bound (added t f))
+added_world policy bound t (OfObject o) w goes = record {
   first = w.first;
   others = w.others ++ o ∷ [];
   objects_are = ap (λ (os : List WorldObject). os ++ o ∷ []) w.objects_are;
   no_names = w.no_names;
   root_body = w.root_body;
   root_label = w.root_label;
-  objects_below = all_more (λ (o : WorldObject). dominates (top_of policy) o.label ≡ true) t.objects o w.objects_below below;
+  others_placed = placed_more (w.first ∷ []) w.others o w.others_placed (placed policy bound t o w goes.fine goes.room);
+  objects_below = all_more (λ (o : WorldObject). dominates (top_of policy) o.label ≡ true) t.objects o w.objects_below goes.fine.below;
   procs_below = w.procs_below;
+  only_files = all_more (λ (o : WorldObject). is_file (kind_of o.body) ≡ false → o.attr.caps ≡ no_flags) t.objects o w.only_files (λ _. goes.fine.no_caps);
+  within = w.within;
 }
-added_world policy bound t (OfProcess p) w below = record {
+added_world policy bound t (OfProcess p) w goes = record {
   first = w.first;
   others = w.others;
   objects_are = w.objects_are;
   no_names = w.no_names;
   root_body = w.root_body;
   root_label = w.root_label;
+  others_placed = w.others_placed;
   objects_below = w.objects_below;
-  procs_below = all_more (λ (p : WorldProc). dominates (top_of policy) p.label ≡ true) t.procs p w.procs_below below;
+  procs_below = all_more (λ (p : WorldProc). dominates (top_of policy) p.label ≡ true) t.procs p w.procs_below goes.fine.below;
+  only_files = w.only_files;
+  within = all_more (λ (p : WorldProc). is_within p.caps.e p.caps.p ≡ true) t.procs p w.within goes.fine.within;
 }
 
 root_world : (policy : PolicyNames) (bound : CapSet) (root : WorldObject) → IsRoot policy root → IsWorld (world_of policy bound (record { objects = root ∷ []; procs = [] }))
@@ -125,8 +191,11 @@ root_world policy bound root is = record {
   no_names = is.no_names;
   root_body = is.is_dir;
   root_label = is.lowest;
+  others_placed = tt;
   objects_below = (is.below, tt);
   procs_below = tt;
+  only_files = (λ _. is.no_caps, tt);
+  within = tt;
 }
 
 -- ---- the input

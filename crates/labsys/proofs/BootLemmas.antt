@@ -18,7 +18,7 @@ use Rattle.kern_model.specs.Maps.{get_or as or_default}
 use Rattle.kern_model.specs.Keys.{Spot}
 use Rattle.kern_model.specs.State.{State, Change, SetObject, SetProcess, DrawObject, DrawProcess, changed_by, drawn, look, root}
 use Rattle.kern_model.specs.Boot.{object_of, next_object, entry_for, boot_object, boot_objects, boot_process, boot_processes, next_process, started}
-use Rattle.kern_model.specs.Valid.{same_label}
+use Rattle.kern_model.specs.Rules.{same_label}
 use Rattle.kern_model.proofs.TableLemmas.{each_set_at}
 use Rattle.labsys.specs.Kernel.{IsSpotOf, entry_at, RoomForObjects, RoomForProcs}
 

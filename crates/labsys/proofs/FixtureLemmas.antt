@@ -17,7 +17,8 @@ use Rattle.std.proofs.lemmas.Map.Text.{is_eq-slice_cmp}
 use Rattle.fs_path.specs.Name.{Name}
 use Rattle.kern_model.specs.declared.world.WorldObject.{WorldObject}
 use Rattle.lab_lattice.specs.Label.{Label, dominates, dominates_itself, dominates_both, label_cmp, label_cmp_total, label_cmp_exact}
-use Rattle.kern_model.specs.Valid.{same_label, objects_at, procs_at}
+use Rattle.kern_model.specs.Rules.{same_label}
+use Rattle.kern_model.specs.World.{objects_at, procs_at}
 use Rattle.kern_model.specs.declared.world.WorldProc.{WorldProc}
 use Rattle.labsys.specs.Fixture.{count_in, has_path}
 use Rattle.lab_text.specs.Names.{same_bytes}

@@ -6,7 +6,7 @@ use Rattle.lab_lattice.specs.Label.{Label}
 use Rattle.kern_model.specs.Run.{Played}
 use Rattle.kern_model.specs.Isolation.{answers, alone, crossing, up_to}
 use Rattle.kern_model.specs.Fronts.{IsFront, Agree}
-use Rattle.kern_model.specs.Valid.{IsWorld}
+use Rattle.kern_model.specs.World.{IsWorld}
 use Rattle.iso_laws.proofs.Worlds.{isolated_front, isolated_whole, two_fronts, two_wholes}
 use Rattle.labsys.specs.Input.{Accepted, Script}
 use Rattle.labsys.specs.Order.{Turn, replies_of, turns_of}

@@ -10,7 +10,8 @@ use Rattle.kern_model.specs.declared.world.ScriptItem.{ScriptItem}
 use Rattle.kern_model.specs.declared.world.World.{World}
 use Rattle.kern_model.specs.declared.world.WorldObject.{WorldObject}
 use Rattle.kern_model.specs.declared.world.WorldProc.{WorldProc}
-use Rattle.kern_model.specs.Valid.{same_label, objects_at, procs_at}
+use Rattle.kern_model.specs.Rules.{same_label}
+use Rattle.kern_model.specs.World.{objects_at, procs_at}
 use Rattle.lab_text.specs.Names.{Names}
 use Rattle.lab_text.specs.Policy.{PolicyNames, top_of}
 use Rattle.labsys.specs.declared.reading.Halt.{Halt}

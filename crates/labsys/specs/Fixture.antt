@@ -9,7 +9,7 @@ use Rattle.fs_path.specs.Name.{Name}
 use Rattle.lab_lattice.specs.Label.{Label, label_cmp}
 use Rattle.kern_model.specs.declared.world.WorldObject.{WorldObject}
 use Rattle.kern_model.specs.declared.world.WorldProc.{WorldProc}
-use Rattle.kern_model.specs.Valid.{objects_at, procs_at}
+use Rattle.kern_model.specs.World.{objects_at, procs_at}
 use Rattle.labsys.specs.declared.lines.Fixture.{Fixture as Read}
 use Rattle.labsys.specs.declared.lines.Fixture.TheVariants as read
 use Rattle.lab_text.specs.Names.{same_bytes}

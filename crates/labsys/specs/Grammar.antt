@@ -15,6 +15,7 @@ use Rattle.lab_text.specs.Text.{label_said}
 use Rattle.kern_model.specs.declared.numbers.Pid.{Pid}
 use Rattle.kern_model.specs.declared.numbers.Ids.{Ids}
 use Rattle.kern_model.specs.declared.calls.Call.TheVariants as call
+use Rattle.kern_model.specs.declared.objects.Attr.{Attr}
 use Rattle.kern_model.specs.declared.objects.Body.TheVariants as body
 use Rattle.kern_model.specs.declared.world.WorldObject.{WorldObject}
 use Rattle.kern_model.specs.declared.world.WorldProc.{WorldProc}
@@ -99,20 +100,24 @@ bound_line line = cond (same_bytes line (codes "bound all")) (Some all_of_caps) 
 abbrev pub in_root : Name → PathValue
 in_root name = record { absolute = true; names = name ∷ [] }
 
+-- attributes without capabilities
+abbrev pub plain : ℕ → ℕ → ℕ → Attr
+plain owner group mode = record { owner = owner; group = group; mode = mode; caps = no_flags }
+
 -- `dir / MODE UID GID LABEL`, with the lowest level as label
 abbrev pub root_line : PolicyNames → List ℕ → Option WorldObject
 root_line policy line =
     then (behind (codes "dir / ") line) (λ line. word_then line (λ mode line. word_then line (λ uid line. word_then line (λ gid name.
     then (mode_of mode) (λ mode. then (number_of uid) (λ owner. then (number_of gid) (λ group. then (label_said policy name) (λ label.
     keep_if (dominates bottom label)
-    (record { path = record { absolute = true; names = [] }; label = label; attr = record { owner = owner; group = group; mode = mode }; body = body.Dir })))))))))
+    (record { path = record { absolute = true; names = [] }; label = label; attr = plain owner group mode; body = body.Dir })))))))))
 
 -- `file /NAME MODE UID GID LABEL BYTES`
 abbrev pub file_line : PolicyNames → List ℕ → Option WorldObject
 file_line policy line =
     then (behind (codes "file /") line) (λ line. word_then line (λ name line. word_then line (λ mode line. word_then line (λ uid line. word_then line (λ gid line. word_then line (λ label bytes.
     then (entry_of name) (λ name. then (mode_of mode) (λ mode. then (number_of uid) (λ owner. then (number_of gid) (λ group. then (label_said policy label) (λ label. then (quoted_of bytes) (λ bytes.
-    Some (record { path = in_root name; label = label; attr = record { owner = owner; group = group; mode = mode }; body = body.File bytes })))))))))))))
+    Some (record { path = in_root name; label = label; attr = plain owner group mode; body = body.File bytes })))))))))))))
 
 -- the ids of a process: its user and its group are real, effective and saved, and it has no supplementary groups
 abbrev pub ids_of : ℕ → ℕ → Ids

@@ -7,7 +7,7 @@ use Rattle.kern_model.specs.declared.world.World.{World}
 use Rattle.kern_model.specs.declared.world.WorldObject.{WorldObject}
 use Rattle.kern_model.specs.declared.world.WorldProc.{WorldProc}
 use Rattle.kern_model.specs.declared.world.ScriptItem.{ScriptItem}
-use Rattle.kern_model.specs.Valid.{objects_at, procs_at}
+use Rattle.kern_model.specs.World.{objects_at, procs_at}
 use Rattle.lab_text.specs.Names.{same_bytes}
 use Rattle.lab_text.specs.Policy.{PolicyNames, top_of}
 use Rattle.labsys.specs.declared.status.Ending.{Ending}

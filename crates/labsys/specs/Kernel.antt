@@ -23,7 +23,7 @@ use Rattle.kern_model.specs.Rules.{errno_of}
 use Rattle.kern_model.specs.Row.{Row, Done, judged}
 use Rattle.kern_model.specs.Walk.{Found, enter, or_missing, walk_from, reach}
 use Rattle.kern_model.specs.Boot.{entry_for}
-use Rattle.kern_model.specs.Valid.{objects_at, procs_at}
+use Rattle.kern_model.specs.World.{objects_at, procs_at}
 use Rattle.chk_rules.specs.Asking.{Asking, judge_from}
 use Rattle.chk_rules.specs.Ends.{EndsBy}
 use Rattle.chk_rules.specs.declared.stop.Stop.{Stop}

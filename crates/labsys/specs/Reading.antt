@@ -5,7 +5,7 @@ use Rattle.lab_lattice.specs.Label.{Label}
 use Rattle.kern_model.specs.declared.world.WorldObject.{WorldObject}
 use Rattle.kern_model.specs.declared.world.World.{World}
 use Rattle.kern_model.specs.declared.world.ScriptItem.{ScriptItem}
-use Rattle.kern_model.specs.Valid.{HasRoom}
+use Rattle.kern_model.specs.World.{HasRoom}
 use Rattle.labsys.specs.declared.status.Ending.{Ending}
 use Rattle.labsys.specs.declared.status.Part.{Part}
 use Rattle.labsys.specs.declared.reading.Halt.{Halt}

@@ -6,7 +6,7 @@ use Rattle.lab_text.specs.Names.{Names}
 use Rattle.lab_text.specs.Policy.{PolicyNames}
 use Rattle.lab_text.specs.Text.{label_said}
 use Rattle.labsys.specs.Lines.{pieces, behind}
-use Rattle.labsys.specs.Grammar.{then, word_then, entry_of, mode_of, number_of, quoted_of, in_root}
+use Rattle.labsys.specs.Grammar.{plain, then, word_then, entry_of, mode_of, number_of, quoted_of, in_root}
 
 -- the words that are left of a line, where a text is left
 abbrev pub words_in : Option (List ℕ) → Names
@@ -36,4 +36,4 @@ file_words line =
 unfoldable pub file_of : PolicyNames → FileWords → Option WorldObject
 file_of policy w =
     then (entry_of w.name) (λ name. then (mode_of w.mode) (λ mode. then (number_of w.uid) (λ owner. then (number_of w.gid) (λ group. then (label_said policy w.label) (λ label. then (quoted_of w.bytes) (λ bytes.
-    Some (record { path = in_root name; label = label; attr = record { owner = owner; group = group; mode = mode }; body = body.File bytes })))))))
+    Some (record { path = in_root name; label = label; attr = plain owner group mode; body = body.File bytes })))))))

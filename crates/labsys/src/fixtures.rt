@@ -2,7 +2,8 @@
 ghost use Rattle.std.specs.Prelude.{◌≡◌, [], ◌∷◌, ◌++◌, ◌+◌, ◌<◌, IfOk, OnOk, cond, true, length};
 ghost use Rattle.std.specs.List.{list_any};
 ghost use Rattle.lab_lattice.specs.Label.{Label};
-ghost use Rattle.kern_model.specs.Valid.{same_label, objects_at, procs_at};
+ghost use Rattle.kern_model.specs.Rules.{same_label};
+ghost use Rattle.kern_model.specs.World.{objects_at, procs_at};
 ghost use Rattle.labsys.specs.Input.{fits, added};
 ghost use Rattle.labsys.specs.Fixture.{as_fixture, IsInRoot, has_path, count_in};
 

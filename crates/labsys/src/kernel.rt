@@ -118,6 +118,7 @@ impl Kernel {
                 owner: 0,
                 group: 0,
                 mode: 0,
+                caps: CapState::none(),
             },
         }
     }

@@ -1,6 +1,6 @@
 // The lines of an input.
 ghost use Rattle.std.specs.Prelude.{◌≡◌, IfOk, IfSome, MatchOption, None, Some, [], length, option_map};
-ghost use Rattle.labsys.specs.Grammar.{words_behind, policy_of, levels_line, categories_line, bound_line, root_line, file_line, proc_line, fixture_line, script_line};
+ghost use Rattle.labsys.specs.Grammar.{plain, words_behind, policy_of, levels_line, categories_line, bound_line, root_line, file_line, proc_line, fixture_line, script_line};
 ghost use Rattle.labsys.specs.Lines.{pieces};
 ghost use Rattle.labsys.specs.Words.{file_words, file_of};
 ghost use Rattle.labsys.specs.Fixture.{as_fixture, IsInRoot};
@@ -9,9 +9,9 @@ use crate::pieces::{behind, cut};
 use crate::words::{
     caps_of, entry_of, first_word, mode_of, number_of, quoted_of, tag_of, words_of,
 };
-use cap_bits::CapSet;
+use cap_bits::{CapSet, CapState};
 use fs_path::{List, NoMemory, Path};
-use kern_model::{Attr, Body, Call, Ids, ScriptItem, WorldObject, WorldProc};
+use kern_model::{Attr, Body, Call, Gid, Ids, Mode, ScriptItem, Uid, WorldObject, WorldProc};
 use lab_lattice::Lattice;
 use lab_text::{Policy, PolicyError, Word, bottom, mac_from_text};
 use std::alloc::Global;
@@ -78,6 +78,18 @@ pub fn bound_line(line: &[u8]) -> Option<CapSet>
     None
 }
 
+// Attributes without capabilities.
+fn plain(owner: Uid, group: Gid, mode: Mode) -> Attr
+    ensures { result ≡ plain owner group mode }
+{
+    Attr {
+        owner,
+        group,
+        mode,
+        caps: CapState::none(),
+    }
+}
+
 /// The root directory, which has the lowest label.
 pub fn root_line(alloc: Global, policy: &Policy, line: &[u8]) -> Option<WorldObject>
     ensures line { result ≡ root_line policy.now line.now }
@@ -97,7 +109,7 @@ pub fn root_line(alloc: Global, policy: &Policy, line: &[u8]) -> Option<WorldObj
     Some(WorldObject {
         path: Path::root(alloc),
         label,
-        attr: Attr { owner, group, mode },
+        attr: plain(owner, group, mode),
         body: Body::Dir,
     })
 }
@@ -163,7 +175,7 @@ fn file_of(
     Ok(Some(WorldObject {
         path: Path::in_root(alloc, name)?,
         label,
-        attr: Attr { owner, group, mode },
+        attr: plain(owner, group, mode),
         body: Body::File(bytes),
     }))
 }

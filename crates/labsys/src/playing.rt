@@ -6,7 +6,7 @@ ghost use Rattle.io_ends.specs.Causes.{Rose};
 ghost use Rattle.kern_model.specs.Boot.{boot};
 ghost use Rattle.kern_model.specs.Run.{played};
 ghost use Rattle.kern_model.specs.Step.{step};
-ghost use Rattle.kern_model.specs.Valid.{HasRoom};
+ghost use Rattle.kern_model.specs.World.{HasRoom};
 ghost use Rattle.labsys.specs.Lines.{pieces};
 ghost use Rattle.labsys.specs.Input.{script_from, read_lines};
 ghost use Rattle.labsys.specs.Kernel.{state_of};

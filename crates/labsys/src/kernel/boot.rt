@@ -4,7 +4,7 @@ ghost use Rattle.kern_model.specs.declared.records.Rec.TheVariants as rec;
 ghost use Rattle.kern_model.specs.Keys.{Spot};
 ghost use Rattle.kern_model.specs.State.{drawn};
 ghost use Rattle.kern_model.specs.Boot.{boot, boot_object, boot_objects, boot_process, boot_processes, boot_recs, next_process, nothing, started};
-ghost use Rattle.kern_model.specs.Valid.{HasRoom};
+ghost use Rattle.kern_model.specs.World.{HasRoom};
 ghost use Rattle.labsys.specs.Kernel.{state_of, RoomForObjects, RoomForProcs, IsSpotOf};
 
 use super::Kernel;

@@ -23,6 +23,8 @@ pub struct Objects {
 
 impl Model for Objects {
     ghost use Rattle.std.specs.FinMap as map;
+    ghost use Rattle.std.specs.FinSet as set;
+    ghost use Rattle.cap_bits.specs.Cap.{cap_cmp, cap_code};
     ghost use Rattle.std.specs.Coded.{codes};
     ghost use Rattle.lab_lattice.specs.Label.{label_code};
     ghost use Rattle.kern_model.specs.Keys.{oid_cmp};
@@ -30,7 +32,7 @@ impl Model for Objects {
 
     ghost Value = { map.FinMap oid_cmp Object };
 
-    ghost coded = { map.code (Prim.hlevel (codes, label_code)) (Prim.hlevel (codes, label_code)) };
+    ghost coded = { map.code (Prim.hlevel (codes, label_code)) (Prim.hlevel (codes, set.code {R = cap_cmp} cap_code, label_code)) };
 
     ghost view = { λ a. map.from_entries a.kept.entries };
 }

@@ -5,7 +5,7 @@ use Rattle.lab_lattice.specs.Label.{label_cmp}
 use Rattle.kern_model.specs.declared.world.WorldObject.{WorldObject}
 use Rattle.kern_model.specs.declared.world.WorldProc.{WorldProc}
 use Rattle.kern_model.specs.State.{State}
-use Rattle.kern_model.specs.Valid.{objects_at, procs_at}
+use Rattle.kern_model.specs.World.{objects_at, procs_at}
 use Rattle.labsys.specs.Kernel.{state_of, RoomForObjects, RoomForProcs}
 use Rattle.labsys.proofs.BootLemmas.{all_room, objects_keep}
 use Rattle.labsys.proofs.kernel.Kernel.boot.Goals as goal

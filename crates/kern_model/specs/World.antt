@@ -1,0 +1,70 @@
+-- What holds of every world that is accepted.
+use Rattle.std.specs.Prelude.{◌≡◌, ℕ, ◌≤◌, ◌==◌, Bool, true, false, List, [], ◌∷◌, ◌++◌, Option, Some, None, cond, count_by}
+use Rattle.std.specs.List.{AllByRecursion}
+use Rattle.std.specs.Cmp.Lexicographic.{pointwise}
+use Rattle.cap_bits.specs.CapSet.{is_within}
+use Rattle.cap_bits.specs.State.{no_flags}
+use Rattle.fs_path.specs.Name.{Name}
+use Rattle.lab_lattice.specs.Label.{Label, bottom, dominates}
+use Rattle.kern_model.specs.declared.objects.Body.TheVariants as body
+use Rattle.kern_model.specs.declared.world.World.{World}
+use Rattle.kern_model.specs.declared.world.WorldObject.{WorldObject}
+use Rattle.kern_model.specs.declared.world.WorldProc.{WorldProc}
+use Rattle.kern_model.specs.Rules.{is_file, same_label}
+use Rattle.kern_model.specs.Boot.{kind_of}
+
+-- how many objects have a label
+abbrev pub objects_at : Label → List WorldObject → ℕ
+objects_at l os = count_by (λ (o : WorldObject). same_label o.label l) os
+
+-- how many processes have a label
+abbrev pub procs_at : Label → List WorldProc → ℕ
+procs_at l ps = count_by (λ (p : WorldProc). same_label p.label l) ps
+
+-- no label has more objects or processes than may be drawn
+pub record HasRoom (w : World) : Type 0 where
+  pub objects : (l : Label) → objects_at l w.objects ≤ 65535
+  pub procs : (l : Label) → procs_at l w.procs ≤ 4095
+
+-- whether two paths have the same names
+abbrev pub same_names : List Name → List Name → Bool
+same_names = pointwise (pointwise ◌==◌)
+
+-- the names of the directory in which a path's last name stands: all but the last
+abbrev pub parent_names : List Name → List Name
+parent_names [] = []
+parent_names (name ∷ []) = []
+parent_names (name ∷ next ∷ names) = name ∷ parent_names (next ∷ names)
+
+-- the first of these objects whose path has these names
+abbrev pub given : List WorldObject → List Name → Option WorldObject
+given [] names = None
+given (o ∷ os) names = cond (same_names o.path.names names) (Some o) (given os names)
+
+-- an object may stand behind others: its path was not given, its directory was, and its label dominates the directory's
+pub record IsPlaced (before : List WorldObject) (o : WorldObject) : Type 0 where
+  pub new : given before o.path.names ≡ None
+  pub parent : WorldObject
+  pub parent_given : given before (parent_names o.path.names) ≡ Some parent
+  pub parent_dir : parent.body ≡ body.Dir
+  pub order : dominates o.label parent.label ≡ true
+
+-- each of these may stand behind those before it
+abbrev pub ArePlaced : List WorldObject → List WorldObject → Type 0
+ArePlaced before [] = Unit {0}
+ArePlaced before (o ∷ os) = IsPlaced before o × ArePlaced (before ++ o ∷ []) os
+
+-- the first object of a world is its root, a directory of the bottom label, and each other one stands in a directory that was
+-- given before it. Top dominates every label; only a file has capabilities, and what is effective in a process is permitted.
+pub record IsWorld (w : World) : Type 0 where
+  pub first : WorldObject
+  pub others : List WorldObject
+  pub objects_are : w.objects ≡ first ∷ others
+  pub no_names : first.path.names ≡ []
+  pub root_body : first.body ≡ body.Dir
+  pub root_label : first.label ≡ bottom
+  pub others_placed : ArePlaced (first ∷ []) others
+  pub objects_below : AllByRecursion (λ (o : WorldObject). dominates w.top o.label ≡ true) w.objects
+  pub procs_below : AllByRecursion (λ (p : WorldProc). dominates w.top p.label ≡ true) w.procs
+  pub only_files : AllByRecursion (λ (o : WorldObject). is_file (kind_of o.body) ≡ false → o.attr.caps ≡ no_flags) w.objects
+  pub within : AllByRecursion (λ (p : WorldProc). is_within p.caps.e p.caps.p ≡ true) w.procs
