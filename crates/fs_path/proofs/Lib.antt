@@ -1,1 +1,5 @@
 pub mod NameLemmas
+pub mod LineLemmas
+pub mod PathLemmas
+pub mod ValueLemmas
+pub mod WordLemmas

@@ -1,2 +1,9 @@
 pub mod Name
 pub mod Path
+pub mod PathText
+pub mod PathLaws
+pub mod Values
+pub mod Lines
+pub mod Words
+pub mod WordSteps
+pub mod Again

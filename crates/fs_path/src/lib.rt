@@ -1,11 +1,19 @@
-//! Names and paths of the file tree, and the lists that the crates above keep.
+//! Names and paths of the file tree, the words of lines, and the lists that the crates above keep.
 #![tactic(auto)]
 
+mod lines;
 mod list;
 mod name;
 mod path;
+#[cfg(test)]
+mod tests;
+mod values;
+mod words;
 
+pub use lines::{cut, next_line};
 pub use list::{ByteList, List};
 pub use name::Name;
-pub use path::{NameList, Path};
+pub use path::{NameList, Path, PathError};
 pub use std::alloc::AllocError as NoMemory;
+pub use values::{groups_of, mode_of, number_of, numeral, put_groups, put_mode, put_number};
+pub use words::{LineWord, is_blank, put_quoted, words_of};

@@ -1,8 +1,12 @@
 // Lists that grow at their end.
 ghost use Rattle.std.specs.Prelude.{◌≡◌, [], ◌∷◌, ◌++◌, OnOk, OnErr, IfOk};
+ghost use Rattle.std.specs.Cmp.{on_equiv, on_per, on_po, on_total};
+ghost use Rattle.std.specs.Cmp.Lexicographic.{slice_cmp, slice_partial_cmp, pointwise, lists_agrees, lists_equiv, lists_per, lists_po, lists_ties, lists_total};
+ghost use Rattle.std.specs.Ordering.{on};
 
 use crate::NoMemory;
 use std::alloc::Global;
+use std::cmp::Ordering;
 use std::marker::Model;
 
 /// Bytes.
@@ -56,5 +60,43 @@ impl<T: Copy + Drop> List<T> {
     {
         let kept = Vec::from_slice(alloc, items)?;
         Ok(List { kept })
+    }
+}
+
+impl<T: PartialEq> PartialEq for List<T> {
+    ghost eq = { on (λ l. l) (pointwise T.eq) };
+
+    ghost laws = { on_per (λ l. l) (lists_per T.PartialEq.laws) };
+
+    fn eq(&self, other: &List<T>) -> bool {
+        self.kept.as_slice() == other.kept.as_slice()
+    }
+}
+
+impl<T: Eq> Eq for List<T> {
+    ghost laws = { on_equiv (λ l. l) (lists_equiv T.Eq.laws) };
+}
+
+impl<T: PartialOrd> PartialOrd for List<T> {
+    ghost partial_cmp = { on (λ l. l) (slice_partial_cmp T.partial_cmp) };
+
+    ghost laws = { on_po (λ l. l) (lists_po T.PartialOrd.laws) };
+
+    fn partial_cmp(&self, other: &List<T>) -> Option<Ordering> {
+        self.kept.as_slice().partial_cmp(other.kept.as_slice())
+    }
+}
+
+impl<T: Ord> Ord for List<T> {
+    ghost cmp = { on (λ l. l) (slice_cmp T.cmp) };
+
+    ghost total = { on_total (λ l. l) (lists_total T.total) };
+
+    ghost matches_partial_cmp = { λ x y. lists_agrees T.matches_partial_cmp x y };
+
+    ghost matches_eq = { λ x y. lists_ties T.cmp T.matches_eq x y };
+
+    fn cmp(&self, other: &List<T>) -> Ordering {
+        self.kept.as_slice().cmp(other.kept.as_slice())
     }
 }

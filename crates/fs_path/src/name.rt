@@ -13,7 +13,8 @@ use std::alloc::Global;
 use std::cmp::Ordering;
 use std::marker::Model;
 
-const MAX_NAME: usize = 63;
+/// How many bytes a name may have.
+pub(crate) const MAX_NAME: usize = 63;
 
 /// The name of an entry in a directory: 1 to 63 bytes, none of them 0 or `/`, and neither `.` nor `..`.
 /// It is seen as its bytes, and names are ordered as these are.
@@ -63,6 +64,15 @@ fn may_be_name(bytes: &[u8]) -> bool
 }
 
 impl Name {
+    // The name with bytes that are one.
+    pub(crate) fn of(alloc: Global, bytes: &[u8]) -> Result<Name, NoMemory>
+        requires { is_name bytes.now ≡ true }
+        ensures { IfOk result (λ name. name ≡ bytes.now) }
+    {
+        let kept = ByteList::from_slice(alloc, bytes)?;
+        Ok(Name { kept })
+    }
+
     /// The name with these bytes, where they may be one.
     pub fn read(alloc: Global, bytes: &[u8]) -> Result<Option<Name>, NoMemory>
         ensures { IfOk result (λ name. MatchOption name (is_name bytes.now ≡ false) (λ name. (name ≡ bytes.now) × (is_name bytes.now ≡ true))) }
@@ -70,8 +80,7 @@ impl Name {
         if !may_be_name(bytes) {
             return Ok(None);
         }
-        let kept = ByteList::from_slice(alloc, bytes)?;
-        Ok(Some(Name { kept }))
+        Ok(Some(Name::of(alloc, bytes)?))
     }
 
     /// Its bytes.
@@ -87,8 +96,7 @@ impl Name {
     pub fn copy(&self, alloc: Global) -> Result<Name, NoMemory>
         ensures { IfOk result (λ name. name ≡ self.now) }
     {
-        let kept = ByteList::from_slice(alloc, self.kept.items())?;
-        Ok(Name { kept })
+        Name::of(alloc, self.bytes())
     }
 }
 

@@ -1,9 +1,18 @@
 // Paths.
-ghost use Rattle.std.specs.Prelude.{◌≡◌, ◌≤◌, ◌∷◌, [], IfOk, true, length};
+ghost use Rattle.std.specs.Prelude.{◌≡◌, ◌+◌, ◌==◌, ◌<◌, ◌≤◌, ◌^◌, ◌∷◌, ◌++◌, [], IfOk, IfErr, OnOk, None, true, cond, length};
+ghost use Rattle.std.specs.List.{position, slice_split};
+ghost use Rattle.std.specs.Option.{option_copied};
+ghost use Rattle.fs_path.specs.Path.{written_len};
+ghost use Rattle.fs_path.specs.PathText.{is_slash, names_of, components_of, is_empty_or_dot, starts_badly, component_fault, first_fault, path_fault, path_said, Says, IsNoPath, pieces_in, has_no_slash, kept};
 
+use crate::name::MAX_NAME;
 use crate::{List, Name, NoMemory};
 use std::alloc::Global;
 use std::marker::Model;
+
+const MAX_TEXT: usize = 1023;
+
+const MAX_NAMES: usize = 32;
 
 /// Names of a path, in order.
 pub type NameList = List<Name>;
@@ -28,7 +37,149 @@ impl Model for Path {
     ghost invariant = { λ p. HasForm p.absolute p.names };
 }
 
+/// Why a text is no path. Places are bytes of the text, from 0.
+#[derive(Clone, Copy, Debug, PartialEq, Eq)]
+pub enum PathError {
+    /// It has no byte.
+    Empty,
+    /// It has more than 1,023 bytes.
+    TooLong,
+    /// A component that begins at this place has more than 63 bytes.
+    NameTooLong(usize),
+    /// A byte 0 stands at this place, or a component `..` begins there.
+    BadByte(usize),
+    /// It has more than 32 components, besides those that are empty or `.`.
+    TooDeep,
+    /// Memory ran out.
+    NoMemory(NoMemory),
+}
+
+impl From<NoMemory> for PathError {
+    ghost use Rattle.std.specs.Prelude.{◌≡◌};
+    ghost use Rattle.fs_path.specs.declared.path.PathError.TheVariants as error;
+
+    ghost from_gives = { λ m e. e ≡ error.NoMemory m };
+
+    fn from(value: NoMemory) -> Self {
+        PathError::NoMemory(value)
+    }
+}
+
+// The place of the first `byte`.
+fn place_of(bytes: &[u8], byte: u8) -> Option<usize>
+    ensures { result ≡ position (λ b. b == byte) bytes.now }
+{
+    bytes.iter().position(|b| *b == byte)
+}
+
+// What stands before the first `/`, and what stands behind it, if there is one.
+#[tactic(auto, using(crate::proofs::PathLemmas::cut_at, crate::proofs::PathLemmas::cut_none))]
+fn cut(text: &[u8]) -> (&[u8], Option<&[u8]>)
+    ensures { slice_split is_slash text.now ≡ result.0.now ∷ pieces_in (option_copied result.1) }
+{
+    match place_of(text, b'/') {
+        Some(place) => (&text[..place], Some(&text[place + 1..])),
+        None => (text, None),
+    }
+}
+
+fn is_empty_or_dot(bytes: &[u8]) -> bool
+    ensures { result ≡ is_empty_or_dot bytes.now }
+{
+    bytes.is_empty() || bytes == b".".as_slice()
+}
+
+// Whether bytes are `..`, or the first of them is 0.
+fn starts_badly(bytes: &[u8]) -> bool
+    ensures { result ≡ starts_badly bytes.now }
+{
+    bytes == b"..".as_slice() || bytes.starts_with(&[0])
+}
+
+// What is wrong with a component that begins at `at`, before which `count` others count.
+#[tactic(auto, using(std::proofs::lemmas::Bool::Decides::nat_tests), unfolding(crate::specs::PathText::component_fault))]
+fn component_fault(count: usize, at: usize, bytes: &[u8]) -> Option<PathError>
+    requires { at + length bytes.now < 2 ^ 64 }
+    ensures { result ≡ component_fault count (record { at = at; bytes = bytes.now }) }
+{
+    if bytes.len() > MAX_NAME {
+        return Some(PathError::NameTooLong(at));
+    }
+    if starts_badly(bytes) {
+        return Some(PathError::BadByte(at));
+    }
+    if count >= MAX_NAMES {
+        return Some(PathError::TooDeep);
+    }
+    let place = place_of(bytes, 0)?;
+    Some(PathError::BadByte(at + place))
+}
+
+// Puts a component that begins at `at` behind the names before it, if it counts.
+#[tactic(auto, using(crate::specs::PathLaws::is_name_without_fault))]
+fn take_component(
+    alloc: Global,
+    names: &mut NameList,
+    at: usize,
+    bytes: &[u8],
+) -> Result<(), PathError>
+    requires within { at + length bytes.now < 2 ^ 64 }
+    requires no_slash { has_no_slash bytes.now ≡ true }
+    ensures names { OnOk result (names.new ≡ names.old ++ names_of (kept at bytes.now)) }
+    ensures fine { OnOk result (first_fault (length names.old) (kept at bytes.now) ≡ None) }
+    ensures fault { IfErr result (Says (first_fault (length names.old) (kept at bytes.now))) }
+{
+    if is_empty_or_dot(bytes) {
+        return Ok(());
+    }
+    if let Some(fault) = component_fault(names.items().len(), at, bytes) {
+        return Err(fault);
+    }
+    names.push(Name::of(alloc, bytes)?)?;
+    Ok(())
+}
+
+// The names of a text's components.
+#[tactic(auto, using(crate::specs::PathLaws::written_pieces, crate::specs::PathLaws::no_slash_before), unfolding(crate::specs::PathText::components_of))]
+fn read_names(alloc: Global, text: &[u8]) -> Result<NameList, PathError>
+    requires { length text.now ≤ 1023 }
+    ensures names { IfOk result (λ names. names ≡ names_of (components_of text.now)) }
+    ensures fine { OnOk result (first_fault 0 (components_of text.now) ≡ None) }
+    ensures fault { IfErr result (Says (first_fault 0 (components_of text.now))) }
+{
+    let mut names = List::new(alloc);
+    let mut at = 0;
+    let mut left = Some(text);
+    while let Some(rest) = left {
+        let (component, more) = cut(rest);
+        take_component(alloc, &mut names, at, component)?;
+        at += component.len() + 1;
+        left = more;
+    }
+    Ok(names)
+}
+
 impl Path {
+    /// The path that a text stands for: names with slashes between them. Empty components and components `.` are left
+    /// out, and it is absolute where it begins with `/`.
+    #[tactic(auto, using(std::proofs::lemmas::Bool::Decides::nat_tests, crate::specs::PathLaws::path_form), unfolding(crate::specs::PathText::path_fault, crate::specs::PathText::path_said))]
+    pub fn read(alloc: Global, text: &[u8]) -> Result<Path, PathError>
+        ensures path { IfOk result (λ path. (path ≡ path_said text.now) × (path_fault text.now ≡ None)) }
+        ensures none { IfErr result (IsNoPath text.now) }
+    {
+        if text.is_empty() {
+            return Err(PathError::Empty);
+        }
+        if text.len() > MAX_TEXT {
+            return Err(PathError::TooLong);
+        }
+        let names = read_names(alloc, text)?;
+        Ok(Path {
+            absolute: text.starts_with(b"/"),
+            names,
+        })
+    }
+
     /// The path of the root directory, which has no names.
     pub fn root(alloc: Global) -> Path
         ensures { result ≡ record { absolute = true; names = [] } }
@@ -56,6 +207,7 @@ impl Path {
     pub fn components(&self) -> &[Name]
         ensures names { result.now ≡ self.now.names }
         ensures few { length result.now ≤ 32 }
+        ensures short { written_len result.now ≤ 1023 + cond self.now.absolute 0 1 }
     {
         self.names.items()
     }

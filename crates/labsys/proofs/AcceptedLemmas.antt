@@ -21,8 +21,10 @@ use Rattle.lab_text.specs.Names.{same_bytes}
 use Rattle.lab_text.specs.Policy.{PolicyNames, top_of}
 use Rattle.lab_text.specs.Text.{label_said}
 use Rattle.lab_text.specs.Said.{said_valid}
-use Rattle.labsys.specs.Lines.{cut, pieces, behind}
-use Rattle.labsys.specs.Grammar.{keep_if, split_then, word_then, then, number_of, mode_of, entry_of, quoted_of, caps_of, reads_labels, exactly, levels_line, categories_line, bound_line, root_line, file_line, proc_line, Fixture, OfObject, OfProcess, first_of, fixture_line}
+use Rattle.fs_path.specs.Lines.{cut, pieces}
+use Rattle.labsys.specs.Lines.{behind}
+use Rattle.fs_path.specs.Values.{number_of, mode_of}
+use Rattle.labsys.specs.Grammar.{keep_if, split_then, word_then, then, entry_of, quoted_of, caps_of, reads_labels, exactly, levels_line, categories_line, bound_line, root_line, file_line, proc_line, Fixture, OfObject, OfProcess, first_of, fixture_line}
 use Rattle.labsys.specs.Input.{Accepted, Input, Fixtures, short, said, due, same_place, fits, added, next_fixture, world_of, with_script, or_script, fixtures_from, read_lines, input_of}
 
 -- what may be there passes

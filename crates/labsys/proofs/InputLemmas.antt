@@ -15,7 +15,7 @@ use Rattle.labsys.specs.declared.status.Fault.TheVariants.{Read, Write, Trail, N
 use Rattle.lab_text.specs.Policy.{PolicyNames}
 use Rattle.cap_bits.specs.CapSet.{CapSet}
 use Rattle.kern_model.specs.declared.world.ScriptItem.{ScriptItem}
-use Rattle.labsys.specs.Lines.{pieces}
+use Rattle.fs_path.specs.Lines.{pieces}
 use Rattle.labsys.specs.Grammar.{exactly, levels_line, categories_line, bound_line, root_line, script_line}
 use Rattle.labsys.specs.Input.{Input, Script, Fixtures, no_world, refused, cut_off, short, said, due, after_item, script_from, next_fixture, added, or_script, with_script, fixtures_from, read_lines, input_of}
 use Rattle.labsys.specs.Texts.{last_text}

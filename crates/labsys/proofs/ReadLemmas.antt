@@ -22,13 +22,13 @@ use Rattle.labsys.specs.declared.status.Part.TheVariants as part
 use Rattle.labsys.specs.declared.reading.Halt.TheVariants as halt
 use Rattle.labsys.specs.declared.lines.Fixture.{Fixture as Read}
 use Rattle.labsys.specs.declared.lines.Fixture.TheVariants as read
-use Rattle.labsys.specs.Lines.{cut, pieces}
+use Rattle.fs_path.specs.Lines.{cut, pieces}
 use Rattle.lab_text.specs.Names.{same_bytes}
 use Rattle.labsys.specs.Grammar.{Fixture, OfObject, OfProcess, keep_if, then, exactly, levels_line, categories_line, bound_line, root_line, fixture_line, script_line}
 use Rattle.labsys.specs.Input.{Input, Script, Fixtures, due, said, short, no_world, refused, script, script_from, after_item, fits, added, next_fixture, or_script, fixtures_from, read_lines, with_script, world_of, same_place}
 use Rattle.labsys.specs.Fixture.{as_fixture}
 use Rattle.labsys.specs.Reading.{next_short, next_of, ends_at, GoesOn, Stops, Begins, HasSpace, ComesTo, EndsInScript, EndsBefore, Reads, ReadsNone, PlaysLine, Ends}
-use Rattle.labsys.proofs.LineLemmas.{pieces_some, pieces_none, pieces_first, cut_longer}
+use Rattle.fs_path.proofs.LineLemmas.{pieces_some, pieces_none, pieces_first, cut_longer}
 use Rattle.labsys.proofs.FixtureLemmas.{objects_at_more, procs_at_more}
 
 -- ---- the line that is due

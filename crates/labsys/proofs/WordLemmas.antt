@@ -2,7 +2,8 @@
 use Rattle.std.proofs.Common.{◌≡◌, ℕ, List, [], ◌∷◌, ◌++◌, refl, sym, ◌∙◌, ap, append_assoc, Option, Some, None}
 use Rattle.kern_model.specs.declared.world.WorldObject.{WorldObject}
 use Rattle.lab_text.specs.Policy.{PolicyNames}
-use Rattle.labsys.specs.Lines.{cut, behind}
+use Rattle.fs_path.specs.Lines.{cut}
+use Rattle.labsys.specs.Lines.{behind}
 use Rattle.labsys.specs.Grammar.{then, split_then, file_line}
 use Rattle.labsys.specs.Words.{FileWords, file_words, file_of}
 

@@ -1,5 +1,5 @@
 -- The lines of an input, each by its words.
-use Rattle.std.specs.Prelude.{ℕ, ◌/◌, ◌%◌, ◌==◌, ◌&&◌, not, Bool, true, cond, nat_le, List, [], ◌∷◌, Option, Some, None, codes, is_none}
+use Rattle.std.specs.Prelude.{ℕ, ◌==◌, ◌&&◌, not, Bool, true, cond, nat_le, List, [], ◌∷◌, Option, Some, None, codes, is_none}
 use Rattle.std.specs.List.{list_all}
 use Rattle.std.specs.Option.{option_and_then}
 use Rattle.cap_bits.specs.declared.cap.Cap.TheVariants as cap
@@ -20,7 +20,9 @@ use Rattle.kern_model.specs.declared.objects.Body.TheVariants as body
 use Rattle.kern_model.specs.declared.world.WorldObject.{WorldObject}
 use Rattle.kern_model.specs.declared.world.WorldProc.{WorldProc}
 use Rattle.kern_model.specs.declared.world.ScriptItem.{ScriptItem}
-use Rattle.labsys.specs.Lines.{cut, pieces, behind, numeral}
+use Rattle.fs_path.specs.Lines.{cut, pieces}
+use Rattle.fs_path.specs.Values.{numeral, number_of, mode_of}
+use Rattle.labsys.specs.Lines.{behind}
 
 -- the value, where it passes
 abbrev pub keep_if : {X : Type 0} → Bool → X → Option X
@@ -48,14 +50,6 @@ policy_of levels cats = keep_if (is_none (names_fault levels cats)) (record { le
 abbrev pub words_behind : List ℕ → List (List ℕ) → Option Names
 words_behind keyword [] = None
 words_behind keyword (w ∷ ws) = keep_if (same_bytes w keyword) ws
-
--- a number of a user or a group
-abbrev pub number_of : List ℕ → Option ℕ
-number_of word = numeral 10 10 0 4294967295 word
-
--- 1 to 4 octal digits, without the bit 1000
-abbrev pub mode_of : List ℕ → Option ℕ
-mode_of word = then (numeral 8 4 0 4095 word) (λ mode. keep_if ((mode / 512) % 2 == 0) mode)
 
 -- a byte that a bare word may have: 0x21 to 0x7e, but not `"` and `\`
 abbrev pub is_bare : ℕ → Bool

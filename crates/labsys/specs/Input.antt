@@ -15,7 +15,7 @@ use Rattle.labsys.specs.declared.status.Ending.TheVariants.{Whole, Refused, TooM
 use Rattle.labsys.specs.declared.status.Part.{Part}
 use Rattle.labsys.specs.declared.status.Part.TheVariants as part
 use Rattle.labsys.specs.declared.status.Refusal.TheVariants as refusal
-use Rattle.labsys.specs.Lines.{pieces}
+use Rattle.fs_path.specs.Lines.{pieces}
 use Rattle.labsys.specs.Grammar.{Fixture, OfObject, OfProcess, keep_if, then, exactly, levels_line, categories_line, bound_line, root_line, fixture_line, script_line}
 
 -- a world that was accepted, with the names that it gives

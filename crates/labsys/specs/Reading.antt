@@ -12,7 +12,7 @@ use Rattle.labsys.specs.declared.reading.Halt.{Halt}
 use Rattle.labsys.specs.declared.reading.Halt.TheVariants as halt
 use Rattle.labsys.specs.declared.reading.Next.{Next}
 use Rattle.labsys.specs.declared.reading.Next.TheVariants as next
-use Rattle.labsys.specs.Lines.{cut, pieces}
+use Rattle.fs_path.specs.Lines.{cut, pieces}
 use Rattle.lab_text.specs.Policy.{PolicyNames}
 use Rattle.labsys.specs.Grammar.{Fixture, keep_if, then, fixture_line}
 use Rattle.labsys.specs.Input.{Input, Fixtures, no_world, refused, cut_off, due, fits, fixtures_from, with_script, read_lines, script, script_from}

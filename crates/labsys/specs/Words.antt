@@ -5,8 +5,10 @@ use Rattle.kern_model.specs.declared.world.WorldObject.{WorldObject}
 use Rattle.lab_text.specs.Names.{Names}
 use Rattle.lab_text.specs.Policy.{PolicyNames}
 use Rattle.lab_text.specs.Text.{label_said}
-use Rattle.labsys.specs.Lines.{pieces, behind}
-use Rattle.labsys.specs.Grammar.{plain, then, word_then, entry_of, mode_of, number_of, quoted_of, in_root}
+use Rattle.fs_path.specs.Lines.{pieces}
+use Rattle.labsys.specs.Lines.{behind}
+use Rattle.fs_path.specs.Values.{mode_of, number_of}
+use Rattle.labsys.specs.Grammar.{plain, then, word_then, entry_of, quoted_of, in_root}
 
 -- the words that are left of a line, where a text is left
 abbrev pub words_in : Option (List ℕ) → Names

@@ -1,16 +1,14 @@
 // The lines of an input.
 ghost use Rattle.std.specs.Prelude.{◌≡◌, IfOk, IfSome, MatchOption, None, Some, [], length, option_map};
 ghost use Rattle.labsys.specs.Grammar.{plain, words_behind, policy_of, levels_line, categories_line, bound_line, root_line, file_line, proc_line, fixture_line, script_line};
-ghost use Rattle.labsys.specs.Lines.{pieces};
+ghost use Rattle.fs_path.specs.Lines.{pieces};
 ghost use Rattle.labsys.specs.Words.{file_words, file_of};
 ghost use Rattle.labsys.specs.Fixture.{as_fixture, IsInRoot};
 
-use crate::pieces::{behind, cut};
-use crate::words::{
-    caps_of, entry_of, first_word, mode_of, number_of, quoted_of, tag_of, words_of,
-};
+use crate::pieces::behind;
+use crate::words::{caps_of, entry_of, first_word, quoted_of, tag_of, words_of};
 use cap_bits::{CapSet, CapState};
-use fs_path::{List, NoMemory, Path};
+use fs_path::{List, NoMemory, Path, cut, mode_of, number_of};
 use kern_model::{Attr, Body, Call, Gid, Ids, Mode, ScriptItem, Uid, WorldObject, WorldProc};
 use lab_lattice::Lattice;
 use lab_text::{Policy, PolicyError, Word, bottom, mac_from_text};

@@ -7,7 +7,7 @@ ghost use Rattle.kern_model.specs.Boot.{boot};
 ghost use Rattle.kern_model.specs.Run.{played};
 ghost use Rattle.kern_model.specs.Step.{step};
 ghost use Rattle.kern_model.specs.World.{HasRoom};
-ghost use Rattle.labsys.specs.Lines.{pieces};
+ghost use Rattle.fs_path.specs.Lines.{pieces};
 ghost use Rattle.labsys.specs.Input.{script_from, read_lines};
 ghost use Rattle.labsys.specs.Kernel.{state_of};
 ghost use Rattle.labsys.specs.Texts.{rec_text, end_text, label_in, caps_in, ends_text, last_text, header_text};

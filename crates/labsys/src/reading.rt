@@ -11,7 +11,6 @@ use crate::fixtures::Draft;
 use crate::lines::{
     Fixture, bound_line, categories_line, fixture_line, levels_line, root_line, script_line,
 };
-use crate::pieces::cut;
 use crate::{Ending, Part, Refusal};
 use cap_bits::CapSet;
 use fs_path::{List, NoMemory};
@@ -44,7 +43,7 @@ pub fn next_line(text: &[u8]) -> Option<(&[u8], &[u8])>
     ensures line { MatchOption result (next_short text.now ≡ None) (λ parts. next_short text.now ≡ Some (parts.0.now, parts.1.now)) }
     ensures shorter { IfSome result (λ parts. length parts.1.now < length text.now) }
 {
-    let (line, rest) = cut(text, b'\n')?;
+    let (line, rest) = fs_path::next_line(text)?;
     if line.len() > MAX_LINE {
         return None;
     }

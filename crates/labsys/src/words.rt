@@ -2,20 +2,16 @@
 ghost use Rattle.std.specs.Prelude.{◌≡◌, ◌≤◌, ◌∷◌, IfOk, length};
 ghost use Rattle.std.specs.List.{list_all};
 ghost use Rattle.std.specs.Option.{option_copied};
-ghost use Rattle.labsys.specs.Lines.{pieces};
-ghost use Rattle.labsys.specs.Grammar.{number_of, mode_of, is_bare, entry_of, is_plain, quoted_of, tag_of, caps_of};
+ghost use Rattle.fs_path.specs.Lines.{pieces};
+ghost use Rattle.labsys.specs.Grammar.{is_bare, entry_of, is_plain, quoted_of, tag_of, caps_of};
 ghost use Rattle.labsys.specs.Words.{words_in, left_in};
 
-use crate::pieces::{behind, cut, numeral};
+use crate::pieces::behind;
 use cap_bits::{Cap, CapSet, CapState};
-use fs_path::{ByteList, List, Name, NoMemory};
-use kern_model::{Gid, Mode, Pid};
+use fs_path::{ByteList, List, Name, NoMemory, cut, numeral};
+use kern_model::Pid;
 use lab_text::{Policy, Word, mac_from_text};
 use std::alloc::Global;
-
-const MAX_NUMBER: u64 = u32::MAX as u64;
-
-const STICKY: u64 = 0o1000;
 
 // The first word, and what stands behind the space, if there is one.
 pub fn first_word(text: &[u8]) -> (&[u8], Option<&[u8]>)
@@ -40,25 +36,6 @@ pub fn words_of(alloc: Global, text: Option<&[u8]>) -> Result<List<Word>, NoMemo
         rest = more;
     }
     Ok(words)
-}
-
-/// A number of a user or a group.
-pub fn number_of(word: &[u8]) -> Option<Gid>
-    ensures { result ≡ number_of word.now }
-{
-    let number = numeral(word, 10, 10, 0, MAX_NUMBER)?;
-    Some(number as u32)
-}
-
-/// Permission and set-id bits, in 1 to 4 octal digits.
-pub fn mode_of(word: &[u8]) -> Option<Mode>
-    ensures { result ≡ mode_of word.now }
-{
-    let mode = numeral(word, 8, 4, 0, 0o7777)?;
-    if mode / STICKY % 2 != 0 {
-        return None;
-    }
-    Some(mode as u16)
 }
 
 fn are_bare(word: &[u8]) -> bool

@@ -1,5 +1,5 @@
 use Rattle.std.proofs.Common.{◌+◌, ◌^◌, ◌≤◌, length}
-use Rattle.labsys.specs.Lines.{pieces}
+use Rattle.fs_path.specs.Lines.{pieces}
 use Rattle.labsys.specs.Input.{script_from}
 use Rattle.labsys.specs.Kernel.{state_of}
 use Rattle.labsys.specs.Order.{order_in}

@@ -1,6 +1,6 @@
 use Rattle.std.proofs.Common.{◌+◌, ◌*◌, ◌-◌, drop, sym, ◌∙◌}
-use Rattle.labsys.proofs.LineLemmas.{within_step, within_all, within_over}
-use Rattle.labsys.proofs.pieces.worth_of.Goals as goal
+use Rattle.fs_path.proofs.ValueLemmas.{within_step, within_all, within_over}
+use Rattle.fs_path.proofs.values.worth_of.Goals as goal
 
 pub returns-then-worth-high : goal.returns-then-worth-high
 returns-then-worth-high c =

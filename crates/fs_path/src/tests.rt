@@ -1,0 +1,3 @@
+// What no clause says: tables of texts and what they stand for.
+mod paths;
+mod words;

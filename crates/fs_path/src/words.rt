@@ -1,0 +1,238 @@
+// The words of a line.
+ghost use Rattle.std.specs.Prelude.{◌≡◌, ◌++◌, ◌<◌, OnOk, IfOk, IfSome, MatchOption, None, Some};
+ghost use Rattle.std.specs.List.{prefix_len};
+ghost use Rattle.fs_path.specs.Words.{words_of, is_blank, quoted_text, is_plain, is_bare, hex_value, hex_pair, escaped, first_item, items_of, is_apart, begun_word, first_word, past_spaces, hex_digit, item_text};
+
+use crate::{ByteList, List, NoMemory};
+use std::alloc::Global;
+
+/// A word of a line. Its bytes are those that it stands for, without quotes and escapes.
+#[derive(Debug, Drop)]
+pub struct LineWord {
+    /// Whether it stands between quotes.
+    pub quoted: bool,
+    /// The bytes that it stands for.
+    pub bytes: ByteList,
+}
+
+// Whether a byte stands for itself between quotes.
+fn is_plain(byte: u8) -> bool
+    ensures { result ≡ is_plain byte }
+{
+    matches!(byte, 0x20..=0x7e) && byte != b'"' && byte != b'\\'
+}
+
+// Whether a bare word may have a byte.
+fn is_bare(byte: u8) -> bool
+    ensures { result ≡ is_bare byte }
+{
+    is_plain(byte) && byte != b' '
+}
+
+// The value of a hexadecimal digit.
+fn hex_value(byte: u8) -> Option<u8>
+    ensures value { result ≡ hex_value byte }
+    ensures small { IfSome result (λ value. value < 16) }
+{
+    match byte {
+        b'0'..=b'9' => Some(byte - b'0'),
+        b'a'..=b'f' => Some(byte - b'a' + 10),
+        b'A'..=b'F' => Some(byte - b'A' + 10),
+        _ => None,
+    }
+}
+
+// The byte that two hexadecimal digits stand for, and what stands behind them.
+fn hex_pair(text: &[u8]) -> Option<(u8, &[u8])>
+    ensures { MatchOption result (hex_pair text.now ≡ None) (λ pair. hex_pair text.now ≡ Some (pair.0, pair.1.now)) }
+{
+    let [high, low, rest @ ..] = text else {
+        return None;
+    };
+    let high = hex_value(*high)?;
+    let low = hex_value(*low)?;
+    Some((16 * high + low, rest))
+}
+
+// The byte that an escape stands for, from behind its backslash, and what stands behind it.
+fn escaped(text: &[u8]) -> Option<(u8, &[u8])>
+    ensures { MatchOption result (escaped text.now ≡ None) (λ item. escaped text.now ≡ Some (item.0, item.1.now)) }
+{
+    let [first, rest @ ..] = text else {
+        return None;
+    };
+    match *first {
+        b'"' | b'\\' => Some((*first, rest)),
+        b'x' => hex_pair(rest),
+        _ => None,
+    }
+}
+
+// The byte that the first item between quotes stands for, and what stands behind the item.
+fn first_item(text: &[u8]) -> Option<(u8, &[u8])>
+    ensures { MatchOption result (first_item text.now ≡ None) (λ item. first_item text.now ≡ Some (item.0, item.1.now)) }
+{
+    let [first, rest @ ..] = text else {
+        return None;
+    };
+    match *first {
+        b'\\' => escaped(rest),
+        byte if is_plain(byte) => Some((byte, rest)),
+        _ => None,
+    }
+}
+
+// The bytes that stand between quotes, from behind the first one, and what stands behind the second.
+fn between_quotes(alloc: Global, text: &[u8]) -> Result<Option<(ByteList, &[u8])>, NoMemory>
+    ensures { IfOk result (λ said. MatchOption said (items_of text.now ≡ None) (λ items. items_of text.now ≡ Some (items.0, items.1.now))) }
+{
+    let mut bytes = List::new(alloc);
+    let mut left = text;
+    while let [first, behind @ ..] = left {
+        if *first == b'"' {
+            return Ok(Some((bytes, behind)));
+        }
+        let Some((byte, more)) = first_item(left) else {
+            return Ok(None);
+        };
+        bytes.push(byte)?;
+        left = more;
+    }
+    Ok(None)
+}
+
+// How many bytes a text begins with that a bare word may have.
+fn bare_len(text: &[u8]) -> usize
+    ensures { result ≡ prefix_len is_bare text.now }
+{
+    text.iter().take_while(|byte| is_bare(**byte)).count()
+}
+
+// The word that begins a text, and what stands behind it, whatever that is.
+fn begun_word(alloc: Global, text: &[u8]) -> Result<Option<(LineWord, &[u8])>, NoMemory>
+    ensures { IfOk result (λ said. MatchOption said (begun_word text.now ≡ None) (λ word. begun_word text.now ≡ Some (word.0, word.1.now))) }
+{
+    if let [b'"', inner @ ..] = text {
+        let Some((bytes, rest)) = between_quotes(alloc, inner)? else {
+            return Ok(None);
+        };
+        return Ok(Some((
+            LineWord {
+                quoted: true,
+                bytes,
+            },
+            rest,
+        )));
+    }
+    let count = bare_len(text);
+    if count == 0 {
+        return Ok(None);
+    }
+    let bytes = ByteList::from_slice(alloc, &text[..count])?;
+    Ok(Some((
+        LineWord {
+            quoted: false,
+            bytes,
+        },
+        &text[count..],
+    )))
+}
+
+// Whether a word may end before a text.
+fn is_apart(text: &[u8]) -> bool
+    ensures { result ≡ is_apart text.now }
+{
+    match text {
+        [] => true,
+        [first, ..] => *first == b' ',
+    }
+}
+
+// The word that begins a text, and what stands behind it.
+fn first_word(alloc: Global, text: &[u8]) -> Result<Option<(LineWord, &[u8])>, NoMemory>
+    ensures { IfOk result (λ said. MatchOption said (first_word text.now ≡ None) (λ word. first_word text.now ≡ Some (word.0, word.1.now))) }
+{
+    let Some((word, rest)) = begun_word(alloc, text)? else {
+        return Ok(None);
+    };
+    if !is_apart(rest) {
+        return Ok(None);
+    }
+    Ok(Some((word, rest)))
+}
+
+// A text without the spaces at its front.
+fn past_spaces(text: &[u8]) -> &[u8]
+    ensures { result.now ≡ past_spaces text.now }
+{
+    let mut left = text;
+    while let [b' ', more @ ..] = left {
+        left = more;
+    }
+    left
+}
+
+/// The words of a line, where it has the form of one: bare and quoted words with spaces between them and at both ends.
+pub fn words_of(alloc: Global, line: &[u8]) -> Result<Option<List<LineWord>>, NoMemory>
+    ensures { IfOk result (λ said. said ≡ words_of line.now) }
+{
+    let mut words = List::new(alloc);
+    let mut left = past_spaces(line);
+    while !left.is_empty() {
+        let Some((word, rest)) = first_word(alloc, left)? else {
+            return Ok(None);
+        };
+        words.push(word)?;
+        left = past_spaces(rest);
+    }
+    Ok(Some(words))
+}
+
+/// Whether a line has no words or begins with `#`, so that it says nothing.
+#[tactic(auto, unfolding(crate::specs::Words::is_blank))]
+pub fn is_blank(line: &[u8]) -> bool
+    ensures { result ≡ is_blank line.now }
+{
+    match past_spaces(line) {
+        [] => true,
+        [first, ..] => *first == b'#',
+    }
+}
+
+// A hexadecimal digit.
+fn hex_digit(value: u8) -> u8
+    requires { value < 16 }
+    ensures { result ≡ hex_digit value }
+{
+    if value <= 9 {
+        b'0' + value
+    } else {
+        b'a' + (value - 10)
+    }
+}
+
+fn put_item(text: &mut Vec<u8>, byte: u8) -> Result<(), NoMemory>
+    ensures { OnOk result (text.new.items ≡ text.old.items ++ item_text byte) }
+{
+    if byte == b'"' || byte == b'\\' {
+        return text.extend_from_slice(&[b'\\', byte]);
+    }
+    if is_plain(byte) {
+        text.push(byte)?;
+        return Ok(());
+    }
+    text.extend_from_slice(&[b'\\', b'x', hex_digit(byte / 16), hex_digit(byte % 16)])
+}
+
+/// Writes bytes as a quoted word.
+#[tactic(auto, unfolding(crate::specs::Words::quoted_text))]
+pub fn put_quoted(text: &mut Vec<u8>, bytes: &[u8]) -> Result<(), NoMemory>
+    ensures { OnOk result (text.new.items ≡ text.old.items ++ quoted_text bytes.now) }
+{
+    text.push(b'"')?;
+    for byte in bytes {
+        put_item(text, *byte)?;
+    }
+    text.push(b'"')?;
+    Ok(())
+}
