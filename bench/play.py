@@ -4,7 +4,8 @@
     bench/play.py
 
 First scripts of doubling length on a world of one file and one process, up to the limit of an input; then worlds of
-doubling size, up to the limits of a level, with one call for each file.
+doubling size, up to the limits of a label, with one call for each file; then worlds that fill an input up to its limit, all
+files in one directory or 32 names deep.
 """
 import pathlib
 import subprocess
@@ -32,6 +33,15 @@ def large_world(files, procs):
     return HEAD + b"".join(lines)
 
 
+def filled_world(size, depth):
+    """A world of this many bytes: directories one in another, and in the last of them files of twelve labels."""
+    labels = [level + cats for level in (b"unc", b"conf", b"sec") for cats in (b"", b":a", b":b", b":a,b")]
+    lines = [HEAD] + [b"dir %s 0777 0 0 unc\n" % (b"/d" * n) for n in range(1, depth)]
+    files = (size - sum(map(len, lines))) // len(b"file %s/f000000 0644 10 10 conf:a,b \"x\"\n" % (b"/d" * (depth - 1)))
+    lines += [b"file %s/f%06d 0644 10 10 %s \"x\"\n" % (b"/d" * (depth - 1), n, labels[n % 12]) for n in range(files)]
+    return b"".join(lines + [b"script\n"])
+
+
 def run(folder, text):
     """The status and the seconds of one run."""
     path = pathlib.Path(folder) / "input"
@@ -56,6 +66,10 @@ def main():
         for part in (8, 4, 2, 1):
             files, procs = 65_534 // part, 4_095 // part
             show(folder, f"{files} files, {procs} processes", large_world(files, procs))
+        for depth in (2, 32):
+            for part in (8, 4, 2, 1):
+                text = filled_world(LIMIT // part, depth)
+                show(folder, f"{text.count(b'file ')} files, {depth} names deep", text)
 
 
 if __name__ == "__main__":

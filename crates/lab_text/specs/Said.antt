@@ -300,15 +300,39 @@ numbers_back cats ns within = same_cats _ cats (λ q. set.contains-from_list_nat
     all_there true q k within = let below = within refl in grind (arith, nat_tests)
     all_there false q k within = refl
 
+-- names as they stand in a label's text
+pub record AreWritten (text : List ℕ) : Type 0 where
+  pub level : List ℕ
+  pub cats : Names
+  pub text_is : text ≡ level ++ behind_mark 58 cats
+  pub level_name : is_label_name level ≡ true
+  pub cat_names : list_all is_label_name cats ≡ true
+
+-- the text of a valid label is made of names
+pub text_names : (p : PolicyNames) (label : Label) → MakePolicy p → is_valid p label ≡ true → AreWritten (label_text p label)
+unfolding label_text
+text_names p label h valid =
+    let is = made p h in
+    let some = is.some in
+    let level = valid_level p label valid in
+    let within : label.first < length p.levels = omega arith in
+    record {
+      level = get_or p.levels label.first [];
+      cats = names_in label.second 0 p.cats;
+      text_is = refl;
+      level_name = true_from_ne_false _ (λ e. both_ways (list_all is_label_name p.levels) (list_all_at is_label_name p.levels label.first [] within e) is.level_names);
+      cat_names = names_in_names label.second 0 p.cats is.cat_names;
+    }
+
 -- a label's text says that label
 pub text_said : (p : PolicyNames) (label : Label) → MakePolicy p → is_valid p label ≡ true → label_said p (label_text p label) ≡ Some label
-unfolding label_said label_text
+unfolding label_said label_text text_names
 text_said p label h valid =
     let is = made p h in
     let some = is.some in
     let level = valid_level p label valid in
     let within : label.first < length p.levels = omega arith in
-    let name = true_from_ne_false _ (λ e. both_ways (list_all is_label_name p.levels) (list_all_at is_label_name p.levels label.first [] within e) is.level_names) in
-    ap (option_and_then (label_of p)) (words_said (get_or p.levels label.first []) (names_in label.second 0 p.cats) name (names_in_names label.second 0 p.cats is.cat_names))
+    let names = text_names p label h valid in
+    ap (option_and_then (label_of p)) (ap label_words names.text_is ∙ words_said names.level names.cats names.level_name names.cat_names)
     ∙ (λ i. labelled (place_of_own p.levels label.first is.levels_apart within i) (places_named p.cats label.second 0 p.cats is.cats_apart refl i))
     ∙ ap (λ (cats : CatSet). Some (record { first = label.first; second = cats })) (numbers_back label.second p.cats (valid_cats p label valid))

@@ -2,22 +2,30 @@
 use Rattle.std.proofs.Common.{◌≡◌, ℕ, ◌+◌, ◌≤◌, ◌<◌, true, false, cond, List, [], ◌∷◌, ◌++◌, length, take, refl, sym, ◌∙◌, ap, subst, arith}
 use Rattle.std.proofs.lemmas.List.{append-nil, length-append, length-take, take-append-le}
 use Rattle.std.proofs.lemmas.Bool.Decides.{nat_tests}
-use Rattle.std.specs.Prelude.{Result, IsErrAnd, IfOk, IfErr, Ok, Err, Option, None, Some, nat_lt, codes}
+use Rattle.std.specs.Prelude.{Result, IsErrAnd, IfOk, IfErr, Ok, Err, Option, None, Some, nat_lt}
 use Rattle.std.specs.Io.KnownBytes.{Appends, IsAtEnd}
 use Rattle.io_ends.specs.declared.whole.Whole.{Whole}
 use Rattle.io_ends.specs.Whole.{IsWhole}
 use Rattle.labsys.specs.declared.status.Ending.{Ending}
-use Rattle.labsys.specs.declared.status.Ending.TheVariants.{Whole as AllRead, TooMuch}
+use Rattle.labsys.specs.declared.status.Ending.TheVariants.{Whole as AllRead, Refused, TooMuch}
+use Rattle.labsys.specs.declared.status.Refusal.{Refusal}
+use Rattle.labsys.specs.declared.status.Refusal.TheVariants as refusal
 use Rattle.labsys.specs.declared.status.Part.{Part}
 use Rattle.labsys.specs.declared.status.Part.TheVariants as part
 use Rattle.labsys.specs.declared.status.Fault.{Fault}
 use Rattle.labsys.specs.declared.status.Fault.TheVariants.{Read, Write, Trail, NoMemory}
 use Rattle.lab_text.specs.Policy.{PolicyNames}
-use Rattle.cap_bits.specs.CapSet.{CapSet}
+use Rattle.world_text.specs.declared.world.WorldText.{WorldText}
+use Rattle.world_text.specs.declared.stage.Stage.{Stage}
+use Rattle.world_text.specs.declared.stage.Stage.TheVariants as at
+use Rattle.world_text.specs.declared.stage.Said.{Said}
+use Rattle.world_text.specs.declared.stage.Said.TheVariants.{Refuses, GoesOn, Begins}
+use Rattle.world_text.specs.Stage.{line_said}
+use Rattle.world_text.specs.Reading.{Reading, Accepted, Refused as Stopped, Ended, after, reading, read_text}
 use Rattle.kern_model.specs.declared.world.ScriptItem.{ScriptItem}
 use Rattle.fs_path.specs.Lines.{pieces}
-use Rattle.labsys.specs.Grammar.{exactly, levels_line, categories_line, bound_line, root_line, script_line}
-use Rattle.labsys.specs.Input.{Input, Script, Fixtures, no_world, refused, cut_off, short, said, due, after_item, script_from, next_fixture, added, or_script, with_script, fixtures_from, read_lines, input_of}
+use Rattle.labsys.specs.Grammar.{script_line}
+use Rattle.labsys.specs.Input.{Input, Script, no_world, cut_off, short, after_line, script_from, has_fifo, of_world, input_by, read_input, input_of}
 use Rattle.labsys.specs.Texts.{last_text}
 use Rattle.labsys.specs.Order.{order_by, order_of}
 use Rattle.labsys.specs.Playing.{AppendsFront, Caused, SendsFront, Finishes, Takes, Plays, left_of}
@@ -41,7 +49,7 @@ nothing_left (Some bytes) h = h
 
 -- the input of all bytes is told by those that were kept
 pub record IsInput (w : Whole) (got : List ℕ) (now : Option (List ℕ)) (text : List ℕ) : Type 0 where
-  pub input : input_of (got ++ left_of now) ≡ read_lines w.more (pieces 10 text)
+  pub input : input_of (got ++ left_of now) ≡ read_input w.more text
   pub small : length text ≤ 16777216
 
 limit_take : (got : List ℕ) → length (take 16777216 got) ≤ 16777216
@@ -58,14 +66,14 @@ input_taken w got now text is kept =
           let len = length-append got (left_of now) in
           let longer : 16777216 < length (got ++ left_of now) = omega arith in
           record {
-            input = ap (λ b. read_lines b (pieces 10 (take 16777216 (got ++ left_of now)))) (more_is 16777216 (length (got ++ left_of now)) longer ∙ sym over)
-                ∙ ap (λ (x : List ℕ). read_lines w.more (pieces 10 x)) (take-append-le 16777216 got (left_of now) le ∙ sym bytes);
+            input = ap (λ b. read_input b (take 16777216 (got ++ left_of now))) (more_is 16777216 (length (got ++ left_of now)) longer ∙ sym over)
+                ∙ ap (λ (x : List ℕ). read_input w.more x) (take-append-le 16777216 got (left_of now) le ∙ sym bytes);
             small = subst (λ (x : List ℕ). length x ≤ 16777216) (sym bytes) (limit_take got);
           }
       | false ↦ λ within.
           let none : got ++ left_of now ≡ got = ap (λ (x : List ℕ). got ++ x) (nothing_left now (is.to_the_end within)) ∙ append-nil got in
           record {
-            input = ap input_of none ∙ ap (λ b. read_lines b (pieces 10 (take 16777216 got))) (sym is.more) ∙ ap (λ (x : List ℕ). read_lines w.more (pieces 10 x)) (sym bytes);
+            input = ap input_of none ∙ ap (λ b. read_input b (take 16777216 got)) (sym is.more) ∙ ap (λ (x : List ℕ). read_input w.more x) (sym bytes);
             small = subst (λ (x : List ℕ). length x ≤ 16777216) (sym bytes) (limit_take got);
           }
     ] refl
@@ -75,49 +83,51 @@ input_taken w got now text is kept =
 abbrev NotWhole : Ending → Type 0
 NotWhole e = e ≡ AllRead → ⊥
 
-cut_not : (n : ℕ) (p : Part) (last : List ℕ) → NotWhole (cut_off n p last)
-cut_not n p last = elim (nat_lt 2048 (length last)) as (λ b. NotWhole (cond b (refused n p) TooMuch)) [ true ↦ λ e. cc | false ↦ λ e. cc ]
+cut_not : (n : ℕ) (p : Part) (why : Refusal) (last : List ℕ) → NotWhole (cut_off n p why last)
+cut_not n p why last = elim (nat_lt 2048 (length last)) as (λ b. NotWhole (cond b (Refused n p why) TooMuch)) [ true ↦ λ e. cc | false ↦ λ e. cc ]
 
-item_not : (o : Option ScriptItem) (n : ℕ) (more : Script) → NotWhole more.ending → NotWhole (after_item o n more).ending
-item_not None n more h = λ e. cc
-item_not (Some item) n more h = h
+line_not : (o : Option (Option ScriptItem)) (n : ℕ) (more : Script) → NotWhole more.ending → NotWhole (after_line o n more).ending
+line_not None n more h = λ e. cc
+line_not (Some None) n more h = h
+line_not (Some (Some item)) n more h = h
 
 script_not : (policy : PolicyNames) (n : ℕ) (l : List ℕ) (ls : List (List ℕ)) → NotWhole (script_from true policy n (l ∷ ls)).ending
 unfolding script_from
-script_not policy n l [] = cut_not n part.Script l
-script_not policy n l (next ∷ ls) = item_not (short (script_line policy) l) n (script_from true policy (n + 1) (next ∷ ls)) (script_not policy (n + 1) next ls)
+script_not policy n l [] = cut_not n part.Script refusal.NotBuilt l
+script_not policy n l (next ∷ ls) = line_not (short (script_line policy) l) n (script_from true policy (n + 1) (next ∷ ls)) (script_not policy (n + 1) next ls)
 
 abbrev InputNot : Input → Type 0
 InputNot i = NotWhole i.script.ending
 
-said_not : {X : Type 0} (o : Option X) (n : ℕ) (k : X → Input) → ((x : X) → InputNot (k x)) → InputNot (said o n k)
-said_not None n k h = λ e. cc
-said_not (Some x) n k h = h x
+-- a reading whose script, if it has one, has a first piece
+abbrev HasPiece : Reading → Type 0
+HasPiece (Accepted w n []) = ⊥
+HasPiece (Accepted w n (l ∷ ls)) = Unit {0}
+HasPiece (Stopped n why) = Unit {0}
+HasPiece (Ended n last) = Unit {0}
 
-due_not : {X : Type 0} (form : List ℕ → Option X) (n : ℕ) (ls : List (List ℕ)) (k : X → List (List ℕ) → Input) → ((x : X) (l : List ℕ) (ls : List (List ℕ)) → InputNot (k x (l ∷ ls))) → InputNot (due true form n ls k)
-due_not form n [] k h = cut_not n part.World []
-due_not form n (last ∷ []) k h = cut_not n part.World last
-due_not form n (line ∷ next ∷ ls) k h = said_not (short form line) n (λ x. k x (next ∷ ls)) (λ x. h x next ls)
+pieces_said : (said : Said) (n : ℕ) (next : List ℕ) (ls : List (List ℕ)) (k : Stage → Reading) → ((stage : Stage) → HasPiece (k stage)) → HasPiece (after said n (next ∷ ls) k)
+pieces_said (Refuses why) n next ls k h = tt
+pieces_said (GoesOn stage) n next ls k h = h stage
+pieces_said (Begins w) n next ls k h = tt
 
-or_not : (o : Option (Unit {0})) (i j : Input) → InputNot i → InputNot j → InputNot (or_script o i j)
-or_not (Some u) i j p q = p
-or_not None i j p q = q
+has_piece : (n : ℕ) (stage : Stage) (ls : List (List ℕ)) → HasPiece (reading n stage ls)
+unfolding reading
+has_piece n stage [] = tt
+has_piece n stage (last ∷ []) = tt
+has_piece n stage (line ∷ next ∷ ls) = pieces_said (line_said stage line) n next ls _ (λ stage. has_piece (n + 1) stage (next ∷ ls))
 
-fixtures_not : (policy : PolicyNames) (bound : CapSet) (n : ℕ) (t : Fixtures) (l : List ℕ) (ls : List (List ℕ)) → InputNot (fixtures_from true policy bound n t (l ∷ ls))
-unfolding fixtures_from
-fixtures_not policy bound n t l [] = cut_not n part.World l
-fixtures_not policy bound n t l (next ∷ ls) =
-    or_not (short (exactly (codes "script")) l) (with_script true policy bound t (n + 1) (next ∷ ls)) _ (script_not policy (n + 1) next ls)
-    (said_not (next_fixture policy t l) n (λ f. fixtures_from true policy bound (n + 1) (added t f) (next ∷ ls)) (λ f. fixtures_not policy bound (n + 1) (added t f) next ls))
+world_not : (w : WorldText) (n : ℕ) (l : List ℕ) (ls : List (List ℕ)) → InputNot (of_world true w n (l ∷ ls))
+world_not w n l ls = elim (has_fifo w.world) as (λ b. InputNot (cond b (no_world (Refused 0 part.World refusal.NotBuilt)) (record { accepted = Some w; script = script_from true w.policy n (l ∷ ls) }))) [ true ↦ λ e. cc | false ↦ script_not w.policy n l ls ]
 
-pub lines_not : (ls : List (List ℕ)) → InputNot (read_lines true ls)
-lines_not ls =
-    due_not (exactly (codes "world 1")) 1 ls _ (λ _ l ls.
-    due_not levels_line 2 (l ∷ ls) _ (λ levels l ls.
-    due_not (categories_line levels) 3 (l ∷ ls) _ (λ policy l ls.
-    due_not bound_line 4 (l ∷ ls) _ (λ bound l ls.
-    due_not (root_line policy) 5 (l ∷ ls) _ (λ root l ls.
-    fixtures_not _ bound 6 _ l ls)))))
+input_not : (r : Reading) → HasPiece r → InputNot (input_by true r)
+input_not (Accepted w n []) h = absurd h
+input_not (Accepted w n (l ∷ ls)) h = world_not w n l ls
+input_not (Stopped n why) h = λ e. cc
+input_not (Ended n last) h = cut_not n part.World refusal.Syntax last
+
+pub lines_not : (text : List ℕ) → InputNot (read_input true text)
+lines_not text = input_not (read_text text) (has_piece 1 at.Format (pieces 10 text))
 
 -- ---- what a run leaves
 
@@ -154,16 +164,16 @@ pub front_over : (o o' t t' : Option (List ℕ)) (i j : Input) → i ≡ j → S
 front_over o o' t t' i j is h = subst (λ k. SendsFront o o' t t' (order_of k)) is h
 
 -- a source at which an input ended whole is at its end
-at_end : (w : Whole) (got text : List ℕ) (now : Option (List ℕ)) → IsWhole w got 16777216 now → (read_lines w.more (pieces 10 text)).script.ending ≡ AllRead → IsAtEnd now
+at_end : (w : Whole) (got text : List ℕ) (now : Option (List ℕ)) → IsWhole w got 16777216 now → (read_input w.more text).script.ending ≡ AllRead → IsAtEnd now
 at_end w got text now is =
-    elim w.more as (λ b. w.more ≡ b → (read_lines b (pieces 10 text)).script.ending ≡ AllRead → IsAtEnd now) [
-      | true ↦ λ _ e. absurd (lines_not (pieces 10 text) e)
+    elim w.more as (λ b. w.more ≡ b → (read_input b text).script.ending ≡ AllRead → IsAtEnd now) [
+      | true ↦ λ _ e. absurd (lines_not text e)
       | false ↦ λ within _. is.to_the_end within
     ] refl
 
 -- a run that played what was taken
 pub plays_taken : (r : Result Ending Fault) (w : Whole) (left left' o o' t t' : Option (List ℕ)) (text : List ℕ) (W T : Type 0) → (takes : Takes (Ok w) left left') → text ≡ w.bytes
-    → SendsFront o o' t t' (order_of (read_lines w.more (pieces 10 text))) → IfOk r (λ e. Finishes o o' t t' (order_of (read_lines w.more (pieces 10 text))) e (read_lines w.more (pieces 10 text)).script.ending) → IfErr r (λ fault. Caused fault ⊥ W T)
+    → SendsFront o o' t t' (order_of (read_input w.more text)) → IfOk r (λ e. Finishes o o' t t' (order_of (read_input w.more text)) e (read_input w.more text).script.ending) → IfErr r (λ fault. Caused fault ⊥ W T)
     → Plays r left left' o o' t t'
 plays_taken (Ok e) w left left' o o' t t' text W T takes kept front whole cause =
     let i = input_taken w takes.got left' text takes.shows kept in

@@ -1,6 +1,3 @@
-pub mod LineLemmas
-pub mod WordLemmas
-pub mod FixtureLemmas
 pub mod ReadLemmas
 pub mod WalkLemmas
 pub mod Tellings

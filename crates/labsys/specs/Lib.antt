@@ -1,8 +1,5 @@
-pub mod Lines
 pub mod Grammar
 pub mod Input
-pub mod Words
-pub mod Fixture
 pub mod Reading
 pub mod Kernel
 pub mod Texts

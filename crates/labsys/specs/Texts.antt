@@ -129,6 +129,13 @@ part_text part.Script = codes "script"
 
 unfoldable pub refusal_text : Refusal → List ℕ
 refusal_text refusal.NotBuilt = codes "not_built"
+refusal_text refusal.Syntax = codes "syntax"
+refusal_text refusal.UnknownName = codes "unknown_name"
+refusal_text refusal.Repeated = codes "repeated"
+refusal_text refusal.NoParent = codes "no_parent"
+refusal_text refusal.RootLabel = codes "root_label"
+refusal_text refusal.LabelOrder = codes "label_order"
+refusal_text refusal.TooMany = codes "too_many"
 
 -- the last line: `done COUNT`, `refused LINE PART WORD` or `too long`
 unfoldable pub last_text : ℕ → Ending → List ℕ

@@ -1,16 +1,12 @@
 //! A simulated kernel: plays a script of system calls on a described world, and writes the reply to each call.
 #![tactic(auto)]
 
-mod fixtures;
 mod kernel;
-mod lines;
-mod pieces;
 mod playing;
 mod reading;
 mod running;
 mod status;
 mod texts;
-mod words;
 
 use io_ends::{FileSink, FileSource};
 pub use running::run;

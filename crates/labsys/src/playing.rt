@@ -8,7 +8,7 @@ ghost use Rattle.kern_model.specs.Run.{played};
 ghost use Rattle.kern_model.specs.Step.{step};
 ghost use Rattle.kern_model.specs.World.{HasRoom};
 ghost use Rattle.fs_path.specs.Lines.{pieces};
-ghost use Rattle.labsys.specs.Input.{script_from, read_lines};
+ghost use Rattle.labsys.specs.Input.{script_from, read_input};
 ghost use Rattle.labsys.specs.Kernel.{state_of};
 ghost use Rattle.labsys.specs.Texts.{rec_text, end_text, label_in, caps_in, ends_text, last_text, header_text};
 ghost use Rattle.labsys.specs.Order.{turn_of, told, order_in, order_by, order_of};
@@ -196,6 +196,10 @@ fn play_script<K: Sink, T: Sink>(
                 number += 1;
                 count += 1;
             }
+            Next::Blank(behind) => {
+                rest = behind;
+                number += 1;
+            }
             Next::Ended(ending) => {
                 finish(alloc, kernel, policy, count, ending, out)?;
                 return Ok(ending);
@@ -230,28 +234,28 @@ fn play_world<K: Sink, T: Sink>(
     out: &mut K,
     trail: &mut T,
 ) -> Result<Ending, Fault>
-    requires room { HasRoom read.now.world }
+    requires room { HasRoom read.now.read.world }
     requires small { read.now.number + length read.now.script.now ≤ 2 ^ 60 }
     ensures whole { IfOk result (λ e. Finishes (K.held out.old) (K.held out.new) (T.held trail.old) (T.held trail.new)
-        (order_by (Some (record { policy = read.now.policy; world = read.now.world })) (script_from over read.now.policy read.now.number (pieces 10 read.now.script.now))) e (script_from over read.now.policy read.now.number (pieces 10 read.now.script.now)).ending) }
+        (order_by (Some read.now.read) (script_from over read.now.read.policy read.now.number (pieces 10 read.now.script.now))) e (script_from over read.now.read.policy read.now.number (pieces 10 read.now.script.now)).ending) }
     ensures front { SendsFront (K.held out.old) (K.held out.new) (T.held trail.old) (T.held trail.new)
-        (order_by (Some (record { policy = read.now.policy; world = read.now.world })) (script_from over read.now.policy read.now.number (pieces 10 read.now.script.now))) }
+        (order_by (Some read.now.read) (script_from over read.now.read.policy read.now.number (pieces 10 read.now.script.now))) }
     ensures out_later { K.faults out.old ≤ K.faults out.new }
     ensures trail_later { T.faults trail.old ≤ T.faults trail.new }
     ensures cause { IfErr result (λ fault. Caused fault ⊥ (Rose (K.faults out.old) (K.faults out.new)) (Rose (T.faults trail.old) (T.faults trail.new))) }
 {
-    let mut booted = Kernel::boot(alloc, &read.world)?;
+    let mut booted = Kernel::boot(alloc, &read.read.world)?;
     begin(
         alloc,
-        &read.policy,
-        &read.world.bound,
+        &read.read.policy,
+        &read.read.world.bound,
         booted.recs.items(),
         trail,
     )?;
     play_script(
         alloc,
         &mut booted.kernel,
-        &read.policy,
+        &read.read.policy,
         read.number,
         read.script,
         over,
@@ -280,8 +284,8 @@ fn play_text<K: Sink, T: Sink>(
     trail: &mut T,
 ) -> Result<Ending, Fault>
     requires { length text.now ≤ 16777216 }
-    ensures whole { IfOk result (λ e. Finishes (K.held out.old) (K.held out.new) (T.held trail.old) (T.held trail.new) (order_of (read_lines over (pieces 10 text.now))) e (read_lines over (pieces 10 text.now)).script.ending) }
-    ensures front { SendsFront (K.held out.old) (K.held out.new) (T.held trail.old) (T.held trail.new) (order_of (read_lines over (pieces 10 text.now))) }
+    ensures whole { IfOk result (λ e. Finishes (K.held out.old) (K.held out.new) (T.held trail.old) (T.held trail.new) (order_of (read_input over text.now)) e (read_input over text.now).script.ending) }
+    ensures front { SendsFront (K.held out.old) (K.held out.new) (T.held trail.old) (T.held trail.new) (order_of (read_input over text.now)) }
     ensures out_later { K.faults out.old ≤ K.faults out.new }
     ensures trail_later { T.faults trail.old ≤ T.faults trail.new }
     ensures cause { IfErr result (λ fault. Caused fault ⊥ (Rose (K.faults out.old) (K.faults out.new)) (Rose (T.faults trail.old) (T.faults trail.new))) }

@@ -1,22 +1,16 @@
 //! An input, read line by line.
-ghost use Rattle.std.specs.Prelude.{◌≡◌, ◌<◌, ◌≤◌, ◌+◌, ◌∷◌, [], None, Some, MatchOption, MatchResult, IfSome, IfOk, length, true, option_map, ◌==◌, ◌&&◌, not};
-ghost use Rattle.labsys.specs.Grammar.{exactly, levels_line, categories_line, bound_line, root_line};
-ghost use Rattle.labsys.specs.declared.status.Part.TheVariants as part;
+ghost use Rattle.std.specs.Prelude.{◌≡◌, ◌==◌, ◌&&◌, ◌<◌, None, Some, MatchOption, MatchResult, IfSome, IfOk, length, not};
+ghost use Rattle.labsys.specs.Grammar.{tag_of, path_in_root, is_word, item_of, words_said};
+ghost use Rattle.labsys.specs.Input.{ends_at, has_fifo};
+ghost use Rattle.labsys.specs.Reading.{next_short, Reads, ReadsNone, Follows};
 ghost use Rattle.labsys.specs.declared.reading.Halt.TheVariants as halt;
-ghost use Rattle.labsys.specs.Input.{fits, refused};
-ghost use Rattle.labsys.specs.Fixture.{as_fixture, IsInRoot};
-ghost use Rattle.labsys.specs.Reading.{next_short, next_of, ends_at, GoesOn, Stops, Begins, HasSpace, EndsInScript, EndsBefore, Reads, ReadsNone, Follows};
 
-use crate::fixtures::Draft;
-use crate::lines::{
-    Fixture, bound_line, categories_line, fixture_line, levels_line, root_line, script_line,
-};
 use crate::{Ending, Part, Refusal};
-use cap_bits::CapSet;
-use fs_path::{List, NoMemory};
-use kern_model::{ScriptItem, World, WorldObject};
-use lab_text::{Policy, Word, top};
+use fs_path::{LineWord, NoMemory, Path, PathError, cut, is_blank, numeral, words_of};
+use kern_model::{Body, Call, Pid, ScriptItem, World};
+use lab_text::{Policy, mac_from_text};
 use std::alloc::Global;
+use world_text::{Front, WorldText, read_front};
 
 const MAX_LINE: usize = 2048;
 
@@ -37,9 +31,137 @@ impl From<NoMemory> for Halt {
     }
 }
 
-/// The next line, where it is short enough, and what stands behind its line feed.
+/// A world that was read, with the names that it gives, and the text of its script, which begins at the line with
+/// this number.
+#[derive(Drop)]
+pub struct ReadWorld<'a> {
+    pub read: WorldText,
+    pub script: &'a [u8],
+    pub number: u64,
+}
+
+// How an input ends at its last piece, which is no line; `over` where it goes on past the limit.
+fn ends_at(over: bool, number: u64, part: Part, why: Refusal, last: &[u8]) -> Ending
+    ensures { result ≡ ends_at over number part why last.now }
+{
+    if over && last.len() <= MAX_LINE {
+        return Ending::TooMuch;
+    }
+    Ending::Refused(number, part, why)
+}
+
+// Whether a world has a FIFO.
+fn has_fifo(world: &World) -> bool
+    ensures { result ≡ has_fifo world.now }
+{
+    world
+        .objects
+        .items()
+        .iter()
+        .any(|object| matches!(object.body, Body::Fifo))
+}
+
+/// The world of an input; `over` where the input goes on past the limit.
+pub fn read_world(alloc: Global, text: &[u8], over: bool) -> Result<ReadWorld<'_>, Halt>
+    ensures { MatchResult result (λ world. Reads over text.now world.read world.number world.script.now) (λ halt. ReadsNone over text.now halt) }
+{
+    match read_front(alloc, text)? {
+        Front::World(read, number, script) => {
+            if has_fifo(&read.world) {
+                let ending = Ending::Refused(0, Part::World, Refusal::NotBuilt);
+                return Err(Halt::Ended(ending));
+            }
+            Ok(ReadWorld {
+                read,
+                script,
+                number,
+            })
+        }
+        Front::Refused(number, fault) => {
+            let ending = Ending::Refused(number, Part::World, fault.into());
+            Err(Halt::Ended(ending))
+        }
+        Front::Ended(number, last) => Err(Halt::Ended(ends_at(
+            over,
+            number,
+            Part::World,
+            Refusal::Syntax,
+            last,
+        ))),
+    }
+}
+
+// The number of a process, as `n@label`.
+fn tag_of(policy: &Policy, word: &[u8]) -> Option<Pid>
+    ensures { result ≡ tag_of policy.now word.now }
+{
+    let (number, name) = cut(word, b'@')?;
+    let number = numeral(number, 10, 10, 1, 4095)?;
+    let label = mac_from_text(policy, name).ok()?;
+    Some(Pid {
+        label,
+        n: number as u16,
+    })
+}
+
+// An absolute path of one name.
+fn path_in_root(alloc: Global, word: &[u8]) -> Result<Option<Path>, NoMemory>
+    ensures { IfOk result (λ said. said ≡ path_in_root word.now) }
+{
+    match Path::read(alloc, word) {
+        Ok(path) if path.absolute && path.components().len() == 1 => Ok(Some(path)),
+        Err(PathError::NoMemory(e)) => Err(e),
+        _ => Ok(None),
+    }
+}
+
+// Whether a word is bare and has these bytes.
+fn is_word(word: &LineWord, bytes: &[u8]) -> bool
+    ensures { result ≡ is_word word.now bytes.now }
+{
+    !word.quoted && word.bytes.items() == bytes
+}
+
+// A call and its caller, by the words of a line.
+fn item_of(
+    alloc: Global,
+    policy: &Policy,
+    words: &[LineWord],
+) -> Result<Option<ScriptItem>, NoMemory>
+    ensures { IfOk result (λ said. said ≡ item_of policy.now words.now) }
+{
+    let [tag, name, path] = words else {
+        return Ok(None);
+    };
+    if tag.quoted || !is_word(name, b"mac_get_file") {
+        return Ok(None);
+    }
+    let Some(who) = tag_of(policy, tag.bytes.items()) else {
+        return Ok(None);
+    };
+    let Some(path) = path_in_root(alloc, path.bytes.items())? else {
+        return Ok(None);
+    };
+    Ok(Some(ScriptItem {
+        who,
+        call: Call::MacGetFile(path),
+    }))
+}
+
+/// What is next in a script.
+#[derive(Drop)]
+pub enum Next<'a> {
+    /// An item, and the text behind its line.
+    Item(ScriptItem, &'a [u8]),
+    /// A line that says nothing, and the text behind it.
+    Blank(&'a [u8]),
+    /// The end.
+    Ended(Ending),
+}
+
+// The next line, where it is short enough, and what stands behind its line feed.
 #[tactic(auto, unfolding(crate::specs::Reading::next_short))]
-pub fn next_line(text: &[u8]) -> Option<(&[u8], &[u8])>
+fn next_line(text: &[u8]) -> Option<(&[u8], &[u8])>
     ensures line { MatchOption result (next_short text.now ≡ None) (λ parts. next_short text.now ≡ Some (parts.0.now, parts.1.now)) }
     ensures shorter { IfSome result (λ parts. length parts.1.now < length text.now) }
 {
@@ -50,247 +172,6 @@ pub fn next_line(text: &[u8]) -> Option<(&[u8], &[u8])>
     Some((line, rest))
 }
 
-// How an input ends where no next line stands that is short enough; `over` where it goes on past the limit.
-fn ends_at(over: bool, number: u64, part: Part, text: &[u8]) -> Ending
-    ensures { result ≡ ends_at over number part text.now }
-{
-    if over && text.len() <= MAX_LINE {
-        return Ending::TooMuch;
-    }
-    Ending::Refused(number, part, Refusal::NotBuilt)
-}
-
-// The world ends here, without the line that is due.
-fn no_line(over: bool, number: u64, text: &[u8]) -> Halt
-    ensures { result ≡ halt.Ended (ends_at over number part.World text.now) }
-{
-    Halt::Ended(ends_at(over, number, Part::World, text))
-}
-
-// This line of the world is not the one due.
-fn refused(number: u64) -> Halt
-    ensures { result ≡ halt.Ended (refused number part.World) }
-{
-    Halt::Ended(Ending::Refused(number, Part::World, Refusal::NotBuilt))
-}
-
-// What stands behind a line that has no choice.
-fn exact_due<'a>(over: bool, wanted: &[u8], number: u64, text: &'a [u8]) -> Result<&'a [u8], Halt>
-    ensures due { MatchResult result (λ rest. GoesOn over (exactly wanted.now) number text.now tt rest.now) (λ halt. Stops over (exactly wanted.now) number text.now halt) }
-    ensures shorter { IfOk result (λ rest. length rest.now < length text.now) }
-{
-    let Some((line, rest)) = next_line(text) else {
-        return Err(no_line(over, number, text));
-    };
-    if line != wanted {
-        return Err(refused(number));
-    }
-    Ok(rest)
-}
-
-#[tactic(auto, unfolding(crate::specs::Reading::Stops))]
-fn levels_due(alloc: Global, over: bool, text: &[u8]) -> Result<(List<Word>, &[u8]), Halt>
-    ensures due { MatchResult result (λ said. GoesOn over levels_line 2 text.now said.0 said.1.now) (λ halt. Stops over levels_line 2 text.now halt) }
-    ensures shorter { IfOk result (λ said. length said.1.now < length text.now) }
-{
-    let Some((line, rest)) = next_line(text) else {
-        return Err(no_line(over, 2, text));
-    };
-    let Some(said) = levels_line(alloc, line)? else {
-        return Err(refused(2));
-    };
-    Ok((said, rest))
-}
-
-#[tactic(auto, unfolding(crate::specs::Reading::Stops))]
-fn categories_due<'a>(
-    alloc: Global,
-    over: bool,
-    levels: &List<Word>,
-    text: &'a [u8],
-) -> Result<(Policy, &'a [u8]), Halt>
-    ensures due { MatchResult result (λ said. GoesOn over (categories_line levels.now) 3 text.now said.0 said.1.now) (λ halt. Stops over (categories_line levels.now) 3 text.now halt) }
-    ensures shorter { IfOk result (λ said. length said.1.now < length text.now) }
-{
-    let Some((line, rest)) = next_line(text) else {
-        return Err(no_line(over, 3, text));
-    };
-    let Some(said) = categories_line(alloc, levels, line)? else {
-        return Err(refused(3));
-    };
-    Ok((said, rest))
-}
-
-fn bound_due(over: bool, text: &[u8]) -> Result<(CapSet, &[u8]), Halt>
-    ensures due { MatchResult result (λ said. GoesOn over bound_line 4 text.now said.0 said.1.now) (λ halt. Stops over bound_line 4 text.now halt) }
-    ensures shorter { IfOk result (λ said. length said.1.now < length text.now) }
-{
-    let Some((line, rest)) = next_line(text) else {
-        return Err(no_line(over, 4, text));
-    };
-    let Some(said) = bound_line(line) else {
-        return Err(refused(4));
-    };
-    Ok((said, rest))
-}
-
-fn root_due<'a>(
-    alloc: Global,
-    over: bool,
-    policy: &Policy,
-    text: &'a [u8],
-) -> Result<(WorldObject, &'a [u8]), Halt>
-    ensures due { MatchResult result (λ said. GoesOn over (root_line policy.now) 5 text.now said.0 said.1.now) (λ halt. Stops over (root_line policy.now) 5 text.now halt) }
-    ensures no_names { IfOk result (λ said. said.0.path.names ≡ []) }
-    ensures shorter { IfOk result (λ said. length said.1.now < length text.now) }
-{
-    let Some((line, rest)) = next_line(text) else {
-        return Err(no_line(over, 5, text));
-    };
-    let Some(said) = root_line(alloc, policy, line) else {
-        return Err(refused(5));
-    };
-    Ok((said, rest))
-}
-
-/// What the lines of a world up to its root say, and the text behind them.
-#[derive(Drop)]
-struct Head<'a> {
-    policy: Policy,
-    bound: CapSet,
-    root: WorldObject,
-    rest: &'a [u8],
-}
-
-// The lines of a world up to its root, each in its turn.
-fn read_head(alloc: Global, over: bool, text: &[u8]) -> Result<Head<'_>, Halt>
-    ensures says { MatchResult result (λ head. Begins over text.now head.policy head.bound head.root head.rest.now) (λ halt. ReadsNone over text.now halt) }
-    ensures no_names { IfOk result (λ head. head.root.path.names ≡ []) }
-    ensures shorter { IfOk result (λ head. length head.rest.now + 5 ≤ length text.now) }
-{
-    let after_head = exact_due(over, b"world 1", 1, text)?;
-    let (levels, after_levels) = levels_due(alloc, over, after_head)?;
-    let (policy, after_policy) = categories_due(alloc, over, &levels, after_levels)?;
-    let (bound, after_bound) = match bound_due(over, after_policy) {
-        Ok(said) => said,
-        Err(halt) => return Err(halt),
-    };
-    let (root, rest) = root_due(alloc, over, &policy, after_bound)?;
-    Ok(Head {
-        policy,
-        bound,
-        root,
-        rest,
-    })
-}
-
-// A file or a process, where there is room for it.
-fn next_fixture(
-    alloc: Global,
-    policy: &Policy,
-    draft: &Draft,
-    line: &[u8],
-) -> Result<Option<Fixture>, NoMemory>
-    ensures says { IfOk result (λ said. option_map as_fixture said ≡ next_of policy.now draft.now line.now) }
-    ensures room { IfOk result (λ said. IfSome said (λ fixture. fits draft.now (as_fixture fixture) ≡ true)) }
-    ensures in_root { IfOk result (λ said. IfSome said IsInRoot) }
-{
-    let Some(fixture) = fixture_line(alloc, policy, line)? else {
-        return Ok(None);
-    };
-    if !draft.fits(&fixture) {
-        return Ok(None);
-    }
-    Ok(Some(fixture))
-}
-
-/// The objects and the processes of a world, and its script, from the line with this number on.
-#[derive(Drop)]
-struct Furnished<'a> {
-    draft: Draft,
-    script: &'a [u8],
-    number: u64,
-}
-
-// Files and processes from line 6 on, up to the line `script`.
-#[tactic(auto, unfolding(crate::specs::Reading::EndsBefore))]
-fn read_fixtures<'a>(
-    alloc: Global,
-    over: bool,
-    policy: &Policy,
-    root: WorldObject,
-    text: &'a [u8],
-) -> Result<Furnished<'a>, Halt>
-    requires small { length text.now ≤ 16777216 }
-    requires no_names { root.path.names ≡ [] }
-    ensures says { MatchResult result (λ f. EndsInScript over policy.now 6 (record { objects = root ∷ []; procs = [] }) text.now f.number f.draft f.script.now) (λ halt. EndsBefore over policy.now 6 (record { objects = root ∷ []; procs = [] }) text.now halt) }
-    ensures space { IfOk result (λ f. HasSpace f.draft) }
-    ensures numbered { IfOk result (λ f. length f.script.now + f.number ≤ length text.now + 6) }
-{
-    let mut draft = Draft::new(alloc, root)?;
-    let mut rest = text;
-    let mut number = 6;
-    loop {
-        let Some((line, behind)) = next_line(rest) else {
-            return Err(no_line(over, number, rest));
-        };
-        if line == b"script".as_slice() {
-            return Ok(Furnished {
-                draft,
-                script: behind,
-                number: number + 1,
-            });
-        }
-        let Some(fixture) = next_fixture(alloc, policy, &draft, line)? else {
-            return Err(refused(number));
-        };
-        draft = draft.with(alloc, fixture)?;
-        rest = behind;
-        number += 1;
-    }
-}
-
-/// A world that was read, with the names that it gives, and the text of its script, which begins at the line with
-/// this number.
-#[derive(Drop)]
-pub struct ReadWorld<'a> {
-    pub policy: Policy,
-    pub world: World,
-    pub script: &'a [u8],
-    pub number: u64,
-}
-
-/// The world of an input; `over` where the input goes on past the limit.
-pub fn read_world(alloc: Global, text: &[u8], over: bool) -> Result<ReadWorld<'_>, Halt>
-    requires { length text.now ≤ 16777216 }
-    ensures { MatchResult result (λ read. Reads over text.now read.policy read.world read.number read.script.now) (λ halt. ReadsNone over text.now halt) }
-{
-    let Head {
-        policy,
-        bound,
-        root,
-        rest,
-    } = read_head(alloc, over, text)?;
-    let Furnished {
-        draft,
-        script,
-        number,
-    } = read_fixtures(alloc, over, &policy, root, rest)?;
-    let (objects, procs) = draft.into_lists();
-    let world = World {
-        top: top(&policy),
-        bound,
-        objects,
-        procs,
-    };
-    Ok(ReadWorld {
-        policy,
-        world,
-        script,
-        number,
-    })
-}
-
 // Whether a script ends here, with each of its lines accepted.
 fn is_whole(over: bool, text: &[u8]) -> bool
     ensures { result ≡ ((length text.now == 0) && not over) }
@@ -298,16 +179,17 @@ fn is_whole(over: bool, text: &[u8]) -> bool
     text.is_empty() && !over
 }
 
-/// What is next in a script.
-#[derive(Drop)]
-pub enum Next<'a> {
-    /// An item, and the text behind its line.
-    Item(ScriptItem, &'a [u8]),
-    /// The end.
-    Ended(Ending),
+// What a line of a script says, by its words.
+fn words_said(alloc: Global, policy: &Policy, line: &[u8]) -> Result<Option<ScriptItem>, NoMemory>
+    ensures { IfOk result (λ said. said ≡ words_said policy.now line.now) }
+{
+    match words_of(alloc, line)? {
+        Some(words) => item_of(alloc, policy, words.items()),
+        None => Ok(None),
+    }
 }
 
-/// The next item of a script, whose line has this number; `over` where the input goes on past the limit.
+/// What is next in a script, whose line has this number; `over` where the input goes on past the limit.
 pub fn next_item<'a>(
     alloc: Global,
     policy: &Policy,
@@ -321,9 +203,13 @@ pub fn next_item<'a>(
         return Ok(Next::Ended(Ending::Whole));
     }
     let Some((line, rest)) = next_line(text) else {
-        return Ok(Next::Ended(ends_at(over, number, Part::Script, text)));
+        let ending = ends_at(over, number, Part::Script, Refusal::NotBuilt, text);
+        return Ok(Next::Ended(ending));
     };
-    let Some(item) = script_line(alloc, policy, line)? else {
+    if is_blank(line) {
+        return Ok(Next::Blank(rest));
+    }
+    let Some(item) = words_said(alloc, policy, line)? else {
         let refused = Ending::Refused(number, Part::Script, Refusal::NotBuilt);
         return Ok(Next::Ended(refused));
     };

@@ -1,5 +1,6 @@
 // How inputs and runs end.
 use kern_model::NoMemory;
+use world_text::WorldFault;
 
 /// A part of an input.
 #[derive(Clone, Copy, Debug, PartialEq, Eq)]
@@ -11,8 +12,42 @@ pub enum Part {
 /// Why a line is refused.
 #[derive(Clone, Copy, Debug, PartialEq, Eq)]
 pub enum Refusal {
-    /// The line is none of the forms that are built so far.
+    /// The line is none of the forms that are built so far, or the world has what no call can use yet.
     NotBuilt,
+    /// It has not the form of the line that is due, or the input ends before its world does.
+    Syntax,
+    /// A level or a category is unknown.
+    UnknownName,
+    /// A level or a category is named twice, or the path was given before.
+    Repeated,
+    /// The path's directory was not given or is no directory, or the root was not given.
+    NoParent,
+    /// The root is no directory, or its label is not the lowest.
+    RootLabel,
+    /// The label does not dominate that of the path's directory.
+    LabelOrder,
+    /// There are too many levels, categories, objects of a label or processes of a label.
+    TooMany,
+}
+
+impl From<WorldFault> for Refusal {
+    ghost use Rattle.std.specs.Prelude.{◌≡◌};
+    ghost use Rattle.labsys.specs.Input.{refusal_of};
+
+    ghost from_gives = { λ fault why. why ≡ refusal_of fault };
+
+    fn from(fault: WorldFault) -> Self {
+        match fault {
+            WorldFault::Syntax => Refusal::Syntax,
+            WorldFault::UnknownName => Refusal::UnknownName,
+            WorldFault::Repeated => Refusal::Repeated,
+            WorldFault::NoParent => Refusal::NoParent,
+            WorldFault::RootLabel => Refusal::RootLabel,
+            WorldFault::LabelOrder => Refusal::LabelOrder,
+            WorldFault::TooMany => Refusal::TooMany,
+            WorldFault::NotBuilt => Refusal::NotBuilt,
+        }
+    }
 }
 
 /// How an input ends.

@@ -262,8 +262,8 @@ fn a_refused_line_leaves_what_stands_before_it(rt: HostRuntime) -> Result<(), Fa
 #[test]
 fn a_world_that_ends_early_leaves_no_trail(rt: HostRuntime) -> Result<(), Fail> {
     let rows: [(&[u8], &[u8]); 2] = [
-        (b"", b"refused 1 world not_built\n"),
-        (b"world 1\nlevels unc", b"refused 2 world not_built\n"),
+        (b"", b"refused 1 world syntax\n"),
+        (b"world 1\nlevels unc", b"refused 2 world syntax\n"),
     ];
     for (input, out) in rows {
         assert_eq!(rt;

@@ -63,6 +63,13 @@ fn refusal_word(why: Refusal) -> &'static [u8]
 {
     match why {
         Refusal::NotBuilt => b"not_built",
+        Refusal::Syntax => b"syntax",
+        Refusal::UnknownName => b"unknown_name",
+        Refusal::Repeated => b"repeated",
+        Refusal::NoParent => b"no_parent",
+        Refusal::RootLabel => b"root_label",
+        Refusal::LabelOrder => b"label_order",
+        Refusal::TooMany => b"too_many",
     }
 }
 

@@ -21,8 +21,8 @@ returns-in_err-play_item-in-Item-clause-front g c =
     let line = subst (λ x. Follows c.args.over c.args.policy.now c.loop-item.number c.loop-item.rest.now x) c.in-Item.is c.in_ok-item.ensures in
     underway_cut _ _ _ _ _ _ _ _ _ _ c.loop-item.invariant.underway _ _ line.says _ _ c.play_item.ensures.front
 
-pub loop-item-preserved : goal.loop-item-preserved
-loop-item-preserved g c =
+pub loop-item-preserved-in-Item : goal.loop-item-preserved-in-Item
+loop-item-preserved-in-Item g c =
     let line = subst (λ x. Follows c.args.over c.args.policy.now c.loop-item.number c.loop-item.rest.now x) c.in-Item.is c.in_ok-item.ensures in
     let shorter = line.shorter in
     let i = c.loop-item.invariant in

@@ -9,13 +9,13 @@ returns-in_err-booted-clause-front g c = sends_start _ _ _
 
 pub returns-in_err-begin-clause-front : goal.returns-in_err-begin-clause-front
 returns-in_err-begin-clause-front g c =
-    world_head_cut (record { policy = c.args.read.now.policy; world = c.args.read.now.world }) _ c.items.result.now (c.items.ensures ∙ c.in_ok-booted.ensures.recs) (state_of c.in_ok-booted.booted.kernel) c.in_ok-booted.ensures.state _ _ _ c.begin.ensures.front
+    world_head_cut c.args.read.now.read _ c.items.result.now (c.items.ensures ∙ c.in_ok-booted.ensures.recs) (state_of c.in_ok-booted.booted.kernel) c.in_ok-booted.ensures.state _ _ _ c.begin.ensures.front
 
 pub returns-clause-whole : goal.returns-clause-whole
 returns-clause-whole g c =
-    world_whole (record { policy = c.args.read.now.policy; world = c.args.read.now.world }) _ c.items.result.now (c.items.ensures ∙ c.in_ok-booted.ensures.recs) (state_of c.in_ok-booted.booted.kernel) c.in_ok-booted.ensures.state
+    world_whole c.args.read.now.read _ c.items.result.now (c.items.ensures ∙ c.in_ok-booted.ensures.recs) (state_of c.in_ok-booted.booted.kernel) c.in_ok-booted.ensures.state
     c.play_script.result _ _ _ _ _ _ c.in_ok-begin.ensures.ok c.play_script.ensures.whole
 
 pub returns-clause-front : goal.returns-clause-front
 returns-clause-front g c =
-    world_front (record { policy = c.args.read.now.policy; world = c.args.read.now.world }) _ c.items.result.now (c.items.ensures ∙ c.in_ok-booted.ensures.recs) (state_of c.in_ok-booted.booted.kernel) c.in_ok-booted.ensures.state _ _ _ _ _ c.in_ok-begin.ensures.ok c.play_script.ensures.front
+    world_front c.args.read.now.read _ c.items.result.now (c.items.ensures ∙ c.in_ok-booted.ensures.recs) (state_of c.in_ok-booted.booted.kernel) c.in_ok-booted.ensures.state _ _ _ _ _ c.in_ok-begin.ensures.ok c.play_script.ensures.front

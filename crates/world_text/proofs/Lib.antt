@@ -1,0 +1,5 @@
+pub mod DraftLemmas
+pub mod PlacingLemmas
+pub mod LineLemmas
+pub mod WordLemmas
+pub mod ReadingLemmas

@@ -1,0 +1,171 @@
+-- What lines of names and labels say.
+use Rattle.std.proofs.Common.{◌≡◌, ℕ, Bool, true, false, cond, not, ◌&&◌, ◌||◌, nat_le, nat_lt, List, [], length, refl, sym, ◌∙◌, ap, Option, Some, None, Result, Ok, Err}
+use Rattle.std.specs.Prelude.{◌==◌, ◌∷◌, ◌++◌, option_and_then, is_some}
+use Rattle.std.specs.Option.{option_map}
+use Rattle.std.proofs.lemmas.Option.{same_Some}
+use Rattle.std.specs.List.{list_all}
+use Rattle.cap_bits.specs.CapSet.{CapSet}
+use Rattle.lab_lattice.specs.Label.{Label, bottom, dominates}
+use Rattle.lab_text.specs.Names.{Names, is_label_name, are_distinct}
+use Rattle.lab_text.specs.Policy.{PolicyNames, names_fault}
+use Rattle.lab_text.specs.Text.{LabelWords, label_words, label_of, label_said, unknown_in}
+use Rattle.lab_text.specs.declared.policy.PolicyError.{PolicyError}
+use Rattle.lab_text.specs.declared.policy.PolicyError.TheVariants as error
+use Rattle.lab_text.specs.declared.text.LabelError.{LabelError}
+use Rattle.kern_model.specs.declared.world.WorldObject.{WorldObject}
+use Rattle.kern_model.specs.declared.world.WorldProc.{WorldProc}
+use Rattle.world_text.specs.declared.fault.WorldFault.{WorldFault}
+use Rattle.world_text.specs.declared.fault.WorldFault.TheVariants.{Syntax, Repeated, NoParent, LabelOrder, RootLabel, TooMany}
+use Rattle.world_text.specs.declared.stage.Stage.TheVariants as at
+use Rattle.world_text.specs.declared.stage.Said.{Said}
+use Rattle.world_text.specs.declared.stage.Said.TheVariants.{Refuses, GoesOn}
+use Rattle.world_text.specs.Tree.{Tree}
+use Rattle.kern_model.specs.Boot.{kind_of}
+use Rattle.kern_model.specs.Rules.{is_dir}
+use Rattle.kern_model.specs.World.{given, objects_at, procs_at}
+use Rattle.world_text.specs.Stage.{unless, levels_said, categories_said, label_form, is_directory, is_above, directory_of, is_root, object_said, process_said}
+use Rattle.world_text.specs.Lines.{fault_for, Makes}
+use Rattle.world_text.specs.Placing.{object_fault, process_fault}
+
+-- what is said where names may make no policy
+abbrev pub told : Option PolicyError → Said → Said
+told None said = said
+told (Some e) said = Refuses (fault_for e)
+
+abbrev first_error : (empty many named apart : Bool) → Option PolicyError
+first_error empty many named apart = cond empty (Some error.Empty) (cond many (Some error.TooMany) (cond (not named) (Some error.BadName) (cond (not apart) (Some error.Repeated) None)))
+
+levels_told : (names : Names) → list_all is_label_name names ≡ true → levels_said names ≡ told (names_fault names []) (GoesOn (at.Categories names))
+unfolding names_fault
+levels_told names e = by_tests (GoesOn (at.Categories names)) (length names == 0) (list_all is_label_name names) (nat_lt 16 (length names)) (are_distinct names) e
+  where
+    by_tests : (s : Said) (empty named many apart : Bool) → named ≡ true
+        → unless (empty || not named) Syntax (unless many TooMany (unless (not apart) Repeated s)) ≡ told (first_error empty (many || false) (named && true) (apart && true)) s
+    by_tests s empty false many apart e = absurd (cc)
+    by_tests s true true many apart e = refl
+    by_tests s false true true apart e = refl
+    by_tests s false true false true e = refl
+    by_tests s false true false false e = refl
+
+categories_told : (levels names : Names) → names_fault levels [] ≡ None → list_all is_label_name names ≡ true
+    → categories_said levels names ≡ told (names_fault levels names) (GoesOn (at.Bound (record { levels = levels; cats = names })))
+unfolding names_fault
+categories_told levels names h e =
+    by_tests (GoesOn (at.Bound (record { levels = levels; cats = names }))) (length levels == 0) (nat_lt 16 (length levels)) (list_all is_label_name levels) (are_distinct levels) (list_all is_label_name names) (nat_lt 64 (length names)) (are_distinct names) h e
+  where
+    by_tests : (s : Said) (empty many named apart named2 many2 apart2 : Bool) → first_error empty (many || false) (named && true) (apart && true) ≡ None → named2 ≡ true
+        → unless (not named2) Syntax (unless many2 TooMany (unless (not apart2) Repeated s)) ≡ told (first_error empty (many || many2) (named && named2) (apart && apart2)) s
+    by_tests s true many named apart named2 many2 apart2 h e = absurd (cc)
+    by_tests s false true named apart named2 many2 apart2 h e = absurd (cc)
+    by_tests s false false false apart named2 many2 apart2 h e = absurd (cc)
+    by_tests s false false true false named2 many2 apart2 h e = absurd (cc)
+    by_tests s false false true true false many2 apart2 h e = absurd (cc)
+    by_tests s false false true true true true apart2 h e = refl
+    by_tests s false false true true true false true h e = refl
+    by_tests s false false true true true false false h e = refl
+
+told_fault : (o : Option PolicyError) (s : Said) (fault : WorldFault) → option_map fault_for o ≡ Some fault → Refuses fault ≡ told o s
+told_fault None s fault e = absurd (cc)
+told_fault (Some x) s fault e = ap Refuses (sym (same_Some (fault_for x) fault e))
+
+made_fault : (levels cats : Names) (r : Result PolicyNames WorldFault) (fault : WorldFault) → Makes levels cats r → r ≡ Err fault → option_map fault_for (names_fault levels cats) ≡ Some fault
+made_fault levels cats (Ok p) fault h e = absurd (cc)
+made_fault levels cats (Err f) fault h e = h ∙ cc
+
+made_policy : (levels cats : Names) (r : Result PolicyNames WorldFault) (p : PolicyNames) → Makes levels cats r → r ≡ Ok p → (p ≡ record { levels = levels; cats = cats }) × (names_fault levels cats ≡ None)
+made_policy levels cats (Err f) p h e = absurd (cc)
+made_policy levels cats (Ok q) p h e = let same : p ≡ q = cc in (same ∙ h.0, h.1)
+
+-- names of levels, as they are read and as they stand in their list
+pub record AreRead (names words items : Names) : Type 0 where
+  pub read : names ≡ words
+  pub lent : items ≡ names
+  pub named : list_all is_label_name items ≡ true
+
+pub levels_named : (names words items : Names) (r : Result PolicyNames WorldFault) (p : PolicyNames) → AreRead names words items → Makes items [] r → r ≡ Ok p → GoesOn (at.Categories names) ≡ levels_said words
+levels_named names words items r p h makes is =
+    sym (ap levels_said (sym h.read ∙ sym h.lent) ∙ levels_told items h.named ∙ ap (λ o. told o (GoesOn (at.Categories items))) (made_policy items [] r p makes is).1 ∙ ap (λ (ns : Names). GoesOn (at.Categories ns)) h.lent)
+
+pub levels_refused : (names words items : Names) (r : Result PolicyNames WorldFault) (fault : WorldFault) → AreRead names words items → Makes items [] r → r ≡ Err fault → Refuses fault ≡ levels_said words
+levels_refused names words items r fault h makes is =
+    told_fault (names_fault items []) (GoesOn (at.Categories items)) fault (made_fault items [] r fault makes is) ∙ sym (ap levels_said (sym h.read ∙ sym h.lent) ∙ levels_told items h.named)
+
+pub categories_named : (levels names words items : Names) (r : Result PolicyNames WorldFault) (p : PolicyNames) → names_fault levels [] ≡ None → AreRead names words items → Makes levels items r → r ≡ Ok p
+    → GoesOn (at.Bound p) ≡ categories_said levels words
+categories_named levels names words items r p fine h makes is =
+    let made = made_policy levels items r p makes is in
+    ap (λ (q : PolicyNames). GoesOn (at.Bound q)) made.0
+    ∙ sym (ap (categories_said levels) (sym h.read ∙ sym h.lent) ∙ categories_told levels items fine h.named ∙ ap (λ o. told o (GoesOn (at.Bound (record { levels = levels; cats = items })))) made.1)
+
+pub categories_refused : (levels names words items : Names) (r : Result PolicyNames WorldFault) (fault : WorldFault) → names_fault levels [] ≡ None → AreRead names words items → Makes levels items r → r ≡ Err fault
+    → Refuses fault ≡ categories_said levels words
+categories_refused levels names words items r fault fine h makes is =
+    told_fault (names_fault levels items) (GoesOn (at.Bound (record { levels = levels; cats = items }))) fault (made_fault levels items r fault makes is)
+    ∙ sym (ap (categories_said levels) (sym h.read ∙ sym h.lent) ∙ categories_told levels items fine h.named)
+
+-- ---- labels
+
+-- a text that says a label has the form of one
+pub has_form : (p : PolicyNames) (text : List ℕ) (label : Label) → label_said p text ≡ Some label → label_form text ≡ Some text
+unfolding label_said
+has_form p text label e = by_words (label_words text) refl e
+  where
+    by_words : (w : Option LabelWords) → label_words text ≡ w → option_and_then (label_of p) w ≡ Some label → label_form text ≡ Some text
+    by_words None f e = absurd (cc)
+    by_words (Some w) f e = ap (λ (o : Option LabelWords). cond (is_some o) (Some text) None) f
+
+-- a text with an unknown name has the form of one
+pub unknown_has_form : (p : PolicyNames) (text : List ℕ) (why : LabelError) → option_and_then (unknown_in p) (label_words text) ≡ Some why → label_form text ≡ Some text
+unknown_has_form p text why e = by_words (label_words text) refl e
+  where
+    by_words : (w : Option LabelWords) → label_words text ≡ w → option_and_then (unknown_in p) w ≡ Some why → label_form text ≡ Some text
+    by_words None f e = absurd (cc)
+    by_words (Some w) f e = ap (λ (o : Option LabelWords). cond (is_some o) (Some text) None) f
+
+-- ---- objects and processes
+
+abbrev pub or_fault : Option WorldFault → Said → Said
+or_fault None said = said
+or_fault (Some fault) said = Refuses fault
+
+more_faults : (v : Bool) (fault : WorldFault) (o : Option WorldFault) (s : Said) → unless v fault (or_fault o s) ≡ or_fault (cond v (Some fault) o) s
+more_faults true fault o s = refl
+more_faults false fault o s = refl
+
+five_faults : (a b c d e : Bool) (v w x y z : WorldFault) (s : Said)
+    → unless a v (unless b w (unless c x (unless d y (unless e z s)))) ≡ or_fault (cond a (Some v) (cond b (Some w) (cond c (Some x) (cond d (Some y) (cond e (Some z) None))))) s
+five_faults true b c d e v w x y z s = refl
+five_faults false true c d e v w x y z s = refl
+five_faults false false true d e v w x y z s = refl
+five_faults false false false true e v w x y z s = refl
+five_faults false false false false e v w x y z s = more_faults e z None s
+
+pub object_told : (p : PolicyNames) (bound : CapSet) (t : Tree) (o : WorldObject) → object_said p bound t o ≡ or_fault (object_fault t o) (GoesOn (at.Tree p bound (record t { objects = t.objects ++ o ∷ [] })))
+unfolding object_fault
+object_told p bound t o =
+    five_faults (is_some (given t.objects o.path.names)) (not (is_root o.path.names || is_directory (directory_of t.objects o.path.names))) (is_root o.path.names && not (is_dir (kind_of o.body) && dominates bottom o.label))
+    (not (is_above o.label (directory_of t.objects o.path.names))) (nat_le 65535 (objects_at o.label t.objects)) Repeated NoParent RootLabel LabelOrder TooMany (GoesOn (at.Tree p bound (record t { objects = t.objects ++ o ∷ [] })))
+
+two_faults : (a b : Bool) (v w : WorldFault) (s : Said) → unless a v (unless b w s) ≡ or_fault (cond a (Some v) (cond b (Some w) None)) s
+two_faults true b v w s = refl
+two_faults false b v w s = more_faults b w None s
+
+pub process_told : (p : PolicyNames) (bound : CapSet) (t : Tree) (w : WorldProc) → process_said p bound t w ≡ or_fault (process_fault t w) (GoesOn (at.Tree p bound (record t { procs = t.procs ++ w ∷ [] })))
+unfolding process_fault
+process_told p bound t w = two_faults (length t.objects == 0) (nat_le 4095 (procs_at w.label t.procs)) NoParent TooMany (GoesOn (at.Tree p bound (record t { procs = t.procs ++ w ∷ [] })))
+
+-- ---- what is said with a fault, and without one
+
+pub object_refused : (p : PolicyNames) (bound : CapSet) (t : Tree) (o : WorldObject) (fault : WorldFault) → Some fault ≡ object_fault t o → Refuses fault ≡ object_said p bound t o
+object_refused p bound t o fault e = ap (λ f. or_fault f (GoesOn (at.Tree p bound (record t { objects = t.objects ++ o ∷ [] })))) e ∙ sym (object_told p bound t o)
+
+pub object_put : (p : PolicyNames) (bound : CapSet) (t u : Tree) (o : WorldObject) → None ≡ object_fault t o → u ≡ record t { objects = t.objects ++ o ∷ [] } → GoesOn (at.Tree p bound u) ≡ object_said p bound t o
+object_put p bound t u o e is =
+    ap (λ (v : Tree). GoesOn (at.Tree p bound v)) is ∙ ap (λ f. or_fault f (GoesOn (at.Tree p bound (record t { objects = t.objects ++ o ∷ [] })))) e ∙ sym (object_told p bound t o)
+
+pub process_refused : (p : PolicyNames) (bound : CapSet) (t : Tree) (w : WorldProc) (fault : WorldFault) → Some fault ≡ process_fault t w → Refuses fault ≡ process_said p bound t w
+process_refused p bound t w fault e = ap (λ f. or_fault f (GoesOn (at.Tree p bound (record t { procs = t.procs ++ w ∷ [] })))) e ∙ sym (process_told p bound t w)
+
+pub process_put : (p : PolicyNames) (bound : CapSet) (t u : Tree) (w : WorldProc) → None ≡ process_fault t w → u ≡ record t { procs = t.procs ++ w ∷ [] } → GoesOn (at.Tree p bound u) ≡ process_said p bound t w
+process_put p bound t u w e is =
+    ap (λ (v : Tree). GoesOn (at.Tree p bound v)) is ∙ ap (λ f. or_fault f (GoesOn (at.Tree p bound (record t { procs = t.procs ++ w ∷ [] })))) e ∙ sym (process_told p bound t w)

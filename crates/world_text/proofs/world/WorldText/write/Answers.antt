@@ -1,0 +1,30 @@
+use Rattle.std.proofs.Common.{◌≡◌, ℕ, List, [], ◌∷◌, ◌++◌, map, ap, sym, ◌∙◌, append_assoc, append-nil}
+use Rattle.std.specs.List.{flat_map}
+use Rattle.std.proofs.lemmas.Grind.{flat_map-append}
+use Rattle.std.proofs.lemmas.List.Folds.{flat_map-map}
+use Rattle.fs_path.specs.declared.words.LineWord.{LineWord}
+use Rattle.world_text.specs.Reading.{read_text}
+use Rattle.world_text.specs.WrittenAgain.{written_again}
+use Rattle.world_text.specs.Written.{line_of, head_words, object_words, process_words, script_words, written}
+use Rattle.world_text.proofs.world.WorldText.write.Goals as goal
+
+-- the lines of four parts
+parts : {O P : Type 0} (head : List (List LineWord)) (f : O → List LineWord) (os : List O) (g : P → List LineWord) (ps : List P) (end : List LineWord)
+    → flat_map line_of (head ++ (map f os ++ (map g ps ++ end ∷ []))) ≡ flat_map line_of head ++ (flat_map (λ o. line_of (f o)) os ++ (flat_map (λ p. line_of (g p)) ps ++ line_of end))
+parts head f os g ps end =
+    flat_map-append line_of head (map f os ++ (map g ps ++ end ∷ [])) ∙ ap (λ t. flat_map line_of head ++ t) (
+    flat_map-append line_of (map f os) (map g ps ++ end ∷ []) ∙ (λ i. flat_map-map line_of f os i ++ (flat_map-append line_of (map g ps) (end ∷ []) ∙ (λ j. flat_map-map line_of g ps j ++ append-nil (line_of end) j)) i))
+
+gathered : (a b d e : List ℕ) (head objects procs end : List ℕ) → a ≡ [] → b ≡ a ++ head → d ≡ b ++ objects → e ≡ d ++ procs → (e ++ end) ≡ head ++ (objects ++ (procs ++ end))
+gathered a b d e head objects procs end s1 s2 s3 s4 = rw (s4, s3, s2, s1) (simp append_assoc)
+
+pub returns-clause-text : goal.returns-clause-text
+unfolding line_of written
+returns-clause-text c =
+    let objects = rw c.items-objects.ensures at c.in_ok-put_objects.ensures in
+    let procs = rw c.items-processes.ensures at c.in_ok-put_processes.ensures in
+    c.in_ok-extend_from_slice.ensures.items ∙ gathered _ _ _ _ _ _ _ _ c.new-text.ensures.items c.in_ok-put_head.ensures objects procs
+    ∙ sym (parts (head_words c.args.self.now.policy c.args.self.now.world.bound) (object_words c.args.self.now.policy) c.args.self.now.world.objects (process_words c.args.self.now.policy) c.args.self.now.world.procs script_words)
+
+pub returns-clause-again : goal.returns-clause-again
+returns-clause-again c = λ h. ap read_text (returns-clause-text c) ∙ written_again c.args.self.now h

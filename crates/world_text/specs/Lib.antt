@@ -1,0 +1,12 @@
+pub mod Tree
+pub mod Stage
+pub mod Reading
+pub mod Standing
+pub mod Placing
+pub mod Lines
+pub mod Accepted
+pub mod Written
+pub mod CanBeRead
+pub mod WrittenWords
+pub mod WrittenValues
+pub mod WrittenAgain

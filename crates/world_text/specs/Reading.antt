@@ -1,0 +1,63 @@
+-- What a text says of a world, line by line.
+use Rattle.std.specs.Prelude.{◌≡◌, ℕ, ◌+◌, ◌≤◌, List, [], ◌∷◌, length}
+use Rattle.fs_path.specs.Lines.{pieces}
+use Rattle.world_text.specs.declared.fault.WorldFault.{WorldFault}
+use Rattle.world_text.specs.declared.fault.WorldFault.TheVariants.{Syntax}
+use Rattle.world_text.specs.declared.fault.WorldError.{WorldError}
+use Rattle.world_text.specs.declared.fault.WorldError.TheVariants as error
+use Rattle.world_text.specs.declared.reading.Front.{Front}
+use Rattle.world_text.specs.declared.reading.Front.TheVariants as front
+use Rattle.world_text.specs.declared.world.WorldText.{WorldText}
+use Rattle.world_text.specs.declared.stage.Stage.{Stage}
+use Rattle.world_text.specs.declared.stage.Stage.TheVariants as at
+use Rattle.world_text.specs.declared.stage.Said.{Said}
+use Rattle.world_text.specs.declared.stage.Said.TheVariants.{Refuses, GoesOn, Begins}
+use Rattle.world_text.specs.Stage.{line_said}
+
+-- how the reading of a world ends
+pub data Reading : Type 0 where
+  -- with a world, and the pieces of the text from the line of this number on, which is the first of its script
+  Accepted : (world : WorldText) (n : ℕ) (script : List (List ℕ)) → Reading
+  -- at the line of this number
+  Refused : (n : ℕ) (fault : WorldFault) → Reading
+  -- before the script: of the line of this number no more is there than these bytes, without a line feed
+  Ended : (n : ℕ) (last : List ℕ) → Reading
+
+abbrev pub after : Said → ℕ → List (List ℕ) → (Stage → Reading) → Reading
+after (Refuses fault) n rest more = Refused n fault
+after (GoesOn stage) n rest more = more stage
+after (Begins world) n rest more = Accepted world (n + 1) rest
+
+-- the pieces of a text between line feeds, from line n on; the last has no line feed behind it
+unfoldable pub reading : ℕ → Stage → List (List ℕ) → Reading
+reading n stage [] = Ended n []
+reading n stage (last ∷ []) = Ended n last
+reading n stage (line ∷ next ∷ ls) = after (line_said stage line) n (next ∷ ls) (λ stage. reading (n + 1) stage (next ∷ ls))
+
+-- what a text says
+abbrev pub read_text : List ℕ → Reading
+read_text text = reading 1 at.Format (pieces 10 text)
+
+-- a text ends before its world does at the line that would be next, or inside a line at that
+abbrev pub IsRead : Reading → WorldText → Type 0
+IsRead (Accepted world n script) w = world ≡ w
+IsRead _ w = ⊥
+
+-- a world is not read for this cause, if memory did not run out
+abbrev pub IsNotRead : Reading → WorldError → Type 0
+IsNotRead r (error.NoMemory _) = Unit {0}
+IsNotRead (Refused n fault) (error.Refused m why) = (n ≡ m) × (fault ≡ why)
+IsNotRead (Ended n last) (error.Refused m why) = (n ≡ m) × (why ≡ Syntax)
+IsNotRead (Accepted world n script) (error.Refused m why) = ⊥
+
+-- what the front of a text says, as it is answered
+abbrev pub IsFront : Reading → Front → Type 0
+IsFront (Accepted world n script) (front.World w m rest) = (world ≡ w) × (n ≡ m) × (script ≡ pieces 10 rest.now)
+IsFront (Refused n fault) (front.Refused m why) = (n ≡ m) × (fault ≡ why)
+IsFront (Ended n last) (front.Ended m rest) = (n ≡ m) × (last ≡ rest.now)
+IsFront _ _ = ⊥
+
+-- each line before a script has a byte at least, its line feed
+abbrev pub IsWithin : ℕ → Front → Type 0
+IsWithin size (front.World w n rest) = length rest.now + n ≤ size + 1
+IsWithin size _ = Unit {0}

@@ -1,0 +1,105 @@
+-- The one written form of a world.
+use Rattle.std.specs.Prelude.{ℕ, ◌+◌, not, true, false, cond, List, [], ◌∷◌, ◌++◌, length, map, codes}
+use Rattle.std.specs.Fmt.{decimal}
+use Rattle.std.specs.List.{flat_map, list_all}
+use Rattle.cap_bits.specs.declared.cap.Cap.TheVariants as cap
+use Rattle.cap_bits.specs.declared.state.CapState.{CapState}
+use Rattle.cap_bits.specs.CapSet.{CapSet, has, is_within, all_of_caps}
+use Rattle.fs_path.specs.declared.words.LineWord.{LineWord}
+use Rattle.fs_path.specs.Name.{Name}
+use Rattle.fs_path.specs.Values.{mode_text, groups_text}
+use Rattle.fs_path.specs.Words.{is_bare, spelling, line_text}
+use Rattle.lab_text.specs.Policy.{PolicyNames}
+use Rattle.lab_text.specs.Text.{label_text}
+use Rattle.kern_model.specs.declared.objects.Body.{Body}
+use Rattle.kern_model.specs.declared.objects.Body.TheVariants as body
+use Rattle.kern_model.specs.declared.world.WorldObject.{WorldObject}
+use Rattle.kern_model.specs.declared.world.WorldProc.{WorldProc}
+use Rattle.world_text.specs.declared.world.WorldText.{WorldText}
+
+-- ---- words
+
+-- a word without quotes
+abbrev pub bare : List ℕ → LineWord
+bare bytes = record { quoted = false; bytes = bytes }
+
+-- a word between quotes
+abbrev pub quoted : List ℕ → LineWord
+quoted bytes = record { quoted = true; bytes = bytes }
+
+-- a word between quotes exactly where it has a byte that no bare word has
+abbrev pub with_quotes_if_needed : List ℕ → LineWord
+with_quotes_if_needed bytes = record { quoted = not (list_all is_bare bytes); bytes = bytes }
+
+-- the text of a path: `/`, or each name behind a `/`
+abbrev pub path_text : List Name → List ℕ
+path_text [] = codes "/"
+path_text (name ∷ names) = flat_map (λ (name : Name). 47 ∷ name) (name ∷ names)
+
+-- the text of a capability state: `cap_mac_read=ep` where that is effective, and else `=`
+abbrev pub caps_text : CapState → List ℕ
+caps_text caps = cond (has caps.e cap.MacRead) (codes "cap_mac_read=ep") (codes "=")
+
+-- the text of a bound: `all` where it has all capabilities, and else `none`
+abbrev pub bound_text : CapSet → List ℕ
+bound_text bound = cond (is_within all_of_caps bound) (codes "all") (codes "none")
+
+-- ---- lines
+
+-- words with one space between them, and a line feed
+unfoldable pub line_of : List LineWord → List ℕ
+line_of words = line_text (map spelling words) ++ 10 ∷ []
+
+-- a keyword and names
+abbrev pub names_words : List ℕ → List (List ℕ) → List LineWord
+names_words keyword names = bare keyword ∷ map bare names
+
+-- the format, the names and the bound
+abbrev pub head_words : PolicyNames → CapSet → List (List LineWord)
+head_words policy bound =
+    names_words (codes "world") (codes "1" ∷ []) ∷ names_words (codes "levels") policy.levels ∷ names_words (codes "categories") policy.cats
+    ∷ names_words (codes "bound") (bound_text bound ∷ []) ∷ []
+
+-- the keyword of an object; no tree line makes a pipe
+abbrev pub body_keyword : Body → List ℕ
+body_keyword body.Dir = codes "dir"
+body_keyword (body.File bytes) = codes "file"
+body_keyword body.Fifo = codes "fifo"
+body_keyword body.Pipe = codes "pipe"
+
+-- capabilities behind a file's content, where there are some
+abbrev pub caps_words : CapState → List LineWord
+caps_words caps = cond (has caps.e cap.MacRead) (quoted (caps_text caps) ∷ []) []
+
+-- the content of a file, and its capabilities
+abbrev pub body_words : Body → CapState → List LineWord
+body_words (body.File bytes) caps = quoted bytes ∷ caps_words caps
+body_words _ caps = []
+
+-- a tree line: the keyword, the path, the mode, the owner, the group, the label, and what a file holds
+unfoldable pub object_words : PolicyNames → WorldObject → List LineWord
+object_words policy o =
+    bare (body_keyword o.body) ∷ with_quotes_if_needed (path_text o.path.names) ∷ bare (mode_text o.attr.mode) ∷ bare (decimal o.attr.owner) ∷ bare (decimal o.attr.group)
+    ∷ bare (label_text policy o.label) ∷ body_words o.body o.attr.caps
+
+-- a process line: the label, the user, the group, the further groups and the capabilities
+unfoldable pub process_words : PolicyNames → WorldProc → List LineWord
+process_words policy p =
+    bare (codes "proc") ∷ bare (label_text policy p.label) ∷ bare (decimal p.ids.euid) ∷ bare (decimal p.ids.egid) ∷ bare (groups_text p.ids.groups) ∷ quoted (caps_text p.caps) ∷ []
+
+-- the line behind which the script begins
+abbrev pub script_words : List LineWord
+script_words = names_words (codes "script") []
+
+-- the lines of a world: its head, objects and processes in their order, and the beginning of the script
+abbrev pub lines_of : WorldText → List (List LineWord)
+lines_of w =
+    head_words w.policy w.world.bound ++ (map (object_words w.policy) w.world.objects ++ (map (process_words w.policy) w.world.procs ++ script_words ∷ []))
+
+-- the number of the line behind these
+abbrev pub next_number : WorldText → ℕ
+next_number w = length (lines_of w) + 1
+
+-- the text of a world
+unfoldable pub written : WorldText → List ℕ
+written w = flat_map line_of (lines_of w)

@@ -1,0 +1,17 @@
+//! The text of a world: read line by line, the first fault named, and written in one form.
+#![tactic(auto)]
+
+mod draft;
+mod fault;
+mod names;
+mod reading;
+mod stage;
+#[cfg(test)]
+mod tests;
+mod world;
+mod writing;
+
+pub use fault::{WorldError, WorldFault};
+pub use reading::{Front, read_front};
+pub use std::alloc::AllocError as NoMemory;
+pub use world::WorldText;

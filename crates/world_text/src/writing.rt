@@ -1,0 +1,288 @@
+// The writing of a world.
+ghost use Rattle.std.specs.Prelude.{◌≡◌, [], ◌∷◌, ◌++◌, map, OnOk, IfOk};
+ghost use Rattle.std.specs.Fmt.{decimal};
+ghost use Rattle.std.specs.List.{flat_map, list_all};
+ghost use Rattle.fs_path.specs.Values.{mode_text, groups_text};
+ghost use Rattle.fs_path.specs.Words.{is_bare, spelling, quoted_text, behind_spaces};
+ghost use Rattle.lab_text.specs.Text.{label_text};
+ghost use Rattle.world_text.specs.CanBeRead.{CanBeRead};
+ghost use Rattle.world_text.specs.Reading.{Accepted, read_text};
+ghost use Rattle.world_text.specs.Written.{with_quotes_if_needed, path_text, caps_text, bound_text, line_of, names_words, head_words, body_keyword, body_words, object_words, process_words, next_number, written};
+
+use crate::{NoMemory, WorldText};
+use cap_bits::{Cap, CapSet, CapState};
+use fs_path::{Name, put_groups, put_mode, put_number, put_quoted};
+use kern_model::{Body, WorldObject, WorldProc};
+use lab_lattice::Label;
+use lab_text::{Policy, Word, mac_to_text};
+use std::alloc::Global;
+
+// Whether a bare word may have a byte.
+fn is_bare(byte: u8) -> bool
+    ensures { result ≡ is_bare byte }
+{
+    matches!(byte, 0x20..=0x7e) && byte != b'"' && byte != b'\\' && byte != b' '
+}
+
+fn are_bare(bytes: &[u8]) -> bool
+    ensures { result ≡ list_all is_bare bytes.now }
+{
+    bytes.iter().all(|byte| is_bare(*byte))
+}
+
+// A word behind a space.
+fn put_word(text: &mut Vec<u8>, word: &[u8]) -> Result<(), NoMemory>
+    ensures { OnOk result (text.new.items ≡ text.old.items ++ 32 ∷ word.now) }
+{
+    text.push(b' ')?;
+    text.extend_from_slice(word)
+}
+
+// A quoted word behind a space.
+fn put_quoted_word(text: &mut Vec<u8>, bytes: &[u8]) -> Result<(), NoMemory>
+    ensures { OnOk result (text.new.items ≡ text.old.items ++ 32 ∷ quoted_text bytes.now) }
+{
+    text.push(b' ')?;
+    put_quoted(text, bytes)
+}
+
+// The text of an absolute path with these names.
+fn path_text(alloc: Global, names: &[Name]) -> Result<Vec<u8>, NoMemory>
+    ensures { IfOk result (λ text. text.items ≡ path_text names.now) }
+{
+    let mut text = Vec::new(alloc);
+    if names.is_empty() {
+        text.push(b'/')?;
+    }
+    for name in names {
+        text.push(b'/')?;
+        text.extend_from_slice(name.bytes())?;
+    }
+    Ok(text)
+}
+
+// A word behind a space, between quotes where it needs them.
+fn put_word_or_quoted(text: &mut Vec<u8>, bytes: &[u8]) -> Result<(), NoMemory>
+    ensures { OnOk result (text.new.items ≡ text.old.items ++ 32 ∷ spelling (with_quotes_if_needed bytes.now)) }
+{
+    if are_bare(bytes) {
+        put_word(text, bytes)
+    } else {
+        put_quoted_word(text, bytes)
+    }
+}
+
+// A path behind a space.
+fn put_path(alloc: Global, text: &mut Vec<u8>, names: &[Name]) -> Result<(), NoMemory>
+    ensures { OnOk result (text.new.items ≡ text.old.items ++ 32 ∷ spelling (with_quotes_if_needed (path_text names.now))) }
+{
+    let path = path_text(alloc, names)?;
+    put_word_or_quoted(text, path.as_slice())
+}
+
+// A label behind a space.
+fn put_label(
+    alloc: Global,
+    text: &mut Vec<u8>,
+    policy: &Policy,
+    label: &Label,
+) -> Result<(), NoMemory>
+    ensures { OnOk result (text.new.items ≡ text.old.items ++ 32 ∷ label_text policy.now label.now) }
+{
+    let label = mac_to_text(alloc, policy, label)?;
+    put_word(text, label.as_slice())
+}
+
+// A number behind a space.
+fn put_number_word(alloc: Global, text: &mut Vec<u8>, n: u32) -> Result<(), NoMemory>
+    ensures { OnOk result (text.new.items ≡ text.old.items ++ 32 ∷ decimal n) }
+{
+    text.push(b' ')?;
+    put_number(alloc, text, u64::from(n))
+}
+
+// A mode behind a space.
+fn put_mode_word(text: &mut Vec<u8>, mode: u16) -> Result<(), NoMemory>
+    ensures { OnOk result (text.new.items ≡ text.old.items ++ 32 ∷ mode_text mode) }
+{
+    text.push(b' ')?;
+    put_mode(text, mode)
+}
+
+// Groups behind a space.
+fn put_groups_word(alloc: Global, text: &mut Vec<u8>, groups: &[u32]) -> Result<(), NoMemory>
+    ensures { OnOk result (text.new.items ≡ text.old.items ++ 32 ∷ groups_text groups.now) }
+{
+    text.push(b' ')?;
+    put_groups(alloc, text, groups)
+}
+
+fn caps_text(caps: &CapState) -> &'static [u8]
+    ensures { result.now ≡ caps_text caps.now }
+{
+    if caps.e.has(Cap::MacRead) {
+        b"cap_mac_read=ep"
+    } else {
+        b"="
+    }
+}
+
+fn bound_text(bound: &CapSet) -> &'static [u8]
+    ensures { result.now ≡ bound_text bound.now }
+{
+    if CapSet::all().within(bound) {
+        b"all"
+    } else {
+        b"none"
+    }
+}
+
+// Names, each behind a space.
+fn put_names(text: &mut Vec<u8>, names: &[Word]) -> Result<(), NoMemory>
+    ensures { OnOk result (text.new.items ≡ text.old.items ++ behind_spaces names.now) }
+{
+    for name in names {
+        put_word(text, name.bytes())?;
+    }
+    Ok(())
+}
+
+#[tactic(auto, unfolding(crate::specs::Written::line_of))]
+fn put_names_line(text: &mut Vec<u8>, keyword: &[u8], names: &[Word]) -> Result<(), NoMemory>
+    ensures { OnOk result (text.new.items ≡ text.old.items ++ line_of (names_words keyword.now names.now)) }
+{
+    text.extend_from_slice(keyword)?;
+    put_names(text, names)?;
+    text.push(b'\n')?;
+    Ok(())
+}
+
+#[tactic(auto, unfolding(crate::specs::Written::line_of))]
+fn put_word_line(text: &mut Vec<u8>, keyword: &[u8], word: &[u8]) -> Result<(), NoMemory>
+    ensures { OnOk result (text.new.items ≡ text.old.items ++ line_of (names_words keyword.now (word.now ∷ []))) }
+{
+    text.extend_from_slice(keyword)?;
+    put_word(text, word)?;
+    text.push(b'\n')?;
+    Ok(())
+}
+
+fn body_keyword(body: &Body) -> &'static [u8]
+    ensures { result.now ≡ body_keyword body.now }
+{
+    match body {
+        Body::Dir => b"dir",
+        Body::File(_) => b"file",
+        Body::Fifo => b"fifo",
+        Body::Pipe => b"pipe",
+    }
+}
+
+// What a file holds.
+fn put_body(text: &mut Vec<u8>, body: &Body, caps: &CapState) -> Result<(), NoMemory>
+    ensures { OnOk result (text.new.items ≡ text.old.items ++ behind_spaces (map spelling (body_words body.now caps.now))) }
+{
+    let Body::File(bytes) = body else {
+        return Ok(());
+    };
+    put_quoted_word(text, bytes.items())?;
+    if caps.e.has(Cap::MacRead) {
+        put_quoted_word(text, caps_text(caps))?;
+    }
+    Ok(())
+}
+
+#[tactic(auto, unfolding(crate::specs::Written::line_of, crate::specs::Written::object_words))]
+fn put_object(
+    alloc: Global,
+    text: &mut Vec<u8>,
+    policy: &Policy,
+    object: &WorldObject,
+) -> Result<(), NoMemory>
+    ensures { OnOk result (text.new.items ≡ text.old.items ++ line_of (object_words policy.now object.now)) }
+{
+    text.extend_from_slice(body_keyword(&object.body))?;
+    put_path(alloc, text, object.path.names.items())?;
+    put_mode_word(text, object.attr.mode)?;
+    put_number_word(alloc, text, object.attr.owner)?;
+    put_number_word(alloc, text, object.attr.group)?;
+    put_label(alloc, text, policy, &object.label)?;
+    put_body(text, &object.body, &object.attr.caps)?;
+    text.push(b'\n')?;
+    Ok(())
+}
+
+#[tactic(auto, unfolding(crate::specs::Written::line_of, crate::specs::Written::process_words))]
+fn put_process(
+    alloc: Global,
+    text: &mut Vec<u8>,
+    policy: &Policy,
+    process: &WorldProc,
+) -> Result<(), NoMemory>
+    ensures { OnOk result (text.new.items ≡ text.old.items ++ line_of (process_words policy.now process.now)) }
+{
+    text.extend_from_slice(b"proc")?;
+    put_label(alloc, text, policy, &process.label)?;
+    put_number_word(alloc, text, process.ids.euid)?;
+    put_number_word(alloc, text, process.ids.egid)?;
+    put_groups_word(alloc, text, process.ids.groups.items())?;
+    put_quoted_word(text, caps_text(&process.caps))?;
+    text.push(b'\n')?;
+    Ok(())
+}
+
+fn put_objects(
+    alloc: Global,
+    text: &mut Vec<u8>,
+    policy: &Policy,
+    objects: &[WorldObject],
+) -> Result<(), NoMemory>
+    ensures { OnOk result (text.new.items ≡ text.old.items ++ flat_map (λ object. line_of (object_words policy.now object)) objects.now) }
+{
+    for object in objects {
+        put_object(alloc, text, policy, object)?;
+    }
+    Ok(())
+}
+
+fn put_processes(
+    alloc: Global,
+    text: &mut Vec<u8>,
+    policy: &Policy,
+    processes: &[WorldProc],
+) -> Result<(), NoMemory>
+    ensures { OnOk result (text.new.items ≡ text.old.items ++ flat_map (λ process. line_of (process_words policy.now process)) processes.now) }
+{
+    for process in processes {
+        put_process(alloc, text, policy, process)?;
+    }
+    Ok(())
+}
+
+// The format, the names and the bound.
+fn put_head(text: &mut Vec<u8>, policy: &Policy, bound: &CapSet) -> Result<(), NoMemory>
+    ensures { OnOk result (text.new.items ≡ text.old.items ++ flat_map line_of (head_words policy.now bound.now)) }
+{
+    put_word_line(text, b"world", b"1")?;
+    put_names_line(text, b"levels", policy.levels())?;
+    put_names_line(text, b"categories", policy.cats())?;
+    put_word_line(text, b"bound", bound_text(bound))
+}
+
+impl WorldText {
+    /// The written form of a world, up to the line `script`. Of a world that can be read it is read as that world.
+    #[tactic(auto, unfolding(crate::specs::Written::line_of, crate::specs::Written::written))]
+    pub fn write(&self, alloc: Global) -> Result<Vec<u8>, NoMemory>
+        ensures text { IfOk result (λ text. text.items ≡ written self.now) }
+        ensures again { IfOk result (λ text. CanBeRead self.now → read_text text.items ≡ Accepted self.now (next_number self.now) ([] ∷ [])) }
+    {
+        let objects = self.world.objects.items();
+        let processes = self.world.procs.items();
+        let mut text = Vec::new(alloc);
+        put_head(&mut text, &self.policy, &self.world.bound)?;
+        put_objects(alloc, &mut text, &self.policy, objects)?;
+        put_processes(alloc, &mut text, &self.policy, processes)?;
+        text.extend_from_slice(b"script\n")?;
+        Ok(text)
+    }
+}
