@@ -9,7 +9,7 @@ mod tests;
 mod text;
 mod word;
 
-pub use policy::{Policy, PolicyError, bottom, mac_valid, top};
+pub use policy::{Policy, PolicyError, are_label_names, bottom, mac_valid, top};
 pub use std::alloc::AllocError as NoMemory;
 pub use text::{LabelError, mac_from_text, mac_to_text};
 pub use word::Word;

@@ -62,7 +62,8 @@ fn place_of(names: &[Word], name: &[u8]) -> Option<usize>
     names.iter().position(|word| name == word.bytes())
 }
 
-fn are_label_names(names: &[Word]) -> bool
+/// Whether levels or categories may have these names.
+pub fn are_label_names(names: &[Word]) -> bool
     ensures { result ≡ list_all is_label_name names.now }
 {
     names.iter().all(|word| is_label_name(word.bytes()))

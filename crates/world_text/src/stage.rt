@@ -6,7 +6,6 @@ ghost use Rattle.world_text.specs.Stage.{world_of, behind_keyword, format_said, 
 ghost use Rattle.world_text.specs.Lines.{bytes_in, Makes, placed_in, owned_in, IsPlaced, IsOwned};
 
 use crate::draft::Draft;
-use crate::names::are_label_names;
 use crate::{NoMemory, WorldFault, WorldText};
 use cap_bits::{Cap, CapSet, CapState};
 use fs_path::{
@@ -14,7 +13,7 @@ use fs_path::{
 };
 use kern_model::{Attr, Body, Gid, GroupList, Ids, Mode, Uid, World, WorldObject, WorldProc};
 use lab_lattice::Label;
-use lab_text::{LabelError, Policy, PolicyError, Word, mac_from_text, top};
+use lab_text::{LabelError, Policy, PolicyError, Word, are_label_names, mac_from_text, top};
 use std::alloc::Global;
 use std::marker::Model;
 
