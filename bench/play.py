@@ -3,9 +3,9 @@
 
     bench/play.py
 
-First scripts of doubling length on a world of one file and one process, up to the limit of an input; then worlds of
-doubling size, up to the limits of a label, with one call for each file; then worlds that fill an input up to its limit, all
-files in one directory or 32 names deep.
+First scripts of doubling length on a world of one file and one process, up to the limit of an input, of one call and of
+three; then worlds of doubling size, up to the limits of a label, with one call for each file; then worlds that fill an input
+up to its limit, all files in one directory or 32 names deep.
 """
 import pathlib
 import subprocess
@@ -22,6 +22,13 @@ def long_script(size):
     world = HEAD + b'file /a 0644 10 10 sec "hello"\nproc sec 10 10 - "="\nscript\n'
     line = b"1@sec mac_get_file /a\n"
     return world + line * ((size - len(world)) // len(line))
+
+
+def mixed_script(size):
+    """The same world with all capabilities permitted, and the three calls in turn up to this many bytes."""
+    world = HEAD + b'file /a 0644 10 10 sec "hello"\nproc unc 10 10 - "all=p"\nscript\n'
+    lines = b'1@unc cap_set_proc "cap_mac_read+e all+p"\n1@unc mac_get_file /a\n1@unc cap_get_proc\n'
+    return world + lines * ((size - len(world)) // len(lines))
 
 
 def large_world(files, procs):
@@ -63,6 +70,9 @@ def main():
         for part in (32, 16, 8, 4, 2, 1):
             text = long_script(LIMIT // part)
             show(folder, f"{text.count(b'mac_get_file')} calls", text)
+        for part in (32, 16, 8, 4, 2, 1):
+            text = mixed_script(LIMIT // part)
+            show(folder, f"{text.count(b'1@unc ')} calls of three kinds", text)
         for part in (8, 4, 2, 1):
             files, procs = 65_534 // part, 4_095 // part
             show(folder, f"{files} files, {procs} processes", large_world(files, procs))

@@ -4,7 +4,8 @@ use Rattle.std.specs.List.{list_all}
 use Rattle.std.proofs.lemmas.Bool.{le-leb, lt-leb, lt-ltb, and_from, and_right}
 use Rattle.std.proofs.lemmas.List.{at_drop_more, at_drop_all}
 use Rattle.std.proofs.Math.Nat.{mul-le-mul_right}
-use Rattle.fs_path.specs.Values.{keep_if, is_digit, worth}
+use Rattle.fs_path.specs.Options.{keep_if}
+use Rattle.fs_path.specs.Values.{is_digit, worth}
 
 -- what digits are worth behind a value, where they are digits and it is at most `high`
 abbrev pub worth_within : ℕ → ℕ → ℕ → List ℕ → Option ℕ

@@ -13,8 +13,9 @@ use Rattle.std.proofs.lemmas.List.Folds.{list_all-append}
 use Rattle.std.proofs.lemmas.List.Splits.{slice_split_none, slice_split_at}
 use Rattle.std.proofs.Math.Nat.{div-div-eq-div-mul}
 use Rattle.fs_path.specs.declared.words.LineWord.{LineWord}
-use Rattle.fs_path.specs.Values.{keep_if, is_digit, worth, numeral, number_of, mode_of, numbers_of, few_numbers, groups_of, mode_text, behind_commas, groups_text}
-use Rattle.fs_path.specs.Words.{is_space, is_plain, is_bare, is_bare_text, hex_value, hex_pair, escaped, first_item, onto_front, items_of, quoted_word, begun_word, apart, is_apart, first_word, past_spaces, words_by, words_of, hex_digit, item_text, quoted_text, has_spelling, spelling, behind_spaces, line_text}
+use Rattle.fs_path.specs.Options.{keep_if}
+use Rattle.fs_path.specs.Values.{is_digit, worth, numeral, number_of, mode_of, numbers_of, few_numbers, groups_of, mode_text, behind_commas, groups_text}
+use Rattle.fs_path.specs.Words.{is_space, is_plain, is_bare, is_bare_text, hex_value, hex_pair, escaped, first_item, onto_front, items_of, quoted_word, begun_word, apart, is_apart, first_word, past_spaces, words_by, words_of, hex_digit, item_text, quoted_text, has_spelling, with_quotes_if_needed, spelling, behind_spaces, line_text}
 use Rattle.fs_path.specs.WordSteps.{items_next, words_are, words_first}
 
 -- ---- items between quotes
@@ -258,6 +259,14 @@ groups_bare (g ∷ gs) small =
     let some = decimal_nonempty g (omega arith) in
     let all = list_all-append is_bare (decimal g) (behind_commas gs) ∙ and_from (list_all is_bare (decimal g)) (list_all is_bare (behind_commas gs)) (digits_bare (decimal g) (group_digits g parts.0)) (commas_bare gs parts.1) in
     and_from _ _ (lt-ltb 0 (length (decimal g ++ behind_commas gs)) (omega (arith, length-append (decimal g) (behind_commas gs)))) all
+
+-- any bytes can be written as a word
+pub word_spelling : (bytes : List ℕ) → list_all (λ b. nat_lt b 256) bytes ≡ true → has_spelling (with_quotes_if_needed bytes) ≡ true
+word_spelling bytes small =
+    elim (cases_Bool (is_bare_text bytes)) [
+      | inl e ↦ ap (λ v. cond (not v) (list_all (λ b. nat_lt b 256) bytes) (is_bare_text bytes)) e ∙ e
+      | inr e ↦ ap (λ v. cond (not v) (list_all (λ b. nat_lt b 256) bytes) (is_bare_text bytes)) e ∙ small
+    ]
 
 -- ---- lines
 

@@ -1,3 +1,4 @@
+pub mod Options
 pub mod Name
 pub mod Path
 pub mod PathText
@@ -6,4 +7,6 @@ pub mod Values
 pub mod Lines
 pub mod Words
 pub mod WordSteps
+pub mod WordSizes
+pub mod ValueRanges
 pub mod Again

@@ -11,7 +11,7 @@ use Rattle.fs_path.specs.Words.{is_space, is_plain, is_bare, hex_value, hex_pair
 -- ---- items between quotes
 
 -- at most n bytes stand behind what was read
-abbrev AtMost : ℕ → Option (ℕ × List ℕ) → Type 0
+abbrev pub AtMost : ℕ → Option (ℕ × List ℕ) → Type 0
 AtMost n None = Unit {0}
 AtMost n (Some p) = length p.1 ≤ n
 
@@ -36,7 +36,7 @@ escape_shorter (b ∷ bs) =
     weaker None h = tt
     weaker (Some p) h = omega arith
 
-item_shorter : (b : ℕ) (bs : List ℕ) → AtMost (length bs) (first_item (b ∷ bs))
+pub item_shorter : (b : ℕ) (bs : List ℕ) → AtMost (length bs) (first_item (b ∷ bs))
 item_shorter b bs =
     let same : length bs ≤ length bs = omega arith in
     cond_both (b == 92) (escaped bs) (cond (is_plain b) (Some (b, bs)) None) (AtMost (length bs)) (λ _. escape_shorter bs)

@@ -127,6 +127,10 @@ is_bare_text bytes = nat_lt 0 (length bytes) && list_all is_bare bytes
 abbrev pub has_spelling : LineWord → Bool
 has_spelling word = cond word.quoted (list_all (λ b. nat_lt b 256) word.bytes) (is_bare_text word.bytes)
 
+-- a word between quotes exactly where its bytes can't stand bare
+abbrev pub with_quotes_if_needed : List ℕ → LineWord
+with_quotes_if_needed bytes = record { quoted = not (is_bare_text bytes); bytes = bytes }
+
 abbrev pub spelling : LineWord → List ℕ
 spelling word = cond word.quoted (quoted_text word.bytes) word.bytes
 

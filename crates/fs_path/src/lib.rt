@@ -16,4 +16,4 @@ pub use name::Name;
 pub use path::{NameList, Path, PathError};
 pub use std::alloc::AllocError as NoMemory;
 pub use values::{groups_of, mode_of, number_of, numeral, put_groups, put_mode, put_number};
-pub use words::{LineWord, is_blank, put_quoted, words_of};
+pub use words::{LineWord, is_blank, put_quoted, put_word, words_of};

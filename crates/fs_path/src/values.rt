@@ -2,7 +2,8 @@
 ghost use Rattle.std.specs.Prelude.{◌≡◌, ◌+◌, ◌%◌, ◌&&◌, ◌<◌, ◌≤◌, ◌^◌, ◌++◌, List, nat_le, map, ◌==◌, OnOk, IfOk, IfSome};
 ghost use Rattle.std.specs.Fmt.{decimal};
 ghost use Rattle.std.specs.List.{list_all, slice_split};
-ghost use Rattle.fs_path.specs.Values.{is_digit, worth, keep_if, numeral, number_of, mode_of, numbers_of, groups_of, mode_text, groups_text};
+ghost use Rattle.fs_path.specs.Options.{keep_if};
+ghost use Rattle.fs_path.specs.Values.{is_digit, worth, numeral, number_of, mode_of, numbers_of, groups_of, mode_text, groups_text};
 
 use crate::{List, NoMemory};
 use std::alloc::Global;

@@ -1,7 +1,7 @@
 // The words of a line.
 ghost use Rattle.std.specs.Prelude.{◌≡◌, ◌++◌, ◌<◌, OnOk, IfOk, IfSome, MatchOption, None, Some};
-ghost use Rattle.std.specs.List.{prefix_len};
-ghost use Rattle.fs_path.specs.Words.{words_of, is_blank, quoted_text, is_plain, is_bare, hex_value, hex_pair, escaped, first_item, items_of, is_apart, begun_word, first_word, past_spaces, hex_digit, item_text};
+ghost use Rattle.std.specs.List.{list_all, prefix_len};
+ghost use Rattle.fs_path.specs.Words.{words_of, is_blank, quoted_text, with_quotes_if_needed, spelling, is_plain, is_bare, is_bare_text, hex_value, hex_pair, escaped, first_item, items_of, is_apart, begun_word, first_word, past_spaces, hex_digit, item_text};
 
 use crate::{ByteList, List, NoMemory};
 use std::alloc::Global;
@@ -235,4 +235,29 @@ pub fn put_quoted(text: &mut Vec<u8>, bytes: &[u8]) -> Result<(), NoMemory>
     }
     text.push(b'"')?;
     Ok(())
+}
+
+fn are_bare(bytes: &[u8]) -> bool
+    ensures { result ≡ list_all is_bare bytes.now }
+{
+    bytes.iter().all(|byte| is_bare(*byte))
+}
+
+// Whether bytes can stand as a bare word.
+#[tactic(auto, using(std::proofs::lemmas::Bool::Decides::nat_tests))]
+fn is_bare_text(bytes: &[u8]) -> bool
+    ensures { result ≡ is_bare_text bytes.now }
+{
+    !bytes.is_empty() && are_bare(bytes)
+}
+
+/// Writes bytes as a word, between quotes exactly where they can't stand bare.
+pub fn put_word(text: &mut Vec<u8>, bytes: &[u8]) -> Result<(), NoMemory>
+    ensures { OnOk result (text.new.items ≡ text.old.items ++ spelling (with_quotes_if_needed bytes.now)) }
+{
+    if is_bare_text(bytes) {
+        text.extend_from_slice(bytes)
+    } else {
+        put_quoted(text, bytes)
+    }
 }

@@ -1,26 +1,70 @@
 -- The rows of the calls: each for a Low process in the state and in its part, and each for what its changes meet.
-use Rattle.std.specs.Prelude.{◌≡◌, Bool, true, false, List, [], Some, None, refl}
-use Rattle.std.proofs.Common.{sym, subst}
-use Rattle.std.specs.FinMap as map
+use Rattle.std.specs.Prelude.{◌≡◌, ℕ, ◌≤◌, length, Bool, true, false, not, List, [], ◌∷◌, Some, None, refl}
+use Rattle.std.proofs.Common.{sym, ◌∙◌, ap, subst}
+use Rattle.std.proofs.lemmas.Bool.{and_parts, true≢false}
+use Rattle.fin_maps.specs.FinMap as map
+use Rattle.fin_maps.specs.FinSet.{contains-is_subset, contains-intersection}
+use Rattle.cap_bits.specs.Cap.{cap_cmp_total}
+use Rattle.cap_bits.specs.declared.cap.Cap.TheVariants as cap
+use Rattle.cap_bits.specs.CapSet.{CapSet, is_within, meet_of}
+use Rattle.cap_bits.specs.declared.state.CapState.{CapState}
 use Rattle.fs_path.specs.Path.{PathValue}
-use Rattle.lab_lattice.specs.Label.{Label}
+use Rattle.lab_lattice.specs.Label.{Label, dominates}
+use Rattle.kern_model.specs.declared.numbers.Ids.{Ids}
+use Rattle.kern_model.specs.declared.numbers.Oid.{Oid}
 use Rattle.kern_model.specs.declared.numbers.Pid.{Pid}
-use Rattle.kern_model.specs.declared.objects.Process.{Process}
-use Rattle.kern_model.specs.declared.checks.Place.TheVariants.{First}
+use Rattle.kern_model.specs.declared.checks.CheckName.TheVariants as check
+use Rattle.kern_model.specs.declared.checks.Place.{Place}
+use Rattle.kern_model.specs.declared.checks.Place.TheVariants.{First, Handle}
+use Rattle.kern_model.specs.declared.checks.Want.TheVariants as want
+use Rattle.kern_model.specs.declared.calls.Answer.TheVariants as answer
 use Rattle.kern_model.specs.declared.calls.Call.{Call}
 use Rattle.kern_model.specs.declared.calls.Call.TheVariants as call
-use Rattle.kern_model.specs.declared.calls.Answer.TheVariants as answer
+use Rattle.kern_model.specs.declared.calls.Errno.TheVariants as errno
+use Rattle.kern_model.specs.declared.objects.Object.{Object}
 use Rattle.kern_model.specs.declared.records.Rec.{Rec}
-use Rattle.kern_model.specs.State.{State, Change, changed_by, object_at}
-use Rattle.kern_model.specs.Row.{Row, Give}
-use Rattle.kern_model.specs.Walk.{last_place}
-use Rattle.kern_model.specs.Table.{row, mac_get_file}
+use Rattle.kern_model.specs.declared.records.Rec.TheVariants as rec
+use Rattle.kern_model.specs.Arguments.{is_call}
+use Rattle.kern_model.specs.AttrRows.{on_path, behind}
+use Rattle.kern_model.specs.Descriptors.{opened}
+use Rattle.kern_model.specs.FileRows.{or_not_open}
+use Rattle.kern_model.specs.Exec.{exec_caps, exec_ids}
+use Rattle.kern_model.specs.ProcessRows.{exec_row, cap_set_proc_row}
+use Rattle.kern_model.specs.Kinds.{is_dir, is_file, is_permission}
+use Rattle.kern_model.specs.Rules.{same_label, mode_allows, mac_read, mac_subject, cap_grow}
+use Rattle.kern_model.specs.Row.{Row, Need, Refuse, Give}
+use Rattle.kern_model.specs.State.{State, Process, Change, SetProcess, changed_by, object_at}
 use Rattle.kern_model.specs.Step.{asker}
+use Rattle.kern_model.specs.Table.{row}
+use Rattle.kern_model.specs.Walk.{last_place}
 use Rattle.kern_model.specs.Isolation.{low, crosses, Kept}
-use Rattle.kern_model.specs.Valid.{IsValid}
-use Rattle.iso_laws.proofs.Part.{by_number, part_changes}
-use Rattle.iso_laws.proofs.Rows.{Alike, Ends, alike_give, ends_need, ends_give}
-use Rattle.iso_laws.proofs.Sight.{alike_reach, alike_mac_read, ends_reach, object_low}
+use Rattle.kern_model.specs.Valid.{IsValid, IsDir, IsValidProcess}
+use Rattle.kern_model.proofs.MapLemmas.{some_same}
+use Rattle.iso_laws.specs.LawCalls.{has_laws}
+use Rattle.iso_laws.proofs.Part.{by_number, part_changes, part_of_low, part_of_high}
+use Rattle.iso_laws.proofs.Rows.{Alike, Ends, Passes, Gives, gives_need_if, gives_open, alike_itself, alike_open, ends_given, ends_need, ends_refuse, ends_give, ends_need_if}
+use Rattle.iso_laws.proofs.Sight.{of_object, opened_low, behind_low, same_side, alike_reach, alike_mac_read, ends_reach, object_low, dir_there, not_false, met_rule, new_side, read_low}
+use Rattle.iso_laws.proofs.Changes.{KeptProcess, kept_of, kept_process, valid_process}
+
+-- ---- what calls on a path do with the object that they read there
+abbrev label_told : Object → Row
+label_told o = Give [] (answer.Mark o.label) None
+
+abbrev caps_told : Object → Row
+caps_told o = Refuse errno.EINVAL (not (is_file o.kind)) (Give [] (answer.Caps o.attr.caps) None)
+
+abbrev stood_in : Pid → Process → Oid → Place → Object → Row
+stood_in who p id place o =
+    Refuse errno.ENOTDIR (not (is_dir o.kind))
+    (Need (of_object check.DacSearch (mode_allows o.attr p.ids want.Execute) id place o)
+    (Give (SetProcess who (record p { cwd = id }) ∷ []) answer.Nothing None))
+
+abbrev taken_on : CapSet → Pid → Process → Oid → Place → Object → Row
+taken_on bound who p id place o =
+    Need (of_object check.ExecKind (is_file o.kind) id place o)
+    (Need (of_object check.DacExecute (mode_allows o.attr p.ids want.Execute) id place o)
+    (Give (SetProcess who (record p { ids = exec_ids p.ids o.attr; caps = exec_caps p.caps o.attr.caps bound }) ∷ []) answer.Nothing
+    (Some (rec.Exec who id o.attr.caps (exec_caps p.caps o.attr.caps bound)))))
 
 -- ---- a Low process
 module _ (l : Label) (s : State) (kept : Kept l s) (valid : IsValid s) (who : Pid) (p : Process) (is : map.get s.procs who ≡ Some p) (is_low : low l p.label ≡ true) where
@@ -30,35 +74,224 @@ module _ (l : Label) (s : State) (kept : Kept l s) (valid : IsValid s) (who : Pi
   abbrev part_s : State
   part_s = by_number l s
 
-  low_mac_get_file : (path : PathValue) → Same (mac_get_file s p path) (mac_get_file part_s p path)
-  low_mac_get_file path = alike_reach l s kept valid who p is_low is (λ n. First n) path _ _ (λ id there.
-      alike_mac_read l s kept valid who p is_low id there (last_place (λ n. First n) path) (Give [] (answer.Mark (object_at s id).label) None) (λ d. Give [] (answer.Mark (object_at part_s d).label) None)
-      (λ h. subst (λ o. Same (Give [] (answer.Mark (object_at s id).label) None) (Give [] (answer.Mark o.label) None)) (sym (object_low l s id h))
-      (alike_give (crosses l) l s.top (asker who p) [] [] (answer.Mark (object_at s id).label) None refl)))
+  -- its part sees that the caller is set
+  seen_self : (q : Process) → part_changes l s.top (SetProcess who q ∷ []) ≡ SetProcess who q ∷ []
+  seen_self q = part_of_low l s.top (SetProcess who q ∷ []) (kept.procs who p is ∙ is_low, tt)
+
+  -- a row that asks for nothing but the caller, which it tells or sets
+  low_itself : (r : Row) → Gives (λ cs own. part_changes l s.top cs ≡ cs) r → Same r r
+  low_itself r h = alike_itself (crosses l) l s.top (asker who p) r h
+
+  -- a row that goes by a Low object alone
+  low_by : (id : Oid) → low l id.label ≡ true → (r : Object → Row) → Gives (λ cs own. part_changes l s.top cs ≡ cs) (r (object_at s id)) → Same (r (object_at s id)) (r (object_at part_s id))
+  low_by id h r gives = subst (λ o. Same (r (object_at s id)) (r o)) (sym (object_low l s id h)) (low_itself (r (object_at s id)) gives)
+
+  -- the row of a call on what a path leads to, which reads it
+  low_read : (path : PathValue) (r r' : Oid → Place → Object → Row) → ((id : Oid) (place : Place) → low l id.label ≡ true → Same (r id place (object_at s id)) (r' id place (object_at part_s id)))
+      → Same (on_path s p path (λ id place. Need (mac_read s p id place) (r id place (object_at s id)))) (on_path part_s p path (λ id place. Need (mac_read part_s p id place) (r' id place (object_at part_s id))))
+  low_read path r r' h =
+      let place : Place = last_place (λ n. First n) path in
+      alike_reach l s kept valid who p is_low is (λ n. First n) path _ _
+      (λ id there. alike_mac_read l s kept valid who p is_low id there place (r id place (object_at s id)) (λ d. r' d place (object_at part_s d)) (h id place))
+
+  -- where it goes by the object that was read
+  low_read_by : (path : PathValue) (r : Oid → Place → Object → Row) → ((id : Oid) (place : Place) (o : Object) → Gives (λ cs own. part_changes l s.top cs ≡ cs) (r id place o))
+      → Same (on_path s p path (λ id place. Need (mac_read s p id place) (r id place (object_at s id)))) (on_path part_s p path (λ id place. Need (mac_read part_s p id place) (r id place (object_at part_s id))))
+  low_read_by path r gives = low_read path r r (λ id place h. low_by id h (r id place) (gives id place (object_at s id)))
+
+  -- the row of a call on what stands behind a descriptor, which goes by the object that it reads there
+  low_behind_by : (fd : ℕ) (r : Object → Row) → ((o : Object) → Gives (λ cs own. part_changes l s.top cs ≡ cs) (r o))
+      → Same (behind s p fd (λ id place. Need (mac_read s p id place) (r (object_at s id)))) (behind part_s p fd (λ id place. Need (mac_read part_s p id place) (r (object_at part_s id))))
+  low_behind_by fd r gives =
+      subst (λ w. Same (behind s p fd (λ id place. Need (mac_read s p id place) (r (object_at s id)))) (or_not_open w (λ f. Need (mac_read part_s p f.description.object Handle) (r (object_at part_s f.description.object)))))
+      (sym (opened_low l s kept who p is is_low fd))
+      (alike_open (crosses l) l s.top (asker who p) (opened s p fd) _ _ (λ f e.
+      low_by f.description.object (behind_low l s kept who p is is_low fd f e) (λ o. Need (of_object check.MacRead (dominates p.label o.label) f.description.object Handle o) (r o)) (gives (object_at s f.description.object))))
+
+  same_bound : part_s.bound ≡ s.bound
+  unfolding by_number
+  same_bound = refl
+
+  low_exec : (path : PathValue) → Same (exec_row s who p path) (exec_row part_s who p path)
+  low_exec path = low_read path (taken_on s.bound who p) (taken_on part_s.bound who p) (λ id place h.
+      subst (λ bound. Same (taken_on s.bound who p id place (object_at s id)) (taken_on bound who p id place (object_at part_s id))) (sym same_bound)
+      (low_by id h (taken_on s.bound who p id place) (seen_self _)))
 
   -- each row of a Low process ends in the part as it ends in the state
-  pub low_row : (c : Call) → Same (row s who p c) (row part_s who p c)
-  low_row (call.MacGetFile path) = low_mac_get_file path
+  pub low_row : (c : Call) → has_laws c ≡ true → Same (row s who p c) (row part_s who p c)
+  low_row (call.Chdir path) _ = low_read_by path (stood_in who p) (λ id place o. seen_self _)
+  low_row (call.Umask mode) _ = low_itself _ (seen_self _)
+  low_row (call.CapGetFile path) _ = low_read_by path (λ id place. caps_told) (λ id place o. refl)
+  low_row (call.MacGetFile path) _ = low_read_by path (λ id place. label_told) (λ id place o. refl)
+  low_row (call.Exec path) _ = low_exec path
+  low_row (call.CapGetFd fd) _ = low_behind_by fd caps_told (λ o. refl)
+  low_row (call.MacGetFd fd) _ = low_behind_by fd label_told (λ o. refl)
+  low_row call.Getpid _ = low_itself _ refl
+  low_row call.Getppid _ = low_itself _ refl
+  low_row call.Getids _ = low_itself _ refl
+  low_row (call.Setuid user) _ = low_itself _ (seen_self _, seen_self _)
+  low_row (call.Setgid group) _ = low_itself _ (seen_self _, seen_self _)
+  low_row call.CapGetProc _ = low_itself _ refl
+  low_row (call.CapSetProc caps) _ = low_itself _ (seen_self _)
+  low_row call.MacGetProc _ = low_itself _ refl
+  low_row (call.MacSetProc new) _ = low_itself _ (gives_need_if _ _ _ _ (seen_self _))
+  low_row (call.AudWrite bytes) _ = low_itself _ refl
+  low_row (call.AudSwitch on) _ = low_itself _ (seen_self _)
+  low_row c none = absurd (true≢false (sym none))
 
 -- ---- any process
--- what each row's changes meet, from what they meet at each kind of effect
-pub record Cases (bad : Rec → Bool) (s : State) (who : Pid) (p : Process) (P : List Change → Type 0) : Type 0 where
+-- what each row's changes meet, from what they meet at each kind of effect; where the arguments fit, what they set is as it has to be
+pub record Cases (bad : Rec → Bool) (s : State) (who : Pid) (p : Process) (fit : Type 0) (P : List Change → Type 0) : Type 0 where
   pub none : P []
+  -- other users, capability sets, umask or audit switch
+  pub self : (ids : Ids) (caps : CapState) (umask : ℕ) (audited : Bool) → ids.groups ≡ p.ids.groups → is_within caps.e caps.p ≡ true → (fit → is_permission umask ≡ true)
+      → P (SetProcess who (record p { ids = ids; caps = caps; umask = umask; audited = audited }) ∷ [])
+  -- another label, which the caller was let have
+  pub label : (new : Label) → (not (same_label new p.label) ≡ true → Passes bad (asker who p) (mac_subject who p new)) → (fit → dominates s.top new ≡ true) → P (SetProcess who (record p { label = new }) ∷ [])
+  -- another current directory, which the caller read
+  pub cwd : (id : Oid) (place : Place) → Passes bad (asker who p) (mac_read s p id place) → IsDir s.objects id → P (SetProcess who (record p { cwd = id }) ∷ [])
 
-module _ (bad : Rec → Bool) (s : State) (valid : IsValid s) (who : Pid) (p : Process) (is : map.get s.procs who ≡ Some p) (P : List Change → Type 0) (cases : Cases bad s who p P) where
+within_meet : (a b : CapSet) → is_within (meet_of a b) b ≡ true
+within_meet a b = contains-is_subset cap_cmp_total (meet_of a b) b (λ q h. (and_parts _ _ (sym (contains-intersection cap_cmp_total a b q) ∙ h)).1)
+
+module _ (bad : Rec → Bool) (s : State) (valid : IsValid s) (who : Pid) (p : Process) (is : map.get s.procs who ≡ Some p) (fit : Type 0) (P : List Change → Type 0) (cases : Cases bad s who p fit P) where
+  abbrev Meets : Row → Type 0
+  Meets r = Ends bad (asker who p) P r
+
+  own : IsValidProcess s who p
+  own = valid.procs who p is
+
+  -- other users and groups
+  set_ids : (ids : Ids) → ids.groups ≡ p.ids.groups → P (SetProcess who (record p { ids = ids }) ∷ [])
+  set_ids ids groups = cases.self ids p.caps p.umask p.audited groups own.within (λ _. own.umask)
+
+  -- a row that asks nothing of its checks
+  meets_given : (r : Row) → Gives (λ cs own. P cs) r → Meets r
+  meets_given r h = ends_given bad (asker who p) P cases.none r h
+
+  -- the row of a call on what a path leads to, which reads it
+  meets_read : (path : PathValue) (r : Oid → Place → Row) → ((id : Oid) (place : Place) → Passes bad (asker who p) (mac_read s p id place) → Meets (r id place)) → Meets (on_path s p path (λ id place. Need (mac_read s p id place) (r id place)))
+  meets_read path r h =
+      let place : Place = last_place (λ n. First n) path in
+      ends_reach bad s valid who p P cases.none is (λ n. First n) path _ (λ id there. ends_need bad (asker who p) P cases.none (mac_read s p id place) (r id place) (h id place))
+
+  meets_stood_in : (id : Oid) (place : Place) → Passes bad (asker who p) (mac_read s p id place) → Meets (stood_in who p id place (object_at s id))
+  meets_stood_in id place read =
+      ends_refuse bad (asker who p) P cases.none _ _ _ (λ dir. meets_given _ (cases.cwd id place read (dir_there s id (not_false _ dir))))
+
+  meets_taken_on : (id : Oid) (place : Place) → Meets (taken_on s.bound who p id place (object_at s id))
+  meets_taken_on id place = meets_given (taken_on s.bound who p id place (object_at s id)) (cases.self _ _ p.umask p.audited refl (within_meet _ _) (λ _. own.umask))
+
+  -- what the caller may become has no effective capability that is not permitted
+  meets_cap_set_proc : (caps : CapState) → Meets (cap_set_proc_row s who p caps)
+  meets_cap_set_proc caps =
+      ends_need bad (asker who p) P cases.none _ _ (λ passes.
+      let grow = met_rule bad (asker who p) (cap_grow who p caps) refl passes in
+      ends_give bad (asker who p) P cases.none _ _ _ (cases.self p.ids caps p.umask p.audited refl (and_parts _ _ (and_parts _ _ grow).0).1 (λ _. own.umask)))
+
   -- the changes of each row meet it
-  pub row_meets : (c : Call) → Ends bad (asker who p) P (row s who p c)
-  row_meets (call.MacGetFile path) = ends_reach bad s valid who p P cases.none is (λ n. First n) path _ (λ id there.
-      ends_need bad (asker who p) P cases.none _ _ (λ _. ends_give bad (asker who p) P cases.none [] _ _ cases.none))
+  pub row_meets : (c : Call) → (fit → is_call s.top c ≡ true) → has_laws c ≡ true → Meets (row s who p c)
+  unfolding is_call
+  row_meets (call.Chdir path) args _ = meets_read path (λ id place. stood_in who p id place (object_at s id)) meets_stood_in
+  row_meets (call.Umask mode) args _ = meets_given _ (cases.self p.ids p.caps mode p.audited refl own.within args)
+  row_meets (call.CapGetFile path) args _ = meets_read path (λ id place. caps_told (object_at s id)) (λ id place _. meets_given _ cases.none)
+  row_meets (call.MacGetFile path) args _ = meets_read path (λ id place. label_told (object_at s id)) (λ id place _. meets_given _ cases.none)
+  row_meets (call.Exec path) args _ = meets_read path (λ id place. taken_on s.bound who p id place (object_at s id)) (λ id place _. meets_taken_on id place)
+  row_meets (call.CapGetFd fd) args _ = meets_given _ (gives_open (λ cs own. P cs) (opened s p fd) _ (λ f. cases.none))
+  row_meets (call.MacGetFd fd) args _ = meets_given _ (gives_open (λ cs own. P cs) (opened s p fd) _ (λ f. cases.none))
+  row_meets call.Getpid args _ = meets_given _ cases.none
+  row_meets call.Getppid args _ = meets_given _ cases.none
+  row_meets call.Getids args _ = meets_given _ cases.none
+  row_meets (call.Setuid user) args _ = meets_given _ (set_ids _ refl, set_ids _ refl)
+  row_meets (call.Setgid group) args _ = meets_given _ (set_ids _ refl, set_ids _ refl)
+  row_meets call.CapGetProc args _ = meets_given _ cases.none
+  row_meets (call.CapSetProc caps) args _ = meets_cap_set_proc caps
+  row_meets call.MacGetProc args _ = meets_given _ cases.none
+  row_meets (call.MacSetProc new) args _ = ends_need_if bad (asker who p) P cases.none _ _ _ (λ passes. ends_give bad (asker who p) P cases.none _ _ _ (cases.label new passes args))
+  row_meets (call.AudWrite bytes) args _ = meets_given _ cases.none
+  row_meets (call.AudSwitch on) args _ = meets_given _ (cases.self p.ids p.caps p.umask on refl own.within (λ _. own.umask))
+  row_meets c args none = absurd (true≢false (sym none))
 
 -- a process that is not Low changes nothing in the part
-pub hidden_cases : (l : Label) (s : State) (who : Pid) (p : Process) → low l who.label ≡ false → low l p.label ≡ false → Cases (crosses l) s who p (λ cs. part_changes l s.top cs ≡ [])
-hidden_cases l s who p who_high high = record { none = refl }
+pub hidden_cases : (l : Label) (s : State) (who : Pid) (p : Process) (fit : Type 0) → low l who.label ≡ false → Cases (crosses l) s who p fit (λ cs. part_changes l s.top cs ≡ [])
+hidden_cases l s who p fit high =
+    let unseen : (q : Process) → part_changes l s.top (SetProcess who q ∷ []) ≡ [] = λ q. part_of_high l s.top (SetProcess who q ∷ []) (high, tt) in
+    record {
+      none = refl;
+      self = λ ids caps umask audited groups within fits. unseen _;
+      label = λ new passes fits. unseen _;
+      cwd = λ id place read dir. unseen _;
+    }
+
+-- a label that the caller was let have is on the side of its own
+given_side : (l : Label) (who : Pid) (p : Process) (new : Label) → (not (same_label new p.label) ≡ true → Passes (crosses l) (asker who p) (mac_subject who p new)) → low l p.label ≡ low l new
+given_side l who p new passes =
+    elim (same_label new p.label) as (λ b. same_label new p.label ≡ b → low l p.label ≡ low l new) [
+      | true ↦ λ same. sym (same_side l new p.label same)
+      | false ↦ λ other. new_side l (asker who p) (mac_subject who p new) cap.MacRelabelSubj new refl refl refl refl (passes (ap not other))
+    ] refl
 
 -- what is kept stays kept
-pub kept_cases : (l : Label) (s : State) → Kept l s → (who : Pid) (p : Process) → map.get s.procs who ≡ Some p → Cases (crosses l) s who p (λ cs. Kept l (changed_by s cs))
-kept_cases l s kept who p is = record { none = kept }
+pub kept_cases : (l : Label) (s : State) → Kept l s → (who : Pid) (p : Process) (fit : Type 0) → map.get s.procs who ≡ Some p → Cases (crosses l) s who p fit (λ cs. Kept l (changed_by s cs))
+kept_cases l s kept who p fit is =
+    let own : KeptProcess l who p = kept_of l s kept who p is in
+    record {
+      none = kept;
+      self = λ ids caps umask audited groups within fits. kept_process l s kept who _ (record { label = own.label; parent = own.parent; ended = own.ended; fds = own.fds; cwd = own.cwd });
+      label = λ new passes fits.
+          let side = given_side l who p new passes in
+          kept_process l s kept who _ (record { label = own.label ∙ side; parent = own.parent; ended = own.ended; fds = own.fds; cwd = λ is_low. own.cwd (side ∙ is_low) });
+      cwd = λ id place read dir.
+          kept_process l s kept who _ (record {
+            label = own.label;
+            parent = own.parent;
+            ended = own.ended;
+            fds = own.fds;
+            cwd = λ is_low. read_low l s kept who p is_low id (record { value = dir.object; is = dir.is }) place read;
+          });
+    }
 
 -- a valid state stays valid, whatever crosses
-pub valid_cases : (bad : Rec → Bool) (s : State) → IsValid s → (who : Pid) (p : Process) → map.get s.procs who ≡ Some p → Cases bad s who p (λ cs. IsValid (changed_by s cs))
-valid_cases bad s valid who p is = record { none = valid }
+pub valid_cases : (bad : Rec → Bool) (s : State) → IsValid s → (who : Pid) (p : Process) → map.get s.procs who ≡ Some p → Cases bad s who p (Unit {0}) (λ cs. IsValid (changed_by s cs))
+valid_cases bad s valid who p is =
+    let own : IsValidProcess s who p = valid.procs who p is in
+    let fds : (old : Process) → map.get s.procs who ≡ Some old → p.fds ≡ old.fds = λ old e. ap (λ (x : Process). x.fds) (some_same p old (sym is ∙ e)) in
+    record {
+      none = valid;
+      self = λ ids caps umask audited groups within fits.
+          valid_process s valid who _ fds (record {
+            below = own.below;
+            drawn_already = own.drawn_already;
+            within = within;
+            umask = fits tt;
+            few_groups = subst (λ gs. length gs ≤ 16) (sym groups) own.few_groups;
+            cwd = own.cwd;
+            parent = own.parent;
+            ended = own.ended;
+            fds = own.fds;
+          });
+      label = λ new passes fits.
+          valid_process s valid who _ fds (record {
+            below = fits tt;
+            drawn_already = own.drawn_already;
+            within = own.within;
+            umask = own.umask;
+            few_groups = own.few_groups;
+            cwd = own.cwd;
+            parent = own.parent;
+            ended = own.ended;
+            fds = own.fds;
+          });
+      cwd = λ id place read dir.
+          valid_process s valid who _ fds (record {
+            below = own.below;
+            drawn_already = own.drawn_already;
+            within = own.within;
+            umask = own.umask;
+            few_groups = own.few_groups;
+            cwd = dir;
+            parent = own.parent;
+            ended = own.ended;
+            fds = own.fds;
+          });
+    }

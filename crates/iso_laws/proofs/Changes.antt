@@ -1,180 +1,195 @@
 -- What each kind of single change keeps.
-use Rattle.std.specs.Prelude.{◌≡◌, ℕ, ◌+◌, ◌≤◌, true, false, Some, None, refl, cond}
-use Rattle.std.proofs.Common.{◌∙◌, sym, ap, subst, arith}
+use Rattle.std.specs.Prelude.{◌≡◌, ℕ, true, false, List, [], ◌∷◌, Some, refl, cond}
+use Rattle.std.specs.List.{AllByRecursion}
+use Rattle.std.specs.Option.{option_and_then}
+use Rattle.std.specs.declared.cmp.Ordering.{Ordering}
 use Rattle.std.specs.Ordering.{eq_by_cmp}
-use Rattle.std.specs.FinMap as map
-use Rattle.std.specs.FinMap.{FinMap, get-insert}
-use Rattle.cap_bits.specs.CapSet.{is_within}
-use Rattle.cap_bits.specs.State.{no_flags}
-use Rattle.lab_lattice.specs.Label.{Label, dominates, label_cmp, label_cmp_total, label_cmp_exact}
+use Rattle.std.specs.Cmp.{IsTotalOrder}
+use Rattle.std.proofs.Common.{◌∙◌, sym, ap, inl, inr}
+use Rattle.fin_maps.specs.FinMap as map
+use Rattle.fin_maps.specs.FinMap.{FinMap, get-insert}
+use Rattle.fs_path.specs.Name.{Name}
+use Rattle.lab_lattice.specs.Label.{Label, label_cmp}
+use Rattle.kern_model.specs.declared.calls.Ending.{Ending}
 use Rattle.kern_model.specs.declared.numbers.Pid.{Pid}
 use Rattle.kern_model.specs.declared.numbers.Oid.{Oid}
-use Rattle.kern_model.specs.declared.objects.Kind.TheVariants as kind
+use Rattle.kern_model.specs.declared.numbers.Did.{Did}
 use Rattle.kern_model.specs.declared.objects.Object.{Object}
-use Rattle.kern_model.specs.declared.objects.Process.{Process}
-use Rattle.kern_model.specs.Keys.{Spot, oid_cmp, oid_cmp_total, oid_cmp_exact, pid_cmp_total, pid_cmp_exact, spot_cmp_total, spot_cmp_exact}
-use Rattle.kern_model.specs.State.{State, SetObject, SetEntry, SetProcess, DrawObject, DrawProcess, changed, drawn, root}
-use Rattle.kern_model.specs.Rules.{is_file}
-use Rattle.kern_model.specs.Boot.{next_object}
+use Rattle.kern_model.specs.Keys.{Spot, oid_cmp_total, oid_cmp_exact, pid_cmp, pid_cmp_total, pid_cmp_exact, spot_cmp}
+use Rattle.kern_model.specs.Kinds.{is_stream}
+use Rattle.kern_model.specs.State.{State, Process, Description, SetObject, SetProcess, changed, look, root}
 use Rattle.kern_model.specs.Isolation.{low, Kept}
-use Rattle.kern_model.specs.Valid.{IsValid, IsThere, IsDrawn}
-use Rattle.kern_model.proofs.MapLemmas.{each-insert, get-insert_same, get-insert_kept, get-insert_old, get_or-found, some_same}
-use Rattle.kern_model.proofs.TableLemmas.{each_set_at}
+use Rattle.kern_model.specs.Valid.{IsValid, IsThere, IsReached, IsHeld, IsValidObject, IsValidEntry, IsValidEnd, IsValidProcess, IsValidDescription, leads}
+use Rattle.kern_model.proofs.MapLemmas.{each-insert, same_key}
 
 -- ---- numbers and labels stay on one side
+-- what is kept of one process
+pub record KeptProcess (l : Label) (who : Pid) (p : Process) : Type 0 where
+  pub label : low l who.label ≡ low l p.label
+  pub parent : (q : Pid) → p.parent ≡ Some q → low l q.label ≡ low l who.label
+  pub ended : AllByRecursion (λ (e : Pid × Ending). low l e.0.label ≡ low l who.label) p.ended
+  pub fds : (fd : ℕ) (did : Did) → map.get p.fds fd ≡ Some did → low l did.label ≡ low l who.label
+  pub cwd : low l p.label ≡ true → low l p.cwd.label ≡ true
+
 module _ (l : Label) (s : State) (kept : Kept l s) where
-  pub kept_object : (id : Oid) (o : Object) → low l id.label ≡ low l o.label → Kept l (changed s (SetObject id o))
-  kept_object id o side = record {
-    objects = each-insert oid_cmp_total oid_cmp_exact (λ (q : Oid) (x : Object). low l q.label ≡ low l x.label) s.objects kept.objects id o side;
-    procs = kept.procs;
-    cwd = kept.cwd;
+  pub kept_of : (who : Pid) (p : Process) → map.get s.procs who ≡ Some p → KeptProcess l who p
+  kept_of who p is = record {
+    label = kept.procs who p is;
+    parent = λ q e. kept.parents who q p is e;
+    ended = kept.ended who p is;
+    fds = λ fd did e. kept.fds who p fd did is e;
+    cwd = kept.cwd who p is;
   }
 
-  pub kept_entry : (spot : Spot) (id : Oid) → Kept l (changed s (SetEntry spot id))
-  kept_entry spot id = record { objects = kept.objects; procs = kept.procs; cwd = kept.cwd }
-
-  pub kept_process : (who : Pid) (p : Process) → low l who.label ≡ low l p.label → (low l p.label ≡ true → low l p.cwd.label ≡ true) → Kept l (changed s (SetProcess who p))
-  kept_process who p side cwd = record {
-    objects = kept.objects;
-    procs = each-insert pid_cmp_total pid_cmp_exact (λ (q : Pid) (x : Process). low l q.label ≡ low l x.label) s.procs kept.procs who p side;
-    cwd = each-insert pid_cmp_total pid_cmp_exact (λ (q : Pid) (x : Process). low l x.label ≡ true → low l x.cwd.label ≡ true) s.procs kept.cwd who p cwd;
-  }
-
-  pub kept_draw_object : (label : Label) (n : ℕ) → Kept l (changed s (DrawObject label n))
-  kept_draw_object label n = record { objects = kept.objects; procs = kept.procs; cwd = kept.cwd }
-
-  pub kept_draw_process : (label : Label) (n : ℕ) → Kept l (changed s (DrawProcess label n))
-  kept_draw_process label n = record { objects = kept.objects; procs = kept.procs; cwd = kept.cwd }
-
--- ---- what is there stays there
-pub there_object : (m : FinMap oid_cmp Object) (id : Oid) (o : Object) (q : Oid) → IsThere m q → IsThere (map.insert m id o) q
-there_object m id o q there =
-    elim (eq_by_cmp oid_cmp q id) as (λ b. eq_by_cmp oid_cmp q id ≡ b → IsThere (map.insert m id o) q) [
-      | true ↦ λ t. record { object = o; is = get-insert oid_cmp_total m id o q ∙ ap (λ b. cond b (Some o) (map.get m q)) t }
-      | false ↦ λ t. record { object = there.object; is = get-insert oid_cmp_total m id o q ∙ ap (λ b. cond b (Some o) (map.get m q)) t ∙ there.is }
-    ] refl
-
--- ---- numbers
--- a number that was drawn stays drawn
-pub still_drawn : (numbers : FinMap label_cmp ℕ) (label : Label) (last : ℕ) → drawn numbers label ≤ last → (l : Label) (n : ℕ) → IsDrawn n (drawn numbers l) → IsDrawn n (drawn (map.insert numbers label last) l)
-still_drawn numbers label last up l n h =
-    let more : drawn numbers l ≤ drawn (map.insert numbers label last) l = each_set_at label_cmp_total label_cmp_exact (λ q x. drawn numbers q ≤ x) 0 numbers label last up (λ q. omega arith) l in
-    (h.0, omega (arith, h.1, more))
-
--- and the next one is
-pub next_drawn : (numbers : FinMap label_cmp ℕ) (label : Label) → IsDrawn (drawn numbers label + 1) (drawn (map.insert numbers label (drawn numbers label + 1)) label)
-next_drawn numbers label =
-    let now : drawn (map.insert numbers label (drawn numbers label + 1)) label ≡ drawn numbers label + 1 = get_or-found _ label 0 _ (get-insert_same label_cmp_total numbers label _) in
-    (omega arith, omega (arith, now))
-
--- ---- a valid state stays valid
-module _ (s : State) (valid : IsValid s) where
-  -- the next number of a label is no object's yet
-  pub next_absent : (label : Label) → map.get s.objects (next_object s label) ≡ None
-  next_absent label =
-      elim (map.get s.objects (next_object s label)) as (λ w. map.get s.objects (next_object s label) ≡ w → w ≡ None) [
-        | None ↦ λ _. refl
-        | Some o ↦ λ e. absurd (omega (arith, (valid.objects_drawn (next_object s label) o e).1))
-      ] refl
-
-  -- a new object
-  pub valid_object : (id : Oid) (o : Object) → map.get s.objects id ≡ None → dominates s.top o.label ≡ true → IsDrawn id.n (drawn s.object_numbers id.label) → (is_file o.kind ≡ false → o.attr.caps ≡ no_flags) → IsValid (changed s (SetObject id o))
-  valid_object id o absent below number caps =
-      let old : (q : Oid) (x : Object) → IsThere s.objects q → map.get (map.insert s.objects id o) q ≡ Some x → map.get s.objects q ≡ Some x =
-      λ q x there. get-insert_old oid_cmp_total oid_cmp_exact s.objects id o absent q there.object x there.is in
+  -- a process that is set
+  pub kept_process : (who : Pid) (p : Process) → KeptProcess l who p → Kept l (changed s (SetProcess who p))
+  kept_process who p new =
+      let each : (q : Pid) (x : Process) → map.get (map.insert s.procs who p) q ≡ Some x → KeptProcess l q x = each-insert pid_cmp_total pid_cmp_exact (KeptProcess l) s.procs kept_of who p new in
       record {
-        root_is = record {
-          object = valid.root_is.object;
-          is = get-insert_kept oid_cmp_total oid_cmp_exact s.objects id o absent root valid.root_is.object valid.root_is.is;
-          root_dir = valid.root_is.root_dir;
-          root_label = valid.root_is.root_label;
-        };
-        holder = λ spot q e. there_object s.objects id o spot.0 (valid.holder spot q e);
-        held = λ spot q e. there_object s.objects id o q (valid.held spot q e);
-        cwd = λ who p e. there_object s.objects id o p.cwd (valid.cwd who p e);
-        holder_dir = λ spot q d e f. valid.holder_dir spot q d e (old spot.0 d (valid.holder spot q e) f);
-        order = λ spot q d x e f g. valid.order spot q d x e (old spot.0 d (valid.holder spot q e) f) (old q x (valid.held spot q e) g);
-        root_not_held = valid.root_not_held;
-        objects_below = each-insert oid_cmp_total oid_cmp_exact (λ (q : Oid) (x : Object). dominates s.top x.label ≡ true) s.objects valid.objects_below id o below;
-        procs_below = valid.procs_below;
-        objects_drawn = each-insert oid_cmp_total oid_cmp_exact (λ (q : Oid) (x : Object). IsDrawn q.n (drawn s.object_numbers q.label)) s.objects valid.objects_drawn id o number;
-        procs_drawn = valid.procs_drawn;
-        only_files = each-insert oid_cmp_total oid_cmp_exact (λ (q : Oid) (x : Object). is_file x.kind ≡ false → x.attr.caps ≡ no_flags) s.objects valid.only_files id o caps;
-        within = valid.within;
+        objects = kept.objects;
+        procs = λ q x e. (each q x e).label;
+        parents = λ q parent x e f. (each q x e).parent parent f;
+        ended = λ q x e. (each q x e).ended;
+        fds = λ q x fd did e f. (each q x e).fds fd did f;
+        cwd = λ q x e. (each q x e).cwd;
+        descriptions = kept.descriptions;
+        streams = kept.streams;
       }
 
-  -- an entry in a directory
-  pub valid_entry : (spot : Spot) (id : Oid) (d o : Object) → map.get s.objects spot.0 ≡ Some d → map.get s.objects id ≡ Some o → d.kind ≡ kind.Dir → dominates o.label d.label ≡ true → (id ≡ root → ⊥) → IsValid (changed s (SetEntry spot id))
-  valid_entry spot id d o d_is o_is dir order other = record {
-    root_is = valid.root_is;
-    holder = each-insert spot_cmp_total spot_cmp_exact (λ (at : Spot) (x : Oid). IsThere s.objects at.0) s.entries valid.holder spot id (record { object = d; is = d_is });
-    held = each-insert spot_cmp_total spot_cmp_exact (λ (at : Spot) (x : Oid). IsThere s.objects x) s.entries valid.held spot id (record { object = o; is = o_is });
-    cwd = valid.cwd;
-    holder_dir = λ at q h e f.
-        each-insert spot_cmp_total spot_cmp_exact (λ (at : Spot) (x : Oid). (h : Object) → map.get s.objects at.0 ≡ Some h → h.kind ≡ kind.Dir) s.entries
-        (λ at x e h f. valid.holder_dir at x h e f) spot id
-        (λ h f. subst (λ (x : Object). x.kind ≡ kind.Dir) (some_same d h (sym d_is ∙ f)) dir) at q e h f;
-    order = λ at q h x e f g.
-        each-insert spot_cmp_total spot_cmp_exact (λ (at : Spot) (q : Oid). (h x : Object) → map.get s.objects at.0 ≡ Some h → map.get s.objects q ≡ Some x → dominates x.label h.label ≡ true) s.entries
-        (λ at q e h x f g. valid.order at q h x e f g) spot id
-        (λ h x f g. subst (λ (y : Object). dominates y.label h.label ≡ true) (some_same o x (sym o_is ∙ g)) (subst (λ (y : Object). dominates o.label y.label ≡ true) (some_same d h (sym d_is ∙ f)) order)) at q e h x f g;
-    root_not_held = each-insert spot_cmp_total spot_cmp_exact (λ (at : Spot) (x : Oid). x ≡ root → ⊥) s.entries valid.root_not_held spot id other;
-    objects_below = valid.objects_below;
-    procs_below = valid.procs_below;
-    objects_drawn = valid.objects_drawn;
-    procs_drawn = valid.procs_drawn;
-    only_files = valid.only_files;
-    within = valid.within;
+  -- an object that is set, with its descriptions on its side where it is a pipe or FIFO
+  pub kept_object : (id : Oid) (o : Object) → low l id.label ≡ low l o.label
+      → ((did : Did) (d : Description) → map.get s.descriptions did ≡ Some d → d.object ≡ id → is_stream o.kind ≡ true → low l did.label ≡ low l d.object.label) → Kept l (changed s (SetObject id o))
+  kept_object id o side streams = record {
+    objects = each-insert oid_cmp_total oid_cmp_exact (λ (q : Oid) (x : Object). low l q.label ≡ low l x.label) s.objects kept.objects id o side;
+    procs = kept.procs;
+    parents = kept.parents;
+    ended = kept.ended;
+    fds = kept.fds;
+    cwd = kept.cwd;
+    descriptions = kept.descriptions;
+    streams = λ did d x is at stream.
+        each-insert oid_cmp_total oid_cmp_exact (λ (q : Oid) (x : Object). d.object ≡ q → is_stream x.kind ≡ true → low l did.label ≡ low l d.object.label) s.objects
+        (λ q x at same stream. kept.streams did d x is (ap (map.get s.objects) same ∙ at) stream)
+        id o (λ same stream. streams did d is same stream) d.object x at refl stream;
   }
 
-  pub valid_process : (who : Pid) (p : Process) → IsThere s.objects p.cwd → dominates s.top p.label ≡ true → IsDrawn who.n (drawn s.process_numbers who.label) → is_within p.caps.e p.caps.p ≡ true → IsValid (changed s (SetProcess who p))
-  valid_process who p cwd below number within = record {
-    root_is = valid.root_is;
-    holder = valid.holder;
-    held = valid.held;
-    cwd = each-insert pid_cmp_total pid_cmp_exact (λ (w : Pid) (x : Process). IsThere s.objects x.cwd) s.procs valid.cwd who p cwd;
-    holder_dir = valid.holder_dir;
-    order = valid.order;
-    root_not_held = valid.root_not_held;
-    objects_below = valid.objects_below;
-    procs_below = each-insert pid_cmp_total pid_cmp_exact (λ (w : Pid) (x : Process). dominates s.top x.label ≡ true) s.procs valid.procs_below who p below;
-    objects_drawn = valid.objects_drawn;
-    procs_drawn = each-insert pid_cmp_total pid_cmp_exact (λ (w : Pid) (x : Process). IsDrawn w.n (drawn s.process_numbers w.label)) s.procs valid.procs_drawn who p number;
-    only_files = valid.only_files;
-    within = each-insert pid_cmp_total pid_cmp_exact (λ (w : Pid) (x : Process). is_within x.caps.e x.caps.p ≡ true) s.procs valid.within who p within;
+  -- nothing is asked of entries and of drawn numbers
+  pub kept_beside : (entries : FinMap spot_cmp Oid) (object_numbers process_numbers description_numbers : FinMap label_cmp ℕ)
+      → Kept l (record s { entries = entries; object_numbers = object_numbers; process_numbers = process_numbers; description_numbers = description_numbers })
+  kept_beside entries object_numbers process_numbers description_numbers = record {
+    objects = kept.objects;
+    procs = kept.procs;
+    parents = kept.parents;
+    ended = kept.ended;
+    fds = kept.fds;
+    cwd = kept.cwd;
+    descriptions = kept.descriptions;
+    streams = kept.streams;
   }
 
-  -- numbers are drawn upwards
-  pub valid_draw_object : (label : Label) (n : ℕ) → drawn s.object_numbers label ≤ n → IsValid (changed s (DrawObject label n))
-  valid_draw_object label n up = record {
-    root_is = valid.root_is;
-    holder = valid.holder;
-    held = valid.held;
-    cwd = valid.cwd;
-    holder_dir = valid.holder_dir;
-    order = valid.order;
-    root_not_held = valid.root_not_held;
-    objects_below = valid.objects_below;
-    procs_below = valid.procs_below;
-    objects_drawn = λ id o e. still_drawn s.object_numbers label n up id.label id.n (valid.objects_drawn id o e);
-    procs_drawn = valid.procs_drawn;
+-- ---- what is there stays there
+pub there_still : {K X : Type 0} {R : K → K → Ordering} → IsTotalOrder R → (m : FinMap R X) (k : K) (x : X) (q : K) → IsThere m q → IsThere (map.insert m k x) q
+there_still {R = R} total m k x q there =
+    elim (eq_by_cmp R q k) as (λ b. eq_by_cmp R q k ≡ b → IsThere (map.insert m k x) q) [
+      | true ↦ λ t. record { value = x; is = get-insert total m k x q ∙ ap (λ b. cond b (Some x) (map.get m q)) t }
+      | false ↦ λ t. record { value = there.value; is = get-insert total m k x q ∙ ap (λ b. cond b (Some x) (map.get m q)) t ∙ there.is }
+    ] refl
+
+-- ---- a valid state stays valid where a process is set
+module _ (s : State) (procs : FinMap pid_cmp Process) where
+  abbrev with_procs : State
+  with_procs = record s { procs = procs }
+
+  same_leads : (dir : Oid) (names : List Name) → leads with_procs dir names ≡ leads s dir names
+  same_leads dir [] = refl
+  same_leads dir (name ∷ names) = λ i. option_and_then (λ next. same_leads next names i) (look s dir name)
+
+  same_reached : (id : Oid) → IsReached s id → IsReached with_procs id
+  same_reached id reached = record { names = reached.names; lead = same_leads root reached.names ∙ reached.lead }
+
+  same_object : (id : Oid) (o : Object) → IsValidObject s id o → IsValidObject with_procs id o
+  same_object id o valid = record {
+    below = valid.below;
+    drawn_already = valid.drawn_already;
+    mode = valid.mode;
     only_files = valid.only_files;
-    within = valid.within;
+    dir_bytes = valid.dir_bytes;
+    file_bytes = valid.file_bytes;
+    stream_bytes = valid.stream_bytes;
+    fifo_bytes = valid.fifo_bytes;
+    few_names = valid.few_names;
+    reached = λ dir. elim (valid.reached dir) [ inl r ↦ inl (same_reached id r) | inr gone ↦ inr gone ];
   }
 
-  pub valid_draw_process : (label : Label) (n : ℕ) → drawn s.process_numbers label ≤ n → IsValid (changed s (DrawProcess label n))
-  valid_draw_process label n up = record {
-    root_is = valid.root_is;
-    holder = valid.holder;
-    held = valid.held;
-    cwd = valid.cwd;
-    holder_dir = valid.holder_dir;
+  same_entry : (spot : Spot) (id : Oid) → IsValidEntry s spot id → IsValidEntry with_procs spot id
+  same_entry spot id valid = record {
+    name = valid.name;
+    dir = valid.dir;
+    dir_is = valid.dir_is;
+    is_dir = valid.is_dir;
+    object = valid.object;
+    object_is = valid.object_is;
+    no_root = valid.no_root;
+    no_pipe = valid.no_pipe;
     order = valid.order;
-    root_not_held = valid.root_not_held;
-    objects_below = valid.objects_below;
-    procs_below = valid.procs_below;
-    objects_drawn = valid.objects_drawn;
-    procs_drawn = λ who p e. still_drawn s.process_numbers label n up who.label who.n (valid.procs_drawn who p e);
-    only_files = valid.only_files;
-    within = valid.within;
   }
+
+  same_ended : (es : List (Pid × Ending)) → AllByRecursion (IsValidEnd s) es → AllByRecursion (IsValidEnd with_procs) es
+  same_ended [] h = tt
+  same_ended (e ∷ es) h = (record { below = h.0.below; drawn_already = h.0.drawn_already }, same_ended es h.1)
+
+  same_process : ((q : Pid) → IsThere s.procs q → IsThere procs q) → (who : Pid) (p : Process) → IsValidProcess s who p → IsValidProcess with_procs who p
+  same_process still who p valid = record {
+    below = valid.below;
+    drawn_already = valid.drawn_already;
+    within = valid.within;
+    umask = valid.umask;
+    few_groups = valid.few_groups;
+    cwd = valid.cwd;
+    parent = λ q e. still q (valid.parent q e);
+    ended = same_ended p.ended valid.ended;
+    fds = valid.fds;
+  }
+
+module _ (s : State) (valid : IsValid s) (who : Pid) (q : Process) (fds : (p : Process) → map.get s.procs who ≡ Some p → q.fds ≡ p.fds) where
+  abbrev next_procs : FinMap pid_cmp Process
+  next_procs = map.insert s.procs who q
+
+  still_held : (did : Did) → IsHeld s did → IsHeld (with_procs s next_procs) did
+  still_held did held =
+      elim (eq_by_cmp pid_cmp held.who who) as (λ b. eq_by_cmp pid_cmp held.who who ≡ b → IsHeld (with_procs s next_procs) did) [
+        | true ↦ λ t. record {
+          who = held.who;
+          process = q;
+          fd = held.fd;
+          process_is = get-insert pid_cmp_total s.procs who q held.who ∙ ap (λ b. cond b (Some q) (map.get s.procs held.who)) t;
+          fd_is = ap (λ m. map.get m held.fd) (fds held.process (ap (map.get s.procs) (sym (same_key pid_cmp_exact held.who who t)) ∙ held.process_is)) ∙ held.fd_is;
+        }
+        | false ↦ λ t. record {
+          who = held.who;
+          process = held.process;
+          fd = held.fd;
+          process_is = get-insert pid_cmp_total s.procs who q held.who ∙ ap (λ b. cond b (Some q) (map.get s.procs held.who)) t ∙ held.process_is;
+          fd_is = held.fd_is;
+        }
+      ] refl
+
+  still_described : (did : Did) (d : Description) → IsValidDescription s did d → IsValidDescription (with_procs s next_procs) did d
+  still_described did d valid = record { drawn_already = valid.drawn_already; object = valid.object; object_is = valid.object_is; no_dir = valid.no_dir; held = still_held did valid.held }
+
+  -- a process that is set, with the descriptors that it had if it was there
+  pub valid_process : IsValidProcess s who q → IsValid (changed s (SetProcess who q))
+  valid_process new =
+      let still : (r : Pid) → IsThere s.procs r → IsThere next_procs r = there_still pid_cmp_total s.procs who q in
+      record {
+        root_is = valid.root_is;
+        objects = λ id o e. same_object s next_procs id o (valid.objects id o e);
+        entries = λ spot id e. same_entry s next_procs spot id (valid.entries spot id e);
+        one_entry = valid.one_entry;
+        procs = each-insert pid_cmp_total pid_cmp_exact (IsValidProcess (with_procs s next_procs)) s.procs
+            (λ r x e. same_process s next_procs still r x (valid.procs r x e)) who q (same_process s next_procs still who q new);
+        descriptions = λ did d e. still_described did d (valid.descriptions did d e);
+        object_numbers = valid.object_numbers;
+        process_numbers = valid.process_numbers;
+        description_numbers = valid.description_numbers;
+      }

@@ -1,51 +1,61 @@
 -- Where names lead by the entries, and what was given with them.
-use Rattle.std.specs.Prelude.{◌≡◌, Bool, true, false, List, [], ◌∷◌, ◌++◌, Option, Some, None, refl, cond, unwrap_or}
-use Rattle.std.specs.Option.{option_or}
+use Rattle.std.specs.Prelude.{◌≡◌, true, false, List, [], ◌∷◌, ◌++◌, Option, Some, None, refl, cond, unwrap_or}
+use Rattle.std.specs.Option.{option_and_then, option_or}
 use Rattle.std.specs.Cmp.{unsigned_Decides}
 use Rattle.std.specs.Cmp.Lexicographic.{pointwise_decides}
 use Rattle.std.proofs.Common.{sym, ◌∙◌, ap, subst}
-use Rattle.std.specs.FinMap as map
-use Rattle.std.specs.FinMap.{FinMap}
+use Rattle.std.proofs.lemmas.List.Folds.{find-append}
+use Rattle.fin_maps.specs.FinMap as map
 use Rattle.fs_path.specs.Name.{Name}
 use Rattle.kern_model.specs.declared.numbers.Oid.{Oid}
 use Rattle.kern_model.specs.declared.world.WorldObject.{WorldObject}
-use Rattle.kern_model.specs.Keys.{Spot, spot_cmp, spot_cmp_total, spot_cmp_exact}
-use Rattle.kern_model.specs.State.{State, SetEntry}
+use Rattle.kern_model.specs.Keys.{Spot}
+use Rattle.kern_model.specs.State.{State, SetEntry, look}
 use Rattle.kern_model.specs.Boot.{entry_for}
+use Rattle.kern_model.specs.Valid.{leads}
 use Rattle.kern_model.specs.World.{same_names, parent_names, given}
-use Rattle.kern_model.proofs.MapLemmas.{get-insert_kept, never_some, some_same}
+use Rattle.kern_model.proofs.MapLemmas.{never_some, some_same}
 
 -- ---- walks
--- names lead from a directory to an object
-abbrev pub Leads : FinMap spot_cmp Oid → Oid → List Name → Oid → Type 0
-Leads entries dir [] id = dir ≡ id
-Leads entries dir (name ∷ names) id = (next : Oid) × (map.get entries (dir, name) ≡ Some next) × Leads entries next names id
+leads_step : (s : State) (dir : Oid) (name : Name) (names : List Name) (next : Oid) → look s dir name ≡ Some next → leads s dir (name ∷ names) ≡ leads s next names
+leads_step s dir name names next e = ap (option_and_then (λ (next : Oid). leads s next names)) e
 
--- a new entry keeps where names lead
-pub leads_kept : (entries : FinMap spot_cmp Oid) (spot : Spot) (new : Oid) → map.get entries spot ≡ None → (dir : Oid) (names : List Name) (id : Oid) → Leads entries dir names id → Leads (map.insert entries spot new) dir names id
-leads_kept entries spot new free dir [] id h = h
-leads_kept entries spot new free dir (name ∷ names) id h =
-    (h.0, get-insert_kept spot_cmp_total spot_cmp_exact entries spot new free (dir, name) h.0 h.1, leads_kept entries spot new free h.0 names id h.2)
+-- a state that has the entries of another leads where that does
+pub leads_kept : (s t : State) → ((spot : Spot) (id : Oid) → map.get s.entries spot ≡ Some id → map.get t.entries spot ≡ Some id) → (dir : Oid) (names : List Name) (id : Oid) → leads s dir names ≡ Some id → leads t dir names ≡ Some id
+leads_kept s t keeps dir [] id h = h
+leads_kept s t keeps dir (name ∷ names) id h =
+    elim (look s dir name) as (λ w. look s dir name ≡ w → option_and_then (λ (next : Oid). leads s next names) w ≡ Some id → leads t dir (name ∷ names) ≡ Some id) [
+      | None ↦ λ _ g. absurd (cc)
+      | Some next ↦ λ e g. leads_step t dir name names next (keeps (dir, name) next e) ∙ leads_kept s t keeps next names id g
+    ] refl h
 
 -- one name more
-pub leads_on : (entries : FinMap spot_cmp Oid) (dir : Oid) (names : List Name) (mid : Oid) (name : Name) (id : Oid) → Leads entries dir names mid → map.get entries (mid, name) ≡ Some id → Leads entries dir (names ++ name ∷ []) id
-leads_on entries dir [] mid name id h e = (id, subst (λ (d : Oid). map.get entries (d, name) ≡ Some id) (sym h) e, refl)
-leads_on entries dir (next ∷ names) mid name id h e = (h.0, h.1, leads_on entries h.0 names mid name id h.2 e)
+pub leads_on : (s : State) (dir : Oid) (names : List Name) (mid : Oid) (name : Name) (id : Oid) → leads s dir names ≡ Some mid → look s mid name ≡ Some id → leads s dir (names ++ name ∷ []) ≡ Some id
+leads_on s dir [] mid name id h e = leads_step s dir name [] id (ap (λ (d : Oid). look s d name) (some_same dir mid h) ∙ e)
+leads_on s dir (next ∷ names) mid name id h e =
+    elim (look s dir next) as (λ w. look s dir next ≡ w → option_and_then (λ (at : Oid). leads s at names) w ≡ Some mid → leads s dir (next ∷ (names ++ name ∷ [])) ≡ Some id) [
+      | None ↦ λ _ g. absurd (cc)
+      | Some at ↦ λ f g. leads_step s dir next (names ++ name ∷ []) at f ∙ leads_on s at names mid name id g e
+    ] refl h
 
 -- names have a last one, which stands in the directory that the others lead to
 pub record IsEnd (names : List Name) : Type 0 where
   pub name : Name
   pub whole : names ≡ parent_names names ++ name ∷ []
-  pub entry : (s : State) (dir mid id : Oid) → Leads s.entries dir (parent_names names) mid → entry_for s dir names id ≡ SetEntry (mid, name) id ∷ []
+  pub entry : (s : State) (dir mid id : Oid) → leads s dir (parent_names names) ≡ Some mid → entry_for s dir names id ≡ SetEntry (mid, name) id ∷ []
 
 pub has_end : (name : Name) (names : List Name) → IsEnd (name ∷ names)
-has_end name [] = record { name = name; whole = refl; entry = λ s dir mid id h. ap (λ (d : Oid). SetEntry (d, name) id ∷ []) h }
+has_end name [] = record { name = name; whole = refl; entry = λ s dir mid id h. ap (λ (d : Oid). SetEntry (d, name) id ∷ []) (some_same dir mid h) }
 has_end name (next ∷ names) =
     let rest = has_end next names in
     record {
       name = rest.name;
       whole = ap (λ ns. name ∷ ns) rest.whole;
-      entry = λ s dir mid id h. ap (λ (w : Option Oid). entry_for s (unwrap_or w dir) (next ∷ names) id) h.1 ∙ rest.entry s h.0 mid id h.2;
+      entry = λ s dir mid id h.
+          elim (look s dir name) as (λ w. option_and_then (λ (at : Oid). leads s at (parent_names (next ∷ names))) w ≡ Some mid → entry_for s (unwrap_or w dir) (next ∷ names) id ≡ SetEntry (mid, rest.name) id ∷ []) [
+            | None ↦ λ g. absurd (cc)
+            | Some at ↦ λ g. rest.entry s at mid id g
+          ] h;
     }
 
 -- ---- what was given
@@ -55,13 +65,8 @@ names_same a b = (pointwise_decides (pointwise_decides unsigned_Decides) a b).0
 pub names_itself : (a : List Name) → same_names a a ≡ true
 names_itself a = (pointwise_decides (pointwise_decides unsigned_Decides) a a).1 refl
 
-either : (b : Bool) (o : WorldObject) (x y : Option WorldObject) → cond b (Some o) (option_or x y) ≡ option_or (cond b (Some o) x) y
-either true o x y = refl
-either false o x y = refl
-
 pub given-append : (os ps : List WorldObject) (names : List Name) → given (os ++ ps) names ≡ option_or (given os names) (given ps names)
-given-append [] ps names = refl
-given-append (o ∷ os) ps names = ap (λ w. cond (same_names o.path.names names) (Some o) w) (given-append os ps names) ∙ either (same_names o.path.names names) o (given os names) (given ps names)
+given-append os ps names = find-append (λ (o : WorldObject). same_names o.path.names names) os ps
 
 or_none : (x y : Option WorldObject) → option_or x y ≡ None → x ≡ None
 or_none None y e = refl

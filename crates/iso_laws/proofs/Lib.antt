@@ -7,6 +7,12 @@ pub mod Steps
 pub mod FrontLemmas
 pub mod Runs
 pub mod Leading
+pub mod ValidLemmas
+pub mod ValidBoot
 pub mod Booting
 pub mod Worlds
+pub mod CapsTold
+pub mod RowsTell
 pub mod Lineage
+pub mod Drops
+pub mod Growth

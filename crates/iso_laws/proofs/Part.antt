@@ -1,18 +1,18 @@
 -- The part of a state by numbers alone. Where numbers and labels agree it is the part, and each change goes through it.
 use Rattle.std.specs.Prelude.{◌≡◌, ℕ, Bool, true, false, List, [], ◌∷◌, ◌++◌, Some, None, refl, cond, map}
 use Rattle.std.specs.List.{AllByRecursion}
-use Rattle.std.specs.FinMap as map
+use Rattle.fin_maps.specs.FinMap as map
 use Rattle.std.proofs.Common.{sym, ◌∙◌, ap}
 use Rattle.lab_lattice.specs.Label.{Label, label_cmp_total, label_cmp_exact}
 use Rattle.kern_model.specs.declared.numbers.Pid.{Pid}
 use Rattle.kern_model.specs.declared.numbers.Oid.{Oid}
+use Rattle.kern_model.specs.declared.numbers.Did.{Did}
 use Rattle.kern_model.specs.declared.objects.Object.{Object}
-use Rattle.kern_model.specs.declared.objects.Process.{Process}
-use Rattle.kern_model.specs.Keys.{Spot, oid_cmp_total, oid_cmp_exact, pid_cmp_total, pid_cmp_exact, spot_cmp_total, spot_cmp_exact}
+use Rattle.kern_model.specs.Keys.{Spot, oid_cmp_total, oid_cmp_exact, pid_cmp_total, pid_cmp_exact, did_cmp_total, did_cmp_exact, spot_cmp_total, spot_cmp_exact}
 use Rattle.kern_model.specs.Maps.{select, where_key}
-use Rattle.kern_model.specs.State.{State, Change, SetObject, SetEntry, SetProcess, DrawObject, DrawProcess, changed, changed_by, stub}
+use Rattle.kern_model.specs.State.{State, Process, Description, Change, SetObject, SetEntry, DropEntry, SetProcess, DropProcess, SetDescription, DropDescription, DrawObject, DrawProcess, DrawDescription, changed, changed_by, stub}
 use Rattle.kern_model.specs.Isolation.{low, part, shows, label_in, Kept}
-use Rattle.kern_model.proofs.MapLemmas.{select_agree, select-insert_kept, select-insert_dropped}
+use Rattle.kern_model.proofs.MapLemmas.{select_agree, select-insert_kept, select-insert_dropped, select-remove_kept, select-remove_dropped}
 
 -- what an entry that leads to it leads to in the part
 abbrev pub shown : Label → Label → Oid → Oid
@@ -30,13 +30,18 @@ low_spot l spot = low l spot.0.label
 abbrev pub low_pid : Label → Pid → Bool
 low_pid l who = low l who.label
 
+abbrev pub low_did : Label → Did → Bool
+low_did l did = low l did.label
+
 unfoldable pub by_number : Label → State → State
 by_number l s = record {
   objects = select (where_key (low_oid l) (same {X = Object})) s.objects;
   entries = select (where_key (low_spot l) (shown l s.top)) s.entries;
   procs = select (where_key (low_pid l) (same {X = Process})) s.procs;
+  descriptions = select (where_key (low_did l) (same {X = Description})) s.descriptions;
   object_numbers = select (where_key (low l) (same {X = ℕ})) s.object_numbers;
   process_numbers = select (where_key (low l) (same {X = ℕ})) s.process_numbers;
+  description_numbers = select (where_key (low l) (same {X = ℕ})) s.description_numbers;
   bound = s.bound;
   top = s.top;
 }
@@ -45,9 +50,14 @@ by_number l s = record {
 abbrev pub change_label : Change → Label
 change_label (SetObject id o) = id.label
 change_label (SetEntry spot id) = spot.0.label
+change_label (DropEntry spot) = spot.0.label
 change_label (SetProcess who p) = who.label
+change_label (DropProcess who) = who.label
+change_label (SetDescription did d) = did.label
+change_label (DropDescription did) = did.label
 change_label (DrawObject label n) = label
 change_label (DrawProcess label n) = label
+change_label (DrawDescription label n) = label
 
 -- a change as the part sees it
 abbrev pub shown_change : Label → Label → Change → Change
@@ -85,10 +95,30 @@ by_number-changed l s (SetEntry spot id) =
       | true ↦ λ e. ap (λ m. record (by_number l s) { entries = m }) (select-insert_kept spot_cmp_total spot_cmp_exact (low_spot l) (shown l s.top) s.entries spot id e)
       | false ↦ λ e. ap (λ m. record (by_number l s) { entries = m }) (select-insert_dropped spot_cmp_total spot_cmp_exact (low_spot l) (shown l s.top) s.entries spot id e)
     ] refl
+by_number-changed l s (DropEntry spot) =
+    elim (low l spot.0.label) as (λ b. low l spot.0.label ≡ b → by_number l (changed s (DropEntry spot)) ≡ changed_by (by_number l s) (cond b (DropEntry spot ∷ []) [])) [
+      | true ↦ λ _. ap (λ m. record (by_number l s) { entries = m }) (select-remove_kept spot_cmp_total spot_cmp_exact (low_spot l) (shown l s.top) s.entries spot)
+      | false ↦ λ e. ap (λ m. record (by_number l s) { entries = m }) (select-remove_dropped spot_cmp_total spot_cmp_exact (low_spot l) (shown l s.top) s.entries spot e)
+    ] refl
 by_number-changed l s (SetProcess who p) =
     elim (low l who.label) as (λ b. low l who.label ≡ b → by_number l (changed s (SetProcess who p)) ≡ changed_by (by_number l s) (cond b (SetProcess who p ∷ []) [])) [
       | true ↦ λ e. ap (λ m. record (by_number l s) { procs = m }) (select-insert_kept pid_cmp_total pid_cmp_exact (low_pid l) same s.procs who p e)
       | false ↦ λ e. ap (λ m. record (by_number l s) { procs = m }) (select-insert_dropped pid_cmp_total pid_cmp_exact (low_pid l) same s.procs who p e)
+    ] refl
+by_number-changed l s (DropProcess who) =
+    elim (low l who.label) as (λ b. low l who.label ≡ b → by_number l (changed s (DropProcess who)) ≡ changed_by (by_number l s) (cond b (DropProcess who ∷ []) [])) [
+      | true ↦ λ _. ap (λ m. record (by_number l s) { procs = m }) (select-remove_kept pid_cmp_total pid_cmp_exact (low_pid l) same s.procs who)
+      | false ↦ λ e. ap (λ m. record (by_number l s) { procs = m }) (select-remove_dropped pid_cmp_total pid_cmp_exact (low_pid l) same s.procs who e)
+    ] refl
+by_number-changed l s (SetDescription did d) =
+    elim (low l did.label) as (λ b. low l did.label ≡ b → by_number l (changed s (SetDescription did d)) ≡ changed_by (by_number l s) (cond b (SetDescription did d ∷ []) [])) [
+      | true ↦ λ e. ap (λ m. record (by_number l s) { descriptions = m }) (select-insert_kept did_cmp_total did_cmp_exact (low_did l) same s.descriptions did d e)
+      | false ↦ λ e. ap (λ m. record (by_number l s) { descriptions = m }) (select-insert_dropped did_cmp_total did_cmp_exact (low_did l) same s.descriptions did d e)
+    ] refl
+by_number-changed l s (DropDescription did) =
+    elim (low l did.label) as (λ b. low l did.label ≡ b → by_number l (changed s (DropDescription did)) ≡ changed_by (by_number l s) (cond b (DropDescription did ∷ []) [])) [
+      | true ↦ λ _. ap (λ m. record (by_number l s) { descriptions = m }) (select-remove_kept did_cmp_total did_cmp_exact (low_did l) same s.descriptions did)
+      | false ↦ λ e. ap (λ m. record (by_number l s) { descriptions = m }) (select-remove_dropped did_cmp_total did_cmp_exact (low_did l) same s.descriptions did e)
     ] refl
 by_number-changed l s (DrawObject label n) =
     elim (low l label) as (λ b. low l label ≡ b → by_number l (changed s (DrawObject label n)) ≡ changed_by (by_number l s) (cond b (DrawObject label n ∷ []) [])) [
@@ -100,18 +130,42 @@ by_number-changed l s (DrawProcess label n) =
       | true ↦ λ e. ap (λ m. record (by_number l s) { process_numbers = m }) (select-insert_kept label_cmp_total label_cmp_exact (low l) same s.process_numbers label n e)
       | false ↦ λ e. ap (λ m. record (by_number l s) { process_numbers = m }) (select-insert_dropped label_cmp_total label_cmp_exact (low l) same s.process_numbers label n e)
     ] refl
+by_number-changed l s (DrawDescription label n) =
+    elim (low l label) as (λ b. low l label ≡ b → by_number l (changed s (DrawDescription label n)) ≡ changed_by (by_number l s) (cond b (DrawDescription label n ∷ []) [])) [
+      | true ↦ λ e. ap (λ m. record (by_number l s) { description_numbers = m }) (select-insert_kept label_cmp_total label_cmp_exact (low l) same s.description_numbers label n e)
+      | false ↦ λ e. ap (λ m. record (by_number l s) { description_numbers = m }) (select-insert_dropped label_cmp_total label_cmp_exact (low l) same s.description_numbers label n e)
+    ] refl
 
 -- no change changes top
 pub top-changed : (s : State) (c : Change) → (changed s c).top ≡ s.top
 top-changed s (SetObject id o) = refl
 top-changed s (SetEntry spot id) = refl
+top-changed s (DropEntry spot) = refl
 top-changed s (SetProcess who p) = refl
+top-changed s (DropProcess who) = refl
+top-changed s (SetDescription did d) = refl
+top-changed s (DropDescription did) = refl
 top-changed s (DrawObject label n) = refl
 top-changed s (DrawProcess label n) = refl
+top-changed s (DrawDescription label n) = refl
 
-pub top-changed_by : (s : State) (cs : List Change) → (changed_by s cs).top ≡ s.top
-top-changed_by s [] = refl
-top-changed_by s (c ∷ cs) = top-changed_by (changed s c) cs ∙ top-changed s c
+-- nor the bound
+pub bound-changed : (s : State) (c : Change) → (changed s c).bound ≡ s.bound
+bound-changed s (SetObject id o) = refl
+bound-changed s (SetEntry spot id) = refl
+bound-changed s (DropEntry spot) = refl
+bound-changed s (SetProcess who p) = refl
+bound-changed s (DropProcess who) = refl
+bound-changed s (SetDescription did d) = refl
+bound-changed s (DropDescription did) = refl
+bound-changed s (DrawObject label n) = refl
+bound-changed s (DrawProcess label n) = refl
+bound-changed s (DrawDescription label n) = refl
+
+-- what no change changes stays over any changes
+pub fixed_by : {X : Type 0} (of : State → X) → ((s : State) (c : Change) → of (changed s c) ≡ of s) → (s : State) (cs : List Change) → of (changed_by s cs) ≡ of s
+fixed_by of fixed s [] = refl
+fixed_by of fixed s (c ∷ cs) = fixed_by of fixed (changed s c) cs ∙ fixed s c
 
 changed_by-append : (s : State) (cs ds : List Change) → changed_by s (cs ++ ds) ≡ changed_by (changed_by s cs) ds
 changed_by-append s [] ds = refl
@@ -145,4 +199,4 @@ part_by_number l s kept =
     ∙ ap (λ b. cond (low_spot l q) (Some (cond b id (stub s.top))) None) (shows_low l s kept id)) in
     let procs : (part l s).procs ≡ (by_number l s).procs =
     select_agree pid_cmp_total pid_cmp_exact _ _ s.procs (λ q p e. ap (λ b. cond b (Some p) None) (sym (kept.procs q p e))) in
-    λ i. record { objects = objects i; entries = entries i; procs = procs i; object_numbers = (by_number l s).object_numbers; process_numbers = (by_number l s).process_numbers; bound = s.bound; top = s.top }
+    λ i. record (by_number l s) { objects = objects i; entries = entries i; procs = procs i }

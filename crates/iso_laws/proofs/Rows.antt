@@ -1,11 +1,13 @@
 -- What holds of whole rows, composed along their items, as long as no exercise is one that a test calls bad.
-use Rattle.std.specs.Prelude.{◌≡◌, Bool, true, false, ◌||◌, List, [], ◌∷◌, ◌++◌, Option, Some, None, refl, cond}
+use Rattle.std.specs.Prelude.{◌≡◌, ⊤, Bool, true, false, ◌||◌, List, [], ◌∷◌, ◌++◌, Option, Some, None, refl, cond}
 use Rattle.std.specs.List.{list_any}
 use Rattle.std.specs.Option.{option_map}
 use Rattle.std.proofs.Common.{sym, ◌∙◌, ap, subst}
 use Rattle.lab_lattice.specs.Label.{Label}
 use Rattle.kern_model.specs.declared.numbers.Oid.{Oid}
 use Rattle.kern_model.specs.declared.checks.Check.{Check}
+use Rattle.kern_model.specs.declared.checks.CheckName.{CheckName}
+use Rattle.kern_model.specs.declared.checks.Place.{Place}
 use Rattle.kern_model.specs.declared.checks.Verdict.{Verdict}
 use Rattle.kern_model.specs.declared.checks.Verdict.TheVariants.{Passed, Exercised, Denied}
 use Rattle.kern_model.specs.declared.calls.Errno.{Errno}
@@ -13,7 +15,11 @@ use Rattle.kern_model.specs.declared.calls.Errno.TheVariants as errno
 use Rattle.kern_model.specs.declared.calls.Answer.{Answer}
 use Rattle.kern_model.specs.declared.records.Rec.{Rec}
 use Rattle.kern_model.specs.State.{Change}
-use Rattle.kern_model.specs.Row.{Row, Need, Refuse, Fail, Give, Asker, End, Stopped, Refused, Done, Judged, judge, judged, verdict_of, is_denied, noted}
+use Rattle.kern_model.specs.Row.{Row, Need, Soft, Refuse, Fail, Give, need_if, Asker, End, Stopped, Refused, Done, Judged, judge, judged, verdict_of, is_denied, noted, exercise_with}
+use Rattle.kern_model.specs.Rules.{cap_of}
+use Rattle.kern_model.specs.Descriptors.{Opened}
+use Rattle.kern_model.specs.FileRows.{or_not_open}
+use Rattle.kern_model.specs.Step.{changes_of}
 use Rattle.kern_model.specs.Walk.{or_missing}
 use Rattle.iso_laws.proofs.Part.{part_changes}
 
@@ -25,7 +31,7 @@ false_or : (a b : Bool) → a ≡ false → b ≡ false → (a || b) ≡ false
 false_or true b p q = p
 false_or false b p q = q
 
-when : (P : Judged → Type 0) (b : Bool) (x y : Judged) → (b ≡ true → P x) → (b ≡ false → P y) → P (cond b x y)
+pub when : (P : Judged → Type 0) (b : Bool) (x y : Judged) → (b ≡ true → P x) → (b ≡ false → P y) → P (cond b x y)
 when P true x y f g = f refl
 when P false x y f g = g refl
 
@@ -54,12 +60,6 @@ part_end l top (Done cs answer own) = Done (part_changes l top cs) answer own
 
 abbrev pub part_judged : Label → Label → Judged → Judged
 part_judged l top j = judged j.used (part_end l top j.end)
-
--- what a row changes
-abbrev pub changes_of : End → List Change
-changes_of (Stopped name place) = []
-changes_of (Refused e) = []
-changes_of (Done cs answer own) = cs
 
 -- unless something is bad, the second row ends as the first one does, with the part of its changes
 pub record Alike (bad : Rec → Bool) (l top : Label) (a : Asker) (r r' : Row) : Type 0 where
@@ -96,6 +96,8 @@ module _ (bad : Rec → Bool) (a : Asker) where
   unfolding judge
   used_before used (Need c r) =
       when (λ j. list_any bad j.used ≡ false → list_any bad used ≡ false) (is_denied (verdict_of a c)) _ _ (λ _ h. h) (λ _ h. noted_front c _ used (used_before (noted a c (verdict_of a c) used) r h))
+  used_before used (Soft c r w) =
+      when (λ j. list_any bad j.used ≡ false → list_any bad used ≡ false) (is_denied (verdict_of a c)) _ _ (λ _ h. used_before used w h) (λ _ h. noted_front c _ used (used_before (noted a c (verdict_of a c) used) r h))
   used_before used (Refuse e b r) =
       when (λ j. list_any bad j.used ≡ false → list_any bad used ≡ false) b _ _ (λ _ h. h) (λ _ h. used_before used r h)
   used_before used (Fail e) = λ h. h
@@ -139,6 +141,27 @@ module _ (bad : Rec → Bool) (l top : Label) (a : Asker) where
   pub alike_same : (c c' : Check) (r r' : Row) → c' ≡ c → (Passes bad a c → Alike bad l top a r r') → Alike bad l top a (Need c r) (Need c' r')
   alike_same c c' r r' e rest = subst (λ d. Alike bad l top a (Need c r) (Need d r')) (sym e) (alike_need c r r' rest)
 
+  -- a soft check
+  pub alike_soft : (c : Check) (r w r' w' : Row) → (Passes bad a c → Alike bad l top a r r') → Alike bad l top a w w' → Alike bad l top a (Soft c r w) (Soft c r' w')
+  unfolding judge
+  alike_soft c r w r' w' granted weaker = record {
+    ends = λ used h.
+        both Follows (is_denied (verdict_of a c)) (judge a used w) (judge a (noted a c (verdict_of a c) used) r) (judge a used w') (judge a (noted a c (verdict_of a c) used) r')
+        (λ _ h. weaker.ends used h)
+        (λ f h. (granted (passed bad a c used r f h)).ends (noted a c (verdict_of a c) used) h) h;
+  }
+
+  -- one of two rows by a test
+  alike_cond : (b b' : Bool) (x y x' y' : Row) → b' ≡ b → (b ≡ true → Alike bad l top a x x') → (b ≡ false → Alike bad l top a y y') → Alike bad l top a (cond b x y) (cond b' x' y')
+  alike_cond b b' x y x' y' same f g =
+      subst (λ t. Alike bad l top a (cond b x y) (cond t x' y')) (sym same)
+      (elim b as (λ t. (t ≡ true → Alike bad l top a x x') → (t ≡ false → Alike bad l top a y y') → Alike bad l top a (cond t x y) (cond t x' y')) [ true ↦ λ f g. f refl | false ↦ λ f g. g refl ] f g)
+
+  -- a check that is made where it is asked for
+  pub alike_need_if : (b b' : Bool) (c c' : Check) (r r' : Row) → b' ≡ b → (b ≡ true → Alike bad l top a (Need c r) (Need c' r')) → (b ≡ false → Alike bad l top a r r') → Alike bad l top a (need_if b c r) (need_if b' c' r')
+  unfolding need_if
+  alike_need_if b b' c c' r r' same f g = alike_cond b b' (Need c r) r (Need c' r') r' same f g
+
   -- a check that only a bad exercise could pass, on both sides
   pub alike_hidden : (c c' : Check) (r r' : Row) → c'.name ≡ c.name → c'.place ≡ c.place → verdict_of a c' ≡ verdict_of a c → (Passes bad a c → ⊥) → Alike bad l top a (Need c r) (Need c' r')
   unfolding judge
@@ -153,6 +176,11 @@ module _ (bad : Rec → Bool) (l top : Label) (a : Asker) where
   pub alike_missing : (o : Option Oid) (k k' : Oid → Row) (g : Oid → Oid) → ((id : Oid) → o ≡ Some id → Alike bad l top a (k id) (k' (g id))) → Alike bad l top a (or_missing o k) (or_missing (option_map g o) k')
   alike_missing None k k' g h = alike_fail errno.ENOENT
   alike_missing (Some id) k k' g h = h id refl
+
+  -- what stands behind a descriptor, if that is open
+  pub alike_open : (o : Option Opened) (k k' : Opened → Row) → ((f : Opened) → o ≡ Some f → Alike bad l top a (k f) (k' f)) → Alike bad l top a (or_not_open o k) (or_not_open o k')
+  alike_open None k k' h = alike_fail errno.EBADF
+  alike_open (Some f) k k' h = h f refl
 
 -- ---- what a row's changes meet
 module _ (bad : Rec → Bool) (a : Asker) (P : List Change → Type 0) (none : P []) where
@@ -180,6 +208,86 @@ module _ (bad : Rec → Bool) (a : Asker) (P : List Change → Type 0) (none : P
         (λ f h. (rest (passed bad a c used r f h)).ends (noted a c (verdict_of a c) used) h) h;
   }
 
+  pub ends_soft : (c : Check) (r w : Row) → (Passes bad a c → Ends bad a P r) → Ends bad a P w → Ends bad a P (Soft c r w)
+  unfolding judge
+  ends_soft c r w granted weaker = record {
+    ends = λ used h.
+        when Meets (is_denied (verdict_of a c)) (judge a used w) (judge a (noted a c (verdict_of a c) used) r)
+        (λ _ h. weaker.ends used h)
+        (λ f h. (granted (passed bad a c used r f h)).ends (noted a c (verdict_of a c) used) h) h;
+  }
+
+  pub ends_need_if : (b : Bool) (c : Check) (r : Row) → ((b ≡ true → Passes bad a c) → Ends bad a P r) → Ends bad a P (need_if b c r)
+  unfolding need_if
+  ends_need_if b c r rest =
+      elim b as (λ t. ((t ≡ true → Passes bad a c) → Ends bad a P r) → Ends bad a P (cond t (Need c r) r)) [
+        | true ↦ λ rest. ends_need c r (λ passes. rest (λ _. passes))
+        | false ↦ λ rest. rest (λ e. cc)
+      ] rest
+
   pub ends_missing : (o : Option Oid) (k : Oid → Row) → ((id : Oid) → o ≡ Some id → Ends bad a P (k id)) → Ends bad a P (or_missing o k)
   ends_missing None k h = ends_fail errno.ENOENT
   ends_missing (Some id) k h = h id refl
+
+-- ---- rows that ask nothing of their checks
+-- what holds of the changes and of the own record, wherever a row is done
+abbrev pub Gives : (List Change → Option Rec → Type 0) → Row → Type 0
+Gives P (Need c rest) = Gives P rest
+Gives P (Soft c granted weaker) = Gives P granted × Gives P weaker
+Gives P (Refuse e b rest) = Gives P rest
+Gives P (Fail e) = ⊤
+Gives P (Give cs answer own) = P cs own
+
+module _ (P : List Change → Option Rec → Type 0) where
+  pub gives_cond : (b : Bool) (x y : Row) → Gives P x → Gives P y → Gives P (cond b x y)
+  gives_cond true x y f g = f
+  gives_cond false x y f g = g
+
+  pub gives_need_if : (b : Bool) (c : Check) (r : Row) → Gives P r → Gives P (need_if b c r)
+  unfolding need_if
+  gives_need_if b c r h = gives_cond b (Need c r) r h h
+
+  pub gives_open : (o : Option Opened) (k : Opened → Row) → ((f : Opened) → Gives P (k f)) → Gives P (or_not_open o k)
+  gives_open None k h = tt
+  gives_open (Some f) k h = h f
+
+-- the exercises so far, and one more, meet what each exercise keeps
+noted_is : (P : List Rec → Type 0) (a : Asker) → ((c : Check) (used : List Rec) → P used → P (used ++ exercise_with a c (cap_of c.name))) → (c : Check) (v : Verdict) (used : List Rec) → P used → P (noted a c v used)
+noted_is P a keeps c Passed used h = h
+noted_is P a keeps c Exercised used h = keeps c used h
+noted_is P a keeps c Denied used h = h
+
+-- the exercises of a row meet what each exercise keeps
+pub used_is : (P : List Rec → Type 0) (a : Asker) → ((c : Check) (used : List Rec) → P used → P (used ++ exercise_with a c (cap_of c.name))) → (used : List Rec) (r : Row) → P used → P (judge a used r).used
+unfolding judge
+used_is P a keeps used (Need c r) h = when (λ j. P j.used) (is_denied (verdict_of a c)) _ _ (λ _. h) (λ _. used_is P a keeps (noted a c (verdict_of a c) used) r (noted_is P a keeps c (verdict_of a c) used h))
+used_is P a keeps used (Soft c r w) h = when (λ j. P j.used) (is_denied (verdict_of a c)) _ _ (λ _. used_is P a keeps used w h) (λ _. used_is P a keeps (noted a c (verdict_of a c) used) r (noted_is P a keeps c (verdict_of a c) used h))
+used_is P a keeps used (Refuse e b r) h = when (λ j. P j.used) b _ _ (λ _. h) (λ _. used_is P a keeps used r h)
+used_is P a keeps used (Fail e) h = h
+used_is P a keeps used (Give cs answer own) h = h
+
+-- the end of a row meets what each stop meets, each refusal, and each end where it is done
+pub end_is : (P : End → Type 0) (Q : List Change → Option Rec → Type 0) → ((name : CheckName) (place : Place) → P (Stopped name place)) → ((e : Errno) → P (Refused e))
+    → ((cs : List Change) (answer : Answer) (own : Option Rec) → Q cs own → P (Done cs answer own)) → (a : Asker) (used : List Rec) (r : Row) → Gives Q r → P (judge a used r).end
+unfolding judge
+end_is P Q stopped refused done a used (Need c r) h = when (λ j. P j.end) (is_denied (verdict_of a c)) _ _ (λ _. stopped c.name c.place) (λ _. end_is P Q stopped refused done a (noted a c (verdict_of a c) used) r h)
+end_is P Q stopped refused done a used (Soft c r w) h = when (λ j. P j.end) (is_denied (verdict_of a c)) _ _ (λ _. end_is P Q stopped refused done a used w h.1) (λ _. end_is P Q stopped refused done a (noted a c (verdict_of a c) used) r h.0)
+end_is P Q stopped refused done a used (Refuse e b r) h = when (λ j. P j.end) b _ _ (λ _. refused e) (λ _. end_is P Q stopped refused done a used r h)
+end_is P Q stopped refused done a used (Fail e) h = refused e
+end_is P Q stopped refused done a used (Give cs answer own) h = done cs answer own h
+
+-- a row of which the part sees each change ends there as it does
+pub alike_itself : (bad : Rec → Bool) (l top : Label) (a : Asker) (r : Row) → Gives (λ cs own. part_changes l top cs ≡ cs) r → Alike bad l top a r r
+alike_itself bad l top a (Need c r) h = alike_need bad l top a c r r (λ _. alike_itself bad l top a r h)
+alike_itself bad l top a (Soft c r w) h = alike_soft bad l top a c r w r w (λ _. alike_itself bad l top a r h.0) (alike_itself bad l top a w h.1)
+alike_itself bad l top a (Refuse e b r) h = alike_refuse bad l top a e b b r r refl (λ _. alike_itself bad l top a r h)
+alike_itself bad l top a (Fail e) h = alike_fail bad l top a e
+alike_itself bad l top a (Give cs answer own) h = alike_give bad l top a cs cs answer own (sym h)
+
+-- what the changes of a row meet wherever it is done
+pub ends_given : (bad : Rec → Bool) (a : Asker) (P : List Change → Type 0) → P [] → (r : Row) → Gives (λ cs own. P cs) r → Ends bad a P r
+ends_given bad a P none (Need c r) h = ends_need bad a P none c r (λ _. ends_given bad a P none r h)
+ends_given bad a P none (Soft c r w) h = ends_soft bad a P none c r w (λ _. ends_given bad a P none r h.0) (ends_given bad a P none w h.1)
+ends_given bad a P none (Refuse e b r) h = ends_refuse bad a P none e b r (λ _. ends_given bad a P none r h)
+ends_given bad a P none (Fail e) h = ends_fail bad a P none e
+ends_given bad a P none (Give cs answer own) h = ends_give bad a P none cs answer own h

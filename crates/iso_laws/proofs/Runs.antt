@@ -1,22 +1,39 @@
 -- Whole runs: what Low tags are told is told in the part, as far as nothing crosses.
 use Rattle.std.specs.Prelude.{◌≡◌, ℕ, Bool, true, false, List, [], ◌∷◌, ◌++◌, refl, cond, take, drop}
 use Rattle.std.proofs.Common.{sym, ◌∙◌, ap, subst, take-append-drop}
+use Rattle.std.proofs.lemmas.Bool.{and_parts}
 use Rattle.std.proofs.lemmas.List.{append-nil}
 use Rattle.lab_lattice.specs.Label.{Label}
 use Rattle.kern_model.specs.declared.world.ScriptItem.{ScriptItem}
+use Rattle.kern_model.specs.Arguments.{is_call, is_item, is_script}
 use Rattle.kern_model.specs.State.{State}
 use Rattle.kern_model.specs.Step.{Outcome, step}
-use Rattle.kern_model.specs.Run.{Played, played, run, state_after_run}
+use Rattle.kern_model.specs.Run.{Played, played, run}
 use Rattle.kern_model.specs.Isolation.{low, part, part_script, crossing, Answered, answered, answers, all_answers, up_to, Kept}
 use Rattle.kern_model.specs.Valid.{IsValid}
 use Rattle.kern_model.specs.Fronts.{IsFront}
+use Rattle.iso_laws.specs.LawCalls.{has_laws, have_laws}
+use Rattle.iso_laws.proofs.Part.{top-changed}
 use Rattle.iso_laws.proofs.FrontLemmas.{front_through}
-use Rattle.iso_laws.proofs.Steps.{low_after, other_after, kept_after, valid_after}
+use Rattle.iso_laws.proofs.Steps.{low_after, other_after, kept_after, valid_after, fixed_after}
 
--- a valid state stays valid over a whole run
-pub valid_after_run : (items : List ScriptItem) (s : State) → IsValid s → IsValid (state_after_run s items)
-valid_after_run [] s valid = valid
-valid_after_run (i ∷ is) s valid = valid_after_run is (step s i.who i.call).state (valid_after s i.who i.call valid)
+-- what a script of calls with laws asks of its first call and of the others
+record First (s : State) (i : ScriptItem) (is : List ScriptItem) : Type 0 where
+  laws : has_laws i.call ≡ true
+  args : is_call s.top i.call ≡ true
+  later_laws : have_laws is ≡ true
+  later_args : is_script (step s i.who i.call).state.top is ≡ true
+
+first_of_script : (s : State) (i : ScriptItem) (is : List ScriptItem) → have_laws (i ∷ is) ≡ true → is_script s.top (i ∷ is) ≡ true → First s i is
+first_of_script s i is laws args =
+    let laws' = and_parts _ _ laws in
+    let args' = and_parts (is_item s.top i) (is_script s.top is) args in
+    record {
+      laws = laws'.0;
+      args = (and_parts _ _ args'.0).1;
+      later_laws = laws'.1;
+      later_args = ap (λ top. is_script top is) (fixed_after s i.who i.call (λ t. t.top) top-changed) ∙ args'.1;
+    }
 
 module _ (l : Label) where
   put : (b : Bool) (a : Answered) (xs ys : List Answered) → cond b (a ∷ (xs ++ ys)) (xs ++ ys) ≡ cond b (a ∷ xs) xs ++ ys
@@ -57,33 +74,34 @@ module _ (l : Label) where
   }
 
   -- what Low tags are told from a state is what the part tells alone, until something crosses
-  pub told_alone : (items : List ScriptItem) (s : State) → IsValid s → Kept l s → IsTold (run s items) (all_answers (run (part l s) (part_script l items)))
-  told_alone [] s valid kept = record { rest = []; whole_is = refl; all = λ _. refl }
-  told_alone (i ∷ is) s valid kept =
+  pub told_alone : (items : List ScriptItem) (s : State) → have_laws items ≡ true → is_script s.top items ≡ true → IsValid s → Kept l s → IsTold (run s items) (all_answers (run (part l s) (part_script l items)))
+  told_alone [] s laws args valid kept = record { rest = []; whole_is = refl; all = λ _. refl }
+  told_alone (i ∷ is) s laws args valid kept =
+      let first = first_of_script s i is laws args in
       let next : State = (step s i.who i.call).state in
       elim (crossing l (step s i.who i.call).recs) as (λ b. crossing l (step s i.who i.call).recs ≡ b → IsTold (run s (i ∷ is)) (all_answers (run (part l s) (part_script l (i ∷ is))))) [
         | true ↦ λ crosses. told_none (played s i) (run next is) _ crosses
         | false ↦ λ inside.
-            let rest : IsTold (run next is) (all_answers (run (part l next) (part_script l is))) = told_alone is next (valid_after s i.who i.call valid) (kept_after l s i.who i.call kept valid inside) in
+            let rest : IsTold (run next is) (all_answers (run (part l next) (part_script l is))) = told_alone is next first.later_laws first.later_args (valid_after s i.who i.call first.laws first.args valid) (kept_after l s i.who i.call first.laws kept valid inside) in
             elim (low l i.who.label) as (λ b. low l i.who.label ≡ b → IsTold (run s (i ∷ is)) (all_answers (run (part l s) (cond b (i ∷ part_script l is) (part_script l is))))) [
               | true ↦ λ is_low.
-                  let e = low_after l s i.who i.call kept valid is_low inside in
-                  subst (λ (o : Outcome). IsTold (run s (i ∷ is)) (record { who = i.who; call = i.call; reply = o.reply } ∷ all_answers (run o.state (part_script l is)))) (sym e)
+                  let e = low_after l s i.who i.call first.laws kept valid is_low inside in
+                  subst (λ (o : Outcome). IsTold (run s (i ∷ is)) (record { who = i.who; head = i.head; reply = o.reply } ∷ all_answers (run o.state (part_script l is)))) (sym e)
                   (told_more (played s i) true (run next is) _ is_low inside rest)
               | false ↦ λ high.
-                  subst (λ t. IsTold (run s (i ∷ is)) (all_answers (run t (part_script l is)))) (other_after l s i.who i.call kept valid high inside)
+                  subst (λ t. IsTold (run s (i ∷ is)) (all_answers (run t (part_script l is)))) (other_after l s i.who i.call first.laws kept valid high inside)
                   (told_more (played s i) false (run next is) _ high inside rest)
             ] refl
       ] refl
 
   -- each front of what was told before something crossed is a front of all that is told alone
-  pub front_alone : (items : List ScriptItem) (m : ℕ) (s : State) → IsValid s → Kept l s → IsFront (answers l (take m (up_to l (run s items)))) (all_answers (run (part l s) (part_script l items)))
-  front_alone items m s valid kept =
-      let told = told_alone items s valid kept in
+  pub front_alone : (items : List ScriptItem) (m : ℕ) (s : State) → have_laws items ≡ true → is_script s.top items ≡ true → IsValid s → Kept l s → IsFront (answers l (take m (up_to l (run s items)))) (all_answers (run (part l s) (part_script l items)))
+  front_alone items m s laws args valid kept =
+      let told = told_alone items s laws args valid kept in
       front_through _ _ _ (answers_of_first m (up_to l (run s items))) (record { rest = told.rest; whole_is = told.whole_is })
 
   -- where nothing crosses, Low tags are told just what the part tells alone
-  pub whole_alone : (items : List ScriptItem) (s : State) → IsValid s → Kept l s → up_to l (run s items) ≡ run s items → answers l (run s items) ≡ all_answers (run (part l s) (part_script l items))
-  whole_alone items s valid kept e =
-      let told = told_alone items s valid kept in
+  pub whole_alone : (items : List ScriptItem) (s : State) → have_laws items ≡ true → is_script s.top items ≡ true → IsValid s → Kept l s → up_to l (run s items) ≡ run s items → answers l (run s items) ≡ all_answers (run (part l s) (part_script l items))
+  whole_alone items s laws args valid kept e =
+      let told = told_alone items s laws args valid kept in
       ap (answers l) (sym e) ∙ sym (append-nil _) ∙ ap (λ xs. answers l (up_to l (run s items)) ++ xs) (sym (told.all e)) ∙ sym told.whole_is

@@ -4,7 +4,7 @@ use Rattle.std.specs.Option.{option_map, option_and_then}
 use Rattle.std.specs.List.{list_any}
 use Rattle.std.proofs.Common.{sym, ◌∙◌, ap, subst}
 use Rattle.std.proofs.lemmas.Bool.{and_parts}
-use Rattle.std.specs.FinMap as map
+use Rattle.fin_maps.specs.FinMap as map
 use Rattle.cap_bits.specs.declared.cap.Cap.{Cap}
 use Rattle.cap_bits.specs.declared.cap.Cap.TheVariants as cap
 use Rattle.fs_path.specs.Name.{Name}
@@ -12,29 +12,39 @@ use Rattle.fs_path.specs.Path.{PathValue}
 use Rattle.lab_lattice.specs.Label.{Label, dominates, dominates_through, dominates_bottom, label_cmp_total, label_cmp_exact}
 use Rattle.kern_model.specs.declared.numbers.Pid.{Pid}
 use Rattle.kern_model.specs.declared.numbers.Oid.{Oid}
+use Rattle.kern_model.specs.declared.numbers.Did.{Did}
+use Rattle.kern_model.specs.declared.objects.Kind.{Kind}
+use Rattle.kern_model.specs.declared.objects.Kind.TheVariants as kind
 use Rattle.kern_model.specs.declared.objects.Object.{Object}
-use Rattle.kern_model.specs.declared.objects.Process.{Process}
 use Rattle.kern_model.specs.declared.checks.Check.{Check}
+use Rattle.kern_model.specs.declared.checks.CheckName.{CheckName}
 use Rattle.kern_model.specs.declared.checks.CheckName.TheVariants as check
 use Rattle.kern_model.specs.declared.checks.Place.{Place}
+use Rattle.kern_model.specs.declared.checks.Thing.TheVariants as thing
 use Rattle.kern_model.specs.declared.checks.Verdict.TheVariants.{Passed, Exercised, Denied}
 use Rattle.kern_model.specs.declared.checks.Want.TheVariants as want
 use Rattle.kern_model.specs.declared.calls.Errno.TheVariants as errno
 use Rattle.kern_model.specs.declared.records.Rec.{Rec}
-use Rattle.kern_model.specs.Maps.{where_key, get_or}
-use Rattle.kern_model.specs.Keys.{oid_cmp_total, oid_cmp_exact, pid_cmp_total, pid_cmp_exact, spot_cmp_total, spot_cmp_exact}
-use Rattle.kern_model.specs.State.{State, Change, drawn, object_at, look, stub, stub_object, root}
-use Rattle.kern_model.specs.Rules.{cap_of, is_dir, same_label, mode_allows, on_object, mac_read, dac_search}
+use Rattle.kern_model.specs.Maps.{get_or}
+use Rattle.kern_model.specs.Keys.{oid_cmp_total, oid_cmp_exact, pid_cmp_total, pid_cmp_exact, did_cmp_total, did_cmp_exact, spot_cmp_total, spot_cmp_exact}
+use Rattle.kern_model.specs.Descriptors.{Opened, opened}
+use Rattle.kern_model.specs.Kinds.{is_dir}
+use Rattle.kern_model.specs.State.{State, Process, Description, Change, drawn, object_at, look, stub, stub_object, root}
+use Rattle.kern_model.specs.Rules.{cap_of, same_label, mode_allows, mac_read, dac_search}
 use Rattle.kern_model.specs.Row.{Row, Need, Refuse, Asker, verdict_of, is_denied, noted, exercise_with, may}
-use Rattle.kern_model.specs.Walk.{Found, walk_from, walk, reach, start_of, enter, or_missing}
+use Rattle.kern_model.specs.Walk.{Found, Start, Entry, walk_from, walk, reach, start_of, enter, or_missing, to_object}
 use Rattle.kern_model.specs.Step.{asker}
 use Rattle.kern_model.specs.Isolation.{low, crosses, is_mac, differ, differs_from, Kept}
-use Rattle.kern_model.specs.Valid.{IsValid, IsThere}
-use Rattle.kern_model.proofs.MapLemmas.{get-select, get_or-found, get_or-absent, get_or-same, some_same}
-use Rattle.iso_laws.proofs.Part.{by_number, shown, low_oid, low_pid, low_spot, same}
+use Rattle.kern_model.specs.Valid.{IsValid, IsThere, IsDir}
+use Rattle.kern_model.proofs.MapLemmas.{get-select_kept, get-select_dropped, get_or-found, get_or-absent, get_or-same, never_some, some_same}
+use Rattle.iso_laws.proofs.Part.{by_number, shown, low_oid, low_pid, low_did, low_spot, same}
 use Rattle.iso_laws.proofs.Rows.{Alike, Ends, Passes, alike_same, alike_hidden, alike_refuse, alike_missing, ends_need, ends_refuse, ends_missing}
 
 -- ---- checks
+-- a check of an object without a new label
+abbrev pub of_object : CheckName → Bool → Oid → Place → Object → Check
+of_object name holds id place o = record { name = name; holds = holds; thing = thing.Object id; thing_label = o.label; new_label = None; place = place }
+
 pub failed_verdict : (a : Asker) (c : Check) → c.holds ≡ false → verdict_of a c ≡ cond (may a.effective (cap_of c.name)) Exercised Denied
 unfolding verdict_of
 failed_verdict a c h = ap (λ b. cond b Passed (cond (may a.effective (cap_of c.name)) Exercised Denied)) h
@@ -111,18 +121,24 @@ thing_side l a c with named mac holds passes =
           ] refl
     ] refl
 
--- where it wants the new label equal, so is the new label
-pub new_side : (l : Label) (a : Asker) (c : Check) (with : Cap) (new : Label) → cap_of c.name ≡ Some with → is_mac with ≡ true → c.new_label ≡ Some new → c.holds ≡ same_label a.label new → Passes (crosses l) a c → low l a.label ≡ low l new
-new_side l a c with new named mac is_new holds passes =
-    elim (same_label a.label new) as (λ b. same_label a.label new ≡ b → low l a.label ≡ low l new) [
-      | true ↦ λ h. same_side l _ _ h
-      | false ↦ λ h.
-          elim (may a.effective (cap_of c.name)) as (λ b. verdict_of a c ≡ cond b Exercised Denied → low l a.label ≡ low l new) [
-            | true ↦ λ v.
-                let inside : list_any (crosses l) (exercise_with a c (Some with)) ≡ false = ap (λ o. list_any (crosses l) (exercise_with a c o)) (sym named) ∙ ap (λ w. list_any (crosses l) (noted a c w [])) (sym v) ∙ passes.inside in
-                differ_false _ _ (inner (is_mac with) (differ (low l a.label) (low l c.thing_label)) _ mac (ap (λ n. (is_mac with && (differ (low l a.label) (low l c.thing_label) || differs_from l (low l a.label) n)) || false) (sym is_new) ∙ inside))
-            | false ↦ λ v. let no : true ≡ false = ap is_denied (sym v) ∙ passes.granted in cc
-          ] (failed_verdict a c (holds ∙ h))
+-- where a new label is never given without the capability, and giving it crosses, it is on the caller's side
+pub new_side : (l : Label) (a : Asker) (c : Check) (with : Cap) (new : Label) → cap_of c.name ≡ Some with → is_mac with ≡ true → c.new_label ≡ Some new → c.holds ≡ false → Passes (crosses l) a c → low l a.label ≡ low l new
+new_side l a c with new named mac is_new fails passes =
+    elim (may a.effective (cap_of c.name)) as (λ b. verdict_of a c ≡ cond b Exercised Denied → low l a.label ≡ low l new) [
+      | true ↦ λ v.
+          let inside : list_any (crosses l) (exercise_with a c (Some with)) ≡ false = ap (λ o. list_any (crosses l) (exercise_with a c o)) (sym named) ∙ ap (λ w. list_any (crosses l) (noted a c w [])) (sym v) ∙ passes.inside in
+          differ_false _ _ (inner (is_mac with) (differ (low l a.label) (low l c.thing_label)) _ mac (ap (λ n. (is_mac with && (differ (low l a.label) (low l c.thing_label) || differs_from l (low l a.label) n)) || false) (sym is_new) ∙ inside))
+      | false ↦ λ v. let no : true ≡ false = ap is_denied (sym v) ∙ passes.granted in cc
+    ] (failed_verdict a c fails)
+
+-- what passed a check that no capability overrides meets its rule
+pub met_rule : (bad : Rec → Bool) (a : Asker) (c : Check) → cap_of c.name ≡ None → Passes bad a c → c.holds ≡ true
+met_rule bad a c unnamed passes =
+    elim c.holds as (λ b. c.holds ≡ b → b ≡ true) [
+      | true ↦ λ _. refl
+      | false ↦ λ fails.
+          let denied : verdict_of a c ≡ Denied = failed_verdict a c fails ∙ ap (λ o. cond (may a.effective o) Exercised Denied) unnamed in
+          let no : true ≡ false = ap is_denied (sym denied) ∙ passes.granted in cc
     ] refl
 
 -- the root is Low for each label
@@ -130,83 +146,90 @@ pub root_low : (l : Label) → low l root.label ≡ true
 root_low l = dominates_bottom l
 
 -- ---- what is there
+dir_kind : (k : Kind) → is_dir k ≡ true → k ≡ kind.Dir
+dir_kind kind.Dir h = refl
+dir_kind kind.File h = cc
+dir_kind kind.Fifo h = cc
+dir_kind kind.Pipe h = cc
+
 -- a directory is there
-pub dir_there : (s : State) (id : Oid) → is_dir (object_at s id).kind ≡ true → IsThere s.objects id
+pub dir_there : (s : State) (id : Oid) → is_dir (object_at s id).kind ≡ true → IsDir s.objects id
 dir_there s id h =
-    elim (map.get s.objects id) as (λ w. map.get s.objects id ≡ w → IsThere s.objects id) [
+    elim (map.get s.objects id) as (λ w. map.get s.objects id ≡ w → IsDir s.objects id) [
       | None ↦ λ e. let no : false ≡ true = ap (λ (o : Object). is_dir o.kind) (sym (get_or-absent s.objects id (stub_object s.top) e)) ∙ h in cc
-      | Some o ↦ λ e. record { object = o; is = e }
+      | Some o ↦ λ e. record { object = o; is = e; dir = dir_kind o.kind (ap (λ (x : Object). is_dir x.kind) (sym (get_or-found s.objects id (stub_object s.top) o e)) ∙ h) }
     ] refl
 
-not_false : (b : Bool) → not b ≡ false → b ≡ true
+pub not_false : (b : Bool) → not b ≡ false → b ≡ true
 not_false true h = refl
 not_false false h = sym h
 
 -- what is known of what any walk found
-pub record FoundIn (s : State) (found : Found) : Type 0 where
-  pub dir_there : (dir : Oid) → found.dir ≡ Some dir → IsThere s.objects dir
-  pub there : (id : Oid) → found.object ≡ Some id → IsThere s.objects id
+abbrev pub FoundIn : State → Found → Type 0
+FoundIn s (Start id) = IsThere s.objects id
+FoundIn s (Entry dir name object) = IsDir s.objects dir × (object ≡ look s dir name)
+
+-- where an entry leads is there
+pub led_there : (s : State) → IsValid s → (dir : Oid) (name : Name) (id : Oid) → look s dir name ≡ Some id → IsThere s.objects id
+led_there s valid dir name id e = let entry = valid.entries (dir, name) id e in record { value = entry.object; is = entry.object_is }
 
 -- the root is there
 pub root_there : (s : State) → IsValid s → IsThere s.objects root
-root_there s valid = record { object = valid.root_is.object; is = valid.root_is.is }
+root_there s valid = record { value = valid.root_is.object; is = valid.root_is.is }
 
 -- and where a path starts
 start_there : (s : State) → IsValid s → (who : Pid) (p : Process) (path : PathValue) → map.get s.procs who ≡ Some p → IsThere s.objects (start_of p path)
-start_there s valid who p path is = elim path.absolute as (λ b. IsThere s.objects (cond b root p.cwd)) [ true ↦ root_there s valid | false ↦ valid.cwd who p is ]
+start_there s valid who p path is =
+    let cwd = (valid.procs who p is).cwd in
+    elim path.absolute as (λ b. IsThere s.objects (cond b root p.cwd)) [ true ↦ root_there s valid | false ↦ record { value = cwd.object; is = cwd.is } ]
 
 -- ---- any process
 module _ (bad : Rec → Bool) (s : State) (valid : IsValid s) (who : Pid) (p : Process) (P : List Change → Type 0) (none : P []) where
   abbrev Meets : Row → Type 0
   Meets r = Ends bad (asker who p) P r
 
-  pub ends_enter : (dir : Oid) (place : Place) (r : Row) → (IsThere s.objects dir → Meets r) → Meets (enter s p dir place r)
+  pub ends_enter : (dir : Oid) (place : Place) (r : Row) → (IsDir s.objects dir → Meets r) → Meets (enter s p dir place r)
   ends_enter dir place r h = ends_need bad (asker who p) P none _ _ (λ _. ends_refuse bad (asker who p) P none _ _ _ (λ is. ends_need bad (asker who p) P none _ _ (λ _. h (dir_there s dir (not_false _ is)))))
 
   pub ends_walk_from : (place : ℕ → Place) (at : ℕ) (dir : Oid) (names : List Name) (k : Found → Row) → IsThere s.objects dir → ((found : Found) → FoundIn s found → Meets (k found)) → Meets (walk_from s p place at dir names k)
-  ends_walk_from place at dir [] k there h = h (record { dir = None; name = None; object = Some dir }) (record { dir_there = λ d e. cc; there = λ id e. subst (IsThere s.objects) (some_same dir id e) there })
-  ends_walk_from place at dir (name ∷ []) k there h =
-      ends_enter dir (place at) _ (λ is. h (record { dir = Some dir; name = Some name; object = look s dir name }) (record { dir_there = λ d e. subst (IsThere s.objects) (some_same dir d e) is; there = λ id e. valid.held (dir, name) id e }))
+  ends_walk_from place at dir [] k there h = h (Start dir) there
+  ends_walk_from place at dir (name ∷ []) k there h = ends_enter dir (place at) _ (λ is. h (Entry dir name (look s dir name)) (is, refl))
   ends_walk_from place at dir (name ∷ next ∷ names) k there h =
-      ends_enter dir (place at) _ (λ _. ends_missing bad (asker who p) P none (look s dir name) _ (λ id e. ends_walk_from place (at + 1) id (next ∷ names) k (valid.held (dir, name) id e) h))
+      ends_enter dir (place at) _ (λ _. ends_missing bad (asker who p) P none (look s dir name) _ (λ id e. ends_walk_from place (at + 1) id (next ∷ names) k (led_there s valid dir name id e) h))
 
   pub ends_walk : map.get s.procs who ≡ Some p → (place : ℕ → Place) (path : PathValue) (k : Found → Row) → ((found : Found) → FoundIn s found → Meets (k found)) → Meets (walk s p place path k)
   ends_walk is place path k h = ends_walk_from place 0 (start_of p path) path.names k (start_there s valid who p path is) h
 
+  ends_to_object : (k : Oid → Row) → ((id : Oid) → IsThere s.objects id → Meets (k id)) → (found : Found) → FoundIn s found → Meets (to_object found k)
+  ends_to_object k h (Start id) there = h id there
+  ends_to_object k h (Entry dir name object) f = ends_missing bad (asker who p) P none object k (λ id e. h id (led_there s valid dir name id (sym f.1 ∙ e)))
+
   -- a walk to an object that is there
   pub ends_reach : map.get s.procs who ≡ Some p → (place : ℕ → Place) (path : PathValue) (k : Oid → Row) → ((id : Oid) → IsThere s.objects id → Meets (k id)) → Meets (reach s p place path k)
-  ends_reach is place path k h = ends_walk is place path _ (λ found f. ends_missing bad (asker who p) P none found.object k (λ id e. h id (f.there id e)))
+  ends_reach is place path k h = ends_walk is place path _ (ends_to_object k h)
 
 -- ---- a Low process and the part
+same_map : {X : Type 0} (w : Option X) → option_map (same {X = X}) w ≡ w
+same_map None = refl
+same_map (Some x) = refl
+
 module _ (l : Label) (s : State) where
   get_low : (id : Oid) → low l id.label ≡ true → map.get (by_number l s).objects id ≡ map.get s.objects id
   unfolding by_number
-  get_low id h =
-      get-select oid_cmp_exact (where_key (low_oid l) same) oid_cmp_total s.objects id
-      ∙ ap (λ b. option_and_then (λ (o : Object). cond b (Some o) None) (map.get s.objects id)) h
-      ∙ elim (map.get s.objects id) as (λ w. option_and_then (λ (o : Object). Some o) w ≡ w) [ None ↦ refl | Some o ↦ refl ]
+  get_low id h = get-select_kept oid_cmp_total oid_cmp_exact (low_oid l) same s.objects id h ∙ same_map _
 
   -- a Low number's process is the same in the part
   pub get_process : (q : Pid) → low l q.label ≡ true → map.get (by_number l s).procs q ≡ map.get s.procs q
   unfolding by_number
-  get_process q h =
-      get-select pid_cmp_exact (where_key (low_pid l) (same {X = Process})) pid_cmp_total s.procs q
-      ∙ ap (λ b. option_and_then (λ (o : Process). cond b (Some o) None) (map.get s.procs q)) h
-      ∙ elim (map.get s.procs q) as (λ w. option_and_then (λ (o : Process). Some o) w ≡ w) [ None ↦ refl | Some o ↦ refl ]
+  get_process q h = get-select_kept pid_cmp_total pid_cmp_exact (low_pid l) same s.procs q h ∙ same_map _
 
-  abbrev gone : Object → Option Object
-  gone o = None
-
-  nothing : (w : Option Object) → option_and_then gone w ≡ None
-  nothing None = refl
-  nothing (Some o) = refl
+  get_description : (did : Did) → low l did.label ≡ true → map.get (by_number l s).descriptions did ≡ map.get s.descriptions did
+  unfolding by_number
+  get_description did h = get-select_kept did_cmp_total did_cmp_exact (low_did l) same s.descriptions did h ∙ same_map _
 
   get_stub : low l s.top ≡ false → map.get (by_number l s).objects (stub s.top) ≡ None
   unfolding by_number
-  get_stub h =
-      get-select oid_cmp_exact (where_key (low_oid l) same) oid_cmp_total s.objects (stub s.top)
-      ∙ ap (λ b. option_and_then (λ (o : Object). cond b (Some o) None) (map.get s.objects (stub s.top))) h
-      ∙ nothing (map.get s.objects (stub s.top))
+  get_stub h = get-select_dropped oid_cmp_total oid_cmp_exact (low_oid l) same s.objects (stub s.top) h
 
   top_is : (by_number l s).top ≡ s.top
   unfolding by_number
@@ -222,27 +245,46 @@ module _ (l : Label) (s : State) where
   -- an entry of a Low directory leads in the part to what is shown of where it leads
   pub look_low : (dir : Oid) (name : Name) → low l dir.label ≡ true → look (by_number l s) dir name ≡ option_map (shown l s.top) (look s dir name)
   unfolding by_number
-  look_low dir name h =
-      get-select spot_cmp_exact (where_key (low_spot l) (shown l s.top)) spot_cmp_total s.entries (dir, name)
-      ∙ ap (λ b. option_and_then (λ (o : Oid). cond b (Some (shown l s.top o)) None) (look s dir name)) h
-      ∙ elim (look s dir name) as (λ w. option_and_then (λ (o : Oid). Some (shown l s.top o)) w ≡ option_map (shown l s.top) w) [ None ↦ refl | Some o ↦ refl ]
+  look_low dir name h = get-select_kept spot_cmp_total spot_cmp_exact (low_spot l) (shown l s.top) s.entries (dir, name) h
 
   -- the numbers drawn of a Low label are the same in the part
   pub drawn_objects : (label : Label) → low l label ≡ true → drawn (by_number l s).object_numbers label ≡ drawn s.object_numbers label
   unfolding by_number
-  drawn_objects label h = get_or-same _ _ label 0 (get-select label_cmp_exact (where_key (low l) (same {X = ℕ})) label_cmp_total s.object_numbers label
-      ∙ ap (λ b. option_and_then (λ (n : ℕ). cond b (Some n) None) (map.get s.object_numbers label)) h
-      ∙ elim (map.get s.object_numbers label) as (λ w. option_and_then (λ (n : ℕ). Some n) w ≡ w) [ None ↦ refl | Some n ↦ refl ])
+  drawn_objects label h = get_or-same _ _ label 0 (get-select_kept label_cmp_total label_cmp_exact (low l) same s.object_numbers label h ∙ same_map _)
 
   pub drawn_processes : (label : Label) → low l label ≡ true → drawn (by_number l s).process_numbers label ≡ drawn s.process_numbers label
   unfolding by_number
-  drawn_processes label h = get_or-same _ _ label 0 (get-select label_cmp_exact (where_key (low l) (same {X = ℕ})) label_cmp_total s.process_numbers label
-      ∙ ap (λ b. option_and_then (λ (n : ℕ). cond b (Some n) None) (map.get s.process_numbers label)) h
-      ∙ elim (map.get s.process_numbers label) as (λ w. option_and_then (λ (n : ℕ). Some n) w ≡ w) [ None ↦ refl | Some n ↦ refl ])
+  drawn_processes label h = get_or-same _ _ label 0 (get-select_kept label_cmp_total label_cmp_exact (low l) same s.process_numbers label h ∙ same_map _)
 
   -- what is Low is shown as it is
   pub shown_low : (id : Oid) → low l id.label ≡ true → shown l s.top id ≡ id
   shown_low id h = ap (λ b. cond b id (stub s.top)) h
+
+-- an object that is not Low can't be read by a Low process
+module _ (l : Label) (s : State) (kept : Kept l s) (who : Pid) (p : Process) (is_low : low l p.label ≡ true) (id : Oid) (there : IsThere s.objects id) (high : low l id.label ≡ false) where
+  label_at : (object_at s id).label ≡ there.value.label
+  label_at = ap (λ o. o.label) (get_or-found _ _ _ _ there.is)
+
+  hidden_label : low l there.value.label ≡ false
+  hidden_label = sym (kept.objects id there.value there.is) ∙ high
+
+  pub read_fails : dominates p.label (object_at s id).label ≡ false
+  read_fails = ap (dominates p.label) label_at ∙ not_below l p.label there.value.label is_low hidden_label
+
+  pub read_crosses : (place : Place) → Passes (crosses l) (asker who p) (mac_read s p id place) → ⊥
+  read_crosses place = crossed l (asker who p) (mac_read s p id place) cap.MacRead read_fails refl refl
+      (ap (λ b. differ b (low l (object_at s id).label)) is_low ∙ ap (λ x. not (low l x)) label_at ∙ ap not hidden_label)
+
+  pub top_high : IsValid s → low l s.top ≡ false
+  top_high valid = top_hidden l s.top there.value.label (valid.objects id there.value there.is).below hidden_label
+
+-- what a Low process read is Low
+pub read_low : (l : Label) (s : State) → Kept l s → (who : Pid) (p : Process) → low l p.label ≡ true → (id : Oid) → IsThere s.objects id → (place : Place) → Passes (crosses l) (asker who p) (mac_read s p id place) → low l id.label ≡ true
+read_low l s kept who p is_low id there place passes =
+    elim (low l id.label) as (λ b. low l id.label ≡ b → b ≡ true) [
+      | true ↦ λ _. refl
+      | false ↦ λ high. absurd (read_crosses l s kept who p is_low id there high place passes)
+    ] refl
 
 module _ (l : Label) (s : State) (kept : Kept l s) (valid : IsValid s) (who : Pid) (p : Process) (is_low : low l p.label ≡ true) where
   abbrev Same : Row → Row → Type 0
@@ -252,60 +294,47 @@ module _ (l : Label) (s : State) (kept : Kept l s) (valid : IsValid s) (who : Pi
   pub alike_mac_read : (id : Oid) → IsThere s.objects id → (place : Place) (r : Row) (r' : Oid → Row) → (low l id.label ≡ true → Same r (r' id)) → Same (Need (mac_read s p id place) r) (Need (mac_read (by_number l s) p (shown l s.top id) place) (r' (shown l s.top id)))
   alike_mac_read id there place r r' rest =
       elim (low l id.label) as (λ b. low l id.label ≡ b → Same (Need (mac_read s p id place) r) (Need (mac_read (by_number l s) p (cond b id (stub s.top)) place) (r' (cond b id (stub s.top))))) [
-        | true ↦ λ h. alike_same (crosses l) l s.top (asker who p) _ _ r (r' id) (ap (λ o. on_object check.MacRead (dominates p.label o.label) id o place) (object_low l s id h)) (λ _. rest h)
+        | true ↦ λ h. alike_same (crosses l) l s.top (asker who p) _ _ r (r' id) (ap (λ o. of_object check.MacRead (dominates p.label o.label) id place o) (object_low l s id h)) (λ _. rest h)
         | false ↦ λ h.
-            let at : object_at s id ≡ there.object = get_or-found _ _ _ _ there.is in
-            let hidden : low l there.object.label ≡ false = sym (kept.objects id there.object there.is) ∙ h in
-            let label : (object_at s id).label ≡ there.object.label = ap (λ o. o.label) at in
-            let top : low l s.top ≡ false = top_hidden l s.top there.object.label (valid.objects_below id there.object there.is) hidden in
-            let fails : dominates p.label (object_at s id).label ≡ false = ap (dominates p.label) label ∙ not_below l p.label there.object.label is_low hidden in
+            let top : low l s.top ≡ false = top_high l s kept who p is_low id there h valid in
             let stub_label : (object_at (by_number l s) (stub s.top)).label ≡ s.top = ap (λ o. o.label) (object_stub l s top) in
             let fails' : dominates p.label (object_at (by_number l s) (stub s.top)).label ≡ false = ap (dominates p.label) stub_label ∙ not_below l p.label s.top is_low top in
-            let apart : differ (low l p.label) (low l (object_at s id).label) ≡ true = ap (λ b. differ b (low l (object_at s id).label)) is_low ∙ ap (λ x. not (low l x)) label ∙ ap not hidden in
             alike_hidden (crosses l) l s.top (asker who p) (mac_read s p id place) (mac_read (by_number l s) p (stub s.top) place) r (r' (stub s.top)) refl refl
-            (failed_verdict (asker who p) (mac_read (by_number l s) p (stub s.top) place) fails' ∙ sym (failed_verdict (asker who p) (mac_read s p id place) fails))
-            (crossed l (asker who p) (mac_read s p id place) cap.MacRead fails refl refl apart)
+            (failed_verdict (asker who p) (mac_read (by_number l s) p (stub s.top) place) fails' ∙ sym (failed_verdict (asker who p) (mac_read s p id place) (read_fails l s kept who p is_low id there h)))
+            (read_crosses l s kept who p is_low id there h place)
       ] refl
 
-  pub alike_enter : (dir : Oid) → IsThere s.objects dir → (place : Place) (r : Row) (r' : Oid → Row) → (low l dir.label ≡ true → IsThere s.objects dir → Same r (r' dir)) → Same (enter s p dir place r) (enter (by_number l s) p (shown l s.top dir) place (r' (shown l s.top dir)))
+  pub alike_enter : (dir : Oid) → IsThere s.objects dir → (place : Place) (r : Row) (r' : Oid → Row) → (low l dir.label ≡ true → IsDir s.objects dir → Same r (r' dir)) → Same (enter s p dir place r) (enter (by_number l s) p (shown l s.top dir) place (r' (shown l s.top dir)))
   alike_enter dir there place r r' rest =
       alike_mac_read dir there place
       (Refuse errno.ENOTDIR (not (is_dir (object_at s dir).kind)) (Need (dac_search s p dir place) r))
       (λ d. Refuse errno.ENOTDIR (not (is_dir (object_at (by_number l s) d).kind)) (Need (dac_search (by_number l s) p d place) (r' d)))
       (λ h. alike_refuse (crosses l) l s.top (asker who p) errno.ENOTDIR _ _ _ _ (ap (λ o. not (is_dir o.kind)) (object_low l s dir h))
       (λ is. alike_same (crosses l) l s.top (asker who p) (dac_search s p dir place) (dac_search (by_number l s) p dir place) r (r' dir)
-      (ap (λ o. on_object check.DacSearch (mode_allows o.attr p.ids want.Execute) dir o place) (object_low l s dir h)) (λ _. rest h (dir_there s dir (not_false _ is)))))
+      (ap (λ o. of_object check.DacSearch (mode_allows o.attr p.ids want.Execute) dir place o) (object_low l s dir h)) (λ _. rest h (dir_there s dir (not_false _ is)))))
 
   -- what a walk found, in the part
   abbrev pub part_found : Found → Found
-  part_found found = record { dir = found.dir; name = found.name; object = option_map (shown l s.top) found.object }
+  part_found (Start id) = Start (shown l s.top id)
+  part_found (Entry dir name object) = Entry dir name (option_map (shown l s.top) object)
 
   -- what is known of what a Low process's walk found
-  pub record Seen (found : Found) : Type 0 where
-    pub dir_low : (dir : Oid) → found.dir ≡ Some dir → low l dir.label ≡ true
-    pub dir_there : (dir : Oid) → found.dir ≡ Some dir → IsThere s.objects dir
-    pub there : (id : Oid) → found.object ≡ Some id → IsThere s.objects id
+  abbrev pub Seen : Found → Type 0
+  Seen (Start id) = IsThere s.objects id
+  Seen (Entry dir name object) = (low l dir.label ≡ true) × IsDir s.objects dir × (object ≡ look s dir name)
 
   pub alike_walk_from : (place : ℕ → Place) (at : ℕ) (dir : Oid) (names : List Name) (k k' : Found → Row) → IsThere s.objects dir → ((found : Found) → Seen found → Same (k found) (k' (part_found found))) → Same (walk_from s p place at dir names k) (walk_from (by_number l s) p place at (shown l s.top dir) names k')
-  alike_walk_from place at dir [] k k' there h =
-      h (record { dir = None; name = None; object = Some dir })
-      (record { dir_low = λ d e. cc; dir_there = λ d e. cc; there = λ id e. subst (IsThere s.objects) (some_same dir id e) there })
+  alike_walk_from place at dir [] k k' there h = h (Start dir) there
   alike_walk_from place at dir (name ∷ []) k k' there h =
-      alike_enter dir there (place at) (k (record { dir = Some dir; name = Some name; object = look s dir name }))
-      (λ d. k' (record { dir = Some d; name = Some name; object = look (by_number l s) d name }))
-      (λ is_low_dir is. subst (λ w. Same (k (record { dir = Some dir; name = Some name; object = look s dir name })) (k' (record { dir = Some dir; name = Some name; object = w }))) (sym (look_low l s dir name is_low_dir))
-      (h (record { dir = Some dir; name = Some name; object = look s dir name })
-      (record {
-        dir_low = λ d e. subst (λ (x : Oid). low l x.label ≡ true) (some_same dir d e) is_low_dir;
-        dir_there = λ d e. subst (IsThere s.objects) (some_same dir d e) is;
-        there = λ id e. valid.held (dir, name) id e;
-      })))
+      alike_enter dir there (place at) (k (Entry dir name (look s dir name))) (λ d. k' (Entry d name (look (by_number l s) d name)))
+      (λ is_low_dir is. subst (λ w. Same (k (Entry dir name (look s dir name))) (k' (Entry dir name w))) (sym (look_low l s dir name is_low_dir))
+      (h (Entry dir name (look s dir name)) (is_low_dir, is, refl)))
   alike_walk_from place at dir (name ∷ next ∷ names) k k' there h =
       alike_enter dir there (place at) (or_missing (look s dir name) (λ id. walk_from s p place (at + 1) id (next ∷ names) k))
       (λ d. or_missing (look (by_number l s) d name) (λ id. walk_from (by_number l s) p place (at + 1) id (next ∷ names) k'))
       (λ is_low_dir _. subst (λ w. Same (or_missing (look s dir name) (λ id. walk_from s p place (at + 1) id (next ∷ names) k)) (or_missing w (λ id. walk_from (by_number l s) p place (at + 1) id (next ∷ names) k'))) (sym (look_low l s dir name is_low_dir))
       (alike_missing (crosses l) l s.top (asker who p) (look s dir name) _ _ (shown l s.top)
-      (λ id e. alike_walk_from place (at + 1) id (next ∷ names) k k' (valid.held (dir, name) id e) h)))
+      (λ id e. alike_walk_from place (at + 1) id (next ∷ names) k k' (led_there s valid dir name id e) h)))
 
   start_low : (path : PathValue) → map.get s.procs who ≡ Some p → low l (start_of p path).label ≡ true
   start_low path is = elim path.absolute as (λ b. low l (cond b root p.cwd).label ≡ true) [ true ↦ root_low l | false ↦ kept.cwd who p is is_low ]
@@ -317,7 +346,46 @@ module _ (l : Label) (s : State) (kept : Kept l s) (valid : IsValid s) (who : Pi
       subst (λ d. Same (walk s p place path k) (walk_from (by_number l s) p place 0 d path.names k')) (shown_low l s (start_of p path) start)
       (alike_walk_from place 0 (start_of p path) path.names k k' (start_there s valid who p path is) h)
 
+  alike_to_object : (k k' : Oid → Row) → ((id : Oid) → IsThere s.objects id → Same (k id) (k' (shown l s.top id))) → (found : Found) → Seen found → Same (to_object found k) (to_object (part_found found) k')
+  alike_to_object k k' h (Start id) there = h id there
+  alike_to_object k k' h (Entry dir name object) seen = alike_missing (crosses l) l s.top (asker who p) object k k' (shown l s.top) (λ id e. h id (led_there s valid dir name id (sym seen.2 ∙ e)))
+
   -- a walk to an object that is there
   pub alike_reach : map.get s.procs who ≡ Some p → (place : ℕ → Place) (path : PathValue) (k k' : Oid → Row) → ((id : Oid) → IsThere s.objects id → Same (k id) (k' (shown l s.top id))) → Same (reach s p place path k) (reach (by_number l s) p place path k')
-  alike_reach is place path k k' h = alike_walk is place path _ _ (λ found seen.
-      alike_missing (crosses l) l s.top (asker who p) found.object k k' (shown l s.top) (λ id e. h id (seen.there id e)))
+  alike_reach is place path k k' h = alike_walk is place path _ _ (alike_to_object k k' h)
+
+-- ---- what stands behind a descriptor
+-- a descriptor of a process that is open
+pub record IsOpen (s : State) (p : Process) (fd : ℕ) (f : Opened) : Type 0 where
+  pub fd_is : map.get p.fds fd ≡ Some f.did
+  pub is : map.get s.descriptions f.did ≡ Some f.description
+
+described : (s : State) (p : Process) (fd : ℕ) (did : Did) (f : Opened) (w : Option Description) → map.get p.fds fd ≡ Some did → map.get s.descriptions did ≡ w → option_map (λ d. record { did = did; description = d }) w ≡ Some f → IsOpen s p fd f
+described s p fd did f None at is e = absurd (never_some None f refl e)
+described s p fd did f (Some d) at is e = subst (IsOpen s p fd) (some_same (record { did = did; description = d }) f e) (record { fd_is = at; is = is })
+
+pub is_open : (s : State) (p : Process) (fd : ℕ) (f : Opened) → opened s p fd ≡ Some f → IsOpen s p fd f
+unfolding opened
+is_open s p fd f =
+    elim (map.get p.fds fd) as (λ w. map.get p.fds fd ≡ w → option_and_then (λ did. option_map (λ d. record { did = did; description = d }) (map.get s.descriptions did)) w ≡ Some f → IsOpen s p fd f) [
+      | None ↦ λ _ e. absurd (never_some None f refl e)
+      | Some did ↦ λ at e. described s p fd did f (map.get s.descriptions did) at refl e
+    ] refl
+
+module _ (l : Label) (s : State) (kept : Kept l s) (who : Pid) (p : Process) (is : map.get s.procs who ≡ Some p) (is_low : low l p.label ≡ true) (fd : ℕ) where
+  fd_low : (did : Did) → map.get p.fds fd ≡ Some did → low l did.label ≡ true
+  fd_low did at = kept.fds who p fd did is at ∙ kept.procs who p is ∙ is_low
+
+  -- behind a descriptor of a Low process stands the same in the part
+  pub opened_low : opened (by_number l s) p fd ≡ opened s p fd
+  unfolding opened
+  opened_low =
+      let behind : State → Did → Option Opened = λ t did. option_map (λ d. record { did = did; description = d }) (map.get t.descriptions did) in
+      elim (map.get p.fds fd) as (λ w. map.get p.fds fd ≡ w → option_and_then (behind (by_number l s)) w ≡ option_and_then (behind s) w) [
+        | None ↦ λ _. refl
+        | Some did ↦ λ at. ap (option_map (λ (d : Description). record { did = did; description = d })) (get_description l s did (fd_low did at))
+      ] refl
+
+  -- and it is Low
+  pub behind_low : (f : Opened) → opened s p fd ≡ Some f → low l f.description.object.label ≡ true
+  behind_low f e = let held = is_open s p fd f e in kept.descriptions f.did f.description held.is (fd_low f.did held.fd_is)

@@ -1,26 +1,27 @@
 -- The laws of a step.
-use Rattle.std.specs.Prelude.{◌≡◌, true, false, [], ◌++◌, Option, Some, None, refl, cond}
+use Rattle.std.specs.Prelude.{◌≡◌, true, false, List, [], ◌++◌, Some, None, refl}
 use Rattle.std.specs.Option.{option_and_then}
-use Rattle.std.proofs.Common.{sym, ◌∙◌, ap, subst}
-use Rattle.std.specs.FinMap as map
+use Rattle.std.proofs.Common.{sym, ◌∙◌, ap}
+use Rattle.fin_maps.specs.FinMap as map
 use Rattle.lab_lattice.specs.Label.{Label}
 use Rattle.kern_model.specs.declared.numbers.Pid.{Pid}
-use Rattle.kern_model.specs.declared.objects.Process.{Process}
 use Rattle.kern_model.specs.declared.calls.Call.{Call}
+use Rattle.kern_model.specs.Arguments.{is_call}
 use Rattle.kern_model.specs.Maps.{where_key}
 use Rattle.kern_model.specs.Keys.{pid_cmp_total, pid_cmp_exact}
-use Rattle.kern_model.specs.State.{State, changed_by}
-use Rattle.kern_model.specs.Row.{End, Stopped, Refused, Done, Judged, judge, judged}
-use Rattle.kern_model.specs.Rules.{name_of}
+use Rattle.kern_model.specs.Names.{name_of}
+use Rattle.kern_model.specs.State.{State, Process, Change, changed, changed_by}
+use Rattle.kern_model.specs.Row.{Stopped, Refused, Done, Judged, judge, judged}
 use Rattle.kern_model.specs.Table.{row}
-use Rattle.kern_model.specs.Step.{Outcome, step, step_by, settled, asker, reply_of, state_after, own_of}
+use Rattle.kern_model.specs.Step.{Outcome, step, step_by, settled, asker, reply_of, changes_of, state_after, own_of}
 use Rattle.kern_model.specs.Isolation.{low, part, crosses, crossing, Kept}
 use Rattle.kern_model.specs.Valid.{IsValid}
 use Rattle.kern_model.proofs.MapLemmas.{get-select}
-use Rattle.iso_laws.proofs.Part.{by_number, low_pid, same, part_changes, part_by_number, by_number-changed_by}
-use Rattle.iso_laws.proofs.Rows.{part_end, part_judged, changes_of, bad_front, never, none_never}
+use Rattle.iso_laws.specs.LawCalls.{has_laws}
+use Rattle.iso_laws.proofs.Part.{by_number, low_pid, same, part_changes, part_by_number, by_number-changed_by, fixed_by}
+use Rattle.iso_laws.proofs.Rows.{part_end, part_judged, bad_front, never, none_never}
 use Rattle.iso_laws.proofs.Sight.{get_process}
-use Rattle.iso_laws.proofs.Calls.{low_row, row_meets, hidden_cases, kept_cases, valid_cases}
+use Rattle.iso_laws.proofs.Calls.{Cases, low_row, row_meets, hidden_cases, kept_cases, valid_cases}
 
 module _ (s : State) (who : Pid) (c : Call) where
   abbrev judged_row : Process → Judged
@@ -32,25 +33,30 @@ module _ (s : State) (who : Pid) (c : Call) where
   by_process P f g =
       elim (map.get s.procs who) as (λ o. map.get s.procs who ≡ o → P (step_by s who c o)) [ None ↦ f | Some p ↦ g p ] refl
 
-  after : (e : End) → state_after s e ≡ changed_by s (changes_of e)
-  after (Stopped name place) = refl
-  after (Refused e) = refl
-  after (Done cs answer own) = refl
+  -- what no change changes stays over a step
+  pub fixed_after : {X : Type 0} (of : State → X) → ((s : State) (c : Change) → of (changed s c) ≡ of s) → of (step s who c).state ≡ of s
+  fixed_after of fixed = by_process (λ o. of o.state ≡ of s) (λ _. refl) (λ p _. fixed_by of fixed s (changes_of (judged_row p).end))
 
-  -- a valid state stays valid, whatever crosses
-  pub valid_after : IsValid s → IsValid (step s who c).state
-  valid_after valid = by_process (λ o. IsValid o.state)
+module _ (s : State) (who : Pid) (c : Call) (laws : has_laws c ≡ true) where
+  -- a valid state stays valid, whatever crosses, where the arguments are as they have to be
+  pub valid_after : is_call s.top c ≡ true → IsValid s → IsValid (step s who c).state
+  valid_after args valid = by_process s who c (λ o. IsValid o.state)
       (λ _. valid)
-      (λ p is. subst IsValid (sym (after (judged_row p).end))
-      ((row_meets never s valid who p is (λ cs. IsValid (changed_by s cs)) (valid_cases never s valid who p is) c).ends [] (none_never (judged_row p).used)))
+      (λ p is. (row_meets never s valid who p is (Unit {0}) (λ cs. IsValid (changed_by s cs)) (valid_cases never s valid who p is) c (λ _. args) laws).ends [] (none_never (judged_row s who c p).used))
 
-module _ (l : Label) (s : State) (who : Pid) (c : Call) where
+module _ (l : Label) (s : State) (who : Pid) (c : Call) (laws : has_laws c ≡ true) where
+  -- what a row's changes meet, where the step does not cross
+  met : (P : List Change → Type 0) → IsValid s → (p : Process) → map.get s.procs who ≡ Some p → Cases (crosses l) s who p (is_call s.top c ≡ true) P
+      → crossing l (settled s who p (name_of c) (judged_row s who c p)).recs ≡ false → P (changes_of (judged_row s who c p).end)
+  met P valid p is cases h =
+      let j : Judged = judged_row s who c p in
+      (row_meets (crosses l) s valid who p is (is_call s.top c ≡ true) P cases c (λ args. args) laws).ends [] (bad_front (crosses l) j.used (own_of who p (name_of c) j.end) h)
+
   -- what is kept is kept by a step that does not cross
   pub kept_after : Kept l s → IsValid s → crossing l (step s who c).recs ≡ false → Kept l (step s who c).state
   kept_after kept valid = by_process s who c (λ o. crossing l o.recs ≡ false → Kept l o.state)
       (λ _ _. kept)
-      (λ p is h. subst (Kept l) (sym (after s who c (judged_row s who c p).end))
-      ((row_meets (crosses l) s valid who p is (λ cs. Kept l (changed_by s cs)) (kept_cases l s kept who p is) c).ends [] (bad_front (crosses l) (judged_row s who c p).used (own_of who p (name_of c) (judged_row s who c p).end) h)))
+      (λ p is h. met (λ cs. Kept l (changed_by s cs)) valid p is (kept_cases l s kept who p _ is) h)
 
   -- a process that is not Low leaves the part as it is
   pub other_after : Kept l s → IsValid s → low l who.label ≡ false → crossing l (step s who c).recs ≡ false → part l (step s who c).state ≡ part l s
@@ -58,9 +64,8 @@ module _ (l : Label) (s : State) (who : Pid) (c : Call) where
       (λ _ _ _. refl)
       (λ p is k h.
       part_by_number l _ (k h)
-      ∙ ap (by_number l) (after s who c (judged_row s who c p).end)
       ∙ by_number-changed_by l s (changes_of (judged_row s who c p).end)
-      ∙ ap (changed_by (by_number l s)) ((row_meets (crosses l) s valid who p is (λ cs. part_changes l s.top cs ≡ []) (hidden_cases l s who p high (sym (kept.procs who p is) ∙ high)) c).ends [] (bad_front (crosses l) (judged_row s who c p).used (own_of who p (name_of c) (judged_row s who c p).end) h))
+      ∙ ap (changed_by (by_number l s)) (met (λ cs. part_changes l s.top cs ≡ []) valid p is (hidden_cases l s who p _ high) h)
       ∙ sym (part_by_number l s kept))
       (kept_after kept valid)
 
@@ -75,13 +80,9 @@ module _ (l : Label) (s : State) (who : Pid) (c : Call) where
         | Done cs answer own ↦ λ k. ap (λ t. record { state = t; reply = reply_of (Done cs answer own); recs = j.used ++ own_of who p (name_of c) (Done cs answer own) }) (sym (by_number-changed_by l s cs) ∙ sym (part_by_number l _ k))
       ] kept'
 
-  no_process : (w : Option Process) → w ≡ None → option_and_then (λ (p : Process). cond (low_pid l who) (Some p) None) w ≡ None
-  no_process None e = refl
-  no_process (Some p) e = cc
-
   absent : map.get s.procs who ≡ None → map.get (by_number l s).procs who ≡ None
   unfolding by_number
-  absent e = get-select pid_cmp_exact (where_key (low_pid l) (same {X = Process})) pid_cmp_total s.procs who ∙ no_process _ e
+  absent e = get-select pid_cmp_exact (where_key (low_pid l) (same {X = Process})) pid_cmp_total s.procs who ∙ ap (option_and_then (where_key (low_pid l) same who)) e
 
   -- a Low process is told the same in the part
   pub low_after : Kept l s → IsValid s → low l who.label ≡ true → crossing l (step s who c).recs ≡ false → step (part l s) who c ≡ part_outcome (step s who c)
@@ -93,6 +94,6 @@ module _ (l : Label) (s : State) (who : Pid) (c : Call) where
       (λ p is k h.
       let p_low : low l p.label ≡ true = sym (kept.procs who p is) ∙ is_low in
       ap (step_by (by_number l s) who c) (get_process l s who is_low ∙ is)
-      ∙ ap (settled (by_number l s) who p (name_of c)) ((low_row l s kept valid who p is p_low c).ends [] (bad_front (crosses l) (judged_row s who c p).used (own_of who p (name_of c) (judged_row s who c p).end) h))
+      ∙ ap (settled (by_number l s) who p (name_of c)) ((low_row l s kept valid who p is p_low c laws).ends [] (bad_front (crosses l) (judged_row s who c p).used (own_of who p (name_of c) (judged_row s who c p).end) h))
       ∙ settled_part kept p (judged_row s who c p) (k h))
       (kept_after kept valid) h

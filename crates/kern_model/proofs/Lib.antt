@@ -1,3 +1,5 @@
 pub mod MapLemmas
 pub mod RowLemmas
 pub mod TableLemmas
+pub mod ArgumentLemmas
+pub mod WorldLemmas

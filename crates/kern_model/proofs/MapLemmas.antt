@@ -1,16 +1,18 @@
--- What `select` and `get_or` answer, and how an entry that is set meets them.
-use Rattle.std.specs.Prelude.{◌≡◌, Bool, true, false, List, [], ◌∷◌, Option, Some, None, refl, cond, ◌&&◌}
+-- What `select` and `get_or` answer, and how an entry that is set or goes meets them.
+use Rattle.std.specs.Prelude.{◌≡◌, ℕ, ◌+◌, ◌≤◌, Bool, true, false, List, [], ◌∷◌, Option, Some, None, refl, cond, count_by, ◌&&◌}
 use Rattle.std.specs.declared.cmp.Ordering.{Ordering}
 use Rattle.std.specs.declared.cmp.Ordering.TheVariants.{Less, Equal, Greater}
 use Rattle.std.specs.Ordering.{eq_by_cmp, is_eq, is_lt}
-use Rattle.std.specs.Option.{option_and_then}
+use Rattle.std.specs.Option.{option_and_then, option_map}
+use Rattle.std.specs.List.{AllByRecursion}
 use Rattle.std.specs.Cmp.{IsTotalOrder}
-use Rattle.std.specs.FinMap as map
-use Rattle.std.specs.FinMap.{FinMap, IsAntisymmetric, find, is_sorted, get-from_entries, get-entries, entries_sorted, same_map, get-insert}
+use Rattle.fin_maps.specs.FinMap as map
+use Rattle.fin_maps.specs.FinMap.{FinMap, IsAntisymmetric, find, is_sorted, get-from_entries, get-entries, entries_sorted, same_map, get-insert, get-remove}
 use Rattle.std.specs.FinMap.Entries.{below_all}
-use Rattle.std.proofs.Common.{sym, ◌∙◌, ap, subst, T}
+use Rattle.std.proofs.Common.{sym, ◌∙◌, ap, subst, arith, T}
 use Rattle.std.proofs.lemmas.Cmp.{tied_itself}
-use Rattle.kern_model.specs.Maps.{with_entry, selected, select, get_or, where_key}
+use Rattle.std.proofs.lemmas.List.Sums.{sum_by-cons}
+use Rattle.kern_model.specs.Maps.{with_entry, selected, select, get_or, where_key, count_entries}
 
 first : (a b : Bool) → T (a && b) → T a
 first true b p = tt
@@ -66,6 +68,15 @@ module _ {K X Y : Type 0} {R : K → K → Ordering} (exact : IsAntisymmetric R)
 
 -- a selection by the key alone, which keeps a key or not and changes what is there
 module _ {K X Y : Type 0} {R : K → K → Ordering} (o : IsTotalOrder R) (exact : IsAntisymmetric R) (keep : K → Bool) (g : X → Y) where
+  kept : (b : Bool) (w : Option X) → b ≡ true → option_and_then (λ x. cond b (Some (g x)) None) w ≡ option_map g w
+  kept false w e = cc
+  kept true None e = refl
+  kept true (Some x) e = refl
+
+  -- what it has at a key that is kept
+  pub get-select_kept : (m : FinMap R X) (k : K) → keep k ≡ true → map.get (select (where_key keep g) m) k ≡ option_map g (map.get m k)
+  get-select_kept m k h = get-select exact (where_key keep g) o m k ∙ kept (keep k) (map.get m k) h
+
   pub select-insert_kept : (m : FinMap R X) (k : K) (x : X) → keep k ≡ true → select (where_key keep g) (map.insert m k x) ≡ map.insert (select (where_key keep g) m) k (g x)
   select-insert_kept m k x h = same_map o exact _ _ (λ q.
       get-select exact (where_key keep g) o (map.insert m k x) q ∙ ap (option_and_then (where_key keep g q)) (get-insert o m k x q)
@@ -81,6 +92,9 @@ module _ {K X Y : Type 0} {R : K → K → Ordering} (o : IsTotalOrder R) (exact
   dropped false None e = refl
   dropped false (Some x) e = refl
 
+  pub get-select_dropped : (m : FinMap R X) (k : K) → keep k ≡ false → map.get (select (where_key keep g) m) k ≡ None
+  get-select_dropped m k h = get-select exact (where_key keep g) o m k ∙ dropped (keep k) (map.get m k) h
+
   pub select-insert_dropped : (m : FinMap R X) (k : K) (x : X) → keep k ≡ false → select (where_key keep g) (map.insert m k x) ≡ select (where_key keep g) m
   select-insert_dropped m k x h = same_map o exact _ _ (λ q.
       get-select exact (where_key keep g) o (map.insert m k x) q ∙ ap (option_and_then (where_key keep g q)) (get-insert o m k x q)
@@ -91,6 +105,22 @@ module _ {K X Y : Type 0} {R : K → K → Ordering} (o : IsTotalOrder R) (exact
         | false ↦ λ t. refl
       ] refl
       ∙ sym (get-select exact (where_key keep g) o m q))
+
+  pub select-remove_dropped : (m : FinMap R X) (k : K) → keep k ≡ false → select (where_key keep g) (map.remove m k) ≡ select (where_key keep g) m
+  select-remove_dropped m k h = same_map o exact _ _ (λ q.
+      get-select exact (where_key keep g) o (map.remove m k) q ∙ ap (option_and_then (where_key keep g q)) (get-remove o m k q)
+      ∙ elim (eq_by_cmp R q k) as (λ b. eq_by_cmp R q k ≡ b → option_and_then (where_key keep g q) (cond b None (map.get m q)) ≡ option_and_then (where_key keep g q) (map.get m q)) [
+        | true ↦ λ t. sym (dropped (keep q) (map.get m q) (ap keep (same_key exact q k t) ∙ h))
+        | false ↦ λ t. refl
+      ] refl
+      ∙ sym (get-select exact (where_key keep g) o m q))
+
+  pub select-remove_kept : (m : FinMap R X) (k : K) → select (where_key keep g) (map.remove m k) ≡ map.remove (select (where_key keep g) m) k
+  select-remove_kept m k = same_map o exact _ _ (λ q.
+      get-select exact (where_key keep g) o (map.remove m k) q ∙ ap (option_and_then (where_key keep g q)) (get-remove o m k q)
+      ∙ elim (eq_by_cmp R q k) as (λ b. option_and_then (where_key keep g q) (cond b None (map.get m q)) ≡ cond b None (option_and_then (where_key keep g q) (map.get m q))) [ true ↦ refl | false ↦ refl ]
+      ∙ ap (λ w. cond (eq_by_cmp R q k) None w) (sym (get-select exact (where_key keep g) o m q))
+      ∙ sym (get-remove o (select (where_key keep g) m) k q))
 
 -- a look-up with a default
 pub get_or-found : {K X : Type 0} {R : K → K → Ordering} (m : FinMap R X) (k : K) (d x : X) → map.get m k ≡ Some x → get_or m k d ≡ x
@@ -149,3 +179,79 @@ module _ {K X : Type 0} {R : K → K → Ordering} (o : IsTotalOrder R) (exact :
         | true ↦ λ t f. subst (λ z. P q z) (some_same x y f) (subst (λ j. P j x) (sym (same_key exact q k t)) new)
         | false ↦ λ t f. each q y f
       ] refl (sym (get-insert o m k x q) ∙ e)
+
+  pub each-remove : (k : K) → (q : K) (y : X) → map.get (map.remove m k) q ≡ Some y → P q y
+  each-remove k q y e =
+      elim (eq_by_cmp R q k) as (λ b. cond b None (map.get m q) ≡ Some y → P q y) [
+        | true ↦ λ f. absurd (never_some None y refl f)
+        | false ↦ λ f. each q y f
+      ] (sym (get-remove o m k q) ∙ e)
+
+  each_listed : (es : List (K × X)) → T (is_sorted R es) → ((q : K) (y : X) → find R q es ≡ Some y → P q y) → AllByRecursion (λ (e : K × X). P e.0 e.1) es
+  each_listed [] h found = tt
+  each_listed (e ∷ es) h found = (
+    found e.0 e.1 (ap (λ r. cond (is_eq r) (Some e.1) (find R e.0 es)) (tied_itself o e.0)),
+    each_listed es (second (below_all R e.0 es) (is_sorted R es) h) (λ q y f. found q y
+        (elim (eq_by_cmp R q e.0) as (λ b. eq_by_cmp R q e.0 ≡ b → cond b (Some e.1) (find R q es) ≡ Some y) [
+          | true ↦ λ t. absurd (never_some (find R q es) y (none_above R q es (subst (λ k. T (below_all R k es)) (sym (same_key exact q e.0 t)) (first (below_all R e.0 es) (is_sorted R es) h))) f)
+          | false ↦ λ t. f
+        ] refl)),
+  )
+
+  -- each entry in the list of them is one that the map has
+  pub each-entries : AllByRecursion (λ (e : K × X). P e.0 e.1) (map.entries m)
+  each-entries = each_listed (map.entries m) (entries_sorted m) (λ q y f. each q y (get-entries m q ∙ f))
+
+-- ---- how many entries pass a test
+module _ {K X : Type 0} {R : K → K → Ordering} (o : IsTotalOrder R) (exact : IsAntisymmetric R) (p : K → X → Bool) where
+  abbrev passing : List (K × X) → ℕ
+  passing es = count_by (λ (e : K × X). p e.0 e.1) es
+
+  passing-cons : (e : K × X) (es : List (K × X)) (b : Bool) → p e.0 e.1 ≡ b → passing (e ∷ es) ≡ cond b 1 0 + passing es
+  passing-cons e es b t = sum_by-cons (λ (e : K × X). cond (p e.0 e.1) 1 0) e es ∙ ap (λ b. cond b 1 0 + passing es) t
+
+  -- the first entry is found, and so is each behind it
+  found_first : (e : K × X) (es : List (K × X)) → find R e.0 (e ∷ es) ≡ Some e.1
+  found_first e es = ap (λ r. cond (is_eq r) (Some e.1) (find R e.0 es)) (tied_itself o e.0)
+
+  not_behind : (e : K × X) (es : List (K × X)) → T (is_sorted R (e ∷ es)) → (q : K) (y : X) → find R q es ≡ Some y → e.0 ≡ q → ⊥
+  not_behind e es h q y f same = never_some (find R q es) y (none_above R q es (subst (λ k. T (below_all R k es)) same (first (below_all R e.0 es) (is_sorted R es) h))) f
+
+  found_behind : (e : K × X) (es : List (K × X)) → T (is_sorted R (e ∷ es)) → (q : K) (y : X) → find R q es ≡ Some y → find R q (e ∷ es) ≡ Some y
+  found_behind e es h q y f =
+      elim (eq_by_cmp R q e.0) as (λ b. eq_by_cmp R q e.0 ≡ b → cond b (Some e.1) (find R q es) ≡ Some y) [
+        | true ↦ λ t. absurd (not_behind e es h q y f (sym (same_key exact q e.0 t)))
+        | false ↦ λ t. f
+      ] refl
+
+  none_passing : (es : List (K × X)) → T (is_sorted R es) → ((q : K) (y : X) → find R q es ≡ Some y → p q y ≡ false) → passing es ≡ 0
+  none_passing [] h fails = refl
+  none_passing (e ∷ es) h fails =
+      let step : passing (e ∷ es) ≡ 0 + passing es = passing-cons e es false (fails e.0 e.1 (found_first e es)) in
+      let none : passing es ≡ 0 = none_passing es (second (below_all R e.0 es) (is_sorted R es) h) (λ q y f. fails q y (found_behind e es h q y f)) in
+      omega (arith, step, none)
+
+  one_passing : (es : List (K × X)) → T (is_sorted R es) → ((a b : K) (x y : X) → find R a es ≡ Some x → find R b es ≡ Some y → p a x ≡ true → p b y ≡ true → a ≡ b) → passing es ≤ 1
+  one_passing [] h alone = omega arith
+  one_passing (e ∷ es) h alone =
+      let rest = second (below_all R e.0 es) (is_sorted R es) h in
+      elim (p e.0 e.1) as (λ b. p e.0 e.1 ≡ b → passing (e ∷ es) ≤ 1) [
+        | true ↦ λ t.
+            let fails : (q : K) (y : X) → find R q es ≡ Some y → p q y ≡ false =
+            λ q y f. elim (p q y) as (λ b. p q y ≡ b → b ≡ false) [
+              | true ↦ λ v. absurd (not_behind e es h q y f (alone e.0 q e.1 y (found_first e es) (found_behind e es h q y f) t v))
+              | false ↦ λ _. refl
+            ] refl in
+            let step : passing (e ∷ es) ≡ 1 + passing es = passing-cons e es true t in
+            let none : passing es ≡ 0 = none_passing es rest fails in
+            omega (arith, step, none)
+        | false ↦ λ t.
+            let step : passing (e ∷ es) ≡ 0 + passing es = passing-cons e es false t in
+            let few : passing es ≤ 1 = one_passing es rest (λ a b x y f g. alone a b x y (found_behind e es h a x f) (found_behind e es h b y g)) in
+            omega (arith, step, few)
+      ] refl
+
+  -- where one key alone passes, there is at most one entry
+  pub count_entries-one : (m : FinMap R X) → ((a b : K) (x y : X) → map.get m a ≡ Some x → map.get m b ≡ Some y → p a x ≡ true → p b y ≡ true → a ≡ b) → count_entries p m ≤ 1
+  unfolding count_entries
+  count_entries-one m alone = one_passing (map.entries m) (entries_sorted m) (λ a b x y f g. alone a b x y (get-entries m a ∙ f) (get-entries m b ∙ g))

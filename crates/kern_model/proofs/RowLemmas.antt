@@ -7,7 +7,7 @@ use Rattle.kern_model.specs.declared.calls.Errno.{Errno}
 use Rattle.kern_model.specs.declared.calls.Answer.{Answer}
 use Rattle.kern_model.specs.declared.records.Rec.{Rec}
 use Rattle.kern_model.specs.State.{Change}
-use Rattle.kern_model.specs.Row.{Row, Need, Refuse, Fail, Give, Asker, Stopped, Refused, Done, judged, judge, verdict_of, is_denied, noted}
+use Rattle.kern_model.specs.Row.{Row, Need, Soft, Refuse, Fail, Give, Asker, Stopped, Refused, Done, judged, judge, verdict_of, is_denied, noted}
 
 -- a check lets the row go on
 pub judge-need : (a : Asker) (used : List Rec) (c : Check) (v : Verdict) (r : Row) → v ≡ verdict_of a c → is_denied v ≡ false → judge a used (Need c r) ≡ judge a (noted a c v used) r
@@ -40,3 +40,17 @@ judge-fail a used e = refl
 pub judge-give : (a : Asker) (used : List Rec) (changes : List Change) (answer : Answer) (own : Option Rec) → judge a used (Give changes answer own) ≡ judged used (Done changes answer own)
 unfolding judge
 judge-give a used changes answer own = refl
+
+-- a soft check is not denied, and what it grants is done
+pub judge-granted : (a : Asker) (used : List Rec) (c : Check) (v : Verdict) (granted weaker : Row) → v ≡ verdict_of a c → is_denied v ≡ false → judge a used (Soft c granted weaker) ≡ judge a (noted a c v used) granted
+unfolding judge
+judge-granted a used c v granted weaker e go =
+    ap (λ w. cond (is_denied w) (judge a used weaker) (judge a (noted a c w used) granted)) (sym e)
+    ∙ ap (λ b. cond b (judge a used weaker) (judge a (noted a c v used) granted)) go
+
+-- a soft check is denied, and the weaker row is taken
+pub judge-weaker : (a : Asker) (used : List Rec) (c : Check) (v : Verdict) (granted weaker : Row) → v ≡ verdict_of a c → is_denied v ≡ true → judge a used (Soft c granted weaker) ≡ judge a used weaker
+unfolding judge
+judge-weaker a used c v granted weaker e stop =
+    ap (λ w. cond (is_denied w) (judge a used weaker) (judge a (noted a c w used) granted)) (sym e)
+    ∙ ap (λ b. cond b (judge a used weaker) (judge a (noted a c v used) granted)) stop

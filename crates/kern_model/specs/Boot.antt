@@ -1,43 +1,30 @@
 -- The first state of a world: numbers are drawn per label in the order of its lines.
-use Rattle.std.specs.Prelude.{ℕ, ◌+◌, List, [], ◌∷◌, unwrap_or, true}
-use Rattle.std.specs.FinMap as map
+use Rattle.std.specs.Prelude.{ℕ, ◌+◌, List, [], ◌∷◌, None, unwrap_or, true}
+use Rattle.fin_maps.specs.FinMap as map
 use Rattle.cap_bits.specs.CapSet.{CapSet}
 use Rattle.fs_path.specs.Name.{Name}
 use Rattle.lab_lattice.specs.Label.{Label}
-use Rattle.kern_model.specs.declared.numbers.Pid.{Pid}
 use Rattle.kern_model.specs.declared.numbers.Oid.{Oid}
-use Rattle.kern_model.specs.declared.objects.Kind.{Kind}
-use Rattle.kern_model.specs.declared.objects.Kind.TheVariants as kind
-use Rattle.kern_model.specs.declared.objects.Body.{Body}
-use Rattle.kern_model.specs.declared.objects.Body.TheVariants as body
 use Rattle.kern_model.specs.declared.objects.Object.{Object}
 use Rattle.kern_model.specs.declared.records.Rec.{Rec}
 use Rattle.kern_model.specs.declared.records.Rec.TheVariants as rec
 use Rattle.kern_model.specs.declared.world.World.{World}
 use Rattle.kern_model.specs.declared.world.WorldObject.{WorldObject}
 use Rattle.kern_model.specs.declared.world.WorldProc.{WorldProc}
-use Rattle.kern_model.specs.State.{State, Change, SetObject, SetEntry, SetProcess, DrawObject, DrawProcess, changed_by, drawn, look, root}
+use Rattle.kern_model.specs.Kinds.{object_with}
+use Rattle.kern_model.specs.State.{State, Process, Change, SetObject, SetEntry, SetProcess, DrawObject, DrawProcess, changed_by, drawn, next_object, next_process, look, root}
 
-abbrev pub kind_of : Body → Kind
-kind_of body.Dir = kind.Dir
-kind_of (body.File bytes) = kind.File
-kind_of body.Fifo = kind.Fifo
-kind_of body.Pipe = kind.Pipe
+-- octal 0022
+abbrev pub boot_umask : ℕ
+boot_umask = 18
 
-abbrev pub bytes_of : Body → List ℕ
-bytes_of (body.File bytes) = bytes
-bytes_of _ = []
-
+-- an object of a world
 abbrev pub object_of : WorldObject → Object
-object_of o = record { kind = kind_of o.body; label = o.label; attr = o.attr; bytes = bytes_of o.body }
+object_of o = object_with o.label o.attr o.body
 
--- the next number of an object at a label
-abbrev pub next_object : State → Label → Oid
-next_object s l = record { label = l; n = drawn s.object_numbers l + 1 }
-
--- the next number of a process at a label
-abbrev pub next_process : State → Label → Pid
-next_process s l = record { label = l; n = drawn s.process_numbers l + 1 }
+-- a process of a world: it stands in the root directory, with the switch on, and has no descriptor and no parent
+abbrev pub process_of : WorldProc → Process
+process_of w = record { ids = w.ids; label = w.label; caps = w.caps; umask = boot_umask; cwd = root; audited = true; parent = None; ended = []; fds = map.empty }
 
 -- the entry for an object, at the end of the names from a directory; the root has none
 abbrev pub entry_for : State → Oid → List Name → Oid → List Change
@@ -53,7 +40,7 @@ boot_object s o = changed_by s
 -- a process of the world is there, in the root directory
 unfoldable pub boot_process : State → WorldProc → State
 boot_process s w = changed_by s
-    (DrawProcess w.label (drawn s.process_numbers w.label + 1) ∷ SetProcess (next_process s w.label) (record { ids = w.ids; label = w.label; caps = w.caps; cwd = root; audited = true }) ∷ [])
+    (DrawProcess w.label (drawn s.process_numbers w.label + 1) ∷ SetProcess (next_process s w.label) (process_of w) ∷ [])
 
 abbrev pub boot_objects : State → List WorldObject → State
 boot_objects s [] = s
@@ -65,7 +52,17 @@ boot_processes s (w ∷ ws) = boot_processes (boot_process s w) ws
 
 -- nothing is there yet
 abbrev pub nothing : CapSet → Label → State
-nothing bound top = record { objects = map.empty; entries = map.empty; procs = map.empty; object_numbers = map.empty; process_numbers = map.empty; bound = bound; top = top }
+nothing bound top = record {
+  objects = map.empty;
+  entries = map.empty;
+  procs = map.empty;
+  descriptions = map.empty;
+  object_numbers = map.empty;
+  process_numbers = map.empty;
+  description_numbers = map.empty;
+  bound = bound;
+  top = top;
+}
 
 -- the objects of a world alone
 abbrev pub furnished : World → State

@@ -1,15 +1,15 @@
 -- What a label sees of a state and of a script, and what crosses it.
 use Rattle.std.specs.Prelude.{◌≡◌, ℕ, Bool, true, false, not, ◌&&◌, ◌||◌, List, [], ◌∷◌, Option, Some, None, cond}
-use Rattle.std.specs.List.{list_any}
-use Rattle.std.specs.FinMap as map
+use Rattle.std.specs.List.{list_any, AllByRecursion}
+use Rattle.fin_maps.specs.FinMap as map
 use Rattle.cap_bits.specs.declared.cap.Cap.{Cap}
 use Rattle.cap_bits.specs.declared.cap.Cap.TheVariants as cap
 use Rattle.lab_lattice.specs.Label.{Label, dominates}
 use Rattle.kern_model.specs.declared.numbers.Pid.{Pid}
 use Rattle.kern_model.specs.declared.numbers.Oid.{Oid}
+use Rattle.kern_model.specs.declared.numbers.Did.{Did}
 use Rattle.kern_model.specs.declared.objects.Object.{Object}
-use Rattle.kern_model.specs.declared.objects.Process.{Process}
-use Rattle.kern_model.specs.declared.calls.Call.{Call}
+use Rattle.kern_model.specs.declared.calls.Ending.{Ending}
 use Rattle.kern_model.specs.declared.calls.Reply.{Reply}
 use Rattle.kern_model.specs.declared.records.Rec.{Rec}
 use Rattle.kern_model.specs.declared.records.Rec.TheVariants as rec
@@ -17,7 +17,8 @@ use Rattle.kern_model.specs.declared.world.World.{World}
 use Rattle.kern_model.specs.declared.world.ScriptItem.{ScriptItem}
 use Rattle.kern_model.specs.Keys.{Spot}
 use Rattle.kern_model.specs.Maps.{select}
-use Rattle.kern_model.specs.State.{State, stub}
+use Rattle.kern_model.specs.Kinds.{is_stream}
+use Rattle.kern_model.specs.State.{State, Process, Description, stub}
 use Rattle.kern_model.specs.Boot.{boot}
 use Rattle.kern_model.specs.Run.{Played, run}
 
@@ -63,15 +64,17 @@ label_in (Some o) id = o.label
 abbrev pub shows : Label → State → Oid → Bool
 shows l s id = low l (label_in (map.get s.objects id) id)
 
--- the part that l sees: objects and processes whose present label is Low, the entries of such objects, and the drawn numbers of Low labels.
--- An entry that leads to what is not seen leads to the stub.
+-- the part that l sees: objects and processes whose present label is Low, the entries of such objects, descriptions with a Low number, and
+-- the drawn numbers of Low labels. An entry that leads to what is not seen leads to the stub.
 unfoldable pub part : Label → State → State
 part l s = record {
   objects = select (λ id o. cond (low l o.label) (Some o) None) s.objects;
   entries = select (λ (spot : Spot) (id : Oid). cond (shows l s spot.0) (Some (cond (shows l s id) id (stub s.top))) None) s.entries;
   procs = select (λ who p. cond (low l p.label) (Some p) None) s.procs;
+  descriptions = select (λ (did : Did) d. cond (low l did.label) (Some d) None) s.descriptions;
   object_numbers = select (λ label (n : ℕ). cond (low l label) (Some n) None) s.object_numbers;
   process_numbers = select (λ label (n : ℕ). cond (low l label) (Some n) None) s.process_numbers;
+  description_numbers = select (λ label (n : ℕ). cond (low l label) (Some n) None) s.description_numbers;
   bound = s.bound;
   top = s.top;
 }
@@ -83,14 +86,14 @@ abbrev pub part_script : Label → List ScriptItem → List ScriptItem
 part_script l [] = []
 part_script l (i ∷ is) = cond (low l i.who.label) (i ∷ part_script l is) (part_script l is)
 
--- who called, what, and the reply
+-- who called, the word or words that the reply shows, and the reply
 pub record Answered : Type 0 where
   pub who : Pid
-  pub call : Call
+  pub head : List ℕ
   pub reply : Reply
 
 abbrev pub answered : Played → Answered
-answered p = record { who = p.who; call = p.call; reply = p.reply }
+answered p = record { who = p.who; head = p.head; reply = p.reply }
 
 -- what Low tags were told, in order
 abbrev pub answers : Label → List Played → List Answered
@@ -113,8 +116,15 @@ up_to l (p ∷ ps) = cond (crossing l p.recs) [] (p ∷ up_to l ps)
 
 -- ---- what holds until something crosses
 
--- what a number's label says of a thing, its present label says too; a Low process has a Low current directory
+-- numbers and present labels are on one side, and so is what belongs together: a process with its parent, its ended
+-- children and its descriptors, a pipe or FIFO with its descriptions. A Low process stands in a Low directory, and a
+-- description with a Low number is of a Low object.
 pub record Kept (l : Label) (s : State) : Type 0 where
   pub objects : (id : Oid) (o : Object) → map.get s.objects id ≡ Some o → low l id.label ≡ low l o.label
   pub procs : (who : Pid) (p : Process) → map.get s.procs who ≡ Some p → low l who.label ≡ low l p.label
+  pub parents : (who parent : Pid) (p : Process) → map.get s.procs who ≡ Some p → p.parent ≡ Some parent → low l parent.label ≡ low l who.label
+  pub ended : (who : Pid) (p : Process) → map.get s.procs who ≡ Some p → AllByRecursion (λ (e : Pid × Ending). low l e.0.label ≡ low l who.label) p.ended
+  pub fds : (who : Pid) (p : Process) (fd : ℕ) (did : Did) → map.get s.procs who ≡ Some p → map.get p.fds fd ≡ Some did → low l did.label ≡ low l who.label
   pub cwd : (who : Pid) (p : Process) → map.get s.procs who ≡ Some p → low l p.label ≡ true → low l p.cwd.label ≡ true
+  pub descriptions : (did : Did) (d : Description) → map.get s.descriptions did ≡ Some d → low l did.label ≡ true → low l d.object.label ≡ true
+  pub streams : (did : Did) (d : Description) (o : Object) → map.get s.descriptions did ≡ Some d → map.get s.objects d.object ≡ Some o → is_stream o.kind ≡ true → low l did.label ≡ low l d.object.label

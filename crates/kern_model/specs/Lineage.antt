@@ -1,32 +1,78 @@
--- The capability sets that records tell of a process.
-use Rattle.std.specs.Prelude.{List, [], ◌∷◌, ◌++◌, cond}
+-- The capability sets that records tell of a process, and how capabilities come into them.
+use Rattle.std.specs.Prelude.{◌≡◌, ◌⊎◌, true, ◌&&◌, ◌||◌, List, [], ◌∷◌, ◌++◌, cond}
 use Rattle.std.specs.List.{flat_map}
-use Rattle.std.specs.Ordering.{eq_by_cmp}
+use Rattle.cap_bits.specs.CapSet.{CapSet, has, is_within}
+use Rattle.cap_bits.specs.declared.cap.Cap.{Cap}
 use Rattle.cap_bits.specs.declared.state.CapState.{CapState}
 use Rattle.cap_bits.specs.State.{no_flags}
+use Rattle.lab_lattice.specs.Label.{Label}
+use Rattle.kern_model.specs.declared.numbers.Oid.{Oid}
 use Rattle.kern_model.specs.declared.numbers.Pid.{Pid}
 use Rattle.kern_model.specs.declared.records.Rec.{Rec}
 use Rattle.kern_model.specs.declared.records.Rec.TheVariants as rec
 use Rattle.kern_model.specs.declared.world.World.{World}
 use Rattle.kern_model.specs.declared.world.ScriptItem.{ScriptItem}
-use Rattle.kern_model.specs.Keys.{pid_cmp}
+use Rattle.kern_model.specs.Exec.{exec_caps}
+use Rattle.kern_model.specs.Keys.{same_pid}
 use Rattle.kern_model.specs.Boot.{boot, boot_recs}
 use Rattle.kern_model.specs.Run.{Played, run}
 
--- what a record makes of the sets that a process had before it: a start gives its own, any other record leaves them
-abbrev pub caps_behind : Pid → CapState → Rec → CapState
-caps_behind q before (rec.Boot who label caps) = cond (eq_by_cmp pid_cmp q who) caps before
-caps_behind q before _ = before
+-- what a record makes of the sets that were told of each process before it: a start and `cap_set_proc` give those in the
+-- record, a child has its parent's, a program makes the exec formula of them, and any other record leaves them
+abbrev pub told_behind : CapSet → (Pid → CapState) → Rec → Pid → CapState
+told_behind bound before (rec.Boot who label caps) q = cond (same_pid q who) caps (before q)
+told_behind bound before (rec.Fork who child) q = cond (same_pid q child) (before who) (before q)
+told_behind bound before (rec.Exec who id file new) q = cond (same_pid q who) (exec_caps (before q) file bound) (before q)
+told_behind bound before (rec.CapSetProc who caps) q = cond (same_pid q who) caps (before q)
+told_behind bound before _ q = before q
 
 -- what records make of them, from the first to the last
-abbrev pub caps_told : Pid → CapState → List Rec → CapState
-caps_told q before [] = before
-caps_told q before (r ∷ rs) = caps_told q (caps_behind q before r) rs
+abbrev pub told : CapSet → (Pid → CapState) → List Rec → Pid → CapState
+told bound before [] q = before q
+told bound before (r ∷ rs) q = told bound (told_behind bound before r) rs q
 
 -- the capability sets of a process by the records alone; without a record of it they are empty
-abbrev pub caps_of : List Rec → Pid → CapState
-caps_of rs q = caps_told q no_flags rs
+abbrev pub caps_of : CapSet → List Rec → Pid → CapState
+caps_of bound rs q = told bound (λ _. no_flags) rs q
 
 -- all records of a run: those of the start, and those of each call
 abbrev pub all_recs : World → List ScriptItem → List Rec
 all_recs w items = boot_recs w ++ flat_map (λ (p : Played). p.recs) (run (boot w) items)
+
+-- what `cap_set_proc` makes permitted was permitted, by the records before its own
+abbrev pub OnlyDrops : CapSet → List Rec → Type 0
+OnlyDrops bound recs = (before after : List Rec) (who : Pid) (caps : CapState) → recs ≡ before ++ rec.CapSetProc who caps ∷ after → is_within caps.p (caps_of bound before who).p ≡ true
+
+-- what a process was before a record: the parent, where the record makes it as a child
+abbrev pub origin : Rec → Pid → Pid
+origin (rec.Fork who child) q = cond (same_pid q child) who q
+origin _ q = q
+
+-- what a process was before records: itself, or the one that it descends from
+abbrev pub ancestor : List Rec → Pid → Pid
+ancestor [] q = q
+ancestor (r ∷ rs) q = origin r (ancestor rs q)
+
+-- an ancestor of a process started with a capability permitted
+pub record FromStart (recs : List Rec) (q : Pid) (cap : Cap) : Type 0 where
+  pub before : List Rec
+  pub after : List Rec
+  pub label : Label
+  pub caps : CapState
+  pub split : recs ≡ before ++ rec.Boot (ancestor after q) label caps ∷ after
+  pub permitted : has caps.p cap ≡ true
+
+-- a program gave a capability to an ancestor of a process: the file permits it and the bound has it, or the file inherits it
+-- and so does the ancestor, by the records before that of the program
+pub record FromExec (bound : CapSet) (recs : List Rec) (q : Pid) (cap : Cap) : Type 0 where
+  pub before : List Rec
+  pub after : List Rec
+  pub id : Oid
+  pub file : CapState
+  pub new : CapState
+  pub split : recs ≡ before ++ rec.Exec (ancestor after q) id file new ∷ after
+  pub given : (has file.p cap && has bound cap || has file.i cap && has (caps_of bound before (ancestor after q)).i cap) ≡ true
+
+-- permitted sets grow by exec alone: each capability that a process is permitted is from a start or from a program
+abbrev pub GrowsByExec : CapSet → List Rec → Type 0
+GrowsByExec bound recs = (q : Pid) (cap : Cap) → has (caps_of bound recs q).p cap ≡ true → FromStart recs q cap ⊎ FromExec bound recs q cap

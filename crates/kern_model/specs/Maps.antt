@@ -1,8 +1,9 @@
--- Finite maps: with a default, and the part of one.
-use Rattle.std.specs.Prelude.{List, [], ◌∷◌, Bool, Option, Some, None, cond}
+-- Finite maps: with a default, the part of one, and tests on entries.
+use Rattle.std.specs.Prelude.{ℕ, List, [], ◌∷◌, Bool, Option, Some, None, cond, count_by}
 use Rattle.std.specs.declared.cmp.Ordering.{Ordering}
-use Rattle.std.specs.FinMap as map
-use Rattle.std.specs.FinMap.{FinMap}
+use Rattle.fin_maps.specs.FinMap as map
+use Rattle.fin_maps.specs.FinMap.{FinMap}
+use Rattle.std.specs.List.{list_any}
 
 -- what a table holds at a key, or the default
 unfoldable pub get_or : {K X : Type 0} {R : K → K → Ordering} → FinMap R X → K → X → X
@@ -26,3 +27,12 @@ module _ {K X Y : Type 0} {R : K → K → Ordering} where
 -- keeps what the test passes at the key, and changes what is there
 abbrev pub where_key : {K X Y : Type 0} → (K → Bool) → (X → Y) → K → X → Option Y
 where_key keep g k x = cond (keep k) (Some (g x)) None
+
+module _ {K X : Type 0} {R : K → K → Ordering} where
+  -- whether some entry passes a test
+  unfoldable pub any_entry : (K → X → Bool) → FinMap R X → Bool
+  any_entry p m = list_any (λ (e : K × X). p e.0 e.1) (map.entries m)
+
+  -- how many entries pass a test
+  unfoldable pub count_entries : (K → X → Bool) → FinMap R X → ℕ
+  count_entries p m = count_by (λ (e : K × X). p e.0 e.1) (map.entries m)

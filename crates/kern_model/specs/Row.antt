@@ -19,12 +19,18 @@ use Rattle.kern_model.specs.Rules.{cap_of}
 pub data Row : Type 0 where
   -- a check, which stops the call where it is denied
   Need : (check : Check) (rest : Row) → Row
+  -- a soft check, which stops nothing: where it is denied the weaker row is taken
+  Soft : (check : Check) (granted weaker : Row) → Row
   -- a refusal, which stops the call where its condition holds
   Refuse : (errno : Errno) (holds : Bool) (rest : Row) → Row
   -- a refusal without a condition
   Fail : (errno : Errno) → Row
   -- nothing stopped the call: what changes, what it answers, and its own record if it leaves one
   Give : (changes : List Change) (answer : Answer) (own : Option Rec) → Row
+
+-- a check that is made only where it is asked for
+unfoldable pub need_if : Bool → Check → Row → Row
+need_if asked check rest = cond asked (Need check rest) rest
 
 -- who asks, and with which effective capabilities
 pub record Asker : Type 0 where
@@ -73,6 +79,7 @@ judged used end = record { used = used; end = end }
 -- the first item that stops, or else what is done, with the exercises before it added to those so far
 unfoldable pub judge : Asker → List Rec → Row → Judged
 judge a used (Need c rest) = cond (is_denied (verdict_of a c)) (judged used (Stopped c.name c.place)) (judge a (noted a c (verdict_of a c) used) rest)
+judge a used (Soft c granted weaker) = cond (is_denied (verdict_of a c)) (judge a used weaker) (judge a (noted a c (verdict_of a c) used) granted)
 judge a used (Refuse e holds rest) = cond holds (judged used (Refused e)) (judge a used rest)
 judge a used (Fail e) = judged used (Refused e)
 judge a used (Give changes answer own) = judged used (Done changes answer own)

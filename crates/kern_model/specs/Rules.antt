@@ -1,52 +1,92 @@
 -- The rules of the checks, and what stands behind a check that fails.
-use Rattle.std.specs.Prelude.{ℕ, ◌+◌, ◌==◌, ◌&&◌, ◌||◌, Bool, true, false, Option, Some, None, cond}
+use Rattle.std.specs.Prelude.{ℕ, ◌+◌, ◌==◌, ◌&&◌, ◌||◌, not, Bool, false, Option, Some, None, cond, unwrap_or}
 use Rattle.std.specs.List.{list_any}
 use Rattle.std.specs.Int.{bit_at}
+use Rattle.cap_bits.specs.CapSet.{no_caps, is_within, same_sets, union_of}
 use Rattle.cap_bits.specs.declared.cap.Cap.{Cap}
 use Rattle.cap_bits.specs.declared.cap.Cap.TheVariants as cap
+use Rattle.cap_bits.specs.declared.state.CapState.{CapState}
 use Rattle.lab_lattice.specs.Label.{Label, dominates}
-use Rattle.kern_model.specs.declared.numbers.Oid.{Oid}
-use Rattle.kern_model.specs.declared.numbers.Ids.{Ids}
-use Rattle.kern_model.specs.declared.objects.Attr.{Attr}
-use Rattle.kern_model.specs.declared.objects.Kind.{Kind}
-use Rattle.kern_model.specs.declared.objects.Kind.TheVariants.{Dir, File}
-use Rattle.kern_model.specs.declared.objects.Object.{Object}
-use Rattle.kern_model.specs.declared.objects.Process.{Process}
+use Rattle.kern_model.specs.declared.calls.Errno.{Errno}
+use Rattle.kern_model.specs.declared.calls.Errno.TheVariants as errno
 use Rattle.kern_model.specs.declared.checks.Check.{Check}
 use Rattle.kern_model.specs.declared.checks.CheckName.{CheckName}
 use Rattle.kern_model.specs.declared.checks.CheckName.TheVariants as check
 use Rattle.kern_model.specs.declared.checks.Place.{Place}
+use Rattle.kern_model.specs.declared.checks.Place.TheVariants.{Target, Caller}
 use Rattle.kern_model.specs.declared.checks.Thing.TheVariants as thing
 use Rattle.kern_model.specs.declared.checks.Want.{Want}
 use Rattle.kern_model.specs.declared.checks.Want.TheVariants as want
-use Rattle.kern_model.specs.declared.calls.Call.{Call}
-use Rattle.kern_model.specs.declared.calls.Call.TheVariants as call
-use Rattle.kern_model.specs.declared.calls.CallName.{CallName}
-use Rattle.kern_model.specs.declared.calls.CallName.TheVariants as name
-use Rattle.kern_model.specs.declared.calls.Errno.{Errno}
-use Rattle.kern_model.specs.declared.calls.Errno.TheVariants as errno
-use Rattle.kern_model.specs.State.{State, object_at}
-
-abbrev pub name_of : Call → CallName
-name_of (call.MacGetFile path) = name.MacGetFile
+use Rattle.kern_model.specs.declared.numbers.Ids.{Ids}
+use Rattle.kern_model.specs.declared.numbers.Oid.{Oid}
+use Rattle.kern_model.specs.declared.numbers.Pid.{Pid}
+use Rattle.kern_model.specs.declared.objects.Attr.{Attr}
+use Rattle.kern_model.specs.Maps.{any_entry}
+use Rattle.kern_model.specs.Keys.{Spot, same_oid}
+use Rattle.kern_model.specs.Kinds.{is_dir, is_file, has_set_id}
+use Rattle.kern_model.specs.State.{State, Process, object_at, root}
 
 -- the capability that lets a call go on where the rule of the check fails
 abbrev pub cap_of : CheckName → Option Cap
 cap_of check.MacRead = Some cap.MacRead
+cap_of check.MacWrite = Some cap.MacWrite
+cap_of check.LabelOrder = None
+cap_of check.MacUpgrade = Some cap.MacUpgrade
+cap_of check.MacDowngrade = Some cap.MacDowngrade
+cap_of check.MacSubject = Some cap.MacRelabelSubj
+cap_of check.DacRead = Some cap.DacReadSearch
 cap_of check.DacSearch = Some cap.DacReadSearch
+cap_of check.DacWrite = Some cap.DacWrite
+cap_of check.DacExecute = Some cap.DacExecute
+cap_of check.ExecKind = None
+cap_of check.Owner = Some cap.Fowner
+cap_of check.Chown = Some cap.Chown
+cap_of check.Setfcap = Some cap.Setfcap
+cap_of check.CapWithin = None
+cap_of check.CapGrow = None
+cap_of check.Setuid = None
+cap_of check.Setgid = None
+cap_of check.Kill = Some cap.Kill
+cap_of check.LinkDir = None
+cap_of check.UnlinkDir = None
+cap_of check.AudWrite = Some cap.AuditWrite
+cap_of check.AudSwitch = Some cap.AuditControl
+cap_of check.SetuidAll = Some cap.Setuid
+cap_of check.SetgidAll = Some cap.Setgid
+cap_of check.Fsetid = Some cap.Fsetid
 
--- what a call answers that the check denied
-abbrev pub errno_of : CheckName → Errno
-errno_of check.MacRead = errno.EACCES
-errno_of check.DacSearch = errno.EACCES
+-- what a call answers that the check denied; a soft check denies nothing
+abbrev pub errno_of : CheckName → Option Errno
+errno_of check.MacRead = Some errno.EACCES
+errno_of check.MacWrite = Some errno.EACCES
+errno_of check.LabelOrder = Some errno.EPERM
+errno_of check.MacUpgrade = Some errno.EPERM
+errno_of check.MacDowngrade = Some errno.EPERM
+errno_of check.MacSubject = Some errno.EPERM
+errno_of check.DacRead = Some errno.EACCES
+errno_of check.DacSearch = Some errno.EACCES
+errno_of check.DacWrite = Some errno.EACCES
+errno_of check.DacExecute = Some errno.EACCES
+errno_of check.ExecKind = Some errno.EACCES
+errno_of check.Owner = Some errno.EPERM
+errno_of check.Chown = Some errno.EPERM
+errno_of check.Setfcap = Some errno.EPERM
+errno_of check.CapWithin = Some errno.EPERM
+errno_of check.CapGrow = Some errno.EPERM
+errno_of check.Setuid = Some errno.EPERM
+errno_of check.Setgid = Some errno.EPERM
+errno_of check.Kill = Some errno.EPERM
+errno_of check.LinkDir = Some errno.EPERM
+errno_of check.UnlinkDir = Some errno.EPERM
+errno_of check.AudWrite = Some errno.EPERM
+errno_of check.AudSwitch = Some errno.EPERM
+errno_of check.SetuidAll = None
+errno_of check.SetgidAll = None
+errno_of check.Fsetid = None
 
-abbrev pub is_dir : Kind → Bool
-is_dir Dir = true
-is_dir _ = false
-
-abbrev pub is_file : Kind → Bool
-is_file File = true
-is_file _ = false
+-- the error of a denial; no row asks that of a soft check
+abbrev pub denial_of : CheckName → Errno
+denial_of name = unwrap_or (errno_of name) errno.EPERM
 
 -- whether two labels are equal
 abbrev pub same_label : Label → Label → Bool
@@ -74,13 +114,149 @@ mode_allows attr ids w = bit_at attr.mode (class_shift attr ids + want_bit w) ==
 
 -- ---- checks of an object, with its present label
 
-abbrev pub on_object : CheckName → Bool → Oid → Object → Place → Check
-on_object name holds id o place = record { name = name; holds = holds; thing = thing.Object id; thing_label = o.label; new_label = None; place = place }
+abbrev pub on_object : State → CheckName → Bool → Option Label → Oid → Place → Check
+on_object s name holds new id place = record { name = name; holds = holds; thing = thing.Object id; thing_label = (object_at s id).label; new_label = new; place = place }
 
--- mac_read: the caller's label dominates the object's
+-- the caller's label dominates the object's
 abbrev pub mac_read : State → Process → Oid → Place → Check
-mac_read s p id place = on_object check.MacRead (dominates p.label (object_at s id).label) id (object_at s id) place
+mac_read s p id place = on_object s check.MacRead (dominates p.label (object_at s id).label) None id place
 
--- dac_search: the class has the execute bit of the directory
+-- the caller's label is the object's
+abbrev pub mac_write : State → Process → Oid → Place → Check
+mac_write s p id place = on_object s check.MacWrite (same_label p.label (object_at s id).label) None id place
+
+-- of a directory in which an object is made: the caller's label dominates the directory's
+abbrev pub created_order : State → Process → Oid → Place → Check
+created_order s p dir place = on_object s check.LabelOrder (dominates p.label (object_at s dir).label) None dir place
+
+-- of a directory that gets an entry for an object: the object's label dominates the directory's
+abbrev pub held_order : State → Oid → Oid → Place → Check
+held_order s id dir place = on_object s check.LabelOrder (dominates (object_at s id).label (object_at s dir).label) None dir place
+
+-- whether a label dominates that of each directory that holds an object
+unfoldable pub is_above_holders : State → Oid → Label → Bool
+is_above_holders s id label = not (any_entry (λ (spot : Spot) at. same_oid at id && not (dominates label (object_at s spot.0).label)) s.entries)
+
+-- of an object that gets a label: it dominates that of each directory that holds the object, and the object is not the root
+abbrev pub relabelled_order : State → Oid → Label → Place → Check
+relabelled_order s id new place = on_object s check.LabelOrder (is_above_holders s id new && not (same_oid id root)) None id place
+
+-- an object gets a label that dominates its own
+abbrev pub mac_upgrade : State → Oid → Label → Place → Check
+mac_upgrade s id new place = on_object s check.MacUpgrade false (Some new) id place
+
+-- an object gets a label that does not dominate its own
+abbrev pub mac_downgrade : State → Oid → Label → Place → Check
+mac_downgrade s id new place = on_object s check.MacDowngrade false (Some new) id place
+
+-- the class has the read bit
+abbrev pub dac_read : State → Process → Oid → Place → Check
+dac_read s p id place = on_object s check.DacRead (mode_allows (object_at s id).attr p.ids want.Read) None id place
+
+-- the class has the execute bit of the directory
 abbrev pub dac_search : State → Process → Oid → Place → Check
-dac_search s p id place = on_object check.DacSearch (mode_allows (object_at s id).attr p.ids want.Execute) id (object_at s id) place
+dac_search s p id place = on_object s check.DacSearch (mode_allows (object_at s id).attr p.ids want.Execute) None id place
+
+-- the class has the write bit
+abbrev pub dac_write : State → Process → Oid → Place → Check
+dac_write s p id place = on_object s check.DacWrite (mode_allows (object_at s id).attr p.ids want.Write) None id place
+
+-- the class has the execute bit of the file
+abbrev pub dac_execute : State → Process → Oid → Place → Check
+dac_execute s p id place = on_object s check.DacExecute (mode_allows (object_at s id).attr p.ids want.Execute) None id place
+
+-- the object is a regular file
+abbrev pub exec_kind : State → Oid → Place → Check
+exec_kind s id place = on_object s check.ExecKind (is_file (object_at s id).kind) None id place
+
+-- the effective user is the owner
+abbrev pub is_owner : State → Process → Oid → Bool
+is_owner s p id = p.ids.euid == (object_at s id).attr.owner
+
+abbrev pub owner : State → Process → Oid → Place → Check
+owner s p id place = on_object s check.Owner (is_owner s p id) None id place
+
+-- the owner stays, the effective user is the owner, and the new group is the effective or a supplementary one
+abbrev pub chown_rule : State → Process → Oid → ℕ → ℕ → Place → Check
+chown_rule s p id user group place = on_object s check.Chown (user == (object_at s id).attr.owner && is_owner s p id && is_member p.ids group) None id place
+
+-- the sets of a file are set
+abbrev pub setfcap : State → Oid → Place → Check
+setfcap s id place = on_object s check.Setfcap false None id place
+
+-- the object is no directory
+abbrev pub link_dir : State → Oid → Place → Check
+link_dir s id place = on_object s check.LinkDir (not (is_dir (object_at s id).kind)) None id place
+
+abbrev pub unlink_dir : State → Oid → Place → Check
+unlink_dir s id place = on_object s check.UnlinkDir (not (is_dir (object_at s id).kind)) None id place
+
+-- ---- soft checks of an object: whether nothing has to be cleared
+
+abbrev pub fsetid : State → Bool → Oid → Place → Check
+fsetid s holds id place = on_object s check.Fsetid holds None id place
+
+-- whether a capability state has no capability in any set
+abbrev pub has_no_caps : CapState → Bool
+has_no_caps caps = same_sets caps.e no_caps && same_sets caps.i no_caps && same_sets caps.p no_caps
+
+-- of a file whose content changes: it has no set-id bit and no capabilities
+abbrev pub is_plain : Attr → Bool
+is_plain attr = not (has_set_id attr.mode) && has_no_caps attr.caps
+
+-- ---- checks of a process
+
+abbrev pub on_process : CheckName → Bool → Option Label → Pid → Label → Place → Check
+on_process name holds new who label place = record { name = name; holds = holds; thing = thing.Process who; thing_label = label; new_label = new; place = place }
+
+-- of a named process, with the label that is checked: it is the caller's
+abbrev pub mac_write_process : Process → Pid → Label → Check
+mac_write_process p who label = on_process check.MacWrite (same_label p.label label) None who label Target
+
+-- the sender's real or effective user is the receiver's real or saved one
+abbrev pub kill_rule : Process → Pid → Process → Check
+kill_rule p who target = on_process check.Kill (p.ids.ruid == target.ids.ruid || p.ids.ruid == target.ids.suid || p.ids.euid == target.ids.ruid || p.ids.euid == target.ids.suid) None who target.label Target
+
+-- ---- checks of the caller itself
+
+abbrev pub on_caller : CheckName → Bool → Option Label → Pid → Process → Check
+on_caller name holds new who p = on_process name holds new who p.label Caller
+
+-- the caller gets another label
+abbrev pub mac_subject : Pid → Process → Label → Check
+mac_subject who p new = on_caller check.MacSubject false (Some new) who p
+
+-- each flag that is asked for is on a permitted capability of the caller
+abbrev pub cap_within : Pid → Process → CapState → Check
+cap_within who p caps = on_caller check.CapWithin (is_within caps.e p.caps.p && is_within caps.i p.caps.p && is_within caps.p p.caps.p) None who p
+
+-- whether a state can be had from another: what is permitted was, what is effective is permitted, what is inheritable was inheritable or permitted
+abbrev pub may_become : CapState → CapState → Bool
+may_become old new = is_within new.p old.p && is_within new.e new.p && is_within new.i (union_of old.i old.p)
+
+abbrev pub cap_grow : Pid → Process → CapState → Check
+cap_grow who p caps = on_caller check.CapGrow (may_become p.caps caps) None who p
+
+-- the user is the real or the saved one
+abbrev pub setuid_rule : Pid → Process → ℕ → Check
+setuid_rule who p user = on_caller check.Setuid (user == p.ids.ruid || user == p.ids.suid) None who p
+
+-- the group is the real or the saved one
+abbrev pub setgid_rule : Pid → Process → ℕ → Check
+setgid_rule who p group = on_caller check.Setgid (group == p.ids.rgid || group == p.ids.sgid) None who p
+
+-- soft: real, effective and saved user are the one asked for
+abbrev pub setuid_all : Pid → Process → ℕ → Check
+setuid_all who p user = on_caller check.SetuidAll (p.ids.ruid == user && p.ids.euid == user && p.ids.suid == user) None who p
+
+-- soft: real, effective and saved group are the one asked for
+abbrev pub setgid_all : Pid → Process → ℕ → Check
+setgid_all who p group = on_caller check.SetgidAll (p.ids.rgid == group && p.ids.egid == group && p.ids.sgid == group) None who p
+
+-- a note is left
+abbrev pub aud_write_rule : Pid → Process → Check
+aud_write_rule who p = on_caller check.AudWrite false None who p
+
+-- the audit switch is set
+abbrev pub aud_switch_rule : Pid → Process → Check
+aud_switch_rule who p = on_caller check.AudSwitch false None who p

@@ -1,27 +1,59 @@
 -- The state of the kernel, and the single changes that are made to it.
-use Rattle.std.specs.Prelude.{ℕ, List, [], ◌∷◌, Option}
-use Rattle.std.specs.FinMap as map
-use Rattle.std.specs.FinMap.{FinMap}
+use Rattle.std.specs.Prelude.{ℕ, ◌+◌, Bool, List, [], ◌∷◌, Option}
+use Rattle.std.specs.Ordering.{nat_cmp}
+use Rattle.fin_maps.specs.FinMap as map
+use Rattle.fin_maps.specs.FinMap.{FinMap}
 use Rattle.cap_bits.specs.CapSet.{CapSet}
+use Rattle.cap_bits.specs.declared.state.CapState.{CapState}
 use Rattle.cap_bits.specs.State.{no_flags}
 use Rattle.fs_path.specs.Name.{Name}
 use Rattle.lab_lattice.specs.Label.{Label, label_cmp, bottom}
+use Rattle.kern_model.specs.declared.calls.Ending.{Ending}
 use Rattle.kern_model.specs.declared.numbers.Pid.{Pid}
 use Rattle.kern_model.specs.declared.numbers.Oid.{Oid}
+use Rattle.kern_model.specs.declared.numbers.Did.{Did}
+use Rattle.kern_model.specs.declared.numbers.Ids.{Ids}
 use Rattle.kern_model.specs.declared.objects.Object.{Object}
 use Rattle.kern_model.specs.declared.objects.Kind.TheVariants.{File}
-use Rattle.kern_model.specs.declared.objects.Process.{Process}
 use Rattle.kern_model.specs.Maps.{get_or}
-use Rattle.kern_model.specs.Keys.{oid_cmp, pid_cmp, spot_cmp, Spot}
+use Rattle.kern_model.specs.Keys.{oid_cmp, pid_cmp, did_cmp, spot_cmp, Spot}
+
+-- a living process
+pub record Process : Type 0 where
+  pub ids : Ids
+  -- its present label
+  pub label : Label
+  pub caps : CapState
+  -- the bits that a new object does not get
+  pub umask : ℕ
+  -- the current directory
+  pub cwd : Oid
+  -- the audit switch: whether a denial leaves a record
+  pub audited : Bool
+  pub parent : Option Pid
+  -- its children that ended and were not awaited yet, the first to end first
+  pub ended : List (Pid × Ending)
+  -- the descriptions behind its descriptors
+  pub fds : FinMap nat_cmp Did
+
+-- an open description, which descriptors share: the object, what it is open for, and where it stands in a file
+pub record Description : Type 0 where
+  pub object : Oid
+  pub reads : Bool
+  pub writes : Bool
+  pub appends : Bool
+  pub offset : ℕ
 
 pub record State : Type 0 where
   pub objects : FinMap oid_cmp Object
   -- where the names in each directory lead: this is what a directory contains
   pub entries : FinMap spot_cmp Oid
   pub procs : FinMap pid_cmp Process
+  pub descriptions : FinMap did_cmp Description
   -- the last number drawn of each label
   pub object_numbers : FinMap label_cmp ℕ
   pub process_numbers : FinMap label_cmp ℕ
+  pub description_numbers : FinMap label_cmp ℕ
   -- the bound of capabilities over exec
   pub bound : CapSet
   -- the label that dominates all others
@@ -31,16 +63,26 @@ pub record State : Type 0 where
 pub data Change : Type 0 where
   SetObject : (id : Oid) (object : Object) → Change
   SetEntry : (spot : Spot) (id : Oid) → Change
+  DropEntry : (spot : Spot) → Change
   SetProcess : (who : Pid) (process : Process) → Change
+  DropProcess : (who : Pid) → Change
+  SetDescription : (did : Did) (description : Description) → Change
+  DropDescription : (did : Did) → Change
   DrawObject : (label : Label) (n : ℕ) → Change
   DrawProcess : (label : Label) (n : ℕ) → Change
+  DrawDescription : (label : Label) (n : ℕ) → Change
 
 abbrev pub changed : State → Change → State
 changed s (SetObject id o) = record s { objects = map.insert s.objects id o }
 changed s (SetEntry spot id) = record s { entries = map.insert s.entries spot id }
+changed s (DropEntry spot) = record s { entries = map.remove s.entries spot }
 changed s (SetProcess who p) = record s { procs = map.insert s.procs who p }
+changed s (DropProcess who) = record s { procs = map.remove s.procs who }
+changed s (SetDescription did d) = record s { descriptions = map.insert s.descriptions did d }
+changed s (DropDescription did) = record s { descriptions = map.remove s.descriptions did }
 changed s (DrawObject l n) = record s { object_numbers = map.insert s.object_numbers l n }
 changed s (DrawProcess l n) = record s { process_numbers = map.insert s.process_numbers l n }
+changed s (DrawDescription l n) = record s { description_numbers = map.insert s.description_numbers l n }
 
 -- the changes, one after another
 abbrev pub changed_by : State → List Change → State
@@ -62,6 +104,18 @@ object_at s id = get_or s.objects id (stub_object s.top)
 -- the last number drawn of a label
 abbrev pub drawn : FinMap label_cmp ℕ → Label → ℕ
 drawn numbers l = get_or numbers l 0
+
+-- the next number of an object at a label
+abbrev pub next_object : State → Label → Oid
+next_object s l = record { label = l; n = drawn s.object_numbers l + 1 }
+
+-- the next number of a process at a label
+abbrev pub next_process : State → Label → Pid
+next_process s l = record { label = l; n = drawn s.process_numbers l + 1 }
+
+-- the next number of a description at a label
+abbrev pub next_description : State → Label → Did
+next_description s l = record { label = l; n = drawn s.description_numbers l + 1 }
 
 -- where an entry of a directory leads
 abbrev pub look : State → Oid → Name → Option Oid

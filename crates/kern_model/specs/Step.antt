@@ -1,18 +1,19 @@
 -- One call of one process on one state: the new state, the reply and the records.
-use Rattle.std.specs.Prelude.{List, [], ◌∷◌, ◌++◌, Option, Some, None, cond}
+use Rattle.std.specs.Prelude.{◌≡◌, List, [], ◌∷◌, ◌++◌, Option, Some, None, cond}
 use Rattle.std.specs.Option.{option_to_list}
-use Rattle.std.specs.FinMap as map
+use Rattle.fin_maps.specs.FinMap as map
 use Rattle.kern_model.specs.declared.numbers.Pid.{Pid}
-use Rattle.kern_model.specs.declared.objects.Process.{Process}
 use Rattle.kern_model.specs.declared.calls.Call.{Call}
 use Rattle.kern_model.specs.declared.calls.CallName.{CallName}
 use Rattle.kern_model.specs.declared.calls.Errno.TheVariants as errno
 use Rattle.kern_model.specs.declared.calls.Reply.{Reply}
 use Rattle.kern_model.specs.declared.calls.Reply.TheVariants as reply
+use Rattle.kern_model.specs.declared.records.Outcome as declared
 use Rattle.kern_model.specs.declared.records.Rec.{Rec}
 use Rattle.kern_model.specs.declared.records.Rec.TheVariants as rec
-use Rattle.kern_model.specs.State.{State, changed_by}
-use Rattle.kern_model.specs.Rules.{errno_of, name_of}
+use Rattle.kern_model.specs.State.{State, Process, Change, changed_by}
+use Rattle.kern_model.specs.Names.{name_of}
+use Rattle.kern_model.specs.Rules.{denial_of}
 use Rattle.kern_model.specs.Row.{Asker, Judged, End, Stopped, Refused, Done, judge}
 use Rattle.kern_model.specs.Table.{row}
 
@@ -25,19 +26,22 @@ abbrev pub asker : Pid → Process → Asker
 asker who p = record { who = who; label = p.label; effective = p.caps.e }
 
 abbrev pub reply_of : End → Reply
-reply_of (Stopped name place) = reply.Denied (errno_of name) name place
+reply_of (Stopped name place) = reply.Denied (denial_of name) name place
 reply_of (Refused e) = reply.Refused e
 reply_of (Done changes answer own) = reply.Done answer
 
--- a call that stopped leaves the state as it was
+-- a call that stopped changes nothing
+abbrev pub changes_of : End → List Change
+changes_of (Stopped name place) = []
+changes_of (Refused e) = []
+changes_of (Done changes answer own) = changes
+
 abbrev pub state_after : State → End → State
-state_after s (Stopped name place) = s
-state_after s (Refused e) = s
-state_after s (Done changes answer own) = changed_by s changes
+state_after s e = changed_by s (changes_of e)
 
 -- what a call leaves behind its exercises: a deny record where a check stopped it and the caller's switch is on, or its own record where it is done
 abbrev pub own_of : Pid → Process → CallName → End → List Rec
-own_of who p name (Stopped check place) = cond p.audited (rec.Deny who name (errno_of check) check place ∷ []) []
+own_of who p name (Stopped check place) = cond p.audited (rec.Deny who name (denial_of check) check place ∷ []) []
 own_of who p name (Refused e) = []
 own_of who p name (Done changes answer own) = option_to_list own
 
@@ -51,3 +55,7 @@ step_by s who call (Some p) = settled s who p (name_of call) (judge (asker who p
 
 unfoldable pub step : State → Pid → Call → Outcome
 step s who call = step_by s who call (map.get s.procs who)
+
+-- what was told and left is what the call table says, and so is the new state
+abbrev pub IsPlayed : State → Pid → Call → declared.Outcome → State → Type 0
+IsPlayed s who call told t = step s who call ≡ record { state = t; reply = told.reply; recs = told.recs }

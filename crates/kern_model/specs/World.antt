@@ -1,17 +1,19 @@
 -- What holds of every world that is accepted.
-use Rattle.std.specs.Prelude.{◌≡◌, ℕ, ◌≤◌, ◌==◌, Bool, true, false, List, [], ◌∷◌, ◌++◌, Option, Some, None, cond, count_by}
-use Rattle.std.specs.List.{AllByRecursion}
+use Rattle.std.specs.Prelude.{◌≡◌, ℕ, ◌≤◌, ◌==◌, Bool, true, false, List, [], ◌∷◌, ◌++◌, Option, Some, None, count_by, length}
+use Rattle.std.specs.List.{AllByRecursion, find}
 use Rattle.std.specs.Cmp.Lexicographic.{pointwise}
 use Rattle.cap_bits.specs.CapSet.{is_within}
 use Rattle.cap_bits.specs.State.{no_flags}
 use Rattle.fs_path.specs.Name.{Name}
 use Rattle.lab_lattice.specs.Label.{Label, bottom, dominates}
+use Rattle.kern_model.specs.declared.numbers.Ids.{Ids}
 use Rattle.kern_model.specs.declared.objects.Body.TheVariants as body
 use Rattle.kern_model.specs.declared.world.World.{World}
 use Rattle.kern_model.specs.declared.world.WorldObject.{WorldObject}
 use Rattle.kern_model.specs.declared.world.WorldProc.{WorldProc}
-use Rattle.kern_model.specs.Rules.{is_file, same_label}
-use Rattle.kern_model.specs.Boot.{kind_of}
+use Rattle.kern_model.specs.Arguments.{is_path}
+use Rattle.kern_model.specs.Kinds.{is_file, kind_of, bytes_of, is_mode}
+use Rattle.kern_model.specs.Rules.{same_label}
 
 -- how many objects have a label
 abbrev pub objects_at : Label → List WorldObject → ℕ
@@ -38,8 +40,7 @@ parent_names (name ∷ next ∷ names) = name ∷ parent_names (next ∷ names)
 
 -- the first of these objects whose path has these names
 abbrev pub given : List WorldObject → List Name → Option WorldObject
-given [] names = None
-given (o ∷ os) names = cond (same_names o.path.names names) (Some o) (given os names)
+given os names = find (λ (o : WorldObject). same_names o.path.names names) os
 
 -- an object may stand behind others: its path was not given, its directory was, and its label dominates the directory's
 pub record IsPlaced (before : List WorldObject) (o : WorldObject) : Type 0 where
@@ -54,8 +55,32 @@ abbrev pub ArePlaced : List WorldObject → List WorldObject → Type 0
 ArePlaced before [] = Unit {0}
 ArePlaced before (o ∷ os) = IsPlaced before o × ArePlaced (before ++ o ∷ []) os
 
+-- an object of a world has an absolute path, a mode, a label below top, and at most 65,536 bytes; it is no pipe, and has no capabilities unless it is a file
+pub record IsWorldObject (top : Label) (o : WorldObject) : Type 0 where
+  pub absolute : o.path.absolute ≡ true
+  pub path : is_path o.path ≡ true
+  pub mode : is_mode o.attr.mode ≡ true
+  pub below : dominates top o.label ≡ true
+  pub few : length (bytes_of o.body) ≤ 65536
+  pub no_pipe : o.body ≡ body.Pipe → ⊥
+  pub only_file : is_file (kind_of o.body) ≡ false → o.attr.caps ≡ no_flags
+
+-- real, effective and saved user are one, and so are the groups
+pub record AreOne (ids : Ids) : Type 0 where
+  pub ruid : ids.ruid ≡ ids.euid
+  pub suid : ids.suid ≡ ids.euid
+  pub rgid : ids.rgid ≡ ids.egid
+  pub sgid : ids.sgid ≡ ids.egid
+
+-- a process of a world has one user and one group, at most 16 groups besides, a label below top, and no effective capability that is not permitted
+pub record IsWorldProc (top : Label) (p : WorldProc) : Type 0 where
+  pub ids : AreOne p.ids
+  pub few : length p.ids.groups ≤ 16
+  pub below : dominates top p.label ≡ true
+  pub within : is_within p.caps.e p.caps.p ≡ true
+
 -- the first object of a world is its root, a directory of the bottom label, and each other one stands in a directory that was
--- given before it. Top dominates every label; only a file has capabilities, and what is effective in a process is permitted.
+-- given before it; each object and each process is as it has to be, and there are numbers for all of them
 pub record IsWorld (w : World) : Type 0 where
   pub first : WorldObject
   pub others : List WorldObject
@@ -64,7 +89,6 @@ pub record IsWorld (w : World) : Type 0 where
   pub root_body : first.body ≡ body.Dir
   pub root_label : first.label ≡ bottom
   pub others_placed : ArePlaced (first ∷ []) others
-  pub objects_below : AllByRecursion (λ (o : WorldObject). dominates w.top o.label ≡ true) w.objects
-  pub procs_below : AllByRecursion (λ (p : WorldProc). dominates w.top p.label ≡ true) w.procs
-  pub only_files : AllByRecursion (λ (o : WorldObject). is_file (kind_of o.body) ≡ false → o.attr.caps ≡ no_flags) w.objects
-  pub within : AllByRecursion (λ (p : WorldProc). is_within p.caps.e p.caps.p ≡ true) w.procs
+  pub objects : AllByRecursion (IsWorldObject w.top) w.objects
+  pub procs : AllByRecursion (IsWorldProc w.top) w.procs
+  pub room : HasRoom w

@@ -4,15 +4,25 @@
 
 mod calls;
 mod checks;
+mod kernel;
 mod numbers;
 mod objects;
 mod records;
+#[cfg(test)]
+mod tests;
+mod valid;
+mod words;
 mod world;
 
-pub use calls::{Answer, Call, CallName, Errno, Reply};
+pub use calls::{Answer, Call, CallName, Ending, Errno, OpenFlags, Reply, Signal, Whence};
 pub use checks::{Check, CheckName, Place, Thing, Verdict, Want};
 pub use fs_path::{ByteList, List, Name, NameList, NoMemory, Path};
-pub use numbers::{Gid, GroupList, Ids, Mode, Oid, Pid, Uid};
-pub use objects::{Attr, Body, Kind, Object, Process};
+pub use kernel::Calls;
+pub use numbers::{Did, Fd, Gid, GroupList, Ids, Mode, Oid, Pid, Uid};
+pub use objects::{Attr, Body, Kind, Object, StatAnswer};
 pub use records::{Outcome, Rec, RecList};
-pub use world::{ObjectList, ProcList, ScriptItem, World, WorldObject, WorldProc};
+pub use valid::world_valid;
+pub use words::{put_ending, put_place};
+pub use world::{
+    CallList, ObjectList, PidList, ProcList, ScriptItem, World, WorldObject, WorldProc,
+};

@@ -1,4 +1,4 @@
-// Numbers of processes and objects, of users and groups.
+// Numbers of processes, objects and open descriptions, of users and groups.
 use fs_path::List;
 use lab_lattice::Label;
 
@@ -16,11 +16,21 @@ pub struct Oid {
     pub n: u16,
 }
 
+/// The number of an open description: the label that it was drawn at, and the count of its draw from 1 on.
+#[derive(Clone, Copy, Debug, PartialEq, Eq, PartialOrd, Ord)]
+pub struct Did {
+    pub label: Label,
+    pub n: u16,
+}
+
 /// The number of a user. User 0 has no privilege of its own.
 pub type Uid = u32;
 
 /// The number of a group.
 pub type Gid = u32;
+
+/// The number of a descriptor in its process, from 0 to 31.
+pub type Fd = u32;
 
 /// Supplementary groups.
 pub type GroupList = List<Gid>;

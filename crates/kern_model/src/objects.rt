@@ -1,5 +1,5 @@
-// Objects and processes.
-use crate::{Gid, Ids, Mode, Oid, Uid};
+// Objects, and what is told of them.
+use crate::{Gid, Mode, Oid, Uid};
 use cap_bits::CapState;
 use fs_path::ByteList;
 use lab_lattice::Label;
@@ -31,7 +31,8 @@ pub enum Body {
     Pipe,
 }
 
-/// An object with its present label. The bytes are a file's content; entries of a directory stand in the state.
+/// An object with its present label. The bytes are the content of a file, or those that wait in a pipe or FIFO;
+/// entries of a directory stand in the state.
 #[derive(Debug, Drop)]
 pub struct Object {
     pub kind: Kind,
@@ -40,13 +41,18 @@ pub struct Object {
     pub bytes: ByteList,
 }
 
-/// A living process with its present label, its capability sets and its current directory.
-#[derive(Debug, Drop)]
-pub struct Process {
-    pub ids: Ids,
+/// What `stat` and `fstat` tell of an object.
+#[derive(Clone, Copy, Debug, PartialEq, Eq)]
+pub struct StatAnswer {
+    pub kind: Kind,
+    pub mode: Mode,
+    pub owner: Uid,
+    pub group: Gid,
+    /// Bytes, or entries of a directory.
+    pub size: u64,
+    /// Names of a file or FIFO; 1 for a directory and 0 for a pipe.
+    pub names: u32,
+    pub id: Oid,
+    /// The present label.
     pub label: Label,
-    pub caps: CapState,
-    pub cwd: Oid,
-    /// The audit switch: whether a denial leaves a record.
-    pub audited: bool,
 }

@@ -1,7 +1,7 @@
 // A world as it is described, and the items of a script.
 use crate::{Attr, Body, Call, Ids, Pid};
 use cap_bits::{CapSet, CapState};
-use fs_path::{List, Path};
+use fs_path::{ByteList, List, Path};
 use lab_lattice::Label;
 
 /// An object of a world: its path, and what stands there.
@@ -27,6 +27,12 @@ pub type ObjectList = List<WorldObject>;
 /// Processes of a world.
 pub type ProcList = List<WorldProc>;
 
+/// Numbers of processes.
+pub type PidList = List<Pid>;
+
+/// Calls.
+pub type CallList = List<Call>;
+
 /// What a run starts from: the highest label, the bound of capabilities over exec, and objects and processes in the
 /// order of their lines.
 #[derive(Debug, Drop)]
@@ -37,9 +43,10 @@ pub struct World {
     pub procs: ProcList,
 }
 
-/// One line of a script: who calls, and what.
+/// One call of a script: who calls, the word or words that the reply shows, and what is called.
 #[derive(Debug, Drop)]
 pub struct ScriptItem {
     pub who: Pid,
+    pub head: ByteList,
     pub call: Call,
 }

@@ -4,3 +4,4 @@ pub mod Text
 pub mod Scan
 pub mod Made
 pub mod Said
+pub mod Numbered

@@ -1,6 +1,6 @@
 -- What texts say, and that a label's text says that label.
 use Rattle.std.specs.Prelude.{◌≡◌, ℕ, ◌+◌, ◌-◌, ◌≤◌, ◌<◌, Bool, true, false, not, ◌&&◌, ◌||◌, nat_eq, nat_le, nat_lt, cond, List, [], ◌∷◌, ◌++◌, length, take, drop, get_or, Option, None, Some, option_and_then, is_some, refl, zero, suc}
-use Rattle.std.specs.FinSet as set
+use Rattle.fin_maps.specs.FinSet as set
 use Rattle.std.specs.List.{list_all, list_any, slice_split, position_or_len, range_with_len, All}
 use Rattle.std.specs.Option.{option_map}
 use Rattle.std.proofs.Common.{ap, sym, ◌∙◌, arith, inl, inr}

@@ -2,6 +2,7 @@
 #![tactic(auto)]
 
 mod names;
+mod numbered;
 mod policy;
 mod scan;
 #[cfg(test)]
@@ -9,6 +10,7 @@ mod tests;
 mod text;
 mod word;
 
+pub use numbered::put_numbered;
 pub use policy::{Policy, PolicyError, are_label_names, bottom, mac_valid, top};
 pub use std::alloc::AllocError as NoMemory;
 pub use text::{LabelError, mac_from_text, mac_to_text};

@@ -1,29 +1,87 @@
--- What an input's accepted world is.
-use Rattle.std.proofs.Common.{◌≡◌, ℕ, Bool, true, false, cond, List, length, take, refl, subst, Some}
-use Rattle.std.specs.Prelude.{nat_lt}
+-- What an input's accepted world and its script are.
+use Rattle.std.proofs.Common.{◌≡◌, ℕ, ◌+◌, Bool, true, false, cond, List, [], ◌∷◌, length, take, refl, sym, ◌∙◌, ap, subst, Some}
+use Rattle.std.specs.Prelude.{nat_lt, Result, Ok, Err}
+use Rattle.std.proofs.lemmas.Bool.{and_from}
+use Rattle.lab_lattice.specs.Label.{Label}
+use Rattle.lab_text.specs.Policy.{PolicyNames, top_of}
+use Rattle.kern_model.specs.Arguments.{is_call, is_number, is_script}
 use Rattle.kern_model.specs.World.{IsWorld}
+use Rattle.kern_model.specs.declared.calls.Call.{Call}
+use Rattle.kern_model.specs.declared.numbers.Pid.{Pid}
+use Rattle.kern_model.specs.declared.calls.Call.TheVariants as call
+use Rattle.kern_core.specs.Built.{is_built}
+use Rattle.iso_laws.specs.LawCalls.{has_laws, have_laws}
+use Rattle.script_text.specs.declared.line.Line.{Line}
+use Rattle.script_text.specs.declared.line.Line.TheVariants as line
+use Rattle.script_text.specs.declared.fault.LineError.{LineError}
+use Rattle.script_text.specs.Line.{line_said}
+use Rattle.script_text.specs.LineLaws.{said_played}
 use Rattle.world_text.specs.declared.world.WorldText.{WorldText}
-use Rattle.world_text.specs.Accepted.{accepted_world}
+use Rattle.world_text.specs.Accepted.{accepted_world, accepted_top}
 use Rattle.world_text.specs.Reading.{Reading, Accepted, Refused as Stopped, Ended, read_text}
 use Rattle.labsys.specs.declared.status.Ending.TheVariants.{Refused}
 use Rattle.labsys.specs.declared.status.Part.TheVariants as part
 use Rattle.labsys.specs.declared.status.Refusal.TheVariants as refusal
-use Rattle.labsys.specs.Input.{Input, no_world, script_from, has_fifo, of_world, input_by, input_of}
+use Rattle.labsys.specs.Input.{Accepted as AcceptedWorld, Script, Input, no_world, script, item_of, after_line, script_from, has_fifo, of_world, input_by, input_of}
+
+-- ---- scripts
+
+-- each call of a script may be made, and has laws
+pub record MayBePlayed (top : Label) (s : Script) : Type 0 where
+  pub arguments : is_script top s.items ≡ true
+  pub laws : have_laws s.items ≡ true
+
+-- the calls that are built have laws
+built_laws : (c : Call) → is_built c ≡ true → has_laws c ≡ true
+built_laws (call.MacGetFile path) h = refl
+built_laws call.CapGetProc h = refl
+built_laws (call.CapSetProc caps) h = refl
+built_laws c h = absurd (cc)
+
+module _ (policy : PolicyNames) where
+  by_built : (who : Pid) (c : Call) (n : ℕ) (more : Script) → (is_number (top_of policy) who ≡ true) × (is_call (top_of policy) c ≡ true) → (b : Bool) → is_built c ≡ b → MayBePlayed (top_of policy) more
+      → MayBePlayed (top_of policy) (cond b (script (item_of who c ∷ more.items) more.ending) (script [] (Refused n part.Script refusal.NotBuilt)))
+  by_built who c n more fit true built rest = record { arguments = and_from _ _ (and_from _ _ fit.0 fit.1) rest.arguments; laws = and_from _ _ (built_laws c built) rest.laws }
+  by_built who c n more fit false built rest = record { arguments = refl; laws = refl }
+
+  after_played : (text : List ℕ) (said : Result Line LineError) → line_said policy text ≡ said → (n : ℕ) (more : Script) → MayBePlayed (top_of policy) more → MayBePlayed (top_of policy) (after_line said n more)
+  after_played text (Err e) is n more rest = record { arguments = refl; laws = refl }
+  after_played text (Ok line.Blank) is n more rest = rest
+  after_played text (Ok (line.One who c)) is n more rest = by_built who c n more (said_played policy text (line.One who c) is) (is_built c) refl rest
+
+  script_played : (over : Bool) (n : ℕ) (ls : List (List ℕ)) → MayBePlayed (top_of policy) (script_from over policy n ls)
+  unfolding script_from
+  script_played over n [] = record { arguments = refl; laws = refl }
+  script_played over n (last ∷ []) = record { arguments = refl; laws = refl }
+  script_played over n (text ∷ next ∷ ls) = after_played text (line_said policy text) refl n _ (script_played over (n + 1) (next ∷ ls))
+
+-- ---- inputs
+
+-- an accepted world is one, and its script may be played
+pub record IsPlayable (a : AcceptedWorld) (s : Script) : Type 0 where
+  pub world : IsWorld a.world
+  pub script : MayBePlayed a.world.top s
 
 same_some : (w a : WorldText) → Some w ≡ Some a → w ≡ a
 same_some w a e = cc
 
-kept_world : (over : Bool) (w : WorldText) (n : ℕ) (ls : List (List ℕ)) (a : WorldText) → (of_world over w n ls).accepted ≡ Some a → w ≡ a
-kept_world over w n ls a =
-    elim (has_fifo w.world) as (λ b. Input.accepted (cond b (no_world (Refused 0 part.World refusal.NotBuilt)) (record { accepted = Some w; script = script_from over w.policy n ls })) ≡ Some a → w ≡ a)
-    [ true ↦ λ e. absurd (cc) | false ↦ λ e. same_some w a e ]
+module _ (over : Bool) (a : WorldText) where
+  by_fifo : (b : Bool) (w : WorldText) (s : Script) → IsPlayable w s
+      → Input.accepted (cond b (no_world (Refused 0 part.World refusal.NotBuilt)) (record { accepted = Some w; script = s })) ≡ Some a
+      → IsPlayable a (Input.script (cond b (no_world (Refused 0 part.World refusal.NotBuilt)) (record { accepted = Some w; script = s })))
+  by_fifo true w s is e = absurd (cc)
+  by_fifo false w s is e = subst (λ (v : WorldText). IsPlayable v s) (same_some w a e) is
 
-by_reading : (over : Bool) (text : List ℕ) (a : WorldText) (r : Reading) → read_text text ≡ r → (input_by over r).accepted ≡ Some a → IsWorld a.world
-by_reading over text a (Accepted w n ls) is e = subst (λ (v : WorldText). IsWorld v.world) (kept_world over w n ls a e) (accepted_world text w n ls is)
-by_reading over text a (Stopped n why) is e = absurd (cc)
-by_reading over text a (Ended n last) is e = absurd (cc)
+  by_reading : (text : List ℕ) (r : Reading) → read_text text ≡ r → (input_by over r).accepted ≡ Some a → IsPlayable a (input_by over r).script
+  by_reading text (Accepted w n ls) is e =
+      by_fifo (has_fifo w.world) w (script_from over w.policy n ls) (record {
+        world = accepted_world text w n ls is;
+        script = subst (λ (top : Label). MayBePlayed top (script_from over w.policy n ls)) (sym (accepted_top text w n ls is)) (script_played w.policy over n ls);
+      }) e
+  by_reading text (Stopped n why) is e = absurd (cc)
+  by_reading text (Ended n last) is e = absurd (cc)
 
--- a world that is accepted is one
-pub accepted_input : (text : List ℕ) (a : WorldText) → (input_of text).accepted ≡ Some a → IsWorld a.world
+-- what is accepted can be played
+pub accepted_input : (text : List ℕ) (a : WorldText) → (input_of text).accepted ≡ Some a → IsPlayable a (input_of text).script
 unfolding input_of
-accepted_input text a is = by_reading (nat_lt 16777216 (length text)) (take 16777216 text) a (read_text (take 16777216 text)) refl is
+accepted_input text a is = by_reading (nat_lt 16777216 (length text)) a (take 16777216 text) (read_text (take 16777216 text)) refl is

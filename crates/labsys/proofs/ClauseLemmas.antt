@@ -7,6 +7,8 @@ use Rattle.std.specs.Io.KnownBytes.{Appends, Consumes, IsAtEnd}
 use Rattle.lab_lattice.specs.Label.{Label}
 use Rattle.kern_model.specs.Boot.{boot}
 use Rattle.kern_model.specs.Fronts.{IsFront}
+use Rattle.kern_model.specs.Lineage.{OnlyDrops, all_recs}
+use Rattle.iso_laws.proofs.Drops.{drops_are_told}
 use Rattle.labsys.specs.declared.status.Ending.{Ending}
 use Rattle.labsys.specs.declared.status.Ending.TheVariants.{Whole, Refused as IsRefused, TooMuch}
 use Rattle.labsys.specs.declared.status.Fault.{Fault}
@@ -115,6 +117,9 @@ module _ (r : Result Ending Fault) (s : Status) (l l' o o' t t' : Option (List �
     rest = out_of rest;
     whole_is = sym (text_told a (input_of text).script) ∙ sym (order_out (Some a) (input_of text).script) ∙ ap out_of (by_world text a sent rest is e) ∙ out_of-append sent rest ∙ ap (λ (z : List ℕ). z ++ out_of rest) (sym so);
   }))
+
+  pub run_dropped : WhereTold l o o' t t' (λ text out trail. OnKnown s (WhereAccepted (input_of text) (λ a. OnlyDrops a.world.bound (all_recs a.world (input_of text).script.items))))
+  run_dropped = where_told _ (λ text out trail sent rest e so st. on_known s _ (λ a is. drops_are_told a.world (input_of text).script.items))
 
   pub run_isolated : (k : Label) → WhereTold l o o' t t' (λ text out trail. OnKnown s (WhereAccepted (input_of text) (λ a. Isolated k a (input_of text).script out)))
   run_isolated k = where_told _ (λ text out trail sent rest e so st. on_known s _ (λ a is.

@@ -5,11 +5,12 @@ use Rattle.std.specs.Prelude.{Option, Some, None}
 use Rattle.std.specs.List.{flat_map, AllByRecursion}
 use Rattle.kern_model.specs.Boot.{boot}
 use Rattle.kern_model.specs.Fronts.{IsFront}
-use Rattle.kern_model.specs.Rules.{name_of}
+use Rattle.fs_path.specs.Words.{line_text}
 use Rattle.kern_model.specs.Run.{Played, run}
 use Rattle.lab_text.specs.Policy.{PolicyNames}
 use Rattle.labsys.specs.Input.{Accepted, Script}
-use Rattle.labsys.specs.Texts.{pid_text, call_text, outcome_text, last_text, reply_text}
+use Rattle.script_text.specs.Reply.{pid_text, outcome_words, reply_said}
+use Rattle.labsys.specs.Texts.{last_text, reply_text}
 use Rattle.labsys.specs.Order.{Sent, Turn, out_of, trail_of, to_out, to_trail, turns_from, told, replies_of, records_of, tail_text, order_in, head_text, order_by, turns_of, out_by, trail_by}
 use Rattle.labsys.proofs.Sending.{out_of-append, trail_of-append, out_of-to_out, out_of-to_trail, trail_of-to_out, trail_of-to_trail}
 
@@ -77,8 +78,8 @@ order_trail (Some a) m =
 -- ---- no reply line is empty
 
 reply_pos : (policy : PolicyNames) (p : Played) → 0 < length (reply_text policy p)
-unfolding reply_text
-reply_pos policy p = omega (arith, length-append (pid_text policy p.who) (32 ∷ (call_text (name_of p.call) ++ 32 ∷ (outcome_text policy p.reply ++ 10 ∷ []))))
+unfolding reply_text reply_said
+reply_pos policy p = omega (arith, length-append (line_text (pid_text policy p.who ∷ p.head ∷ outcome_words policy p.reply)) (10 ∷ []))
 
 -- each turn has a reply
 abbrev AllReply : List Turn → Type 0

@@ -22,10 +22,13 @@ use Rattle.world_text.specs.declared.stage.Said.{Said}
 use Rattle.world_text.specs.declared.stage.Said.TheVariants.{Refuses, GoesOn, Begins}
 use Rattle.world_text.specs.Stage.{line_said}
 use Rattle.world_text.specs.Reading.{Reading, Accepted, Refused as Stopped, Ended, after, reading, read_text}
-use Rattle.kern_model.specs.declared.world.ScriptItem.{ScriptItem}
 use Rattle.fs_path.specs.Lines.{pieces}
-use Rattle.labsys.specs.Grammar.{script_line}
-use Rattle.labsys.specs.Input.{Input, Script, no_world, cut_off, short, after_line, script_from, has_fifo, of_world, input_by, read_input, input_of}
+use Rattle.kern_core.specs.Built.{is_built}
+use Rattle.script_text.specs.declared.line.Line.{Line}
+use Rattle.script_text.specs.declared.line.Line.TheVariants.{Blank, One}
+use Rattle.script_text.specs.declared.fault.LineError.{LineError}
+use Rattle.script_text.specs.Line as script_lines
+use Rattle.labsys.specs.Input.{Input, Script, script, item_of, no_world, cut_off, after_line, script_from, has_fifo, of_world, input_by, read_input, input_of}
 use Rattle.labsys.specs.Texts.{last_text}
 use Rattle.labsys.specs.Order.{order_by, order_of}
 use Rattle.labsys.specs.Playing.{AppendsFront, Caused, SendsFront, Finishes, Takes, Plays, left_of}
@@ -86,15 +89,16 @@ NotWhole e = e ≡ AllRead → ⊥
 cut_not : (n : ℕ) (p : Part) (why : Refusal) (last : List ℕ) → NotWhole (cut_off n p why last)
 cut_not n p why last = elim (nat_lt 2048 (length last)) as (λ b. NotWhole (cond b (Refused n p why) TooMuch)) [ true ↦ λ e. cc | false ↦ λ e. cc ]
 
-line_not : (o : Option (Option ScriptItem)) (n : ℕ) (more : Script) → NotWhole more.ending → NotWhole (after_line o n more).ending
-line_not None n more h = λ e. cc
-line_not (Some None) n more h = h
-line_not (Some (Some item)) n more h = h
+line_not : (said : Result Line LineError) (n : ℕ) (more : Script) → NotWhole more.ending → NotWhole (after_line said n more).ending
+line_not (Err e) n more h = λ e. cc
+line_not (Ok Blank) n more h = h
+line_not (Ok (One who call)) n more h =
+    elim (is_built call) as (λ b. NotWhole (Script.ending (cond b (script (item_of who call ∷ more.items) more.ending) (script [] (Refused n part.Script refusal.NotBuilt))))) [ true ↦ h | false ↦ λ e. cc ]
 
 script_not : (policy : PolicyNames) (n : ℕ) (l : List ℕ) (ls : List (List ℕ)) → NotWhole (script_from true policy n (l ∷ ls)).ending
 unfolding script_from
-script_not policy n l [] = cut_not n part.Script refusal.NotBuilt l
-script_not policy n l (next ∷ ls) = line_not (short (script_line policy) l) n (script_from true policy (n + 1) (next ∷ ls)) (script_not policy (n + 1) next ls)
+script_not policy n l [] = cut_not n part.Script refusal.TooLong l
+script_not policy n l (next ∷ ls) = line_not (script_lines.line_said policy l) n (script_from true policy (n + 1) (next ∷ ls)) (script_not policy (n + 1) next ls)
 
 abbrev InputNot : Input → Type 0
 InputNot i = NotWhole i.script.ending

@@ -6,10 +6,10 @@ use Rattle.lab_lattice.specs.Label.{Label}
 use Rattle.kern_model.specs.Run.{Played}
 use Rattle.kern_model.specs.Isolation.{answers, alone, crossing, up_to}
 use Rattle.kern_model.specs.Fronts.{IsFront, Agree}
-use Rattle.kern_model.specs.World.{IsWorld}
 use Rattle.iso_laws.proofs.Worlds.{isolated_front, isolated_whole, two_fronts, two_wholes}
 use Rattle.labsys.specs.Input.{Accepted, Script}
 use Rattle.labsys.specs.Order.{Turn, replies_of, turns_of}
+use Rattle.labsys.proofs.AcceptedLemmas.{IsPlayable}
 use Rattle.labsys.proofs.InputLemmas.{is_more, not_more}
 use Rattle.labsys.specs.Clauses.{Written, Isolated, IsolatedWhole, SameBelow, TwoInputs, TwoWhole, run_of}
 
@@ -87,25 +87,25 @@ take_up_to l (suc m) (p ∷ ps) le =
       | false ↦ λ le. let less : m ≤ length (up_to l ps) = omega arith in ap (λ (r : List Played). p ∷ r) (take_up_to l m ps less)
     ] le
 
-module _ (l : Label) (a : Accepted) (script : Script) (is : IsWorld a.world) where
+module _ (l : Label) (a : Accepted) (script : Script) (is : IsPlayable a script) where
   pub is_isolated : (out : List ℕ) → Written (turns_of a script) out → Isolated l a script out
   is_isolated out w = record {
     written = w;
-    told = λ m few before. subst (λ ps. IsFront (answers l ps) (alone l a.world script.items)) (sym (take_up_to l m (run_of a script) before)) (isolated_front l a.world script.items m is);
+    told = λ m few before. subst (λ ps. IsFront (answers l ps) (alone l a.world script.items)) (sym (take_up_to l m (run_of a script) before)) (isolated_front l a.world script.items m is.world is.script.arguments is.script.laws);
   }
 
   pub is_isolated_whole : (out : List ℕ) → IsFront (replies_of (turns_of a script)) out → IsolatedWhole l a script out
-  is_isolated_whole out w = record { written = w; told = λ none. isolated_whole l a.world script.items is none }
+  is_isolated_whole out w = record { written = w; told = λ none. isolated_whole l a.world script.items is.world is.script.arguments is.script.laws none }
 
-  module _ (b : Accepted) (script' : Script) (is' : IsWorld b.world) (same : SameBelow l a script b script') where
+  module _ (b : Accepted) (script' : Script) (is' : IsPlayable b script') (same : SameBelow l a script b script') where
     pub two_agree : (out : List ℕ) → Written (turns_of a script) out → TwoInputs l a script b script' out
     two_agree out w = record {
       written = w;
       agree = λ m n few before before'.
           subst (λ ps. Agree (answers l ps) (answers l (take n (run_of b script')))) (sym (take_up_to l m (run_of a script) before))
           (subst (λ ps. Agree (answers l (take m (up_to l (run_of a script)))) (answers l ps)) (sym (take_up_to l n (run_of b script') before'))
-          (two_fronts l a.world b.world script.items script'.items same.world same.items m n is is'));
+          (two_fronts l a.world b.world script.items script'.items same.world same.items m n is.world is'.world is.script.arguments is'.script.arguments is.script.laws is'.script.laws));
     }
 
     pub two_whole : (out : List ℕ) → IsFront (replies_of (turns_of a script)) out → TwoWhole l a script b script' out
-    two_whole out w = record { written = w; equal = λ none none'. two_wholes l a.world b.world script.items script'.items same.world same.items is is' none none' }
+    two_whole out w = record { written = w; equal = λ none none'. two_wholes l a.world b.world script.items script'.items same.world same.items is.world is'.world is.script.arguments is'.script.arguments is.script.laws is'.script.laws none none' }

@@ -1,8 +1,6 @@
 pub mod ReadLemmas
-pub mod WalkLemmas
-pub mod Tellings
-pub mod BootLemmas
 pub mod Sending
+pub mod TopLemmas
 pub mod ScriptLemmas
 pub mod InputLemmas
 pub mod Coverage

@@ -4,10 +4,10 @@ use Rattle.std.specs.Prelude.{Some, None}
 use Rattle.std.specs.declared.option.Option.{Option}
 use Rattle.std.specs.List.{flat_map}
 use Rattle.std.specs.Option.{option_map}
-use Rattle.std.specs.FinMap as map
+use Rattle.fin_maps.specs.FinMap as map
 use Rattle.kern_model.specs.declared.numbers.Pid.{Pid}
-use Rattle.kern_model.specs.declared.objects.Process.{Process}
 use Rattle.kern_model.specs.Lineage.{caps_of, all_recs}
+use Rattle.kern_model.specs.State.{Process}
 use Rattle.iso_laws.proofs.Lineage.{caps_are_told}
 use Rattle.labsys.specs.Input.{Accepted, Script}
 use Rattle.labsys.specs.Texts.{end_text, ends_text, last_text}
@@ -20,7 +20,7 @@ module _ (a : Accepted) (script : Script) where
   line who found = end_text a.policy who (option_map (λ (p : Process). p.label) found) (option_map (λ (p : Process). p.caps) found)
 
   abbrev told_line : Pid → Option Process → List ℕ
-  told_line who found = end_text a.policy who (option_map (λ (p : Process). p.label) found) (Some (caps_of (all_recs a.world script.items) who))
+  told_line who found = end_text a.policy who (option_map (λ (p : Process). p.label) found) (Some (caps_of a.world.bound (all_recs a.world script.items) who))
 
   same_line : (who : Pid) → line who (map.get (last_state a script).procs who) ≡ told_line who (map.get (last_state a script).procs who)
   same_line who =

@@ -14,7 +14,8 @@ use Rattle.lab_text.specs.Policy.{PolicyNames}
 use Rattle.labsys.specs.declared.status.Ending.{Ending}
 use Rattle.labsys.specs.declared.status.Fault.{Fault}
 use Rattle.labsys.specs.Input.{Accepted, Script, script}
-use Rattle.labsys.specs.Texts.{ends_text, last_text, header_text, rec_text}
+use Rattle.aud_record.specs.Written.{header_text, rec_text}
+use Rattle.labsys.specs.Texts.{ends_text, last_text}
 use Rattle.labsys.specs.Order.{Sent, to_out, to_trail, turn_of, turns_from, told, tail_text, order_in, head_text, order_by}
 use Rattle.labsys.specs.Playing.{AppendsFront, Sends, SendsFront, Finishes}
 use Rattle.labsys.proofs.Sending.{sends_nothing, sends_more, sends_on, sends_longer, sends_reply, sends_out, sends_recs, sends_behind, sends_trail}

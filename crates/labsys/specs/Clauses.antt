@@ -1,7 +1,7 @@
 -- What a run means, in words on the bytes of its ends.
 use Rattle.std.specs.Prelude.{◌≡◌, ℕ, ◌+◌, ◌≤◌, ◌<◌, List, [], ◌∷◌, ◌++◌, length, take, Result, Ok, Err, Option, Some, codes, string_bytes}
 use Rattle.std.specs.List.{flat_map}
-use Rattle.std.specs.FinMap as map
+use Rattle.fin_maps.specs.FinMap as map
 use Rattle.std.specs.declared.string.String.{String}
 use Rattle.std.specs.declared.alloc.Global.{Global}
 use Rattle.lab_lattice.specs.Label.{Label}
@@ -103,7 +103,7 @@ last_state a script = state_after_run (boot a.world) script.items
 -- the output in which each end line has the capability sets that the records tell
 abbrev pub told_text : Accepted → Script → List ℕ
 told_text a script = replies_of (turns_of a script)
-    ++ (flat_map (λ who. end_text a.policy who (label_in (last_state a script) who) (Some (caps_of (all_recs a.world script.items) who))) (map.keys (last_state a script).procs)
+    ++ (flat_map (λ who. end_text a.policy who (label_in (last_state a script) who) (Some (caps_of a.world.bound (all_recs a.world script.items) who))) (map.keys (last_state a script).procs)
     ++ last_text (length script.items) script.ending)
 
 -- ---- isolation

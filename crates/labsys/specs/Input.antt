@@ -1,12 +1,21 @@
 -- What an input says: its world, its script up to the first refused line, and how it ends.
-use Rattle.std.specs.Prelude.{ℕ, ◌+◌, Bool, true, false, cond, nat_le, nat_lt, List, [], ◌∷◌, length, take, Option, Some, None}
+use Rattle.std.specs.Prelude.{ℕ, ◌+◌, Bool, true, false, cond, nat_lt, List, [], ◌∷◌, length, take, Option, Some, None, Result, Ok, Err}
 use Rattle.std.specs.List.{list_any}
 use Rattle.kern_model.specs.declared.objects.Body.{Body}
 use Rattle.kern_model.specs.declared.objects.Body.TheVariants as body
+use Rattle.kern_model.specs.declared.calls.Call.{Call}
+use Rattle.kern_model.specs.declared.numbers.Pid.{Pid}
 use Rattle.kern_model.specs.declared.world.World.{World}
 use Rattle.kern_model.specs.declared.world.WorldObject.{WorldObject}
 use Rattle.kern_model.specs.declared.world.ScriptItem.{ScriptItem}
+use Rattle.kern_model.specs.Names.{name_of, word_of}
+use Rattle.kern_core.specs.Built.{is_built}
 use Rattle.lab_text.specs.Policy.{PolicyNames}
+use Rattle.script_text.specs.declared.line.Line.{Line}
+use Rattle.script_text.specs.declared.line.Line.TheVariants as line
+use Rattle.script_text.specs.declared.fault.LineError.{LineError}
+use Rattle.script_text.specs.declared.fault.LineError.TheVariants as line_error
+use Rattle.script_text.specs.Line.{line_said}
 use Rattle.world_text.specs.declared.fault.WorldFault.{WorldFault}
 use Rattle.world_text.specs.declared.fault.WorldFault.TheVariants as fault
 use Rattle.world_text.specs.declared.world.WorldText.{WorldText}
@@ -18,7 +27,6 @@ use Rattle.labsys.specs.declared.status.Part.{Part}
 use Rattle.labsys.specs.declared.status.Part.TheVariants as part
 use Rattle.labsys.specs.declared.status.Refusal.{Refusal}
 use Rattle.labsys.specs.declared.status.Refusal.TheVariants as refusal
-use Rattle.labsys.specs.Grammar.{script_line}
 
 -- a world that was accepted, with the names that it gives
 abbrev pub Accepted : Type 0
@@ -44,32 +52,46 @@ no_world ending = record { accepted = None; script = script [] ending }
 abbrev pub cut_off : ℕ → Part → Refusal → List ℕ → Ending
 cut_off n p why last = cond (nat_lt 2048 (length last)) (Refused n p why) TooMuch
 
--- how an input ends at a last piece that is no line; `over` where it goes on past the limit
+-- how an input ends inside its world at a last piece that is no line; `over` where it goes on past the limit
 abbrev pub ends_at : Bool → ℕ → Part → Refusal → List ℕ → Ending
 ends_at over n p why last = cond over (cut_off n p why last) (Refused n p why)
 
 -- ---- the script
 
--- a line of at most 2,048 bytes that has a form
-abbrev pub short : {X : Type 0} → (List ℕ → Option X) → List ℕ → Option X
-short form line = cond (nat_le (length line) 2048) (form line) None
+-- the word for a fault of a line
+abbrev pub refusal_of_line : LineError → Refusal
+refusal_of_line line_error.TooLong = refusal.TooLong
+refusal_of_line line_error.BadTag = refusal.BadTag
+refusal_of_line line_error.BadPath = refusal.BadPath
+refusal_of_line line_error.BadLabel = refusal.BadLabel
+refusal_of_line line_error.BadCaps = refusal.BadCaps
+refusal_of_line _ = refusal.Syntax
 
--- what comes of a line: it is refused, it says nothing, or it is an item
-abbrev pub after_line : Option (Option ScriptItem) → ℕ → Script → Script
-after_line None n more = script [] (Refused n part.Script refusal.NotBuilt)
-after_line (Some None) n more = more
-after_line (Some (Some item)) n more = script (item ∷ more.items) more.ending
+-- a call of a script, whose reply shows its own word
+abbrev pub item_of : Pid → Call → ScriptItem
+item_of who call = record { who = who; head = word_of (name_of call); call = call }
 
--- how a script ends at its last piece, which is no line
+-- what comes of a line: it is refused, it says nothing, or it is a call, which has to be built
+abbrev pub after_line : Result Line LineError → ℕ → Script → Script
+after_line (Err e) n more = script [] (Refused n part.Script (refusal_of_line e))
+after_line (Ok line.Blank) n more = more
+after_line (Ok (line.One who call)) n more = cond (is_built call) (script (item_of who call ∷ more.items) more.ending) (script [] (Refused n part.Script refusal.NotBuilt))
+
+-- why a last piece is refused that is no line: it is too long, or it does not end
+abbrev pub unended : List ℕ → Refusal
+unended last = cond (nat_lt 2048 (length last)) refusal.TooLong refusal.Syntax
+
+-- how a script ends at its last piece, which is no line; one that passes the place of the limit is judged for its length alone
 abbrev pub last_piece : Bool → ℕ → List ℕ → Ending
 last_piece false n [] = Whole
-last_piece over n last = ends_at over n part.Script refusal.NotBuilt last
+last_piece false n last = Refused n part.Script (unended last)
+last_piece true n last = cut_off n part.Script refusal.TooLong last
 
 -- the script from line n on: its lines up to the first refused one, or to the end
 unfoldable pub script_from : Bool → PolicyNames → ℕ → List (List ℕ) → Script
 script_from over policy n [] = script [] Whole
 script_from over policy n (last ∷ []) = script [] (last_piece over n last)
-script_from over policy n (line ∷ next ∷ ls) = after_line (short (script_line policy) line) n (script_from over policy (n + 1) (next ∷ ls))
+script_from over policy n (line ∷ next ∷ ls) = after_line (line_said policy line) n (script_from over policy (n + 1) (next ∷ ls))
 
 -- ---- the world
 
@@ -82,7 +104,6 @@ refusal_of fault.NoParent = refusal.NoParent
 refusal_of fault.RootLabel = refusal.RootLabel
 refusal_of fault.LabelOrder = refusal.LabelOrder
 refusal_of fault.TooMany = refusal.TooMany
-refusal_of fault.NotBuilt = refusal.NotBuilt
 
 abbrev pub is_fifo : Body → Bool
 is_fifo body.Fifo = true

@@ -1,7 +1,5 @@
-pub mod Grammar
 pub mod Input
 pub mod Reading
-pub mod Kernel
 pub mod Texts
 pub mod Order
 pub mod Playing

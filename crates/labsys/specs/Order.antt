@@ -5,8 +5,9 @@ use Rattle.kern_model.specs.State.{State}
 use Rattle.kern_model.specs.Boot.{boot, boot_recs}
 use Rattle.kern_model.specs.Run.{Played, run, state_after_run}
 use Rattle.lab_text.specs.Policy.{PolicyNames}
+use Rattle.aud_record.specs.Written.{rec_text, header_text}
 use Rattle.labsys.specs.Input.{Accepted, Script, Input}
-use Rattle.labsys.specs.Texts.{reply_text, rec_text, ends_text, last_text, header_text}
+use Rattle.labsys.specs.Texts.{reply_text, ends_text, last_text}
 
 -- a byte that goes to a sink
 pub data Sent : Type 0 where

@@ -1,7 +1,6 @@
 //! A simulated kernel: plays a script of system calls on a described world, and writes the reply to each call.
 #![tactic(auto)]
 
-mod kernel;
 mod playing;
 mod reading;
 mod running;

@@ -1,27 +1,33 @@
 // An input that was read, from its first byte to the last line.
-ghost use Rattle.std.specs.Prelude.{◌≡◌, ◌≤◌, ◌+◌, ◌^◌, ◌++◌, OnOk, IfOk, IfErr, Some, length};
+ghost use Rattle.std.specs.Prelude.{◌≡◌, ◌≤◌, ◌+◌, ◌^◌, ◌++◌, true, OnOk, IfOk, IfErr, Some, length};
 ghost use Rattle.std.specs.List.{flat_map};
 ghost use Rattle.std.specs.Io.KnownBytes.{Appends};
 ghost use Rattle.io_ends.specs.Causes.{Rose};
 ghost use Rattle.kern_model.specs.Boot.{boot};
 ghost use Rattle.kern_model.specs.Run.{played};
 ghost use Rattle.kern_model.specs.Step.{step};
-ghost use Rattle.kern_model.specs.World.{HasRoom};
+ghost use Rattle.kern_model.specs.Arguments.{is_call};
+ghost use Rattle.kern_model.specs.World.{IsWorld};
+ghost use Rattle.kern_core.specs.Built.{is_built};
+ghost use Rattle.kern_core.specs.Kernel.{state_of};
+ghost use Rattle.lab_text.specs.Policy.{top_of};
+ghost use Rattle.aud_record.specs.Written.{rec_text as rec_line, header_text as head_lines};
 ghost use Rattle.fs_path.specs.Lines.{pieces};
-ghost use Rattle.labsys.specs.Input.{script_from, read_input};
-ghost use Rattle.labsys.specs.Kernel.{state_of};
-ghost use Rattle.labsys.specs.Texts.{rec_text, end_text, label_in, caps_in, ends_text, last_text, header_text};
+ghost use Rattle.labsys.specs.Input.{item_of, script_from, read_input};
+ghost use Rattle.labsys.specs.Texts.{end_text, label_in, caps_in, ends_text, last_text};
 ghost use Rattle.labsys.specs.Order.{turn_of, told, order_in, order_by, order_of};
 ghost use Rattle.labsys.specs.Playing.{AppendsFront, Sends, SendsFront, Caused, Finishes, Takes, Plays};
 
-use crate::kernel::Kernel;
 use crate::reading::{Halt, Next, ReadWorld, next_item, read_world};
-use crate::texts::{end_line, header, last_line, record_line, reply_line};
+use crate::texts::{end_line, last_line};
 use crate::{Ending, Fault};
+use aud_record::{header_text, rec_text};
 use cap_bits::CapSet;
 use io_ends::{LineFault, Sink, Source, Whole, read_whole, write_whole};
-use kern_model::{Pid, Rec, ScriptItem};
+use kern_core::Kernel;
+use kern_model::{Call, Pid, Rec};
 use lab_text::Policy;
+use script_text::reply_text;
 use std::alloc::Global;
 
 // How many bytes an input may have.
@@ -61,38 +67,41 @@ fn note_all<T: Sink>(
     recs: &[Rec],
     trail: &mut T,
 ) -> Result<(), Fault>
-    ensures ok { OnOk result (Appends (T.held trail.old) (T.held trail.new) (flat_map (rec_text policy.now call) recs.now)) }
-    ensures front { AppendsFront (T.held trail.old) (T.held trail.new) (flat_map (rec_text policy.now call) recs.now) }
+    ensures ok { OnOk result (Appends (T.held trail.old) (T.held trail.new) (flat_map (rec_line policy.now call) recs.now)) }
+    ensures front { AppendsFront (T.held trail.old) (T.held trail.new) (flat_map (rec_line policy.now call) recs.now) }
     ensures later { T.faults trail.old ≤ T.faults trail.new }
     ensures cause { IfErr result (λ fault. Caused fault ⊥ ⊥ (Rose (T.faults trail.old) (T.faults trail.new))) }
 {
     for rec in recs {
-        let text = record_line(alloc, policy, call, rec)?;
+        let text = rec_text(alloc, policy, call, rec)?;
         note(trail, &text)?;
     }
     Ok(())
 }
 
-// Plays one item of the script: its records go to the trail, and then its reply goes out.
+// Plays one call of the script: its records go to the trail, and then its reply goes out.
 fn play_item<K: Sink, T: Sink>(
     alloc: Global,
     kernel: &mut Kernel,
     policy: &Policy,
-    call: u64,
-    item: &ScriptItem,
+    number: u64,
+    who: Pid,
+    call: Call,
     out: &mut K,
     trail: &mut T,
 ) -> Result<(), Fault>
-    ensures ok { OnOk result (Sends (K.held out.old) (K.held out.new) (T.held trail.old) (T.held trail.new) (told (turn_of policy.now call (played (state_of kernel.old) item.now)))) }
-    ensures state { OnOk result (state_of kernel.new ≡ (step (state_of kernel.old) item.now.who item.now.call).state) }
-    ensures front { SendsFront (K.held out.old) (K.held out.new) (T.held trail.old) (T.held trail.new) (told (turn_of policy.now call (played (state_of kernel.old) item.now))) }
+    requires arguments { is_call (state_of kernel.old).top call ≡ true }
+    requires built { is_built call ≡ true }
+    ensures ok { OnOk result (Sends (K.held out.old) (K.held out.new) (T.held trail.old) (T.held trail.new) (told (turn_of policy.now number (played (state_of kernel.old) (item_of who call))))) }
+    ensures state { OnOk result (state_of kernel.new ≡ (step (state_of kernel.old) who call).state) }
+    ensures front { SendsFront (K.held out.old) (K.held out.new) (T.held trail.old) (T.held trail.new) (told (turn_of policy.now number (played (state_of kernel.old) (item_of who call)))) }
     ensures out_later { K.faults out.old ≤ K.faults out.new }
     ensures trail_later { T.faults trail.old ≤ T.faults trail.new }
     ensures cause { IfErr result (λ fault. Caused fault ⊥ (Rose (K.faults out.old) (K.faults out.new)) (Rose (T.faults trail.old) (T.faults trail.new))) }
 {
-    let outcome = kernel.call(item.who, &item.call)?;
-    note_all(alloc, policy, call, outcome.recs.items(), trail)?;
-    let text = reply_line(alloc, policy, item, outcome.reply)?;
+    let outcome = kernel.call(&who, &call)?;
+    note_all(alloc, policy, number, outcome.recs.items(), trail)?;
+    let text = reply_text(alloc, policy, &who, call.name().word(), &outcome.reply)?;
     answer(out, &text)
 }
 
@@ -179,6 +188,7 @@ fn play_script<K: Sink, T: Sink>(
     trail: &mut T,
 ) -> Result<Ending, Fault>
     requires small { first + length script.now ≤ 2 ^ 60 }
+    requires top { (state_of kernel.old).top ≡ top_of policy.now }
     ensures whole { IfOk result (λ e. Finishes (K.held out.old) (K.held out.new) (T.held trail.old) (T.held trail.new) (order_in policy.now 0 (state_of kernel.old) (script_from over policy.now first (pieces 10 script.now))) e (script_from over policy.now first (pieces 10 script.now)).ending) }
     ensures front { SendsFront (K.held out.old) (K.held out.new) (T.held trail.old) (T.held trail.new) (order_in policy.now 0 (state_of kernel.old) (script_from over policy.now first (pieces 10 script.now))) }
     ensures out_later { K.faults out.old ≤ K.faults out.new }
@@ -190,8 +200,8 @@ fn play_script<K: Sink, T: Sink>(
     let mut count = 0u64;
     loop {
         match next_item(alloc, policy, number, rest, over)? {
-            Next::Item(item, behind) => {
-                play_item(alloc, kernel, policy, count + 1, &item, out, trail)?;
+            Next::Item(who, call, behind) => {
+                play_item(alloc, kernel, policy, count + 1, who, call, out, trail)?;
                 rest = behind;
                 number += 1;
                 count += 1;
@@ -216,12 +226,12 @@ fn begin<T: Sink>(
     recs: &[Rec],
     trail: &mut T,
 ) -> Result<(), Fault>
-    ensures ok { OnOk result (Appends (T.held trail.old) (T.held trail.new) (header_text policy.now bound.now ++ flat_map (rec_text policy.now 0) recs.now)) }
-    ensures front { AppendsFront (T.held trail.old) (T.held trail.new) (header_text policy.now bound.now ++ flat_map (rec_text policy.now 0) recs.now) }
+    ensures ok { OnOk result (Appends (T.held trail.old) (T.held trail.new) (head_lines policy.now bound.now ++ flat_map (rec_line policy.now 0) recs.now)) }
+    ensures front { AppendsFront (T.held trail.old) (T.held trail.new) (head_lines policy.now bound.now ++ flat_map (rec_line policy.now 0) recs.now) }
     ensures later { T.faults trail.old ≤ T.faults trail.new }
     ensures cause { IfErr result (λ fault. Caused fault ⊥ ⊥ (Rose (T.faults trail.old) (T.faults trail.new))) }
 {
-    let text = header(alloc, policy, bound)?;
+    let text = header_text(alloc, policy, bound)?;
     note(trail, &text)?;
     note_all(alloc, policy, 0, recs, trail)
 }
@@ -234,7 +244,8 @@ fn play_world<K: Sink, T: Sink>(
     out: &mut K,
     trail: &mut T,
 ) -> Result<Ending, Fault>
-    requires room { HasRoom read.now.read.world }
+    requires world { IsWorld read.now.read.world }
+    requires top { read.now.read.world.top ≡ top_of read.now.read.policy }
     requires small { read.now.number + length read.now.script.now ≤ 2 ^ 60 }
     ensures whole { IfOk result (λ e. Finishes (K.held out.old) (K.held out.new) (T.held trail.old) (T.held trail.new)
         (order_by (Some read.now.read) (script_from over read.now.read.policy read.now.number (pieces 10 read.now.script.now))) e (script_from over read.now.read.policy read.now.number (pieces 10 read.now.script.now)).ending) }
@@ -244,17 +255,17 @@ fn play_world<K: Sink, T: Sink>(
     ensures trail_later { T.faults trail.old ≤ T.faults trail.new }
     ensures cause { IfErr result (λ fault. Caused fault ⊥ (Rose (K.faults out.old) (K.faults out.new)) (Rose (T.faults trail.old) (T.faults trail.new))) }
 {
-    let mut booted = Kernel::boot(alloc, &read.read.world)?;
+    let (mut kernel, recs) = Kernel::boot(alloc, &read.read.world)?;
     begin(
         alloc,
         &read.read.policy,
         &read.read.world.bound,
-        booted.recs.items(),
+        recs.items(),
         trail,
     )?;
     play_script(
         alloc,
-        &mut booted.kernel,
+        &mut kernel,
         &read.read.policy,
         read.number,
         read.script,

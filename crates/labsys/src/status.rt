@@ -12,11 +12,11 @@ pub enum Part {
 /// Why a line is refused.
 #[derive(Clone, Copy, Debug, PartialEq, Eq)]
 pub enum Refusal {
-    /// The line is none of the forms that are built so far, or the world has what no call can use yet.
+    /// The call, or what the world has, is not built yet.
     NotBuilt,
-    /// It has not the form of the line that is due, or the input ends before its world does.
+    /// It has not the form of the line that is due, or the input ends inside it or before its world does.
     Syntax,
-    /// A level or a category is unknown.
+    /// A level, a category or a capability of the world is unknown.
     UnknownName,
     /// A level or a category is named twice, or the path was given before.
     Repeated,
@@ -28,6 +28,16 @@ pub enum Refusal {
     LabelOrder,
     /// There are too many levels, categories, objects of a label or processes of a label.
     TooMany,
+    /// A line of the script has more than 2,048 bytes.
+    TooLong,
+    /// The tag is no number of a process.
+    BadTag,
+    /// A path of a call is none.
+    BadPath,
+    /// A label or a number of a process of a call is none.
+    BadLabel,
+    /// A capability text of a call is none.
+    BadCaps,
 }
 
 impl From<WorldFault> for Refusal {
@@ -45,7 +55,6 @@ impl From<WorldFault> for Refusal {
             WorldFault::RootLabel => Refusal::RootLabel,
             WorldFault::LabelOrder => Refusal::LabelOrder,
             WorldFault::TooMany => Refusal::TooMany,
-            WorldFault::NotBuilt => Refusal::NotBuilt,
         }
     }
 }

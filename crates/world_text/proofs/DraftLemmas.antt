@@ -17,7 +17,7 @@ use Rattle.kern_model.specs.declared.world.WorldProc.{WorldProc}
 use Rattle.kern_model.specs.Rules.{same_label}
 use Rattle.kern_model.specs.World.{same_names, parent_names, given, objects_at, procs_at}
 use Rattle.world_text.specs.declared.draft.Standing.{Standing}
-use Rattle.world_text.specs.Stage.{directory_of, is_directory, is_above}
+use Rattle.world_text.specs.Placing.{directory_of, is_directory, is_above}
 use Rattle.world_text.specs.Standing.{standing_of, names_cmp, count_in, is_standing_dir, is_above_standing}
 
 -- ---- counts

@@ -1,11 +1,11 @@
 -- What lines of names and labels say.
-use Rattle.std.proofs.Common.{◌≡◌, ℕ, Bool, true, false, cond, not, ◌&&◌, ◌||◌, nat_le, nat_lt, List, [], length, refl, sym, ◌∙◌, ap, Option, Some, None, Result, Ok, Err}
+use Rattle.std.proofs.Common.{◌≡◌, ℕ, Bool, true, false, cond, not, ◌&&◌, ◌||◌, nat_lt, List, [], length, refl, sym, ◌∙◌, ap, Option, Some, None, Result, Ok, Err}
 use Rattle.std.specs.Prelude.{◌==◌, ◌∷◌, ◌++◌, option_and_then, is_some}
 use Rattle.std.specs.Option.{option_map}
 use Rattle.std.proofs.lemmas.Option.{same_Some}
 use Rattle.std.specs.List.{list_all}
 use Rattle.cap_bits.specs.CapSet.{CapSet}
-use Rattle.lab_lattice.specs.Label.{Label, bottom, dominates}
+use Rattle.lab_lattice.specs.Label.{Label}
 use Rattle.lab_text.specs.Names.{Names, is_label_name, are_distinct}
 use Rattle.lab_text.specs.Policy.{PolicyNames, names_fault}
 use Rattle.lab_text.specs.Text.{LabelWords, label_words, label_of, label_said, unknown_in}
@@ -15,15 +15,12 @@ use Rattle.lab_text.specs.declared.text.LabelError.{LabelError}
 use Rattle.kern_model.specs.declared.world.WorldObject.{WorldObject}
 use Rattle.kern_model.specs.declared.world.WorldProc.{WorldProc}
 use Rattle.world_text.specs.declared.fault.WorldFault.{WorldFault}
-use Rattle.world_text.specs.declared.fault.WorldFault.TheVariants.{Syntax, Repeated, NoParent, LabelOrder, RootLabel, TooMany}
+use Rattle.world_text.specs.declared.fault.WorldFault.TheVariants.{Syntax, Repeated, TooMany}
 use Rattle.world_text.specs.declared.stage.Stage.TheVariants as at
 use Rattle.world_text.specs.declared.stage.Said.{Said}
 use Rattle.world_text.specs.declared.stage.Said.TheVariants.{Refuses, GoesOn}
 use Rattle.world_text.specs.Tree.{Tree}
-use Rattle.kern_model.specs.Boot.{kind_of}
-use Rattle.kern_model.specs.Rules.{is_dir}
-use Rattle.kern_model.specs.World.{given, objects_at, procs_at}
-use Rattle.world_text.specs.Stage.{unless, levels_said, categories_said, label_form, is_directory, is_above, directory_of, is_root, object_said, process_said}
+use Rattle.world_text.specs.Stage.{unless, refuse_or, levels_said, categories_said, label_form, object_said, process_said}
 use Rattle.world_text.specs.Lines.{fault_for, Makes}
 use Rattle.world_text.specs.Placing.{object_fault, process_fault}
 
@@ -122,50 +119,18 @@ unknown_has_form p text why e = by_words (label_words text) refl e
     by_words None f e = absurd (cc)
     by_words (Some w) f e = ap (λ (o : Option LabelWords). cond (is_some o) (Some text) None) f
 
--- ---- objects and processes
-
-abbrev pub or_fault : Option WorldFault → Said → Said
-or_fault None said = said
-or_fault (Some fault) said = Refuses fault
-
-more_faults : (v : Bool) (fault : WorldFault) (o : Option WorldFault) (s : Said) → unless v fault (or_fault o s) ≡ or_fault (cond v (Some fault) o) s
-more_faults true fault o s = refl
-more_faults false fault o s = refl
-
-five_faults : (a b c d e : Bool) (v w x y z : WorldFault) (s : Said)
-    → unless a v (unless b w (unless c x (unless d y (unless e z s)))) ≡ or_fault (cond a (Some v) (cond b (Some w) (cond c (Some x) (cond d (Some y) (cond e (Some z) None))))) s
-five_faults true b c d e v w x y z s = refl
-five_faults false true c d e v w x y z s = refl
-five_faults false false true d e v w x y z s = refl
-five_faults false false false true e v w x y z s = refl
-five_faults false false false false e v w x y z s = more_faults e z None s
-
-pub object_told : (p : PolicyNames) (bound : CapSet) (t : Tree) (o : WorldObject) → object_said p bound t o ≡ or_fault (object_fault t o) (GoesOn (at.Tree p bound (record t { objects = t.objects ++ o ∷ [] })))
-unfolding object_fault
-object_told p bound t o =
-    five_faults (is_some (given t.objects o.path.names)) (not (is_root o.path.names || is_directory (directory_of t.objects o.path.names))) (is_root o.path.names && not (is_dir (kind_of o.body) && dominates bottom o.label))
-    (not (is_above o.label (directory_of t.objects o.path.names))) (nat_le 65535 (objects_at o.label t.objects)) Repeated NoParent RootLabel LabelOrder TooMany (GoesOn (at.Tree p bound (record t { objects = t.objects ++ o ∷ [] })))
-
-two_faults : (a b : Bool) (v w : WorldFault) (s : Said) → unless a v (unless b w s) ≡ or_fault (cond a (Some v) (cond b (Some w) None)) s
-two_faults true b v w s = refl
-two_faults false b v w s = more_faults b w None s
-
-pub process_told : (p : PolicyNames) (bound : CapSet) (t : Tree) (w : WorldProc) → process_said p bound t w ≡ or_fault (process_fault t w) (GoesOn (at.Tree p bound (record t { procs = t.procs ++ w ∷ [] })))
-unfolding process_fault
-process_told p bound t w = two_faults (length t.objects == 0) (nat_le 4095 (procs_at w.label t.procs)) NoParent TooMany (GoesOn (at.Tree p bound (record t { procs = t.procs ++ w ∷ [] })))
-
 -- ---- what is said with a fault, and without one
 
 pub object_refused : (p : PolicyNames) (bound : CapSet) (t : Tree) (o : WorldObject) (fault : WorldFault) → Some fault ≡ object_fault t o → Refuses fault ≡ object_said p bound t o
-object_refused p bound t o fault e = ap (λ f. or_fault f (GoesOn (at.Tree p bound (record t { objects = t.objects ++ o ∷ [] })))) e ∙ sym (object_told p bound t o)
+object_refused p bound t o fault e = ap (λ f. refuse_or f (GoesOn (at.Tree p bound (record t { objects = t.objects ++ o ∷ [] })))) e
 
 pub object_put : (p : PolicyNames) (bound : CapSet) (t u : Tree) (o : WorldObject) → None ≡ object_fault t o → u ≡ record t { objects = t.objects ++ o ∷ [] } → GoesOn (at.Tree p bound u) ≡ object_said p bound t o
 object_put p bound t u o e is =
-    ap (λ (v : Tree). GoesOn (at.Tree p bound v)) is ∙ ap (λ f. or_fault f (GoesOn (at.Tree p bound (record t { objects = t.objects ++ o ∷ [] })))) e ∙ sym (object_told p bound t o)
+    ap (λ (v : Tree). GoesOn (at.Tree p bound v)) is ∙ ap (λ f. refuse_or f (GoesOn (at.Tree p bound (record t { objects = t.objects ++ o ∷ [] })))) e
 
 pub process_refused : (p : PolicyNames) (bound : CapSet) (t : Tree) (w : WorldProc) (fault : WorldFault) → Some fault ≡ process_fault t w → Refuses fault ≡ process_said p bound t w
-process_refused p bound t w fault e = ap (λ f. or_fault f (GoesOn (at.Tree p bound (record t { procs = t.procs ++ w ∷ [] })))) e ∙ sym (process_told p bound t w)
+process_refused p bound t w fault e = ap (λ f. refuse_or f (GoesOn (at.Tree p bound (record t { procs = t.procs ++ w ∷ [] })))) e
 
 pub process_put : (p : PolicyNames) (bound : CapSet) (t u : Tree) (w : WorldProc) → None ≡ process_fault t w → u ≡ record t { procs = t.procs ++ w ∷ [] } → GoesOn (at.Tree p bound u) ≡ process_said p bound t w
 process_put p bound t u w e is =
-    ap (λ (v : Tree). GoesOn (at.Tree p bound v)) is ∙ ap (λ f. or_fault f (GoesOn (at.Tree p bound (record t { procs = t.procs ++ w ∷ [] })))) e ∙ sym (process_told p bound t w)
+    ap (λ (v : Tree). GoesOn (at.Tree p bound v)) is ∙ ap (λ f. refuse_or f (GoesOn (at.Tree p bound (record t { procs = t.procs ++ w ∷ [] })))) e

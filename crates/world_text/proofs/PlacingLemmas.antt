@@ -6,16 +6,15 @@ use Rattle.std.proofs.lemmas.Bool.{leb-false}
 use Rattle.lab_lattice.specs.Label.{bottom, dominates}
 use Rattle.kern_model.specs.declared.world.WorldObject.{WorldObject}
 use Rattle.kern_model.specs.declared.world.WorldProc.{WorldProc}
-use Rattle.kern_model.specs.Boot.{kind_of}
-use Rattle.kern_model.specs.Rules.{is_dir}
+use Rattle.kern_model.specs.Kinds.{kind_of}
+use Rattle.kern_model.specs.Kinds.{is_dir}
 use Rattle.kern_model.specs.World.{given, objects_at, procs_at}
 use Rattle.world_text.specs.declared.draft.Standing.{Standing}
 use Rattle.world_text.specs.declared.fault.WorldFault.{WorldFault}
 use Rattle.world_text.specs.declared.fault.WorldFault.TheVariants.{Repeated, NoParent, LabelOrder, RootLabel, TooMany}
 use Rattle.world_text.specs.Tree.{Tree}
-use Rattle.world_text.specs.Stage.{is_directory, is_above, directory_of, is_root}
 use Rattle.world_text.specs.Standing.{standing_of, is_standing_dir, is_above_standing}
-use Rattle.world_text.specs.Placing.{object_fault, process_fault}
+use Rattle.world_text.specs.Placing.{is_directory, is_above, directory_of, is_root, object_fault, process_fault}
 use Rattle.world_text.proofs.DraftLemmas.{stands_as_dir, stands_above}
 
 abbrev pub first_fault : (repeated parent wrong above full : Bool) → Option WorldFault

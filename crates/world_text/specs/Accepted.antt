@@ -1,20 +1,27 @@
 -- Whatever a text is, if it is accepted then it is a world.
-use Rattle.std.specs.Prelude.{◌≡◌, ℕ, ◌+◌, ◌≤◌, ◌<◌, ◌==◌, ◌&&◌, ◌||◌, not, nat_le, nat_lt, Bool, true, false, cond, List, [], ◌∷◌, ◌++◌, length, Option, None, Some, is_some, count_by, refl}
+use Rattle.std.specs.Prelude.{◌≡◌, ℕ, ◌+◌, ◌≤◌, ◌<◌, ◌==◌, ◌&&◌, ◌||◌, not, nat_le, nat_lt, Bool, true, false, cond, List, [], ◌∷◌, ◌++◌, length, map, Option, None, Some, is_some, is_none, count_by, refl}
 use Rattle.std.proofs.Common.{ap, sym, ◌∙◌, subst, append-nil, append_assoc, arith}
 use Rattle.std.specs.List.{AllByRecursion, list_all}
 use Rattle.std.specs.Option.{option_map}
-use Rattle.std.proofs.lemmas.Bool.{and_parts, and_from, or_parts, or_from, not-false, leb-false, both_ways, cond-false}
+use Rattle.std.proofs.lemmas.Bool.{and_parts, and_from, or_parts, or_from, not-false, leb-false, ltb-false, lt-ltb, both_ways, cond-false}
+use Rattle.std.proofs.lemmas.Option.{cond_some, option_and_then_some, same_Some}
 use Rattle.std.proofs.lemmas.List.Sums.{sum_by-append}
 use Rattle.cap_bits.specs.declared.state.CapState.{CapState}
-use Rattle.cap_bits.specs.declared.cap.Cap.TheVariants as cap
-use Rattle.cap_bits.specs.CapSet.{CapSet, no_caps, with_cap, is_within, has-within}
+use Rattle.cap_bits.specs.CapSet.{CapSet, is_within}
 use Rattle.cap_bits.specs.State.{no_flags}
 use Rattle.fs_path.specs.declared.words.LineWord.{LineWord}
 use Rattle.fs_path.specs.Name.{Name}
+use Rattle.fs_path.specs.Options.{keep_if, then}
 use Rattle.fs_path.specs.Lines.{pieces}
+use Rattle.fs_path.specs.Path.{PathValue}
+use Rattle.fs_path.specs.PathLaws.{path_form, path_names}
+use Rattle.fs_path.specs.PathText.{path_fault, path_said}
+use Rattle.fs_path.specs.ValueRanges.{mode_range, groups_few}
+use Rattle.fs_path.specs.Values.{number_of, mode_of, groups_of}
+use Rattle.fs_path.specs.WordSizes.{words_fit}
 use Rattle.fs_path.specs.Words.{words_of, is_blank}
 use Rattle.lab_lattice.specs.Label.{Label, dominates, bottom, dominates_both, dominates_bottom}
-use Rattle.lab_text.specs.Names.{Names, is_label_name, are_distinct}
+use Rattle.lab_text.specs.Names.{Names, same_bytes, is_label_name, are_distinct}
 use Rattle.lab_text.specs.Policy.{PolicyNames, names_fault, MakePolicy, top_of}
 use Rattle.lab_text.specs.Text.{label_said}
 use Rattle.lab_text.specs.Said.{said_valid}
@@ -22,9 +29,11 @@ use Rattle.kern_model.specs.declared.objects.Body.{Body}
 use Rattle.kern_model.specs.declared.objects.Body.TheVariants as body
 use Rattle.kern_model.specs.declared.world.WorldObject.{WorldObject}
 use Rattle.kern_model.specs.declared.world.WorldProc.{WorldProc}
-use Rattle.kern_model.specs.Boot.{kind_of}
-use Rattle.kern_model.specs.Rules.{is_dir, is_file, same_label}
-use Rattle.kern_model.specs.World.{IsWorld, HasRoom, IsPlaced, ArePlaced, given, parent_names, objects_at, procs_at, same_names}
+use Rattle.kern_model.specs.Arguments.{is_path}
+use Rattle.kern_model.specs.Kinds.{kind_of, bytes_of, is_dir, is_file, is_mode}
+use Rattle.kern_model.specs.Rules.{same_label}
+use Rattle.kern_model.specs.World.{IsWorld, IsWorldObject, IsWorldProc, IsPlaced, ArePlaced, given, parent_names, objects_at, procs_at, same_names}
+use Rattle.kern_model.proofs.ArgumentLemmas.{form_is_path}
 use Rattle.world_text.specs.declared.fault.WorldFault.{WorldFault}
 use Rattle.world_text.specs.declared.fault.WorldFault.TheVariants.{Syntax}
 use Rattle.world_text.specs.declared.stage.Stage.{Stage}
@@ -33,7 +42,8 @@ use Rattle.world_text.specs.declared.stage.Said.{Said}
 use Rattle.world_text.specs.declared.stage.Said.TheVariants.{Refuses, GoesOn, Begins}
 use Rattle.world_text.specs.declared.world.WorldText.{WorldText}
 use Rattle.world_text.specs.Tree.{Tree}
-use Rattle.world_text.specs.Stage.{world_of, unless, with_form, or_else, behind_keyword, by_keyword, format_said, levels_said, categories_said, bound_said, set_of, caps_of, Placed, is_directory, is_above, directory_of, is_root, object_said, made, tree_said, Owned, ids_of, process_said, proc_said, placed_of, owned_of, dir_said, file_said, fifo_said, proc_line_said, script_said, tree_line_said, words_said, line_said}
+use Rattle.world_text.specs.Placing.{is_directory, is_above, directory_of, is_root, object_fault, process_fault}
+use Rattle.world_text.specs.Stage.{world_of, unless, refuse_or, with_form, or_else, behind_keyword, by_keyword, format_said, levels_said, categories_said, bound_said, set_of, caps_of, path_of, label_form, may_start, proc_caps_of, Placed, object_said, made, tree_said, Owned, ids_of, process_said, proc_said, placed_of, owned_of, dir_said, file_said, fifo_said, proc_line_said, script_said, tree_line_said, words_said, line_said}
 use Rattle.world_text.specs.Reading.{Reading, Accepted, Refused, Ended, after, reading, read_text}
 
 -- ---- what holds of a reading as far as it has come
@@ -51,10 +61,8 @@ AreRooted (first ∷ others) = IsFirst first × ArePlaced (first ∷ []) others
 
 record SoundTree (policy : PolicyNames) (t : Tree) : Type 0 where
   rooted : AreRooted t.objects
-  objects_below : AllByRecursion (λ (o : WorldObject). dominates (top_of policy) o.label ≡ true) t.objects
-  procs_below : AllByRecursion (λ (p : WorldProc). dominates (top_of policy) p.label ≡ true) t.procs
-  only_files : AllByRecursion (λ (o : WorldObject). is_file (kind_of o.body) ≡ false → o.attr.caps ≡ no_flags) t.objects
-  within : AllByRecursion (λ (p : WorldProc). is_within p.caps.e p.caps.p ≡ true) t.procs
+  objects : AllByRecursion (IsWorldObject (top_of policy)) t.objects
+  procs : AllByRecursion (IsWorldProc (top_of policy)) t.procs
   objects_room : (l : Label) → objects_at l t.objects ≤ 65535
   procs_room : (l : Label) → procs_at l t.procs ≤ 4095
 
@@ -73,7 +81,6 @@ SoundStage (at.Tree policy bound t) = MakePolicy policy × SoundTree policy t
 
 record SoundWorld (w : WorldText) : Type 0 where
   world : IsWorld w.world
-  room : HasRoom w.world
   top : w.world.top ≡ top_of w.policy
   policy : MakePolicy w.policy
 
@@ -100,16 +107,33 @@ unless_sound : (b : Bool) (fault : WorldFault) (said : Said) → (b ≡ false �
 unless_sound true fault said h = refuses fault
 unless_sound false fault said h = h refl
 
+-- a fault is told, or what comes is sound
+first_sound : (b : Bool) (fault : WorldFault) (rest : Option WorldFault) (said : Said) → (b ≡ false → SoundSaid (refuse_or rest said)) → SoundSaid (refuse_or (cond b (Some fault) rest) said)
+first_sound true fault rest said h = refuses fault
+first_sound false fault rest said h = h refl
+
 form_sound : {X : Type 0} (o : Option X) (fault : WorldFault) (k : X → Said) → ((x : X) → o ≡ Some x → SoundSaid (k x)) → SoundSaid (with_form o fault k)
 form_sound None fault k h = refuses fault
 form_sound (Some x) fault k h = h x refl
 
-keyword_sound : (keyword : List ℕ) (ws : List LineWord) (said : Names → Said) (other : Said) → ((names : Names) → SoundSaid (said names)) → SoundSaid other → SoundSaid (by_keyword keyword ws said other)
-keyword_sound keyword ws said other h k = by_names (behind_keyword keyword ws)
+-- no word is longer than a file may be
+abbrev AllFit : List LineWord → Type 0
+AllFit ws = AllByRecursion (λ (w : LineWord). length w.bytes ≤ 65536) ws
+
+abbrev NamesFit : Names → Type 0
+NamesFit names = AllByRecursion (λ (name : List ℕ). length name ≤ 65536) names
+
+names_fit : (ws : List LineWord) → AllFit ws → NamesFit (map (λ (w : LineWord). w.bytes) ws)
+names_fit [] fit = tt
+names_fit (w ∷ ws) fit = (fit.0, names_fit ws fit.1)
+
+keyword_sound : (keyword : List ℕ) (ws : List LineWord) (said : Names → Said) (other : Said) → AllFit ws → ((names : Names) → NamesFit names → SoundSaid (said names)) → SoundSaid other → SoundSaid (by_keyword keyword ws said other)
+keyword_sound keyword [] said other fit h k = k
+keyword_sound keyword (w ∷ ws) said other fit h k = by_word (not w.quoted && same_bytes w.bytes keyword)
   where
-    by_names : (o : Option Names) → SoundSaid (or_else (option_map said o) other)
-    by_names None = k
-    by_names (Some names) = h names
+    by_word : (b : Bool) → SoundSaid (or_else (option_map said (cond b (Some (map (λ (w : LineWord). w.bytes) ws)) None)) other)
+    by_word true = h _ (names_fit ws fit.1)
+    by_word false = k
 
 none_is : {X : Type 0} (o : Option X) → is_some o ≡ false → o ≡ None
 none_is None h = refl
@@ -141,10 +165,10 @@ categories_sound levels names h =
     goes_on (at.Bound (record { levels = levels; cats = names })) (cond-false _ _ _ h.some ∙ cond-false _ _ _ counts ∙ cond-false _ _ _ are_names ∙ cond-false _ _ _ are_apart))))
 
 bound_sound : (policy : PolicyNames) (names : Names) → MakePolicy policy → SoundSaid (bound_said policy names)
-bound_sound policy (w ∷ []) h = form_sound (set_of w) _ _ (λ bound _. goes_on (at.Tree policy bound (record { objects = []; procs = [] })) (h, nothing))
+bound_sound policy (w ∷ []) h = form_sound (set_of w) _ _ (λ known _. form_sound known _ _ (λ bound _. goes_on (at.Tree policy bound (record { objects = []; procs = [] })) (h, nothing)))
   where
     nothing : SoundTree policy (record { objects = []; procs = [] })
-    nothing = record { rooted = tt; objects_below = tt; procs_below = tt; only_files = tt; within = tt; objects_room = λ l. omega arith; procs_room = λ l. omega arith }
+    nothing = record { rooted = tt; objects = tt; procs = tt; objects_room = λ l. omega arith; procs_room = λ l. omega arith }
 bound_sound policy _ h = refuses Syntax
 
 -- ---- the tree
@@ -218,86 +242,139 @@ rooted_more : (objects : List WorldObject) (o : WorldObject) → AreRooted objec
 rooted_more [] o rooted new parent root order = (first_is o o.path.names refl parent root, tt)
 rooted_more (first ∷ others) o rooted new parent root order = (rooted.0, placed_more (first ∷ []) others o rooted.1 (placed_is first others o o.path.names refl rooted.0.no_names new parent order))
 
-object_sound : (policy : PolicyNames) (bound : CapSet) (t : Tree) (o : WorldObject) → MakePolicy policy → SoundTree policy t → dominates (top_of policy) o.label ≡ true
-    → (is_file (kind_of o.body) ≡ false → o.attr.caps ≡ no_flags) → SoundSaid (object_said policy bound t o)
-object_sound policy bound t o h s below plain =
-    unless_sound _ _ _ (λ new. unless_sound _ _ _ (λ parent. unless_sound _ _ _ (λ root. unless_sound _ _ _ (λ order. unless_sound _ _ _ (λ fewer.
+object_sound : (policy : PolicyNames) (bound : CapSet) (t : Tree) (o : WorldObject) → MakePolicy policy → SoundTree policy t → IsWorldObject (top_of policy) o → SoundSaid (object_said policy bound t o)
+unfolding object_fault
+object_sound policy bound t o h s is =
+    first_sound _ _ _ _ (λ new. first_sound _ _ _ _ (λ parent. first_sound _ _ _ _ (λ root. first_sound _ _ _ _ (λ order. first_sound _ _ _ _ (λ fewer.
     goes_on (at.Tree policy bound (record t { objects = t.objects ++ o ∷ [] })) (
       h,
       record {
         rooted = rooted_more t.objects o s.rooted new parent root order;
-        objects_below = all_more (λ (o : WorldObject). dominates (top_of policy) o.label ≡ true) t.objects o s.objects_below below;
-        procs_below = s.procs_below;
-        only_files = all_more (λ (o : WorldObject). is_file (kind_of o.body) ≡ false → o.attr.caps ≡ no_flags) t.objects o s.only_files plain;
-        within = s.within;
+        objects = all_more (λ (o : WorldObject). IsWorldObject (top_of policy) o) t.objects o s.objects is;
+        procs = s.procs;
         objects_room = room_more (λ (o : WorldObject). o.label) t.objects o 65535 s.objects_room fewer;
         procs_room = s.procs_room;
       },
     ))))))
 
-tree_sound : (policy : PolicyNames) (bound : CapSet) (t : Tree) (form : Option Placed) (caps : Option CapState) (b : Body) → MakePolicy policy → SoundTree policy t
-    → ((c : CapState) → caps ≡ Some c → is_file (kind_of b) ≡ false → c ≡ no_flags) → SoundSaid (tree_said policy bound t form caps b)
-tree_sound policy bound t form caps b h s plain =
-    form_sound form _ _ (λ p _. form_sound caps _ _ (λ c is. form_sound (label_said policy p.label) _ _ (λ label said.
-    object_sound policy bound t (made p c label b) h s (said_valid policy p.label label said) (plain c is))))
+-- what the words of a tree line stand for is in its ranges
+record IsFormed (p : Placed) : Type 0 where
+  absolute : p.path.absolute ≡ true
+  path : is_path p.path ≡ true
+  mode : is_mode p.mode ≡ true
+
+none_there : {X : Type 0} (o : Option X) → is_none o ≡ true → o ≡ None
+none_there None h = refl
+none_there (Some x) h = absurd (cc)
+
+path_formed : (word : List ℕ) (path : PathValue) → path_of word ≡ Some path → (path.absolute ≡ true) × (is_path path ≡ true)
+path_formed word path is =
+    let kept = cond_some _ _ _ is in
+    let parts = and_parts (is_none (path_fault word)) (path_said word).absolute kept.0 in
+    let fine : path_fault word ≡ None = none_there (path_fault word) parts.0 in
+    (ap (λ (p : PathValue). p.absolute) (sym kept.1) ∙ parts.1, ap is_path (sym kept.1) ∙ form_is_path (path_said word) (path_form word fine) (path_names word fine))
+
+mode_formed : (word : List ℕ) (mode : ℕ) → mode_of word ≡ Some mode → is_mode mode ≡ true
+mode_formed word mode is = let range = mode_range word mode is in and_from _ _ (lt-ltb mode 4096 range.0) (ap (λ n. n == 0) range.1)
+
+placed_formed : (path mode uid gid label : List ℕ) (p : Placed) → placed_of path mode uid gid label ≡ Some p → IsFormed p
+unfolding placed_of
+placed_formed path mode uid gid label p is =
+    option_and_then_some _ (path_of path) p is (λ a a_is rest. option_and_then_some _ (mode_of mode) p rest (λ m m_is rest.
+    option_and_then_some _ (number_of uid) p rest (λ u _ rest. option_and_then_some _ (number_of gid) p rest (λ g _ rest. option_and_then_some _ (label_form label) p rest (λ l _ last.
+    let same : record { path = a; mode = m; owner = u; group = g; label = l } ≡ p = same_Some _ _ last in
+    let formed = path_formed path a a_is in
+    record {
+      absolute = ap (λ (q : Placed). q.path.absolute) (sym same) ∙ formed.0;
+      path = ap (λ (q : Placed). is_path q.path) (sym same) ∙ formed.1;
+      mode = ap (λ (q : Placed). is_mode q.mode) (sym same) ∙ mode_formed mode m m_is;
+    })))))
+
+tree_sound : (policy : PolicyNames) (bound : CapSet) (t : Tree) (form : Option Placed) (caps : Option (Option CapState)) (b : Body) → MakePolicy policy → SoundTree policy t
+    → ((p : Placed) → form ≡ Some p → IsFormed p) → length (bytes_of b) ≤ 65536 → (b ≡ body.Pipe → ⊥)
+    → ((c : CapState) → caps ≡ Some (Some c) → is_file (kind_of b) ≡ false → c ≡ no_flags) → SoundSaid (tree_said policy bound t form caps b)
+tree_sound policy bound t form caps b h s formed few no_pipe plain =
+    form_sound form _ _ (λ p p_is. form_sound caps _ _ (λ known is. form_sound (label_said policy p.label) _ _ (λ label said. form_sound known _ _ (λ c found.
+    object_sound policy bound t (made p c label b) h s (record {
+      absolute = (formed p p_is).absolute;
+      path = (formed p p_is).path;
+      mode = (formed p p_is).mode;
+      below = said_valid policy p.label label said;
+      few = few;
+      no_pipe = no_pipe;
+      only_file = plain c (is ∙ ap Some found);
+    })))))
 
 -- ---- processes
 
-within_itself : (a : CapSet) → is_within a a ≡ true
-within_itself a = has-within a a (λ q h. h)
-
-caps_within : (word : List ℕ) (c : CapState) → caps_of word ≡ Some c → is_within c.e c.p ≡ true
-caps_within word c is = by_tests _ _ is
+-- what is effective in the state of a process's text is permitted
+caps_within : (word : List ℕ) (c : CapState) → proc_caps_of word ≡ Some (Some c) → is_within c.e c.p ≡ true
+caps_within word c is = by_known (caps_of word) is
   where
-    by_tests : (u v : Bool) → cond u (Some no_flags) (cond v (Some (record { e = with_cap no_caps cap.MacRead; i = no_caps; p = with_cap no_caps cap.MacRead })) None) ≡ Some c → is_within c.e c.p ≡ true
-    by_tests true v e = let same : no_flags ≡ c = cc in subst (λ (c : CapState). is_within c.e c.p ≡ true) same (within_itself no_caps)
-    by_tests false true e =
-        let same : record { e = with_cap no_caps cap.MacRead; i = no_caps; p = with_cap no_caps cap.MacRead } ≡ c = cc in
-        subst (λ (c : CapState). is_within c.e c.p ≡ true) same (within_itself (with_cap no_caps cap.MacRead))
-    by_tests false false e = absurd (cc)
+    by_test : (known : Option CapState) (b : Bool) → may_start known ≡ b → keep_if b known ≡ Some (Some c) → is_within c.e c.p ≡ true
+    by_test known true may e = let same : known ≡ Some c = cc in ap may_start (sym same) ∙ may
+    by_test known false may e = absurd (cc)
 
-process_sound : (policy : PolicyNames) (bound : CapSet) (t : Tree) (w : WorldProc) → MakePolicy policy → SoundTree policy t → dominates (top_of policy) w.label ≡ true
-    → is_within w.caps.e w.caps.p ≡ true → SoundSaid (process_said policy bound t w)
-process_sound policy bound t w h s below within =
-    unless_sound (length t.objects == 0) _ _ (λ _. unless_sound (nat_le 4095 (procs_at w.label t.procs)) _ _ (λ fewer.
+    by_known : (o : Option (Option CapState)) → then o (λ caps. keep_if (may_start caps) caps) ≡ Some (Some c) → is_within c.e c.p ≡ true
+    by_known None e = absurd (cc)
+    by_known (Some known) e = by_test known (may_start known) refl e
+
+process_sound : (policy : PolicyNames) (bound : CapSet) (t : Tree) (w : WorldProc) → MakePolicy policy → SoundTree policy t → IsWorldProc (top_of policy) w → SoundSaid (process_said policy bound t w)
+unfolding process_fault
+process_sound policy bound t w h s is =
+    first_sound (length t.objects == 0) _ _ _ (λ _. first_sound (nat_le 4095 (procs_at w.label t.procs)) _ _ _ (λ fewer.
     goes_on (at.Tree policy bound (record t { procs = t.procs ++ w ∷ [] })) (
       h,
       record {
         rooted = s.rooted;
-        objects_below = s.objects_below;
-        procs_below = all_more (λ (p : WorldProc). dominates (top_of policy) p.label ≡ true) t.procs w s.procs_below below;
-        only_files = s.only_files;
-        within = all_more (λ (p : WorldProc). is_within p.caps.e p.caps.p ≡ true) t.procs w s.within within;
+        objects = s.objects;
+        procs = all_more (λ (p : WorldProc). IsWorldProc (top_of policy) p) t.procs w s.procs is;
         objects_room = s.objects_room;
         procs_room = room_more (λ (p : WorldProc). p.label) t.procs w 4095 s.procs_room fewer;
       },
     )))
 
-proc_sound : (policy : PolicyNames) (bound : CapSet) (t : Tree) (form : Option Owned) (word : List ℕ) → MakePolicy policy → SoundTree policy t → SoundSaid (proc_said policy bound t form (caps_of word))
-proc_sound policy bound t form word h s =
-    form_sound form _ _ (λ o _. form_sound (caps_of word) _ _ (λ c is. form_sound (label_said policy o.label) _ _ (λ label said.
-    process_sound policy bound t (record { label = label; ids = ids_of o; caps = c }) h s (said_valid policy o.label label said) (caps_within word c is))))
+owned_few : (label uid gid groups : List ℕ) (o : Owned) → owned_of label uid gid groups ≡ Some o → length o.groups ≤ 16
+unfolding owned_of
+owned_few label uid gid groups o is =
+    option_and_then_some _ (label_form label) o is (λ l _ rest. option_and_then_some _ (number_of uid) o rest (λ u _ rest. option_and_then_some _ (number_of gid) o rest (λ g _ rest.
+    option_and_then_some _ (groups_of groups) o rest (λ gs gs_is last.
+    let same : record { label = l; user = u; group = g; groups = gs } ≡ o = same_Some _ _ last in
+    subst (λ (q : Owned). length q.groups ≤ 16) same (groups_few groups gs gs_is)))))
+
+proc_sound : (policy : PolicyNames) (bound : CapSet) (t : Tree) (form : Option Owned) (word : List ℕ) → MakePolicy policy → SoundTree policy t → ((o : Owned) → form ≡ Some o → length o.groups ≤ 16)
+    → SoundSaid (proc_said policy bound t form (proc_caps_of word))
+proc_sound policy bound t form word h s few =
+    form_sound form _ _ (λ o o_is. form_sound (proc_caps_of word) _ _ (λ known is. form_sound (label_said policy o.label) _ _ (λ label said. form_sound known _ _ (λ c found.
+    process_sound policy bound t (record { label = label; ids = ids_of o; caps = c }) h s (record {
+      ids = record { ruid = refl; suid = refl; rgid = refl; sgid = refl };
+      few = few o o_is;
+      below = said_valid policy o.label label said;
+      within = caps_within word c (is ∙ ap Some found);
+    })))))
 
 -- ---- lines
 
-flags_none : (c : CapState) → Some no_flags ≡ Some c → c ≡ no_flags
+flags_none : (c : CapState) → Some (Some no_flags) ≡ Some (Some c) → c ≡ no_flags
 flags_none c e = cc
 
 dir_sound : (policy : PolicyNames) (bound : CapSet) (t : Tree) (names : Names) → MakePolicy policy → SoundTree policy t → SoundSaid (dir_said policy bound t names)
-dir_sound policy bound t (path ∷ mode ∷ uid ∷ gid ∷ label ∷ []) h s = tree_sound policy bound t (placed_of path mode uid gid label) (Some no_flags) body.Dir h s (λ c is _. flags_none c is)
+dir_sound policy bound t (path ∷ mode ∷ uid ∷ gid ∷ label ∷ []) h s = tree_sound policy bound t (placed_of path mode uid gid label) (Some (Some no_flags)) body.Dir h s (placed_formed path mode uid gid label) (omega arith) (λ e. absurd (cc)) (λ c is _. flags_none c is)
 dir_sound policy bound t _ h s = refuses Syntax
 
-file_sound : (policy : PolicyNames) (bound : CapSet) (t : Tree) (names : Names) → MakePolicy policy → SoundTree policy t → SoundSaid (file_said policy bound t names)
-file_sound policy bound t (path ∷ mode ∷ uid ∷ gid ∷ label ∷ bytes ∷ []) h s = tree_sound policy bound t (placed_of path mode uid gid label) (Some no_flags) (body.File bytes) h s (λ c is _. flags_none c is)
-file_sound policy bound t (path ∷ mode ∷ uid ∷ gid ∷ label ∷ bytes ∷ caps ∷ []) h s = tree_sound policy bound t (placed_of path mode uid gid label) (caps_of caps) (body.File bytes) h s (λ c is no_file. absurd (cc))
-file_sound policy bound t _ h s = refuses Syntax
+file_sound : (policy : PolicyNames) (bound : CapSet) (t : Tree) (names : Names) → MakePolicy policy → SoundTree policy t → NamesFit names → SoundSaid (file_said policy bound t names)
+file_sound policy bound t (path ∷ mode ∷ uid ∷ gid ∷ label ∷ bytes ∷ []) h s fit =
+    tree_sound policy bound t (placed_of path mode uid gid label) (Some (Some no_flags)) (body.File bytes) h s (placed_formed path mode uid gid label) fit.1.1.1.1.1.0 (λ e. absurd (cc)) (λ c is _. flags_none c is)
+file_sound policy bound t (path ∷ mode ∷ uid ∷ gid ∷ label ∷ bytes ∷ caps ∷ []) h s fit =
+    tree_sound policy bound t (placed_of path mode uid gid label) (caps_of caps) (body.File bytes) h s (placed_formed path mode uid gid label) fit.1.1.1.1.1.0 (λ e. absurd (cc)) (λ c is no_file. absurd (cc))
+file_sound policy bound t _ h s fit = refuses Syntax
 
 fifo_sound : (policy : PolicyNames) (bound : CapSet) (t : Tree) (names : Names) → MakePolicy policy → SoundTree policy t → SoundSaid (fifo_said policy bound t names)
-fifo_sound policy bound t (path ∷ mode ∷ uid ∷ gid ∷ label ∷ []) h s = tree_sound policy bound t (placed_of path mode uid gid label) (Some no_flags) body.Fifo h s (λ c is _. flags_none c is)
+fifo_sound policy bound t (path ∷ mode ∷ uid ∷ gid ∷ label ∷ []) h s = tree_sound policy bound t (placed_of path mode uid gid label) (Some (Some no_flags)) body.Fifo h s (placed_formed path mode uid gid label) (omega arith) (λ e. absurd (cc)) (λ c is _. flags_none c is)
 fifo_sound policy bound t _ h s = refuses Syntax
 
 proc_line_sound : (policy : PolicyNames) (bound : CapSet) (t : Tree) (names : Names) → MakePolicy policy → SoundTree policy t → SoundSaid (proc_line_said policy bound t names)
-proc_line_sound policy bound t (label ∷ uid ∷ gid ∷ groups ∷ caps ∷ []) h s = proc_sound policy bound t (owned_of label uid gid groups) caps h s
+proc_line_sound policy bound t (label ∷ uid ∷ gid ∷ groups ∷ caps ∷ []) h s = proc_sound policy bound t (owned_of label uid gid groups) caps h s (owned_few label uid gid groups)
 proc_line_sound policy bound t _ h s = refuses Syntax
 
 -- a sound tree with objects makes a world
@@ -313,12 +390,10 @@ tree_world policy bound (first ∷ others) procs h s some = record {
     root_body = s.rooted.0.is_dir;
     root_label = s.rooted.0.lowest;
     others_placed = s.rooted.1;
-    objects_below = s.objects_below;
-    procs_below = s.procs_below;
-    only_files = s.only_files;
-    within = s.within;
+    objects = s.objects;
+    procs = s.procs;
+    room = record { objects = s.objects_room; procs = s.procs_room };
   };
-  room = record { objects = s.objects_room; procs = s.procs_room };
   top = refl;
   policy = h;
 }
@@ -327,27 +402,35 @@ script_sound : (policy : PolicyNames) (bound : CapSet) (t : Tree) (names : Names
 script_sound policy bound t [] h s = unless_sound _ _ _ (λ some. begins (world_of policy bound t) (tree_world policy bound t.objects t.procs h s some))
 script_sound policy bound t _ h s = refuses Syntax
 
-tree_line_sound : (policy : PolicyNames) (bound : CapSet) (t : Tree) (ws : List LineWord) → MakePolicy policy → SoundTree policy t → SoundSaid (tree_line_said policy bound t ws)
-tree_line_sound policy bound t ws h s =
-    keyword_sound _ ws _ _ (λ names. dir_sound policy bound t names h s)
-    (keyword_sound _ ws _ _ (λ names. file_sound policy bound t names h s)
-    (keyword_sound _ ws _ _ (λ names. fifo_sound policy bound t names h s)
-    (keyword_sound _ ws _ _ (λ names. proc_line_sound policy bound t names h s)
-    (keyword_sound _ ws _ _ (λ names. script_sound policy bound t names h s)
+tree_line_sound : (policy : PolicyNames) (bound : CapSet) (t : Tree) (ws : List LineWord) → MakePolicy policy → SoundTree policy t → AllFit ws → SoundSaid (tree_line_said policy bound t ws)
+tree_line_sound policy bound t ws h s fit =
+    keyword_sound _ ws _ _ fit (λ names _. dir_sound policy bound t names h s)
+    (keyword_sound _ ws _ _ fit (λ names fits. file_sound policy bound t names h s fits)
+    (keyword_sound _ ws _ _ fit (λ names _. fifo_sound policy bound t names h s)
+    (keyword_sound _ ws _ _ fit (λ names _. proc_line_sound policy bound t names h s)
+    (keyword_sound _ ws _ _ fit (λ names _. script_sound policy bound t names h s)
     (refuses Syntax)))))
 
-words_sound : (stage : Stage) (ws : List LineWord) → SoundStage stage → SoundSaid (words_said stage ws)
+words_sound : (stage : Stage) (ws : List LineWord) → SoundStage stage → AllFit ws → SoundSaid (words_said stage ws)
 unfolding words_said
-words_sound at.Format ws h = keyword_sound _ ws _ _ format_sound (refuses Syntax)
-words_sound at.Levels ws h = keyword_sound _ ws _ _ levels_sound (refuses Syntax)
-words_sound (at.Categories levels) ws h = keyword_sound _ ws _ _ (λ names. categories_sound levels names h) (refuses Syntax)
-words_sound (at.Bound policy) ws h = keyword_sound _ ws _ _ (λ names. bound_sound policy names h) (refuses Syntax)
-words_sound (at.Tree policy bound t) ws h = tree_line_sound policy bound t ws h.0 h.1
+words_sound at.Format ws h fit = keyword_sound _ ws _ _ fit (λ names _. format_sound names) (refuses Syntax)
+words_sound at.Levels ws h fit = keyword_sound _ ws _ _ fit (λ names _. levels_sound names) (refuses Syntax)
+words_sound (at.Categories levels) ws h fit = keyword_sound _ ws _ _ fit (λ names _. categories_sound levels names h) (refuses Syntax)
+words_sound (at.Bound policy) ws h fit = keyword_sound _ ws _ _ fit (λ names _. bound_sound policy names h) (refuses Syntax)
+words_sound (at.Tree policy bound t) ws h fit = tree_line_sound policy bound t ws h.0 h.1 fit
+
+-- the words of a line that is not too long
+line_fits : (line : List ℕ) (ws : List LineWord) → length line ≤ 2048 → words_of line ≡ Some ws → AllFit ws
+line_fits line ws short is = wider ws (words_fit line ws is)
+  where
+    wider : (ws : List LineWord) → AllByRecursion (λ (w : LineWord). length w.bytes ≤ length line) ws → AllFit ws
+    wider [] fit = tt
+    wider (w ∷ ws) fit = let le = fit.0 in (omega arith, wider ws fit.1)
 
 line_sound : (stage : Stage) (line : List ℕ) → SoundStage stage → SoundSaid (line_said stage line)
 unfolding line_said
 line_sound stage line h =
-    unless_sound (nat_lt 2048 (length line)) _ _ (λ _. by_blank (is_blank line) (form_sound (words_of line) _ _ (λ ws _. words_sound stage ws h)))
+    unless_sound (nat_lt 2048 (length line)) _ _ (λ short. by_blank (is_blank line) (form_sound (words_of line) _ _ (λ ws is. words_sound stage ws h (line_fits line ws (ltb-false _ _ short) is))))
   where
     by_blank : (b : Bool) → SoundSaid (with_form (words_of line) Syntax (words_said stage)) → SoundSaid (cond b (GoesOn stage) (with_form (words_of line) Syntax (words_said stage)))
     by_blank true s = goes_on stage h
@@ -390,10 +473,6 @@ text_sound text = reading_sound 1 at.Format (pieces 10 text) tt
 -- an accepted world is one
 pub accepted_world : (text : List ℕ) (w : WorldText) (n : ℕ) (script : List (List ℕ)) → read_text text ≡ Accepted w n script → IsWorld w.world
 accepted_world text w n script e = ((text_sound text).world_is w n script e).world
-
--- no label of it has more objects or processes than may be drawn
-pub accepted_room : (text : List ℕ) (w : WorldText) (n : ℕ) (script : List (List ℕ)) → read_text text ≡ Accepted w n script → HasRoom w.world
-accepted_room text w n script e = ((text_sound text).world_is w n script e).room
 
 -- its top is that of its names
 pub accepted_top : (text : List ℕ) (w : WorldText) (n : ℕ) (script : List (List ℕ)) → read_text text ≡ Accepted w n script → w.world.top ≡ top_of w.policy

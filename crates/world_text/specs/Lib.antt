@@ -1,12 +1,13 @@
 pub mod Tree
+pub mod Placing
 pub mod Stage
 pub mod Reading
 pub mod Standing
-pub mod Placing
 pub mod Lines
 pub mod Accepted
 pub mod Written
 pub mod CanBeRead
+pub mod WrittenForms
 pub mod WrittenWords
 pub mod WrittenValues
 pub mod WrittenAgain

@@ -1,17 +1,37 @@
 -- Why an object or a process can't go behind those before it.
-use Rattle.std.specs.Prelude.{◌&&◌, ◌||◌, ◌==◌, not, nat_le, cond, length, Option, None, Some, is_some}
-use Rattle.lab_lattice.specs.Label.{bottom, dominates}
+use Rattle.std.specs.Prelude.{◌&&◌, ◌||◌, ◌==◌, not, nat_le, Bool, true, false, cond, List, [], ◌∷◌, length, Option, None, Some, is_some}
+use Rattle.fs_path.specs.Name.{Name}
+use Rattle.lab_lattice.specs.Label.{Label, bottom, dominates}
 use Rattle.kern_model.specs.declared.world.WorldObject.{WorldObject}
 use Rattle.kern_model.specs.declared.world.WorldProc.{WorldProc}
-use Rattle.kern_model.specs.Boot.{kind_of}
-use Rattle.kern_model.specs.Rules.{is_dir}
-use Rattle.kern_model.specs.World.{given, objects_at, procs_at}
+use Rattle.kern_model.specs.Kinds.{kind_of}
+use Rattle.kern_model.specs.Kinds.{is_dir}
+use Rattle.kern_model.specs.World.{given, parent_names, objects_at, procs_at}
 use Rattle.world_text.specs.declared.fault.WorldFault.{WorldFault}
 use Rattle.world_text.specs.declared.fault.WorldFault.TheVariants.{Repeated, NoParent, LabelOrder, RootLabel, TooMany}
 use Rattle.world_text.specs.Tree.{Tree}
-use Rattle.world_text.specs.Stage.{is_directory, is_above, directory_of, is_root}
 
--- why an object can't go behind those before it, if it can't
+-- a directory that was given
+abbrev pub is_directory : Option WorldObject → Bool
+is_directory None = false
+is_directory (Some o) = is_dir (kind_of o.body)
+
+-- whether a label dominates that of what was given
+abbrev pub is_above : Label → Option WorldObject → Bool
+is_above label None = true
+is_above label (Some o) = dominates label o.label
+
+-- what was given as the directory of a path; the root has none
+abbrev pub directory_of : List WorldObject → List Name → Option WorldObject
+directory_of os [] = None
+directory_of os (n ∷ ns) = given os (parent_names (n ∷ ns))
+
+abbrev pub is_root : List Name → Bool
+is_root [] = true
+is_root (n ∷ ns) = false
+
+-- why an object can't go behind those before it, if it can't: its path was given, its directory was not, it is the root and
+-- no directory of the bottom label, its label does not dominate the directory's, or no number of its label is left
 unfoldable pub object_fault : Tree → WorldObject → Option WorldFault
 object_fault t o =
     cond (is_some (given t.objects o.path.names)) (Some Repeated)
@@ -20,7 +40,7 @@ object_fault t o =
     (cond (not (is_above o.label (directory_of t.objects o.path.names))) (Some LabelOrder)
     (cond (nat_le 65535 (objects_at o.label t.objects)) (Some TooMany) None))))
 
--- why a process can't go behind those before it, if it can't
+-- why a process can't go behind those before it, if it can't: there is no root yet, or no number of its label is left
 unfoldable pub process_fault : Tree → WorldProc → Option WorldFault
 process_fault t w =
     cond (length t.objects == 0) (Some NoParent)

@@ -38,12 +38,13 @@ reading n stage (line ∷ next ∷ ls) = after (line_said stage line) n (next �
 abbrev pub read_text : List ℕ → Reading
 read_text text = reading 1 at.Format (pieces 10 text)
 
--- a text ends before its world does at the line that would be next, or inside a line at that
+-- a text says this world
 abbrev pub IsRead : Reading → WorldText → Type 0
 IsRead (Accepted world n script) w = world ≡ w
 IsRead _ w = ⊥
 
--- a world is not read for this cause, if memory did not run out
+-- a world is not read for this cause, if memory did not run out; a text that ends before its world does is refused at the
+-- line that would be next, or at the line inside which it ends
 abbrev pub IsNotRead : Reading → WorldError → Type 0
 IsNotRead r (error.NoMemory _) = Unit {0}
 IsNotRead (Refused n fault) (error.Refused m why) = (n ≡ m) × (fault ≡ why)

@@ -1,18 +1,20 @@
 -- What each line of a world says, by how far its reading has come.
-use Rattle.std.specs.Prelude.{ℕ, ◌==◌, ◌&&◌, ◌||◌, not, nat_le, nat_lt, Bool, true, false, cond, List, [], ◌∷◌, ◌++◌, length, map, Option, None, Some, is_none, is_some, codes}
+use Rattle.std.specs.Prelude.{ℕ, ◌==◌, ◌&&◌, ◌||◌, not, nat_lt, Bool, true, cond, List, [], ◌∷◌, ◌++◌, length, map, Option, None, Some, Result, Ok, Err, is_none, codes}
 use Rattle.std.specs.List.{list_all}
-use Rattle.std.specs.Option.{option_and_then, option_map}
-use Rattle.cap_bits.specs.declared.cap.Cap.TheVariants as cap
+use Rattle.std.specs.Option.{option_map}
 use Rattle.cap_bits.specs.declared.state.CapState.{CapState}
-use Rattle.cap_bits.specs.CapSet.{CapSet, no_caps, all_of_caps, with_cap}
+use Rattle.cap_bits.specs.CapSet.{CapSet, is_within}
 use Rattle.cap_bits.specs.State.{no_flags}
+use Rattle.cap_clause.specs.declared.error.CapTextError.{CapTextError}
+use Rattle.cap_clause.specs.declared.error.CapTextError.TheVariants as error
+use Rattle.cap_clause.specs.Said.{caps_said, set_said}
 use Rattle.fs_path.specs.declared.words.LineWord.{LineWord}
-use Rattle.fs_path.specs.Name.{Name}
+use Rattle.fs_path.specs.Options.{keep_if, then}
 use Rattle.fs_path.specs.Path.{PathValue}
 use Rattle.fs_path.specs.PathText.{path_fault, path_said}
 use Rattle.fs_path.specs.Words.{words_of, is_blank}
 use Rattle.fs_path.specs.Values.{number_of, mode_of, groups_of}
-use Rattle.lab_lattice.specs.Label.{Label, dominates, bottom}
+use Rattle.lab_lattice.specs.Label.{Label}
 use Rattle.lab_text.specs.Names.{Names, same_bytes, is_label_name, are_distinct}
 use Rattle.lab_text.specs.Policy.{PolicyNames, top_of}
 use Rattle.lab_text.specs.Text.{is_label_text, label_said}
@@ -21,17 +23,15 @@ use Rattle.kern_model.specs.declared.objects.Body.{Body}
 use Rattle.kern_model.specs.declared.objects.Body.TheVariants as body
 use Rattle.kern_model.specs.declared.world.WorldObject.{WorldObject}
 use Rattle.kern_model.specs.declared.world.WorldProc.{WorldProc}
-use Rattle.kern_model.specs.Boot.{kind_of}
-use Rattle.kern_model.specs.Rules.{is_dir}
-use Rattle.kern_model.specs.World.{given, parent_names, objects_at, procs_at}
 use Rattle.world_text.specs.declared.fault.WorldFault.{WorldFault}
-use Rattle.world_text.specs.declared.fault.WorldFault.TheVariants.{Syntax, UnknownName, Repeated, NoParent, LabelOrder, RootLabel, TooMany, NotBuilt}
+use Rattle.world_text.specs.declared.fault.WorldFault.TheVariants.{Syntax, UnknownName, Repeated, TooMany}
 use Rattle.world_text.specs.declared.stage.Stage.{Stage}
 use Rattle.world_text.specs.declared.stage.Stage.TheVariants as at
 use Rattle.world_text.specs.declared.stage.Said.{Said}
 use Rattle.world_text.specs.declared.stage.Said.TheVariants.{Refuses, GoesOn, Begins}
 use Rattle.world_text.specs.declared.world.WorldText.{WorldText}
 use Rattle.world_text.specs.Tree.{Tree}
+use Rattle.world_text.specs.Placing.{object_fault, process_fault}
 
 -- the world of a tree
 abbrev pub world_of : PolicyNames → CapSet → Tree → WorldText
@@ -40,6 +40,11 @@ world_of policy bound t = record { policy = policy; world = record { top = top_o
 -- the first of some faults that is there, and else what comes
 abbrev pub unless : Bool → WorldFault → Said → Said
 unless faulty fault said = cond faulty (Refuses fault) said
+
+-- a fault that is there, and else what comes
+abbrev pub refuse_or : Option WorldFault → Said → Said
+refuse_or None said = said
+refuse_or (Some fault) said = Refuses fault
 
 -- what comes of a value that is there
 abbrev pub with_form : {X : Type 0} → Option X → WorldFault → (X → Said) → Said
@@ -78,22 +83,26 @@ categories_said levels names =
     (unless (not (are_distinct names)) Repeated
     (GoesOn (at.Bound (record { levels = levels; cats = names })))))
 
--- the sets that are built so far: all capabilities, or none
-abbrev pub set_of : List ℕ → Option CapSet
-set_of word = cond (same_bytes word (codes "all")) (Some all_of_caps) (cond (same_bytes word (codes "none")) (Some no_caps) None)
+-- what a text of capabilities says that has the form of one: a value, or none where a name in it is unknown; its first fault decides
+abbrev pub known_of : {X : Type 0} → Result X CapTextError → Option (Option X)
+known_of (Ok x) = Some (Some x)
+known_of (Err (error.UnknownName at)) = Some None
+known_of (Err _) = None
+
+-- the set of a set text
+abbrev pub set_of : List ℕ → Option (Option CapSet)
+set_of word = known_of (set_said word)
 
 -- `bound SET`
 abbrev pub bound_said : PolicyNames → Names → Said
-bound_said policy (w ∷ []) = with_form (set_of w) NotBuilt (λ bound. GoesOn (at.Tree policy bound (record { objects = []; procs = [] })))
+bound_said policy (w ∷ []) = with_form (set_of w) Syntax (λ bound. with_form bound UnknownName (λ bound. GoesOn (at.Tree policy bound (record { objects = []; procs = [] }))))
 bound_said policy _ = Refuses Syntax
 
 -- ---- the tree
 
--- the capability texts that are built so far: no flag, and cap_mac_read effective and permitted
-abbrev pub caps_of : List ℕ → Option CapState
-caps_of word =
-    cond (same_bytes word (codes "=")) (Some no_flags)
-    (cond (same_bytes word (codes "cap_mac_read=ep")) (Some (record { e = with_cap no_caps cap.MacRead; i = no_caps; p = with_cap no_caps cap.MacRead })) None)
+-- the state of a capability text
+abbrev pub caps_of : List ℕ → Option (Option CapState)
+caps_of word = known_of (caps_said word)
 
 -- an absolute path
 abbrev pub path_of : List ℕ → Option PathValue
@@ -111,54 +120,25 @@ pub record Placed : Type 0 where
   pub group : ℕ
   pub label : List ℕ
 
-abbrev pub then : {A X : Type 0} → Option A → (A → Option X) → Option X
-then o k = option_and_then k o
-
 -- `PATH MODE UID GID LABEL`
 unfoldable pub placed_of : (path mode uid gid label : List ℕ) → Option Placed
 placed_of path mode uid gid label =
     then (path_of path) (λ path. then (mode_of mode) (λ mode. then (number_of uid) (λ owner. then (number_of gid) (λ group. then (label_form label) (λ label.
     Some (record { path = path; mode = mode; owner = owner; group = group; label = label }))))))
 
--- a directory that was given
-abbrev pub is_directory : Option WorldObject → Bool
-is_directory None = false
-is_directory (Some o) = is_dir (kind_of o.body)
-
--- whether a label dominates that of what was given
-abbrev pub is_above : Label → Option WorldObject → Bool
-is_above label None = true
-is_above label (Some o) = dominates label o.label
-
--- what was given as the directory of a path; the root has none
-abbrev pub directory_of : List WorldObject → List Name → Option WorldObject
-directory_of os [] = None
-directory_of os (n ∷ ns) = given os (parent_names (n ∷ ns))
-
-abbrev pub is_root : List Name → Bool
-is_root [] = true
-is_root (n ∷ ns) = false
-
--- an object goes behind those before it, unless its path was given, its directory was not, it is the root and no directory
--- of the bottom label, its label does not dominate the directory's, or no number of its label is left
+-- an object goes behind those before it, if it can
 abbrev pub object_said : PolicyNames → CapSet → Tree → WorldObject → Said
-object_said policy bound t o =
-    unless (is_some (given t.objects o.path.names)) Repeated
-    (unless (not (is_root o.path.names || is_directory (directory_of t.objects o.path.names))) NoParent
-    (unless (is_root o.path.names && not (is_dir (kind_of o.body) && dominates bottom o.label)) RootLabel
-    (unless (not (is_above o.label (directory_of t.objects o.path.names))) LabelOrder
-    (unless (nat_le 65535 (objects_at o.label t.objects)) TooMany
-    (GoesOn (at.Tree policy bound (record t { objects = t.objects ++ o ∷ [] })))))))
+object_said policy bound t o = refuse_or (object_fault t o) (GoesOn (at.Tree policy bound (record t { objects = t.objects ++ o ∷ [] })))
 
 -- the object of a tree line
 abbrev pub made : Placed → CapState → Label → Body → WorldObject
 made p caps label body = record { path = p.path; label = label; attr = record { owner = p.owner; group = p.group; mode = p.mode; caps = caps }; body = body }
 
--- a tree line: its form, its capability text, its label's names, and then where it stands
-abbrev pub tree_said : PolicyNames → CapSet → Tree → Option Placed → Option CapState → Body → Said
+-- a tree line: its form and that of its capabilities, the names of its label and those of its capabilities, and then where it stands
+abbrev pub tree_said : PolicyNames → CapSet → Tree → Option Placed → Option (Option CapState) → Body → Said
 tree_said policy bound t form caps body =
-    with_form form Syntax (λ p. with_form caps NotBuilt (λ caps. with_form (label_said policy p.label) UnknownName (λ label.
-    object_said policy bound t (made p caps label body))))
+    with_form form Syntax (λ p. with_form caps Syntax (λ caps. with_form (label_said policy p.label) UnknownName (λ label. with_form caps UnknownName (λ caps.
+    object_said policy bound t (made p caps label body)))))
 
 -- ---- processes
 
@@ -175,44 +155,50 @@ owned_of label uid gid groups =
     then (label_form label) (λ label. then (number_of uid) (λ user. then (number_of gid) (λ group. then (groups_of groups) (λ groups.
     Some (record { label = label; user = user; group = group; groups = groups })))))
 
+-- what is effective in a process is permitted
+abbrev pub may_start : Option CapState → Bool
+may_start None = true
+may_start (Some caps) = is_within caps.e caps.p
+
+-- the state of a capability text that may be that of a process
+abbrev pub proc_caps_of : List ℕ → Option (Option CapState)
+proc_caps_of word = then (caps_of word) (λ caps. keep_if (may_start caps) caps)
+
 -- the ids of a process: its user and its group are real, effective and saved
 abbrev pub ids_of : Owned → Ids
 ids_of o = record { ruid = o.user; euid = o.user; suid = o.user; rgid = o.group; egid = o.group; sgid = o.group; groups = o.groups }
 
--- a process goes behind those before it, unless there is no root yet, or no number of its label is left
+-- a process goes behind those before it, if it can
 abbrev pub process_said : PolicyNames → CapSet → Tree → WorldProc → Said
-process_said policy bound t w =
-    unless (length t.objects == 0) NoParent
-    (unless (nat_le 4095 (procs_at w.label t.procs)) TooMany
-    (GoesOn (at.Tree policy bound (record t { procs = t.procs ++ w ∷ [] }))))
+process_said policy bound t w = refuse_or (process_fault t w) (GoesOn (at.Tree policy bound (record t { procs = t.procs ++ w ∷ [] })))
 
--- a process line: its form, its capability text, its label's names, and then whether it may stand there
-abbrev pub proc_said : PolicyNames → CapSet → Tree → Option Owned → Option CapState → Said
+-- a process line: its form and that of its capabilities, the names of its label and those of its capabilities, and then whether it may stand there
+abbrev pub proc_said : PolicyNames → CapSet → Tree → Option Owned → Option (Option CapState) → Said
 proc_said policy bound t form caps =
-    with_form form Syntax (λ o. with_form caps NotBuilt (λ caps. with_form (label_said policy o.label) UnknownName (λ label.
-    process_said policy bound t (record { label = label; ids = ids_of o; caps = caps }))))
+    with_form form Syntax (λ o. with_form caps Syntax (λ caps. with_form (label_said policy o.label) UnknownName (λ label. with_form caps UnknownName (λ caps.
+    process_said policy bound t (record { label = label; ids = ids_of o; caps = caps })))))
 
 -- ---- lines
 
 -- `dir PATH MODE UID GID LABEL`
 abbrev pub dir_said : PolicyNames → CapSet → Tree → Names → Said
-dir_said policy bound t (path ∷ mode ∷ uid ∷ gid ∷ label ∷ []) = tree_said policy bound t (placed_of path mode uid gid label) (Some no_flags) body.Dir
+dir_said policy bound t (path ∷ mode ∷ uid ∷ gid ∷ label ∷ []) = tree_said policy bound t (placed_of path mode uid gid label) (Some (Some no_flags)) body.Dir
 dir_said policy bound t _ = Refuses Syntax
 
 -- `file PATH MODE UID GID LABEL BYTES [CAPS]`
 abbrev pub file_said : PolicyNames → CapSet → Tree → Names → Said
-file_said policy bound t (path ∷ mode ∷ uid ∷ gid ∷ label ∷ bytes ∷ []) = tree_said policy bound t (placed_of path mode uid gid label) (Some no_flags) (body.File bytes)
+file_said policy bound t (path ∷ mode ∷ uid ∷ gid ∷ label ∷ bytes ∷ []) = tree_said policy bound t (placed_of path mode uid gid label) (Some (Some no_flags)) (body.File bytes)
 file_said policy bound t (path ∷ mode ∷ uid ∷ gid ∷ label ∷ bytes ∷ caps ∷ []) = tree_said policy bound t (placed_of path mode uid gid label) (caps_of caps) (body.File bytes)
 file_said policy bound t _ = Refuses Syntax
 
 -- `fifo PATH MODE UID GID LABEL`
 abbrev pub fifo_said : PolicyNames → CapSet → Tree → Names → Said
-fifo_said policy bound t (path ∷ mode ∷ uid ∷ gid ∷ label ∷ []) = tree_said policy bound t (placed_of path mode uid gid label) (Some no_flags) body.Fifo
+fifo_said policy bound t (path ∷ mode ∷ uid ∷ gid ∷ label ∷ []) = tree_said policy bound t (placed_of path mode uid gid label) (Some (Some no_flags)) body.Fifo
 fifo_said policy bound t _ = Refuses Syntax
 
 -- `proc LABEL UID GID GROUPS CAPS`
 abbrev pub proc_line_said : PolicyNames → CapSet → Tree → Names → Said
-proc_line_said policy bound t (label ∷ uid ∷ gid ∷ groups ∷ caps ∷ []) = proc_said policy bound t (owned_of label uid gid groups) (caps_of caps)
+proc_line_said policy bound t (label ∷ uid ∷ gid ∷ groups ∷ caps ∷ []) = proc_said policy bound t (owned_of label uid gid groups) (proc_caps_of caps)
 proc_line_said policy bound t _ = Refuses Syntax
 
 -- `script`, once the root is there

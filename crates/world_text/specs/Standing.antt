@@ -8,8 +8,8 @@ use Rattle.std.specs.declared.cmp.Ordering.{Ordering}
 use Rattle.fs_path.specs.Name.{Name}
 use Rattle.lab_lattice.specs.Label.{Label, dominates, label_cmp}
 use Rattle.kern_model.specs.declared.world.WorldObject.{WorldObject}
-use Rattle.kern_model.specs.Boot.{kind_of}
-use Rattle.kern_model.specs.Rules.{is_dir}
+use Rattle.kern_model.specs.Kinds.{kind_of}
+use Rattle.kern_model.specs.Kinds.{is_dir}
 use Rattle.kern_model.specs.World.{given, objects_at, procs_at}
 use Rattle.world_text.specs.declared.draft.Standing.{Standing}
 use Rattle.world_text.specs.Tree.{Tree}

@@ -1,14 +1,15 @@
 -- The one written form of a world.
-use Rattle.std.specs.Prelude.{ℕ, ◌+◌, not, true, false, cond, List, [], ◌∷◌, ◌++◌, length, map, codes}
+use Rattle.std.specs.Prelude.{ℕ, ◌+◌, true, false, cond, List, [], ◌∷◌, ◌++◌, length, map, codes}
 use Rattle.std.specs.Fmt.{decimal}
-use Rattle.std.specs.List.{flat_map, list_all}
-use Rattle.cap_bits.specs.declared.cap.Cap.TheVariants as cap
+use Rattle.std.specs.List.{flat_map}
 use Rattle.cap_bits.specs.declared.state.CapState.{CapState}
-use Rattle.cap_bits.specs.CapSet.{CapSet, has, is_within, all_of_caps}
+use Rattle.cap_bits.specs.CapSet.{CapSet}
+use Rattle.cap_clause.specs.Written.{caps_text, set_text}
 use Rattle.fs_path.specs.declared.words.LineWord.{LineWord}
 use Rattle.fs_path.specs.Name.{Name}
 use Rattle.fs_path.specs.Values.{mode_text, groups_text}
-use Rattle.fs_path.specs.Words.{is_bare, spelling, line_text}
+use Rattle.fs_path.specs.Words.{with_quotes_if_needed, spelling, line_text}
+use Rattle.lab_text.specs.Names.{same_bytes}
 use Rattle.lab_text.specs.Policy.{PolicyNames}
 use Rattle.lab_text.specs.Text.{label_text}
 use Rattle.kern_model.specs.declared.objects.Body.{Body}
@@ -27,22 +28,10 @@ bare bytes = record { quoted = false; bytes = bytes }
 abbrev pub quoted : List ℕ → LineWord
 quoted bytes = record { quoted = true; bytes = bytes }
 
--- a word between quotes exactly where it has a byte that no bare word has
-abbrev pub with_quotes_if_needed : List ℕ → LineWord
-with_quotes_if_needed bytes = record { quoted = not (list_all is_bare bytes); bytes = bytes }
-
 -- the text of a path: `/`, or each name behind a `/`
 abbrev pub path_text : List Name → List ℕ
 path_text [] = codes "/"
 path_text (name ∷ names) = flat_map (λ (name : Name). 47 ∷ name) (name ∷ names)
-
--- the text of a capability state: `cap_mac_read=ep` where that is effective, and else `=`
-abbrev pub caps_text : CapState → List ℕ
-caps_text caps = cond (has caps.e cap.MacRead) (codes "cap_mac_read=ep") (codes "=")
-
--- the text of a bound: `all` where it has all capabilities, and else `none`
-abbrev pub bound_text : CapSet → List ℕ
-bound_text bound = cond (is_within all_of_caps bound) (codes "all") (codes "none")
 
 -- ---- lines
 
@@ -58,7 +47,7 @@ names_words keyword names = bare keyword ∷ map bare names
 abbrev pub head_words : PolicyNames → CapSet → List (List LineWord)
 head_words policy bound =
     names_words (codes "world") (codes "1" ∷ []) ∷ names_words (codes "levels") policy.levels ∷ names_words (codes "categories") policy.cats
-    ∷ names_words (codes "bound") (bound_text bound ∷ []) ∷ []
+    ∷ names_words (codes "bound") (set_text bound ∷ []) ∷ []
 
 -- the keyword of an object; no tree line makes a pipe
 abbrev pub body_keyword : Body → List ℕ
@@ -67,9 +56,9 @@ body_keyword (body.File bytes) = codes "file"
 body_keyword body.Fifo = codes "fifo"
 body_keyword body.Pipe = codes "pipe"
 
--- capabilities behind a file's content, where there are some
+-- capabilities behind a file's content, where their text is not `=`
 abbrev pub caps_words : CapState → List LineWord
-caps_words caps = cond (has caps.e cap.MacRead) (quoted (caps_text caps) ∷ []) []
+caps_words caps = cond (same_bytes (caps_text caps) (codes "=")) [] (quoted (caps_text caps) ∷ [])
 
 -- the content of a file, and its capabilities
 abbrev pub body_words : Body → CapState → List LineWord

@@ -1,25 +1,26 @@
 -- What is written is read as the same world.
 use Rattle.std.specs.Prelude.{◌≡◌, ℕ, ◌+◌, ◌≤◌, ◌==◌, ◌||◌, not, nat_le, Bool, true, false, cond, List, [], ◌∷◌, ◌++◌, length, map, Option, Some, is_some, codes, count_by, refl}
-use Rattle.std.proofs.Common.{ap, sym, ◌∙◌, subst, append-nil, append_assoc, arith, inl, inr}
+use Rattle.std.proofs.Common.{ap, sym, ◌∙◌, subst, append-nil, append_assoc, arith}
 use Rattle.std.specs.Fmt.{decimal}
 use Rattle.std.specs.List.{AllByRecursion, list_all}
 use Rattle.std.proofs.lemmas.Bool.{and_parts, and_from, and_left, and_right, or_from, or_right, lt-leb, le-ltb, ne_eqb, cond-true, cond-false}
 use Rattle.std.proofs.lemmas.List.Folds.{list_all-append}
 use Rattle.std.proofs.lemmas.List.Sums.{sum_by-append, sum_by-cons}
 use Rattle.std.proofs.lemmas.List.{length-append, length-map}
-use Rattle.cap_bits.specs.declared.cap.Cap.TheVariants as cap
 use Rattle.cap_bits.specs.declared.state.CapState.{CapState}
-use Rattle.cap_bits.specs.CapSet.{CapSet, has, is_within, all_of_caps, has-no_caps}
+use Rattle.cap_bits.specs.CapSet.{CapSet, is_within}
 use Rattle.cap_bits.specs.State.{no_flags}
+use Rattle.cap_clause.specs.Written.{caps_text, set_text}
 use Rattle.fs_path.specs.declared.words.LineWord.{LineWord}
 use Rattle.fs_path.specs.Again.{number_again, mode_again, groups_again, decimal_bare, mode_bare, groups_bare}
 use Rattle.fs_path.specs.Name.{Name}
+use Rattle.fs_path.specs.Options.{then}
 use Rattle.fs_path.specs.Path.{PathValue}
 use Rattle.fs_path.specs.Values.{mode_text, groups_text}
-use Rattle.fs_path.specs.Words.{has_spelling, spelling, line_text}
+use Rattle.fs_path.specs.Words.{has_spelling, with_quotes_if_needed, spelling, line_text}
 use Rattle.lab_lattice.specs.Label.{Label, dominates, bottom, dominates_itself}
 use Rattle.lab_text.specs.Made.{made}
-use Rattle.lab_text.specs.Names.{Names, is_label_name}
+use Rattle.lab_text.specs.Names.{Names, same_bytes, is_label_name}
 use Rattle.lab_text.specs.Policy.{PolicyNames, MakePolicy, is_valid}
 use Rattle.lab_text.specs.Said.{text_said}
 use Rattle.lab_text.specs.Text.{label_text}
@@ -29,23 +30,26 @@ use Rattle.kern_model.specs.declared.objects.Body.{Body}
 use Rattle.kern_model.specs.declared.objects.Body.TheVariants as body
 use Rattle.kern_model.specs.declared.world.WorldObject.{WorldObject}
 use Rattle.kern_model.specs.declared.world.WorldProc.{WorldProc}
-use Rattle.kern_model.specs.Boot.{kind_of}
-use Rattle.kern_model.specs.Rules.{is_dir, is_file, same_label}
+use Rattle.kern_model.specs.Kinds.{kind_of}
+use Rattle.kern_model.specs.Kinds.{is_dir, is_file}
+use Rattle.kern_model.specs.Rules.{same_label}
 use Rattle.kern_model.specs.World.{IsPlaced, ArePlaced, given, parent_names, objects_at, procs_at, same_names}
 use Rattle.world_text.specs.declared.fault.WorldFault.{WorldFault}
-use Rattle.world_text.specs.declared.fault.WorldFault.TheVariants.{Syntax, UnknownName, NotBuilt}
+use Rattle.world_text.specs.declared.fault.WorldFault.TheVariants.{Syntax, UnknownName}
 use Rattle.world_text.specs.declared.stage.Stage.{Stage}
 use Rattle.world_text.specs.declared.stage.Stage.TheVariants as at
 use Rattle.world_text.specs.declared.stage.Said.{Said}
 use Rattle.world_text.specs.declared.stage.Said.TheVariants.{GoesOn, Begins}
 use Rattle.world_text.specs.declared.world.WorldText.{WorldText}
 use Rattle.world_text.specs.Tree.{Tree}
-use Rattle.world_text.specs.Stage.{world_of, with_form, levels_said, categories_said, placed_of, owned_of, ids_of, then, is_directory, is_above, directory_of, is_root, object_said, tree_said, process_said, words_said, line_said}
+use Rattle.world_text.specs.Placing.{is_directory, is_above, directory_of, is_root, object_fault, process_fault}
+use Rattle.world_text.specs.Stage.{world_of, refuse_or, with_form, caps_of, levels_said, categories_said, placed_of, owned_of, ids_of, object_said, tree_said, process_said, words_said, line_said}
 use Rattle.world_text.specs.Reading.{Accepted, after, reading, read_text}
-use Rattle.world_text.specs.Written.{bare, quoted, with_quotes_if_needed, path_text, caps_text, bound_text, names_words, head_words, body_keyword, body_words, object_words, process_words, script_words, lines_of, next_number, written}
-use Rattle.world_text.specs.CanBeRead.{mac_read_flags, IsNumber, IsWrittenState, IsWrittenBound, IsWrittenBody, IsWrittenObject, IsWrittenIds, IsWrittenProcess, IsShort, CanBeRead}
+use Rattle.world_text.specs.Written.{bare, quoted, path_text, names_words, head_words, body_keyword, body_words, object_words, process_words, script_words, lines_of, next_number, written}
+use Rattle.world_text.specs.CanBeRead.{IsNumber, IsShort, CanBeRead}
+use Rattle.world_text.specs.WrittenForms.{IsSpelledBody, IsSpelledObject, IsSpelledIds, objects_spelled, objects_below, objects_plain, procs_spelled, procs_below, procs_within}
 use Rattle.world_text.specs.WrittenWords.{written_pieces, pieces_again, begins_line, line_is}
-use Rattle.world_text.specs.WrittenValues.{path_again, path_spelling, label_name_bare, label_bare, label_again, has_mac_read, caps_again, bound_again}
+use Rattle.world_text.specs.WrittenValues.{path_again, path_spelling, label_name_bare, label_bare, label_again, caps_known, proc_caps_known, none_known, bound_known, caps_spelling, bound_bare}
 
 -- ---- a line and what follows it
 
@@ -115,31 +119,28 @@ categories_line policy h short =
     line_is (at.Categories policy.levels) (codes "categories") (map bare policy.cats) refl (names_spelling policy.cats is.cat_names) short ∙ ap (categories_said policy.levels) (spelled_names policy.cats)
     ∙ cond-false _ _ _ (ap not is.cat_names) ∙ cond-false _ _ _ (le-ltb 64 (length policy.cats) is.few_cats) ∙ cond-false _ _ _ (ap not is.cats_apart)
 
-bound_spelling : (bound : CapSet) → has_spelling (bare (bound_text bound)) ≡ true
-bound_spelling bound = elim (is_within all_of_caps bound) as (λ v. has_spelling (bare (cond v (codes "all") (codes "none"))) ≡ true) [ true ↦ refl | false ↦ refl ]
-
 -- what stands in the tree so far
 abbrev tree_at : PolicyNames → CapSet → List WorldObject → List WorldProc → Stage
 tree_at policy bound objects procs = at.Tree policy bound (record { objects = objects; procs = procs })
 
-bound_line : (policy : PolicyNames) (bound : CapSet) → IsWrittenBound bound → IsShort (names_words (codes "bound") (bound_text bound ∷ []))
-    → line_said (at.Bound policy) (text_of (names_words (codes "bound") (bound_text bound ∷ []))) ≡ GoesOn (tree_at policy bound [] [])
+bound_line : (policy : PolicyNames) (bound : CapSet) → IsShort (names_words (codes "bound") (set_text bound ∷ []))
+    → line_said (at.Bound policy) (text_of (names_words (codes "bound") (set_text bound ∷ []))) ≡ GoesOn (tree_at policy bound [] [])
 unfolding words_said
-bound_line policy bound h short =
-    line_is (at.Bound policy) (codes "bound") (bare (bound_text bound) ∷ []) refl (and_from _ _ (bound_spelling bound) refl) short
-    ∙ ap (λ (o : Option CapSet). with_form o NotBuilt (λ bound. GoesOn (tree_at policy bound [] []))) (bound_again bound h)
+bound_line policy bound short =
+    line_is (at.Bound policy) (codes "bound") (bare (set_text bound) ∷ []) refl (and_from _ _ (bound_bare bound) refl) short
+    ∙ ap (λ (o : Option (Option CapSet)). with_form o Syntax (λ known. with_form known UnknownName (λ bound. GoesOn (tree_at policy bound [] [])))) (bound_known bound)
 
 -- the reading comes to the tree
-head_read : (policy : PolicyNames) (bound : CapSet) (more : List (List LineWord)) → MakePolicy policy → IsWrittenBound bound → IsShort (names_words (codes "levels") policy.levels)
-    → IsShort (names_words (codes "categories") policy.cats) → IsShort (names_words (codes "bound") (bound_text bound ∷ []))
+head_read : (policy : PolicyNames) (bound : CapSet) (more : List (List LineWord)) → MakePolicy policy → IsShort (names_words (codes "levels") policy.levels)
+    → IsShort (names_words (codes "categories") policy.cats) → IsShort (names_words (codes "bound") (set_text bound ∷ []))
     → reading 1 at.Format (written_pieces (head_words policy bound ++ more)) ≡ reading 5 (tree_at policy bound [] []) (written_pieces more)
-head_read policy bound more h is levels cats bounded =
-    let behind_cats = names_words (codes "bound") (bound_text bound ∷ []) ∷ more in
+head_read policy bound more h levels cats bounded =
+    let behind_cats = names_words (codes "bound") (set_text bound ∷ []) ∷ more in
     let behind_levels = names_words (codes "categories") policy.cats ∷ behind_cats in
     step_on 1 at.Format at.Levels (names_words (codes "world") (codes "1" ∷ [])) (names_words (codes "levels") policy.levels ∷ behind_levels) format_line
     ∙ step_on 2 at.Levels (at.Categories policy.levels) (names_words (codes "levels") policy.levels) behind_levels (levels_line policy h levels)
     ∙ step_on 3 (at.Categories policy.levels) (at.Bound policy) (names_words (codes "categories") policy.cats) behind_cats (categories_line policy h cats)
-    ∙ step_on 4 (at.Bound policy) (tree_at policy bound [] []) (names_words (codes "bound") (bound_text bound ∷ [])) more (bound_line policy bound is bounded)
+    ∙ step_on 4 (at.Bound policy) (tree_at policy bound [] []) (names_words (codes "bound") (set_text bound ∷ [])) more (bound_line policy bound bounded)
 
 -- ---- what is there
 
@@ -165,7 +166,7 @@ room_left {X} label done x more most room =
 
 -- ---- tree lines
 
-placed_again : (policy : PolicyNames) (o : WorldObject) → MakePolicy policy → is_valid policy o.label ≡ true → IsWrittenObject o
+placed_again : (policy : PolicyNames) (o : WorldObject) → MakePolicy policy → is_valid policy o.label ≡ true → IsSpelledObject o
     → placed_of (path_text o.path.names) (mode_text o.attr.mode) (decimal o.attr.owner) (decimal o.attr.group) (label_text policy o.label)
     ≡ Some (record { path = o.path; mode = o.attr.mode; owner = o.attr.owner; group = o.attr.group; label = label_text policy o.label })
 unfolding placed_of
@@ -173,37 +174,39 @@ placed_again policy o h valid is =
     then_some _ _ _ (path_again o.path is.path) ∙ then_some _ _ _ (mode_again o.attr.mode is.mode is.not_sticky) ∙ then_some _ _ _ (number_again o.attr.owner is.owner)
     ∙ then_some _ _ _ (number_again o.attr.group is.group) ∙ then_some _ _ _ (label_again policy o.label h valid)
 
-tree_says : (policy : PolicyNames) (bound : CapSet) (t : Tree) (o : WorldObject) (caps : Option CapState) → MakePolicy policy → is_valid policy o.label ≡ true → IsWrittenObject o → caps ≡ Some o.attr.caps
+tree_says : (policy : PolicyNames) (bound : CapSet) (t : Tree) (o : WorldObject) (caps : Option (Option CapState)) → MakePolicy policy → is_valid policy o.label ≡ true → IsSpelledObject o → caps ≡ Some (Some o.attr.caps)
     → tree_said policy bound t (placed_of (path_text o.path.names) (mode_text o.attr.mode) (decimal o.attr.owner) (decimal o.attr.group) (label_text policy o.label)) caps o.body ≡ object_said policy bound t o
 tree_says policy bound t o caps h valid is e =
-    form_some _ Syntax _ _ (placed_again policy o h valid is) ∙ form_some caps NotBuilt o.attr.caps _ e ∙ form_some _ UnknownName o.label _ (text_said policy o.label h valid)
+    form_some _ Syntax _ _ (placed_again policy o h valid is) ∙ form_some caps Syntax (Some o.attr.caps) _ e ∙ form_some _ UnknownName o.label _ (text_said policy o.label h valid)
 
 -- an object of these parts
 abbrev object_from : PathValue → Label → Attr → Body → WorldObject
 object_from path label attr b = record { path = path; label = label; attr = attr; body = b }
 
--- the words of a file that has capabilities or not
+-- the words of a file whose capability text is `=` or not
 abbrev file_words : PolicyNames → PathValue → Label → Attr → List ℕ → Bool → List LineWord
-file_words policy path label attr bytes some =
+file_words policy path label attr bytes none =
     bare (codes "file") ∷ with_quotes_if_needed (path_text path.names) ∷ bare (mode_text attr.mode) ∷ bare (decimal attr.owner) ∷ bare (decimal attr.group) ∷ bare (label_text policy label)
-    ∷ quoted bytes ∷ cond some (quoted (cond some (codes "cap_mac_read=ep") (codes "=")) ∷ []) []
+    ∷ quoted bytes ∷ cond none [] (quoted (caps_text attr.caps) ∷ [])
 
 object_says : (policy : PolicyNames) (bound : CapSet) (t : Tree) (path : PathValue) (label : Label) (attr : Attr) (b : Body) → MakePolicy policy → is_valid policy label ≡ true
-    → IsWrittenObject (object_from path label attr b) → (is_file (kind_of b) ≡ false → attr.caps ≡ no_flags)
+    → IsSpelledObject (object_from path label attr b) → (is_file (kind_of b) ≡ false → attr.caps ≡ no_flags)
     → words_said (at.Tree policy bound t) (object_words policy (object_from path label attr b)) ≡ object_said policy bound t (object_from path label attr b)
 unfolding words_said object_words
-object_says policy bound t path label attr body.Dir h valid is plain = tree_says policy bound t (object_from path label attr body.Dir) (Some no_flags) h valid is (ap Some (sym (plain refl)))
-object_says policy bound t path label attr body.Fifo h valid is plain = tree_says policy bound t (object_from path label attr body.Fifo) (Some no_flags) h valid is (ap Some (sym (plain refl)))
+object_says policy bound t path label attr body.Dir h valid is plain = tree_says policy bound t (object_from path label attr body.Dir) (Some (Some no_flags)) h valid is (ap (λ (c : CapState). Some (Some c)) (sym (plain refl)))
+object_says policy bound t path label attr body.Fifo h valid is plain = tree_says policy bound t (object_from path label attr body.Fifo) (Some (Some no_flags)) h valid is (ap (λ (c : CapState). Some (Some c)) (sym (plain refl)))
 object_says policy bound t path label attr body.Pipe h valid is plain = absurd is.body
-object_says policy bound t path label attr (body.File bytes) h valid is plain = by_caps is.caps
+object_says policy bound t path label attr (body.File bytes) h valid is plain = by_caps (same_bytes (caps_text attr.caps) (codes "=")) refl
   where
-    by_caps : IsWrittenState attr.caps → words_said (at.Tree policy bound t) (file_words policy path label attr bytes (has attr.caps.e cap.MacRead)) ≡ object_said policy bound t (object_from path label attr (body.File bytes))
-    by_caps (inl e) =
-        let none = ap (λ (c : CapState). has c.e cap.MacRead) e ∙ has-no_caps cap.MacRead in
-        ap (λ v. words_said (at.Tree policy bound t) (file_words policy path label attr bytes v)) none ∙ tree_says policy bound t (object_from path label attr (body.File bytes)) (Some no_flags) h valid is (ap Some (sym e))
-    by_caps (inr e) =
-        let some = ap (λ (c : CapState). has c.e cap.MacRead) e ∙ has_mac_read in
-        ap (λ v. words_said (at.Tree policy bound t) (file_words policy path label attr bytes v)) some ∙ tree_says policy bound t (object_from path label attr (body.File bytes)) (Some mac_read_flags) h valid is (ap Some (sym e))
+    file : WorldObject
+    file = object_from path label attr (body.File bytes)
+
+    by_caps : (none : Bool) → same_bytes (caps_text attr.caps) (codes "=") ≡ none → words_said (at.Tree policy bound t) (file_words policy path label attr bytes (same_bytes (caps_text attr.caps) (codes "="))) ≡ object_said policy bound t file
+    by_caps true e =
+        ap (λ v. words_said (at.Tree policy bound t) (file_words policy path label attr bytes v)) e
+        ∙ tree_says policy bound t file (Some (Some no_flags)) h valid is (ap (λ (c : CapState). Some (Some c)) (sym (none_known attr.caps e)))
+    by_caps false e =
+        ap (λ v. words_said (at.Tree policy bound t) (file_words policy path label attr bytes v)) e ∙ tree_says policy bound t file (caps_of (caps_text attr.caps)) h valid is (caps_known attr.caps)
 
 keyword_spelling : (b : Body) → has_spelling (bare (body_keyword b)) ≡ true
 keyword_spelling body.Dir = refl
@@ -217,20 +220,20 @@ keyword_begins (body.File bytes) = refl
 keyword_begins body.Fifo = refl
 keyword_begins body.Pipe = refl
 
-body_spelling : (b : Body) (caps : CapState) → IsWrittenBody b → list_all has_spelling (body_words b caps) ≡ true
+body_spelling : (b : Body) (caps : CapState) → IsSpelledBody b → list_all has_spelling (body_words b caps) ≡ true
 body_spelling body.Dir caps h = refl
 body_spelling (body.File bytes) caps h =
-    and_from _ _ h (elim (has caps.e cap.MacRead) as (λ v. list_all has_spelling (cond v (quoted (cond v (codes "cap_mac_read=ep") (codes "=")) ∷ []) []) ≡ true) [ true ↦ refl | false ↦ refl ])
+    and_from _ _ h (elim (same_bytes (caps_text caps) (codes "=")) as (λ v. list_all has_spelling (cond v [] (quoted (caps_text caps) ∷ [])) ≡ true) [ true ↦ refl | false ↦ and_from _ _ (caps_spelling caps) refl ])
 body_spelling body.Fifo caps h = refl
 body_spelling body.Pipe caps h = refl
 
-object_spelling : (policy : PolicyNames) (o : WorldObject) → MakePolicy policy → is_valid policy o.label ≡ true → IsWrittenObject o → list_all has_spelling (object_words policy o) ≡ true
+object_spelling : (policy : PolicyNames) (o : WorldObject) → MakePolicy policy → is_valid policy o.label ≡ true → IsSpelledObject o → list_all has_spelling (object_words policy o) ≡ true
 unfolding object_words
 object_spelling policy o h valid is =
     and_from _ _ (keyword_spelling o.body) (and_from _ _ (path_spelling o.path is.path) (and_from _ _ (mode_bare o.attr.mode) (and_from _ _ (number_spelling o.attr.owner is.owner)
     (and_from _ _ (number_spelling o.attr.group is.group) (and_from _ _ (label_bare policy o.label h valid) (body_spelling o.body o.attr.caps is.body))))))
 
-object_line : (policy : PolicyNames) (bound : CapSet) (t : Tree) (o : WorldObject) → MakePolicy policy → is_valid policy o.label ≡ true → IsWrittenObject o → (is_file (kind_of o.body) ≡ false → o.attr.caps ≡ no_flags)
+object_line : (policy : PolicyNames) (bound : CapSet) (t : Tree) (o : WorldObject) → MakePolicy policy → is_valid policy o.label ≡ true → IsSpelledObject o → (is_file (kind_of o.body) ≡ false → o.attr.caps ≡ no_flags)
     → IsShort (object_words policy o) → line_said (at.Tree policy bound t) (text_of (object_words policy o)) ≡ object_said policy bound t o
 unfolding object_words
 object_line policy bound t o h valid is plain short =
@@ -239,10 +242,12 @@ object_line policy bound t o h valid is plain short =
 -- the root goes first
 root_adds : (policy : PolicyNames) (bound : CapSet) (o : WorldObject) → o.path.names ≡ [] → o.body ≡ body.Dir → o.label ≡ bottom
     → object_said policy bound (record { objects = []; procs = [] }) o ≡ GoesOn (tree_at policy bound (o ∷ []) [])
+unfolding object_fault
 root_adds policy bound o no_names dir lowest =
+    ap (λ f. refuse_or f (GoesOn (tree_at policy bound (o ∷ []) []))) (
     cond-false _ _ _ (ap (λ (ns : List Name). not (is_root ns || is_directory (directory_of [] ns))) no_names)
     ∙ cond-false _ _ _ (and_right (is_root o.path.names) _ (ap not (and_from _ _ (ap (λ b. is_dir (kind_of b)) dir) (ap (dominates bottom) lowest ∙ dominates_itself bottom))))
-    ∙ cond-false _ _ _ (ap (λ (ns : List Name). not (is_above o.label (directory_of [] ns))) no_names)
+    ∙ cond-false _ _ _ (ap (λ (ns : List Name). not (is_above o.label (directory_of [] ns))) no_names))
 
 -- an object that is no root stands in the directory that was given
 below_root : (first : WorldObject) (rest : List WorldObject) (o : WorldObject) (p : IsPlaced (first ∷ rest) o) (names : List Name) → first.path.names ≡ [] → o.path.names ≡ names
@@ -257,15 +262,17 @@ below_root first rest o p (n ∷ ns) root e =
 placed_adds : (policy : PolicyNames) (bound : CapSet) (first : WorldObject) (rest : List WorldObject) (o : WorldObject) → first.path.names ≡ [] → IsPlaced (first ∷ rest) o
     → nat_le 65535 (objects_at o.label (first ∷ rest)) ≡ false
     → object_said policy bound (record { objects = first ∷ rest; procs = [] }) o ≡ GoesOn (tree_at policy bound (first ∷ (rest ++ o ∷ [])) [])
+unfolding object_fault
 placed_adds policy bound first rest o root p room =
     let below = below_root first rest o p o.path.names root refl in
     let dir = ap is_directory below.1 ∙ ap (λ b. is_dir (kind_of b)) p.parent_dir in
+    ap (λ f. refuse_or f (GoesOn (tree_at policy bound (first ∷ (rest ++ o ∷ [])) []))) (
     cond-false _ _ _ (ap is_some p.new) ∙ cond-false _ _ _ (ap not (or_right (is_root o.path.names) _ dir)) ∙ cond-false _ _ _ (and_left _ _ below.0)
-    ∙ cond-false _ _ _ (ap not (ap (is_above o.label) below.1 ∙ p.order)) ∙ cond-false _ _ _ room
+    ∙ cond-false _ _ _ (ap not (ap (is_above o.label) below.1 ∙ p.order)) ∙ cond-false _ _ _ room)
 
 -- the lines of objects behind the root
 objects_add : (policy : PolicyNames) (bound : CapSet) (first : WorldObject) (rest os : List WorldObject) → MakePolicy policy → first.path.names ≡ [] → ArePlaced (first ∷ rest) os
-    → AllByRecursion (λ (o : WorldObject). is_valid policy o.label ≡ true) os → AllByRecursion (λ (o : WorldObject). IsWrittenObject o) os
+    → AllByRecursion (λ (o : WorldObject). is_valid policy o.label ≡ true) os → AllByRecursion (λ (o : WorldObject). IsSpelledObject o) os
     → AllByRecursion (λ (o : WorldObject). is_file (kind_of o.body) ≡ false → o.attr.caps ≡ no_flags) os → AllByRecursion IsShort (map (object_words policy) os)
     → ((l : Label) → objects_at l (first ∷ (rest ++ os)) ≤ 65535) → EachAdds (object_words policy) (λ os. tree_at policy bound os []) (first ∷ rest) os
 objects_add policy bound first rest [] h root placed valid written plain short room = tt
@@ -279,7 +286,7 @@ objects_add policy bound first rest (o ∷ os) h root placed valid written plain
 -- the lines of the objects of a world
 tree_adds : (policy : PolicyNames) (bound : CapSet) (os : List WorldObject) (first : WorldObject) (others : List WorldObject) → MakePolicy policy → os ≡ first ∷ others
     → first.path.names ≡ [] → first.body ≡ body.Dir → first.label ≡ bottom → ArePlaced (first ∷ []) others
-    → AllByRecursion (λ (o : WorldObject). is_valid policy o.label ≡ true) os → AllByRecursion (λ (o : WorldObject). IsWrittenObject o) os
+    → AllByRecursion (λ (o : WorldObject). is_valid policy o.label ≡ true) os → AllByRecursion (λ (o : WorldObject). IsSpelledObject o) os
     → AllByRecursion (λ (o : WorldObject). is_file (kind_of o.body) ≡ false → o.attr.caps ≡ no_flags) os → AllByRecursion IsShort (map (object_words policy) os)
     → ((l : Label) → objects_at l os ≤ 65535) → EachAdds (object_words policy) (λ os. tree_at policy bound os []) [] os
 tree_adds policy bound [] first others h e no_names dir lowest placed valid written plain short room = tt
@@ -296,7 +303,7 @@ tree_adds policy bound (o ∷ os) first others h e no_names dir lowest placed va
 
 -- ---- process lines
 
-owned_again : (policy : PolicyNames) (p : WorldProc) → MakePolicy policy → is_valid policy p.label ≡ true → IsWrittenIds p.ids
+owned_again : (policy : PolicyNames) (p : WorldProc) → MakePolicy policy → is_valid policy p.label ≡ true → IsSpelledIds p.ids
     → owned_of (label_text policy p.label) (decimal p.ids.euid) (decimal p.ids.egid) (groups_text p.ids.groups)
     ≡ Some (record { label = label_text policy p.label; user = p.ids.euid; group = p.ids.egid; groups = p.ids.groups })
 unfolding owned_of
@@ -304,40 +311,40 @@ owned_again policy p h valid is =
     then_some _ _ _ (label_again policy p.label h valid) ∙ then_some _ _ _ (number_again p.ids.euid is.user) ∙ then_some _ _ _ (number_again p.ids.egid is.group)
     ∙ then_some _ _ _ (groups_again p.ids.groups is.groups is.few)
 
-ids_again : (ids : Ids) (label : List ℕ) → IsWrittenIds ids → ids_of (record { label = label; user = ids.euid; group = ids.egid; groups = ids.groups }) ≡ ids
+ids_again : (ids : Ids) (label : List ℕ) → IsSpelledIds ids → ids_of (record { label = label; user = ids.euid; group = ids.egid; groups = ids.groups }) ≡ ids
 ids_again ids label is =
     λ i. record { ruid = sym is.ruid i; euid = ids.euid; suid = sym is.suid i; rgid = sym is.rgid i; egid = ids.egid; sgid = sym is.sgid i; groups = ids.groups }
 
-process_says : (policy : PolicyNames) (bound : CapSet) (t : Tree) (p : WorldProc) → MakePolicy policy → is_valid policy p.label ≡ true → IsWrittenProcess p
+process_says : (policy : PolicyNames) (bound : CapSet) (t : Tree) (p : WorldProc) → MakePolicy policy → is_valid policy p.label ≡ true → IsSpelledIds p.ids → is_within p.caps.e p.caps.p ≡ true
     → words_said (at.Tree policy bound t) (process_words policy p) ≡ process_said policy bound t p
 unfolding words_said process_words
-process_says policy bound t p h valid is =
-    form_some _ Syntax _ _ (owned_again policy p h valid is.ids) ∙ form_some _ NotBuilt p.caps _ (caps_again p.caps is.caps) ∙ form_some _ UnknownName p.label _ (text_said policy p.label h valid)
-    ∙ ap (λ (ids : Ids). process_said policy bound t (record { label = p.label; ids = ids; caps = p.caps })) (ids_again p.ids (label_text policy p.label) is.ids)
+process_says policy bound t p h valid is within =
+    form_some _ Syntax _ _ (owned_again policy p h valid is) ∙ form_some _ Syntax (Some p.caps) _ (proc_caps_known p.caps within) ∙ form_some _ UnknownName p.label _ (text_said policy p.label h valid)
+    ∙ ap (λ (ids : Ids). process_said policy bound t (record { label = p.label; ids = ids; caps = p.caps })) (ids_again p.ids (label_text policy p.label) is)
 
-state_spelling : (caps : CapState) → has_spelling (quoted (caps_text caps)) ≡ true
-state_spelling caps = elim (has caps.e cap.MacRead) as (λ v. has_spelling (quoted (cond v (codes "cap_mac_read=ep") (codes "="))) ≡ true) [ true ↦ refl | false ↦ refl ]
-
-process_spelling : (policy : PolicyNames) (p : WorldProc) → MakePolicy policy → is_valid policy p.label ≡ true → IsWrittenProcess p → list_all has_spelling (process_words policy p) ≡ true
+process_spelling : (policy : PolicyNames) (p : WorldProc) → MakePolicy policy → is_valid policy p.label ≡ true → IsSpelledIds p.ids → list_all has_spelling (process_words policy p) ≡ true
 unfolding process_words
 process_spelling policy p h valid is =
-    and_from _ _ (label_bare policy p.label h valid) (and_from _ _ (number_spelling p.ids.euid is.ids.user) (and_from _ _ (number_spelling p.ids.egid is.ids.group)
-    (and_from _ _ (groups_bare p.ids.groups is.ids.groups) (and_from _ _ (state_spelling p.caps) refl))))
+    and_from _ _ (label_bare policy p.label h valid) (and_from _ _ (number_spelling p.ids.euid is.user) (and_from _ _ (number_spelling p.ids.egid is.group)
+    (and_from _ _ (groups_bare p.ids.groups is.groups) (and_from _ _ (caps_spelling p.caps) refl))))
 
-process_line : (policy : PolicyNames) (bound : CapSet) (t : Tree) (p : WorldProc) → MakePolicy policy → is_valid policy p.label ≡ true → IsWrittenProcess p → IsShort (process_words policy p)
+process_line : (policy : PolicyNames) (bound : CapSet) (t : Tree) (p : WorldProc) → MakePolicy policy → is_valid policy p.label ≡ true → IsSpelledIds p.ids → is_within p.caps.e p.caps.p ≡ true
+    → IsShort (process_words policy p)
     → line_said (at.Tree policy bound t) (text_of (process_words policy p)) ≡ process_said policy bound t p
 unfolding process_words
-process_line policy bound t p h valid is short = line_is (at.Tree policy bound t) (codes "proc") _ refl (process_spelling policy p h valid is) short ∙ process_says policy bound t p h valid is
+process_line policy bound t p h valid is within short = line_is (at.Tree policy bound t) (codes "proc") _ refl (process_spelling policy p h valid is) short ∙ process_says policy bound t p h valid is within
 
 processes_add : (policy : PolicyNames) (bound : CapSet) (objects : List WorldObject) (done ps : List WorldProc) → MakePolicy policy → (length objects == 0) ≡ false
-    → AllByRecursion (λ (p : WorldProc). is_valid policy p.label ≡ true) ps → AllByRecursion (λ (p : WorldProc). IsWrittenProcess p) ps → AllByRecursion IsShort (map (process_words policy) ps)
-    → ((l : Label) → procs_at l (done ++ ps) ≤ 4095) → EachAdds (process_words policy) (tree_at policy bound objects) done ps
-processes_add policy bound objects done [] h some valid written short room = tt
-processes_add policy bound objects done (p ∷ ps) h some valid written short room =
+    → AllByRecursion (λ (p : WorldProc). is_valid policy p.label ≡ true) ps → AllByRecursion (λ (p : WorldProc). IsSpelledIds p.ids) ps → AllByRecursion (λ (p : WorldProc). is_within p.caps.e p.caps.p ≡ true) ps
+    → AllByRecursion IsShort (map (process_words policy) ps) → ((l : Label) → procs_at l (done ++ ps) ≤ 4095) → EachAdds (process_words policy) (tree_at policy bound objects) done ps
+unfolding process_fault
+processes_add policy bound objects done [] h some valid written within short room = tt
+processes_add policy bound objects done (p ∷ ps) h some valid written within short room =
     let left = room_left (λ (p : WorldProc). p.label) done p ps 4095 room in
     let more : (l : Label) → procs_at l ((done ++ p ∷ []) ++ ps) ≤ 4095 = λ l. subst (λ (ps : List WorldProc). procs_at l ps ≤ 4095) (sym (append_assoc done (p ∷ []) ps)) (room l) in (
-      process_line policy bound (record { objects = objects; procs = done }) p h valid.0 written.0 short.0 ∙ cond-false _ _ _ some ∙ cond-false _ _ _ left,
-      processes_add policy bound objects (done ++ p ∷ []) ps h some valid.1 written.1 short.1 more,
+      process_line policy bound (record { objects = objects; procs = done }) p h valid.0 written.0 within.0 short.0
+          ∙ ap (λ f. refuse_or f (GoesOn (tree_at policy bound objects (done ++ p ∷ [])))) (cond-false _ _ _ some ∙ cond-false _ _ _ left),
+      processes_add policy bound objects (done ++ p ∷ []) ps h some valid.1 written.1 within.1 short.1 more,
     )
 
 -- ---- the world
@@ -352,19 +359,19 @@ all_parts P [] ys all = (tt, all)
 all_parts P (x ∷ xs) ys all = let parts = all_parts P xs ys all.1 in ((all.0, parts.0), parts.1)
 
 objects_spelling : (policy : PolicyNames) (os : List WorldObject) → MakePolicy policy → AllByRecursion (λ (o : WorldObject). is_valid policy o.label ≡ true) os
-    → AllByRecursion (λ (o : WorldObject). IsWrittenObject o) os → list_all (list_all has_spelling) (map (object_words policy) os) ≡ true
+    → AllByRecursion (λ (o : WorldObject). IsSpelledObject o) os → list_all (list_all has_spelling) (map (object_words policy) os) ≡ true
 objects_spelling policy [] h valid written = refl
 objects_spelling policy (o ∷ os) h valid written = and_from _ _ (object_spelling policy o h valid.0 written.0) (objects_spelling policy os h valid.1 written.1)
 
 processes_spelling : (policy : PolicyNames) (ps : List WorldProc) → MakePolicy policy → AllByRecursion (λ (p : WorldProc). is_valid policy p.label ≡ true) ps
-    → AllByRecursion (λ (p : WorldProc). IsWrittenProcess p) ps → list_all (list_all has_spelling) (map (process_words policy) ps) ≡ true
+    → AllByRecursion (λ (p : WorldProc). IsSpelledIds p.ids) ps → list_all (list_all has_spelling) (map (process_words policy) ps) ≡ true
 processes_spelling policy [] h valid written = refl
 processes_spelling policy (p ∷ ps) h valid written = and_from _ _ (process_spelling policy p h valid.0 written.0) (processes_spelling policy ps h valid.1 written.1)
 
 head_spelling : (policy : PolicyNames) (bound : CapSet) → MakePolicy policy → list_all (list_all has_spelling) (head_words policy bound) ≡ true
 head_spelling policy bound h =
     let is = made policy h in
-    and_from _ _ (names_spelling policy.levels is.level_names) (and_from _ _ (names_spelling policy.cats is.cat_names) (and_from _ _ (and_from _ _ (bound_spelling bound) refl) refl))
+    and_from _ _ (names_spelling policy.levels is.level_names) (and_from _ _ (names_spelling policy.cats is.cat_names) (and_from _ _ (and_from _ _ (bound_bare bound) refl) refl))
 
 some_objects : (os : List WorldObject) (first : WorldObject) (others : List WorldObject) → os ≡ first ∷ others → (length os == 0) ≡ false
 some_objects [] first others e = absurd (cc)
@@ -375,20 +382,26 @@ pub written_again : (w : WorldText) → CanBeRead w → read_text (written w) �
 unfolding written
 written_again w h =
     ap (reading 1 at.Format) (pieces_again (lines_of w) spelled)
-    ∙ head_read w.policy w.world.bound (map (object_words w.policy) w.world.objects ++ (map (process_words w.policy) w.world.procs ++ script_words ∷ [])) h.policy h.bound h.lines.1.0 h.lines.1.1.0 h.lines.1.1.1.0
+    ∙ head_read w.policy w.world.bound (map (object_words w.policy) w.world.objects ++ (map (process_words w.policy) w.world.procs ++ script_words ∷ [])) h.policy h.lines.1.0 h.lines.1.1.0 h.lines.1.1.1.0
     ∙ steps_on (object_words w.policy) (λ os. tree_at w.policy w.world.bound os []) 5 [] w.world.objects (map (process_words w.policy) w.world.procs ++ script_words ∷ [])
     (tree_adds w.policy w.world.bound w.world.objects h.world.first h.world.others h.policy h.world.objects_are h.world.no_names h.world.root_body h.world.root_label h.world.others_placed
-    objects_valid h.objects h.world.only_files tails.0 h.room.objects)
+    objects_valid written (objects_plain w.world.top w.world.objects h.world.objects) tails.0 h.world.room.objects)
     ∙ steps_on (process_words w.policy) (tree_at w.policy w.world.bound w.world.objects) (5 + length w.world.objects) [] w.world.procs (script_words ∷ [])
-    (processes_add w.policy w.world.bound w.world.objects [] w.world.procs h.policy some procs_valid h.procs ends.0 h.room.procs)
+    (processes_add w.policy w.world.bound w.world.objects [] w.world.procs h.policy some procs_valid owned (procs_within w.world.top w.world.procs h.world.procs) ends.0 h.world.room.procs)
     ∙ step_last (5 + length w.world.objects + length w.world.procs) (tree_at w.policy w.world.bound w.world.objects w.world.procs) world script_words (script_line w.policy w.world.bound w.world.objects w.world.procs some)
     ∙ (λ i. Accepted (world_is i) (number i) ([] ∷ []))
   where
     objects_valid : AllByRecursion (λ (o : WorldObject). is_valid w.policy o.label ≡ true) w.world.objects
-    objects_valid = subst (λ (top : Label). AllByRecursion (λ (o : WorldObject). dominates top o.label ≡ true) w.world.objects) h.top h.world.objects_below
+    objects_valid = subst (λ (top : Label). AllByRecursion (λ (o : WorldObject). dominates top o.label ≡ true) w.world.objects) h.top (objects_below w.world.top w.world.objects h.world.objects)
 
     procs_valid : AllByRecursion (λ (p : WorldProc). is_valid w.policy p.label ≡ true) w.world.procs
-    procs_valid = subst (λ (top : Label). AllByRecursion (λ (p : WorldProc). dominates top p.label ≡ true) w.world.procs) h.top h.world.procs_below
+    procs_valid = subst (λ (top : Label). AllByRecursion (λ (p : WorldProc). dominates top p.label ≡ true) w.world.procs) h.top (procs_below w.world.top w.world.procs h.world.procs)
+
+    written : AllByRecursion (λ (o : WorldObject). IsSpelledObject o) w.world.objects
+    written = objects_spelled w.world.top w.world.objects h.world.objects h.objects
+
+    owned : AllByRecursion (λ (p : WorldProc). IsSpelledIds p.ids) w.world.procs
+    owned = procs_spelled w.world.top w.world.procs h.world.procs h.procs
 
     some : (length w.world.objects == 0) ≡ false
     some = some_objects w.world.objects h.world.first h.world.others h.world.objects_are
@@ -404,8 +417,8 @@ written_again w h =
         let objects = map (object_words w.policy) w.world.objects in
         let procs = map (process_words w.policy) w.world.procs in
         list_all-append (list_all has_spelling) (head_words w.policy w.world.bound) (objects ++ (procs ++ script_words ∷ [])) ∙ and_from _ _ (head_spelling w.policy w.world.bound h.policy)
-        (list_all-append (list_all has_spelling) objects (procs ++ script_words ∷ []) ∙ and_from _ _ (objects_spelling w.policy w.world.objects h.policy objects_valid h.objects)
-        (list_all-append (list_all has_spelling) procs (script_words ∷ []) ∙ and_from _ _ (processes_spelling w.policy w.world.procs h.policy procs_valid h.procs) refl))
+        (list_all-append (list_all has_spelling) objects (procs ++ script_words ∷ []) ∙ and_from _ _ (objects_spelling w.policy w.world.objects h.policy objects_valid written)
+        (list_all-append (list_all has_spelling) procs (script_words ∷ []) ∙ and_from _ _ (processes_spelling w.policy w.world.procs h.policy procs_valid owned) refl))
 
     world : WorldText
     world = world_of w.policy w.world.bound (record { objects = w.world.objects; procs = w.world.procs })

@@ -1,33 +1,42 @@
 -- Paths, labels and capabilities that are written are read again.
-use Rattle.std.specs.Prelude.{◌≡◌, ℕ, ◌+◌, ◌≤◌, ◌<◌, ◌==◌, ◌&&◌, not, nat_le, nat_lt, Bool, true, false, cond, List, [], ◌∷◌, ◌++◌, length, Option, None, Some, is_none, is_some, codes, position, refl}
+use Rattle.std.specs.Prelude.{◌≡◌, ℕ, ◌+◌, ◌≤◌, ◌<◌, ◌==◌, ◌&&◌, not, nat_le, nat_lt, Bool, true, false, cond, List, [], ◌∷◌, ◌++◌, length, Option, None, Some, is_none, is_some, codes, position, map, refl}
 use Rattle.std.proofs.Common.{ap, sym, ◌∙◌, subst, append-nil, arith, inl, inr}
+use Rattle.std.specs.Cmp.{unsigned_Decides}
+use Rattle.std.specs.Cmp.Lexicographic.{pointwise_decides}
 use Rattle.std.specs.List.{All, filter, flat_map, list_all, list_any, position_or_len, slice_split, starts_with}
 use Rattle.std.specs.Option.{option_and_then, option_map, option_or}
-use Rattle.std.proofs.lemmas.Bool.{and_parts, and_from, and_right, or_from, or_left, not-true, both_ways, false_from_ne_true, leb-true, ltb-true, lt-ltb, le-ltb, lt-leb, ne_eqb, cond-true, cond-false}
+use Rattle.std.proofs.lemmas.Bool.{and_parts, and_from, and_left, and_right, or_from, or_left, not-true, both_ways, false_from_ne_true, leb-true, ltb-true, lt-ltb, le-ltb, lt-leb, ne_eqb, cond-true, cond-false}
 use Rattle.std.proofs.lemmas.Bool.Decides.{nat_tests}
 use Rattle.std.proofs.lemmas.List.Elements.{All-nil, All-cons}
 use Rattle.std.proofs.lemmas.List.Folds.{list_all-append}
 use Rattle.std.proofs.lemmas.List.Splits.{slice_split_none, slice_split_at}
 use Rattle.std.proofs.lemmas.List.Sums.{sum_by-cons}
 use Rattle.std.proofs.lemmas.List.{length-append}
-use Rattle.cap_bits.specs.declared.cap.Cap.TheVariants as cap
+use Rattle.cap_bits.specs.declared.cap.Cap.{Cap}
 use Rattle.cap_bits.specs.declared.state.CapState.{CapState}
-use Rattle.cap_bits.specs.CapSet.{CapSet, has, no_caps, all_of_caps, is_within, same_cap-decides, has-no_caps, has-all_of_caps, has-with_cap, within-has, has-within}
+use Rattle.cap_bits.specs.Cap.{all_caps}
+use Rattle.cap_bits.specs.CapSet.{CapSet, is_within, has-no_caps}
+use Rattle.cap_bits.specs.State.{no_flags}
+use Rattle.cap_clause.specs.Written.{firsts_of, is_first, group_text, clauses_text, caps_text, set_text}
+use Rattle.cap_clause.specs.WrittenAgain.{caps_again, caps_text_exact, set_again, caps_text_plain, set_text_bare, set_text_some}
 use Rattle.fs_path.specs.declared.path.PathError.{PathError}
 use Rattle.fs_path.specs.declared.path.PathError.TheVariants as error
+use Rattle.fs_path.specs.Again.{word_spelling}
 use Rattle.fs_path.specs.Name.{Name, is_name, is_name_byte, is_dots}
+use Rattle.fs_path.specs.Options.{keep_if, then}
 use Rattle.fs_path.specs.Path.{PathValue, HasForm, written_len}
 use Rattle.fs_path.specs.PathText.{is_slash, is_empty_or_dot, starts_badly, Component, placed, counts, names_of, component_fault, first_fault, components_of, path_fault, path_said}
-use Rattle.fs_path.specs.Words.{is_bare, is_bare_text, has_spelling}
+use Rattle.fs_path.specs.Words.{is_plain, is_bare, is_bare_text, has_spelling, with_quotes_if_needed}
 use Rattle.lab_lattice.specs.Label.{Label}
 use Rattle.lab_text.specs.Made.{any_before_end}
-use Rattle.lab_text.specs.Names.{Names, is_letter, is_name_part, is_label_name}
+use Rattle.lab_text.specs.Names.{Names, same_bytes, is_letter, is_name_part, is_label_name}
 use Rattle.lab_text.specs.Policy.{PolicyNames, MakePolicy, is_valid}
 use Rattle.lab_text.specs.Said.{text_names, text_said}
 use Rattle.lab_text.specs.Text.{LabelWords, label_words, is_label_text, label_of, label_said, behind_mark, label_text}
-use Rattle.world_text.specs.Stage.{path_of, label_form, caps_of, set_of}
-use Rattle.world_text.specs.Written.{with_quotes_if_needed, path_text, caps_text, bound_text}
-use Rattle.world_text.specs.CanBeRead.{are_bytes, mac_read_flags, IsWrittenState, IsWrittenBound, IsWrittenPath}
+use Rattle.world_text.specs.Stage.{known_of, path_of, label_form, caps_of, may_start, proc_caps_of, set_of}
+use Rattle.world_text.specs.Written.{quoted, path_text}
+use Rattle.world_text.specs.CanBeRead.{are_bytes}
+use Rattle.world_text.specs.WrittenForms.{IsSpelledPath}
 
 -- ---- names
 
@@ -160,7 +169,7 @@ path_is names h =
     λ i. record { absolute = starts_absolute names i; names = said i }
 
 -- a path's text says that path
-pub path_again : (p : PathValue) → IsWrittenPath p → path_of (path_text p.names) ≡ Some p
+pub path_again : (p : PathValue) → IsSpelledPath p → path_of (path_text p.names) ≡ Some p
 path_again p h =
     let form : HasForm true p.names = subst (λ v. HasForm v p.names) h.absolute h.form in
     let said = path_is p.names h.names in
@@ -177,16 +186,9 @@ path_bytes : (names : List Name) → list_all are_bytes names ≡ true → are_b
 path_bytes [] h = refl
 path_bytes (n ∷ ns) h = slashes_bytes (n ∷ ns) h
 
-needed_spelling : (bytes : List ℕ) → 1 ≤ length bytes → are_bytes bytes ≡ true → has_spelling (with_quotes_if_needed bytes) ≡ true
-needed_spelling bytes some small = by_bare (list_all is_bare bytes) refl
-  where
-    by_bare : (v : Bool) → list_all is_bare bytes ≡ v → cond (not v) (are_bytes bytes) (nat_lt 0 (length bytes) && list_all is_bare bytes) ≡ true
-    by_bare true e = and_from _ _ (lt-ltb 0 (length bytes) (omega arith)) e
-    by_bare false e = small
-
 -- a path's text can be written
-pub path_spelling : (p : PathValue) → IsWrittenPath p → has_spelling (with_quotes_if_needed (path_text p.names)) ≡ true
-path_spelling p h = needed_spelling (path_text p.names) (path_length p.names (subst (λ v. HasForm v p.names) h.absolute h.form)).0 (path_bytes p.names h.bytes)
+pub path_spelling : (p : PathValue) → IsSpelledPath p → has_spelling (with_quotes_if_needed (path_text p.names)) ≡ true
+path_spelling p h = word_spelling (path_text p.names) (path_bytes p.names h.bytes)
 
 -- ---- labels
 
@@ -242,19 +244,41 @@ label_again p label h valid = cond-true _ _ _ (said_form p (label_text p label) 
 
 -- ---- capabilities
 
-pub has_mac_read : has mac_read_flags.e cap.MacRead ≡ true
-has_mac_read = has-with_cap no_caps cap.MacRead cap.MacRead ∙ or_left _ _ ((same_cap-decides cap.MacRead cap.MacRead).1 refl)
-
 -- the text of a state says that state
-pub caps_again : (caps : CapState) → IsWrittenState caps → caps_of (caps_text caps) ≡ Some caps
-caps_again caps (inl e) = ap (λ (c : CapState). caps_of (caps_text c)) e ∙ ap (λ v. caps_of (cond v (codes "cap_mac_read=ep") (codes "="))) (has-no_caps cap.MacRead) ∙ ap Some (sym e)
-caps_again caps (inr e) = ap (λ (c : CapState). caps_of (caps_text c)) e ∙ ap (λ v. caps_of (cond v (codes "cap_mac_read=ep") (codes "="))) has_mac_read ∙ ap Some (sym e)
+pub caps_known : (caps : CapState) → caps_of (caps_text caps) ≡ Some (Some caps)
+caps_known caps = ap known_of (caps_again caps)
 
-none_lacks : is_within all_of_caps no_caps ≡ false
-none_lacks = false_from_ne_true _ (λ e. both_ways (has no_caps cap.MacRead) (has-no_caps cap.MacRead) (within-has all_of_caps no_caps e cap.MacRead (has-all_of_caps cap.MacRead)))
+-- and it is one that a process may have, where what is effective is permitted
+pub proc_caps_known : (caps : CapState) → is_within caps.e caps.p ≡ true → proc_caps_of (caps_text caps) ≡ Some (Some caps)
+proc_caps_known caps within = ap (λ (o : Option (Option CapState)). then o (λ known. keep_if (may_start known) known)) (caps_known caps) ∙ ap (λ b. keep_if b (Some caps)) within
+
+no_flag_first : (cap : Cap) → is_first no_flags cap ≡ false
+unfolding is_first
+no_flag_first cap = and_left _ _ (or_from _ _ (has-no_caps cap) (or_from _ _ (has-no_caps cap) (or_from _ _ (has-no_caps cap) refl)))
+
+no_flags_text : caps_text no_flags ≡ codes "="
+unfolding caps_text firsts_of
+no_flags_text = ap (λ (test : Cap → Bool). clauses_text (map (group_text no_flags) (filter test all_caps))) (λ i cap. no_flag_first cap i)
+
+-- the state whose text is `=` has no flag
+pub none_known : (caps : CapState) → same_bytes (caps_text caps) (codes "=") ≡ true → caps ≡ no_flags
+none_known caps e = caps_text_exact caps no_flags ((pointwise_decides unsigned_Decides (caps_text caps) (codes "=")).0 e ∙ sym no_flags_text)
+
+plain_byte : (b : ℕ) → is_plain b ≡ true → nat_lt b 256 ≡ true
+plain_byte b h = grind (arith, nat_tests)
+
+plain_bytes : (bytes : List ℕ) → list_all is_plain bytes ≡ true → are_bytes bytes ≡ true
+plain_bytes [] h = refl
+plain_bytes (b ∷ bs) h = let parts = and_parts (is_plain b) (list_all is_plain bs) h in and_from (nat_lt b 256) (are_bytes bs) (plain_byte b parts.0) (plain_bytes bs parts.1)
+
+-- the text of a state can be written between quotes
+pub caps_spelling : (caps : CapState) → has_spelling (quoted (caps_text caps)) ≡ true
+caps_spelling caps = plain_bytes (caps_text caps) (caps_text_plain caps)
 
 -- the text of a bound says that bound
-pub bound_again : (bound : CapSet) → IsWrittenBound bound → set_of (bound_text bound) ≡ Some bound
-bound_again bound (inl e) =
-    ap (λ (b : CapSet). set_of (bound_text b)) e ∙ ap (λ v. set_of (cond v (codes "all") (codes "none"))) (has-within all_of_caps all_of_caps (λ q h. h)) ∙ ap Some (sym e)
-bound_again bound (inr e) = ap (λ (b : CapSet). set_of (bound_text b)) e ∙ ap (λ v. set_of (cond v (codes "all") (codes "none"))) none_lacks ∙ ap Some (sym e)
+pub bound_known : (bound : CapSet) → set_of (set_text bound) ≡ Some (Some bound)
+bound_known bound = ap known_of (set_again bound)
+
+-- it stands bare
+pub bound_bare : (bound : CapSet) → is_bare_text (set_text bound) ≡ true
+bound_bare bound = and_from _ _ (lt-ltb 0 (length (set_text bound)) (set_text_some bound)) (set_text_bare bound)

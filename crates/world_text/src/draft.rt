@@ -2,12 +2,12 @@
 ghost use Rattle.std.specs.Prelude.{◌≡◌, ◌+◌, ◌<◌, ◌==◌, ◌&&◌, ◌||◌, not, [], ◌∷◌, ◌++◌, nat_le, is_some, IfOk, OnOk, cond, length, None};
 ghost use Rattle.std.specs.Option.{option_map};
 ghost use Rattle.lab_lattice.specs.Label.{Label, bottom, dominates};
-ghost use Rattle.kern_model.specs.Boot.{kind_of};
-ghost use Rattle.kern_model.specs.Rules.{is_dir, same_label};
+ghost use Rattle.kern_model.specs.Kinds.{kind_of};
+ghost use Rattle.kern_model.specs.Kinds.{is_dir};
+ghost use Rattle.kern_model.specs.Rules.{same_label};
 ghost use Rattle.kern_model.specs.World.{given, objects_at, procs_at};
-ghost use Rattle.world_text.specs.Stage.{directory_of, is_root};
 ghost use Rattle.world_text.specs.Standing.{standing_of, count_in, is_standing_dir, is_above_standing};
-ghost use Rattle.world_text.specs.Placing.{object_fault, process_fault};
+ghost use Rattle.world_text.specs.Placing.{directory_of, is_root, object_fault, process_fault};
 
 use crate::{NoMemory, WorldFault};
 use fs_path::{List, Name, NameList, Path};
@@ -133,7 +133,7 @@ impl Model for Draft {
     ghost use Rattle.world_text.specs.Tree.{Tree};
     ghost use Rattle.world_text.specs.Standing.{IsIndexed};
     ghost use Rattle.std.specs.Coded.{codes};
-    ghost use Rattle.std.specs.FinSet as set;
+    ghost use Rattle.fin_maps.specs.FinSet as set;
     ghost use Rattle.cap_bits.specs.Cap.{cap_cmp, cap_code};
     ghost use Rattle.lab_lattice.specs.Label.{label_code};
 

@@ -2,12 +2,13 @@
 use crate::NoMemory;
 
 /// Why a line of a world is refused. Of several causes the first that is listed here counts, but that of a line of levels
-/// or categories `TooMany` goes before `Repeated`, and `NotBuilt` goes behind `Syntax`.
+/// or categories `TooMany` goes before `Repeated`.
 #[derive(Clone, Copy, Debug, PartialEq, Eq)]
 pub enum WorldFault {
-    /// It is longer than 2,048 bytes, has not the form of the line that is due, or the text ends at it.
+    /// It is longer than 2,048 bytes, has not the form of the line that is due, has capabilities effective in a process
+    /// that are not permitted, or the text ends at it.
     Syntax,
-    /// A level or a category is unknown.
+    /// A level, a category or a capability is unknown.
     UnknownName,
     /// A level or a category is named twice, or the path was given before.
     Repeated,
@@ -19,8 +20,6 @@ pub enum WorldFault {
     LabelOrder,
     /// There are more than 16 levels, 64 categories, 65,535 objects of a label or 4,095 processes of a label.
     TooMany,
-    /// It has a capability text or a bound that can't be read yet.
-    NotBuilt,
 }
 
 /// Why no world was read.

@@ -2,12 +2,13 @@
 ghost use Rattle.std.specs.Prelude.{◌≡◌, [], IfOk, MatchOption, None, Some};
 ghost use Rattle.lab_text.specs.Text.{label_said};
 ghost use Rattle.kern_model.specs.declared.objects.Body.TheVariants as body;
-ghost use Rattle.world_text.specs.Stage.{world_of, behind_keyword, format_said, levels_said, categories_said, bound_said, set_of, caps_of, path_of, label_form, placed_of, owned_of, tree_said, proc_said, object_said, process_said, dir_said, file_said, fifo_said, proc_line_said, script_said, tree_line_said, words_said, line_said};
+ghost use Rattle.world_text.specs.Stage.{world_of, behind_keyword, format_said, levels_said, categories_said, known_of, bound_said, caps_of, may_start, proc_caps_of, path_of, label_form, placed_of, owned_of, tree_said, proc_said, object_said, process_said, dir_said, file_said, fifo_said, proc_line_said, script_said, tree_line_said, words_said, line_said};
 ghost use Rattle.world_text.specs.Lines.{bytes_in, Makes, placed_in, owned_in, IsPlaced, IsOwned};
 
 use crate::draft::Draft;
 use crate::{NoMemory, WorldFault, WorldText};
-use cap_bits::{Cap, CapSet, CapState};
+use cap_bits::{CapSet, CapState};
+use cap_clause::{CapTextError, cap_from_text, set_from_text};
 use fs_path::{
     ByteList, LineWord, List, Path, PathError, groups_of, is_blank, mode_of, number_of, words_of,
 };
@@ -147,17 +148,15 @@ fn categories_said(alloc: Global, levels: &LevelNames, words: &[LineWord]) -> Re
     }
 }
 
-// The sets that are built so far: all capabilities, or none.
-fn set_of(word: &[u8]) -> Option<CapSet>
-    ensures { result ≡ set_of word.now }
+// What a text of capabilities says that has the form of one: a value, or none where a name in it is unknown.
+fn known_of<T: Copy>(said: Result<T, CapTextError>) -> Option<Option<T>>
+    ensures { result ≡ known_of said }
 {
-    if word == b"all".as_slice() {
-        return Some(CapSet::all());
+    match said {
+        Ok(value) => Some(Some(value)),
+        Err(CapTextError::UnknownName(_)) => Some(None),
+        Err(_) => None,
     }
-    if word == b"none".as_slice() {
-        return Some(CapSet::none());
-    }
-    None
 }
 
 // `bound SET`.
@@ -167,28 +166,36 @@ fn bound_said(alloc: Global, policy: Policy, words: &[LineWord]) -> Said
     let [word] = words else {
         return syntax();
     };
-    match set_of(word.bytes.items()) {
-        Some(bound) => Said::GoesOn(Stage::Tree(policy, bound, Draft::new(alloc))),
-        None => Said::Refuses(WorldFault::NotBuilt),
+    match known_of(set_from_text(word.bytes.items())) {
+        Some(Some(bound)) => Said::GoesOn(Stage::Tree(policy, bound, Draft::new(alloc))),
+        Some(None) => Said::Refuses(WorldFault::UnknownName),
+        None => syntax(),
     }
 }
 
-// The capability texts that are built so far.
-fn caps_of(word: &[u8]) -> Option<CapState>
+// The state of a capability text, or none where a name in it is unknown.
+fn caps_of(word: &[u8]) -> Option<Option<CapState>>
     ensures { result ≡ caps_of word.now }
 {
-    if word == b"=".as_slice() {
-        return Some(CapState::none());
+    known_of(cap_from_text(word))
+}
+
+// Whether what is effective is permitted, as in each process.
+fn may_start(caps: &Option<CapState>) -> bool
+    ensures { result ≡ may_start caps.now }
+{
+    match caps {
+        Some(caps) => caps.e.within(&caps.p),
+        None => true,
     }
-    if word == b"cap_mac_read=ep".as_slice() {
-        let reads = CapSet::none().with(Cap::MacRead);
-        return Some(CapState {
-            e: reads,
-            i: CapSet::none(),
-            p: reads,
-        });
-    }
-    None
+}
+
+// The state of a capability text that may be that of a process, or none where a name in it is unknown.
+fn proc_caps_of(word: &[u8]) -> Option<Option<CapState>>
+    ensures { result ≡ proc_caps_of word.now }
+{
+    let caps = caps_of(word)?;
+    may_start(&caps).then_some(caps)
 }
 
 // An absolute path.
@@ -344,7 +351,7 @@ fn tree_said(
     bound: CapSet,
     draft: Draft,
     words: &[LineWord],
-    caps: Option<CapState>,
+    caps: Option<Option<CapState>>,
     body: Body,
 ) -> Result<Said, NoMemory>
     ensures { IfOk result (λ said. said ≡ tree_said policy bound draft (placed_in (bytes_in words.now)) caps body) }
@@ -353,7 +360,7 @@ fn tree_said(
         return Ok(syntax());
     };
     let Some(caps) = caps else {
-        return Ok(Said::Refuses(WorldFault::NotBuilt));
+        return Ok(syntax());
     };
     let Placed {
         path,
@@ -362,7 +369,7 @@ fn tree_said(
         group,
         label,
     } = placed;
-    let Some(label) = label else {
+    let (Some(label), Some(caps)) = (label, caps) else {
         return Ok(Said::Refuses(WorldFault::UnknownName));
     };
     let attr = Attr {
@@ -387,7 +394,7 @@ fn proc_said(
     bound: CapSet,
     draft: Draft,
     words: &[LineWord],
-    caps: Option<CapState>,
+    caps: Option<Option<CapState>>,
 ) -> Result<Said, NoMemory>
     ensures { IfOk result (λ said. said ≡ proc_said policy bound draft (owned_in (bytes_in words.now)) caps) }
 {
@@ -395,7 +402,7 @@ fn proc_said(
         return Ok(syntax());
     };
     let Some(caps) = caps else {
-        return Ok(Said::Refuses(WorldFault::NotBuilt));
+        return Ok(syntax());
     };
     let Owned {
         label,
@@ -403,7 +410,7 @@ fn proc_said(
         group,
         groups,
     } = owned;
-    let Some(label) = label else {
+    let (Some(label), Some(caps)) = (label, caps) else {
         return Ok(Said::Refuses(WorldFault::UnknownName));
     };
     let ids = Ids {
@@ -431,7 +438,7 @@ fn dir_said(
     if words.len() != 5 {
         return Ok(syntax());
     }
-    let caps = Some(CapState::none());
+    let caps = Some(Some(CapState::none()));
     tree_said(alloc, policy, bound, draft, words, caps, Body::Dir)
 }
 
@@ -448,7 +455,7 @@ fn fifo_said(
     if words.len() != 5 {
         return Ok(syntax());
     }
-    let caps = Some(CapState::none());
+    let caps = Some(Some(CapState::none()));
     tree_said(alloc, policy, bound, draft, words, caps, Body::Fifo)
 }
 
@@ -470,7 +477,7 @@ fn file_said(
     ensures { IfOk result (λ said. said ≡ file_said policy bound draft (bytes_in words.now)) }
 {
     if words.len() == 6 {
-        let caps = Some(CapState::none());
+        let caps = Some(Some(CapState::none()));
         let body = file_of(alloc, &words[5])?;
         return tree_said(alloc, policy, bound, draft, words, caps, body);
     }
@@ -495,7 +502,7 @@ fn proc_line_said(
     if words.len() != 5 {
         return Ok(syntax());
     }
-    let caps = caps_of(words[4].bytes.items());
+    let caps = proc_caps_of(words[4].bytes.items());
     proc_said(alloc, policy, bound, draft, words, caps)
 }
 

@@ -87,12 +87,60 @@ const HEADS: &[(Text, Answer)] = &[
             0,
             b"",
         ),
-        Refused(4, NotBuilt),
+        Ended(5, 0),
+    ),
+    (
+        (
+            b"world 1\nlevels a\ncategories\nbound CAP_SETUID,cap_Kill\n",
+            b"",
+            0,
+            b"",
+        ),
+        Ended(5, 0),
+    ),
+    (
+        (
+            b"world 1\nlevels a\ncategories\nbound \"all\"\n",
+            b"",
+            0,
+            b"",
+        ),
+        Ended(5, 0),
+    ),
+    (
+        (b"world 1\nlevels a\ncategories\nbound cap_x\n", b"", 0, b""),
+        Refused(4, UnknownName),
+    ),
+    (
+        (
+            b"world 1\nlevels a\ncategories\nbound cap_kill,\n",
+            b"",
+            0,
+            b"",
+        ),
+        Refused(4, UnknownName),
+    ),
+    (
+        (b"world 1\nlevels a\ncategories\nbound \"\"\n", b"", 0, b""),
+        Refused(4, Syntax),
+    ),
+    (
+        (
+            b"world 1\nlevels a\ncategories\nbound cap_kill cap_setuid\n",
+            b"",
+            0,
+            b"",
+        ),
+        Refused(4, Syntax),
     ),
     ((HEAD, b"script\n", 1, b""), Refused(5, Syntax)),
     (
         (HEAD, b"proc unc 0 0 - \"=\"\n", 1, b""),
         Refused(5, NoParent),
+    ),
+    (
+        (HEAD, b"proc unc 0 0 - \"cap_x=p\"\n", 1, b""),
+        Refused(5, UnknownName),
     ),
     (
         (HEAD, b"dir /a 0777 0 0 unc\n", 1, b""),
@@ -191,19 +239,92 @@ const TREES: &[(Text, Answer)] = &[
         Refused(6, UnknownName),
     ),
     (
-        (b"file /a 0644 0 0 zzz \"\" \"cap_kill=ep\"\n", b"", 0, b""),
-        Refused(6, NotBuilt),
+        (
+            b"file /a 0644 0 0 unc \"\" \"cap_kill=e cap_chown=i\"\n",
+            b"",
+            0,
+            b"",
+        ),
+        Ended(7, 0),
     ),
     (
-        (b"file /a 0644 0 0 unc: \"\" \"cap_kill=ep\"\n", b"", 0, b""),
+        (b"file /a 0644 0 0 unc \"\" CAP_KILL+ei-e\n", b"", 0, b""),
+        Ended(7, 0),
+    ),
+    (
+        (b"file /a 0644 0 0 zzz \"\" \"cap_kill=ep\"\n", b"", 0, b""),
+        Refused(6, UnknownName),
+    ),
+    (
+        (b"file /a 0644 0 0 unc \"\" \"cap_x=e\"\n", b"", 0, b""),
+        Refused(6, UnknownName),
+    ),
+    (
+        (
+            b"file / 0644 0 0 unc \"\" \"cap_kill,cap_x=e\"\n",
+            b"",
+            0,
+            b"",
+        ),
+        Refused(6, UnknownName),
+    ),
+    (
+        (b"file /a 0644 0 0 unc \"\" \"cap_x=e +e\"\n", b"", 0, b""),
+        Refused(6, UnknownName),
+    ),
+    (
+        (b"file /a 0644 0 0 unc \"\" \"+e cap_x=e\"\n", b"", 0, b""),
         Refused(6, Syntax),
     ),
     (
-        (b"proc zzz 0 0 - \"cap_mac_read=e\"\n", b"", 0, b""),
-        Refused(6, NotBuilt),
+        (b"file /a 0644 0 0 unc \"\" \"\"\n", b"", 0, b""),
+        Refused(6, Syntax),
     ),
     (
-        (b"proc unc 0 0 , \"cap_mac_read=e\"\n", b"", 0, b""),
+        (b"file /a 0644 0 0 zzz \"\" \"cap_kill\"\n", b"", 0, b""),
+        Refused(6, Syntax),
+    ),
+    (
+        (b"file /a 0644 0 0 unc: \"\" \"cap_x=ep\"\n", b"", 0, b""),
+        Refused(6, Syntax),
+    ),
+    (
+        (b"file a 0644 0 0 zzz \"\" \"cap_x=ep\"\n", b"", 0, b""),
+        Refused(6, Syntax),
+    ),
+    (
+        (
+            b"proc unc 0 0 - \"cap_mac_read=ep cap_kill=i\"\n",
+            b"",
+            0,
+            b"",
+        ),
+        Ended(7, 0),
+    ),
+    ((b"proc unc 0 0 - \"=eip\"\n", b"", 0, b""), Ended(7, 0)),
+    (
+        (b"proc zzz 0 0 - \"cap_mac_read=e\"\n", b"", 0, b""),
+        Refused(6, Syntax),
+    ),
+    (
+        (
+            b"proc unc 0 0 - \"cap_kill=ep cap_chown=ei\"\n",
+            b"",
+            0,
+            b"",
+        ),
+        Refused(6, Syntax),
+    ),
+    (
+        (b"proc unc 0 0 - \"cap_kill=e cap_x=e\"\n", b"", 0, b""),
+        Refused(6, UnknownName),
+    ),
+    (
+        (b"proc unc 0 0 - \"cap_kill=e-\"\n", b"", 0, b""),
+        Refused(6, Syntax),
+    ),
+    (
+        (b"proc unc 0 0 , \"cap_x=p\"\n", b"", 0, b""),
         Refused(6, Syntax),
     ),
     (
@@ -354,11 +475,32 @@ fn many_objects(rt: HostRuntime) -> Result<(), Fail> {
 }
 
 // A world in another spelling, and in the one form in which worlds are written.
-const SPELLED: &[u8] =
-    b"# spaces, escapes and order of words\n world  1\nlevels low high\ncategories a b\nbound none\ndir \"/\" 755 0 0 low\ndir \"//a b/\" 0700 1 2 low\nfile \"/a b/x\\\"\" 4644 4294967295 7 high:b,a \"x\\x0A\" \"cap_mac_read=ep\"\nproc high:a 3 4 5,006 cap_mac_read=ep\nfifo /p 0 0 0 high:b\nscript\n";
+const SPELLED: &[u8] = b"# spaces, escapes and order of words\n\
+    \x20world  1\n\
+    levels low high\n\
+    categories a b\n\
+    bound \"CAP_setuid,cap_KILL\"\n\
+    dir \"/\" 755 0 0 low\n\
+    dir \"//a b/\" 0700 1 2 low\n\
+    file \"/a b/x\\\"\" 4644 4294967295 7 high:b,a \"x\\x0A\" \" cap_setuid=i cap_kill,cap_chown=pe\"\n\
+    proc high:a 3 4 5,006 \"cap_setgid=p+i CAP_FOWNER=ep\"\n\
+    file /none 0 0 0 low \"\" \"=e-e\"\n\
+    fifo /p 0 0 0 high:b\n\
+    proc low 0 0 - =\n\
+    script\n";
 
-const WRITTEN: &[u8] =
-    b"world 1\nlevels low high\ncategories a b\nbound none\ndir / 0755 0 0 low\ndir \"/a b\" 0700 1 2 low\nfile \"/a b/x\\\"\" 4644 4294967295 7 high:a,b \"x\\x0a\" \"cap_mac_read=ep\"\nfifo /p 0000 0 0 high:b\nproc high:a 3 4 5,6 \"cap_mac_read=ep\"\nscript\n";
+const WRITTEN: &[u8] = b"world 1\n\
+    levels low high\n\
+    categories a b\n\
+    bound cap_kill,cap_setuid\n\
+    dir / 0755 0 0 low\n\
+    dir \"/a b\" 0700 1 2 low\n\
+    file \"/a b/x\\\"\" 4644 4294967295 7 high:a,b \"x\\x0a\" \"cap_chown,cap_kill=ep cap_setuid=i\"\n\
+    file /none 0000 0 0 low \"\"\n\
+    fifo /p 0000 0 0 high:b\n\
+    proc high:a 3 4 5,6 \"cap_fowner=ep cap_setgid=ip\"\n\
+    proc low 0 0 - \"=\"\n\
+    script\n";
 
 #[test]
 fn written_again(rt: HostRuntime) -> Result<(), Fail> {

@@ -1,37 +1,26 @@
 // The writing of a world.
 ghost use Rattle.std.specs.Prelude.{◌≡◌, [], ◌∷◌, ◌++◌, map, OnOk, IfOk};
 ghost use Rattle.std.specs.Fmt.{decimal};
-ghost use Rattle.std.specs.List.{flat_map, list_all};
+ghost use Rattle.std.specs.List.{flat_map};
+ghost use Rattle.cap_clause.specs.Written.{caps_text};
 ghost use Rattle.fs_path.specs.Values.{mode_text, groups_text};
-ghost use Rattle.fs_path.specs.Words.{is_bare, spelling, quoted_text, behind_spaces};
+ghost use Rattle.fs_path.specs.Words.{with_quotes_if_needed, spelling, quoted_text, behind_spaces};
 ghost use Rattle.lab_text.specs.Text.{label_text};
 ghost use Rattle.world_text.specs.CanBeRead.{CanBeRead};
 ghost use Rattle.world_text.specs.Reading.{Accepted, read_text};
-ghost use Rattle.world_text.specs.Written.{with_quotes_if_needed, path_text, caps_text, bound_text, line_of, names_words, head_words, body_keyword, body_words, object_words, process_words, next_number, written};
+ghost use Rattle.world_text.specs.Written.{path_text, line_of, names_words, head_words, body_keyword, caps_words, body_words, object_words, process_words, next_number, written};
 
 use crate::{NoMemory, WorldText};
-use cap_bits::{Cap, CapSet, CapState};
-use fs_path::{Name, put_groups, put_mode, put_number, put_quoted};
+use cap_bits::{CapSet, CapState};
+use cap_clause::{cap_to_text, set_to_text};
+use fs_path::{Name, put_groups, put_mode, put_number, put_quoted, put_word};
 use kern_model::{Body, WorldObject, WorldProc};
 use lab_lattice::Label;
 use lab_text::{Policy, Word, mac_to_text};
 use std::alloc::Global;
 
-// Whether a bare word may have a byte.
-fn is_bare(byte: u8) -> bool
-    ensures { result ≡ is_bare byte }
-{
-    matches!(byte, 0x20..=0x7e) && byte != b'"' && byte != b'\\' && byte != b' '
-}
-
-fn are_bare(bytes: &[u8]) -> bool
-    ensures { result ≡ list_all is_bare bytes.now }
-{
-    bytes.iter().all(|byte| is_bare(*byte))
-}
-
-// A word behind a space.
-fn put_word(text: &mut Vec<u8>, word: &[u8]) -> Result<(), NoMemory>
+// A bare word behind a space.
+fn put_bare_word(text: &mut Vec<u8>, word: &[u8]) -> Result<(), NoMemory>
     ensures { OnOk result (text.new.items ≡ text.old.items ++ 32 ∷ word.now) }
 {
     text.push(b' ')?;
@@ -61,23 +50,13 @@ fn path_text(alloc: Global, names: &[Name]) -> Result<Vec<u8>, NoMemory>
     Ok(text)
 }
 
-// A word behind a space, between quotes where it needs them.
-fn put_word_or_quoted(text: &mut Vec<u8>, bytes: &[u8]) -> Result<(), NoMemory>
-    ensures { OnOk result (text.new.items ≡ text.old.items ++ 32 ∷ spelling (with_quotes_if_needed bytes.now)) }
-{
-    if are_bare(bytes) {
-        put_word(text, bytes)
-    } else {
-        put_quoted_word(text, bytes)
-    }
-}
-
 // A path behind a space.
 fn put_path(alloc: Global, text: &mut Vec<u8>, names: &[Name]) -> Result<(), NoMemory>
     ensures { OnOk result (text.new.items ≡ text.old.items ++ 32 ∷ spelling (with_quotes_if_needed (path_text names.now))) }
 {
     let path = path_text(alloc, names)?;
-    put_word_or_quoted(text, path.as_slice())
+    text.push(b' ')?;
+    put_word(text, path.as_slice())
 }
 
 // A label behind a space.
@@ -90,7 +69,7 @@ fn put_label(
     ensures { OnOk result (text.new.items ≡ text.old.items ++ 32 ∷ label_text policy.now label.now) }
 {
     let label = mac_to_text(alloc, policy, label)?;
-    put_word(text, label.as_slice())
+    put_bare_word(text, label.as_slice())
 }
 
 // A number behind a space.
@@ -117,24 +96,23 @@ fn put_groups_word(alloc: Global, text: &mut Vec<u8>, groups: &[u32]) -> Result<
     put_groups(alloc, text, groups)
 }
 
-fn caps_text(caps: &CapState) -> &'static [u8]
-    ensures { result.now ≡ caps_text caps.now }
+// A capability text behind a space.
+fn put_caps(alloc: Global, text: &mut Vec<u8>, caps: &CapState) -> Result<(), NoMemory>
+    ensures { OnOk result (text.new.items ≡ text.old.items ++ 32 ∷ quoted_text (caps_text caps.now)) }
 {
-    if caps.e.has(Cap::MacRead) {
-        b"cap_mac_read=ep"
-    } else {
-        b"="
-    }
+    let caps = cap_to_text(alloc, caps)?;
+    put_quoted_word(text, caps.as_slice())
 }
 
-fn bound_text(bound: &CapSet) -> &'static [u8]
-    ensures { result.now ≡ bound_text bound.now }
+// A capability text behind a space, where it is not `=`.
+fn put_some_caps(alloc: Global, text: &mut Vec<u8>, caps: &CapState) -> Result<(), NoMemory>
+    ensures { OnOk result (text.new.items ≡ text.old.items ++ behind_spaces (map spelling (caps_words caps.now))) }
 {
-    if CapSet::all().within(bound) {
-        b"all"
-    } else {
-        b"none"
+    let caps = cap_to_text(alloc, caps)?;
+    if caps.as_slice() == b"=".as_slice() {
+        return Ok(());
     }
+    put_quoted_word(text, caps.as_slice())
 }
 
 // Names, each behind a space.
@@ -142,7 +120,7 @@ fn put_names(text: &mut Vec<u8>, names: &[Word]) -> Result<(), NoMemory>
     ensures { OnOk result (text.new.items ≡ text.old.items ++ behind_spaces names.now) }
 {
     for name in names {
-        put_word(text, name.bytes())?;
+        put_bare_word(text, name.bytes())?;
     }
     Ok(())
 }
@@ -162,7 +140,7 @@ fn put_word_line(text: &mut Vec<u8>, keyword: &[u8], word: &[u8]) -> Result<(), 
     ensures { OnOk result (text.new.items ≡ text.old.items ++ line_of (names_words keyword.now (word.now ∷ []))) }
 {
     text.extend_from_slice(keyword)?;
-    put_word(text, word)?;
+    put_bare_word(text, word)?;
     text.push(b'\n')?;
     Ok(())
 }
@@ -179,17 +157,14 @@ fn body_keyword(body: &Body) -> &'static [u8]
 }
 
 // What a file holds.
-fn put_body(text: &mut Vec<u8>, body: &Body, caps: &CapState) -> Result<(), NoMemory>
+fn put_body(alloc: Global, text: &mut Vec<u8>, body: &Body, caps: &CapState) -> Result<(), NoMemory>
     ensures { OnOk result (text.new.items ≡ text.old.items ++ behind_spaces (map spelling (body_words body.now caps.now))) }
 {
     let Body::File(bytes) = body else {
         return Ok(());
     };
     put_quoted_word(text, bytes.items())?;
-    if caps.e.has(Cap::MacRead) {
-        put_quoted_word(text, caps_text(caps))?;
-    }
-    Ok(())
+    put_some_caps(alloc, text, caps)
 }
 
 #[tactic(auto, unfolding(crate::specs::Written::line_of, crate::specs::Written::object_words))]
@@ -207,7 +182,7 @@ fn put_object(
     put_number_word(alloc, text, object.attr.owner)?;
     put_number_word(alloc, text, object.attr.group)?;
     put_label(alloc, text, policy, &object.label)?;
-    put_body(text, &object.body, &object.attr.caps)?;
+    put_body(alloc, text, &object.body, &object.attr.caps)?;
     text.push(b'\n')?;
     Ok(())
 }
@@ -226,7 +201,7 @@ fn put_process(
     put_number_word(alloc, text, process.ids.euid)?;
     put_number_word(alloc, text, process.ids.egid)?;
     put_groups_word(alloc, text, process.ids.groups.items())?;
-    put_quoted_word(text, caps_text(&process.caps))?;
+    put_caps(alloc, text, &process.caps)?;
     text.push(b'\n')?;
     Ok(())
 }
@@ -260,13 +235,19 @@ fn put_processes(
 }
 
 // The format, the names and the bound.
-fn put_head(text: &mut Vec<u8>, policy: &Policy, bound: &CapSet) -> Result<(), NoMemory>
+fn put_head(
+    alloc: Global,
+    text: &mut Vec<u8>,
+    policy: &Policy,
+    bound: &CapSet,
+) -> Result<(), NoMemory>
     ensures { OnOk result (text.new.items ≡ text.old.items ++ flat_map line_of (head_words policy.now bound.now)) }
 {
+    let bound = set_to_text(alloc, bound)?;
     put_word_line(text, b"world", b"1")?;
     put_names_line(text, b"levels", policy.levels())?;
     put_names_line(text, b"categories", policy.cats())?;
-    put_word_line(text, b"bound", bound_text(bound))
+    put_word_line(text, b"bound", bound.as_slice())
 }
 
 impl WorldText {
@@ -279,7 +260,7 @@ impl WorldText {
         let objects = self.world.objects.items();
         let processes = self.world.procs.items();
         let mut text = Vec::new(alloc);
-        put_head(&mut text, &self.policy, &self.world.bound)?;
+        put_head(alloc, &mut text, &self.policy, &self.world.bound)?;
         put_objects(alloc, &mut text, &self.policy, objects)?;
         put_processes(alloc, &mut text, &self.policy, processes)?;
         text.extend_from_slice(b"script\n")?;

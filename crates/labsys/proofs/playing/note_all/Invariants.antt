@@ -1,7 +1,7 @@
 use Rattle.std.proofs.Common.{◌≤◌, take}
 use Rattle.std.specs.List.{flat_map}
 use Rattle.std.specs.Io.KnownBytes.{Appends}
-use Rattle.labsys.specs.Texts.{rec_text}
+use Rattle.aud_record.specs.Written.{rec_text}
 use Rattle.labsys.proofs.playing.note_all.Given as goal
 
 abbrev pub invariant-loop-rec : goal.invariant-loop-rec

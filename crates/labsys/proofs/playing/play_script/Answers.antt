@@ -1,33 +1,45 @@
-use Rattle.std.proofs.Common.{arith, subst}
+use Rattle.std.proofs.Common.{◌≡◌, true, arith, sym, ◌∙◌, ap, subst}
+use Rattle.lab_lattice.specs.Label.{Label}
+use Rattle.kern_core.specs.Kernel.{state_of}
+use Rattle.kern_model.specs.Arguments.{is_call}
+use Rattle.kern_model.specs.State.{State}
 use Rattle.labsys.specs.Reading.{Follows}
+use Rattle.labsys.proofs.TopLemmas.{step_top}
 use Rattle.labsys.proofs.Sending.{sends_all, sends_start}
 use Rattle.labsys.proofs.ScriptLemmas.{underway_begins, underway_front, underway_cut, underway_item, underway_end_cut, underway_end}
 use Rattle.labsys.proofs.playing.play_script.Goals as goal
 
-pub loop-item-init : goal.loop-item-init
-loop-item-init g c = record {
+pub loop-who-init : goal.loop-who-init
+loop-who-init g c = record {
   underway = underway_begins _ _ _ _ _ _;
+  top = c.requires.top;
   few = c.requires.small;
   counted = omega arith;
   out_later = omega arith;
   trail_later = omega arith;
 }
 
-pub returns-in_err-item-clause-front : goal.returns-in_err-item-clause-front
-returns-in_err-item-clause-front g c = underway_front _ _ _ _ _ _ _ _ _ _ c.loop-item.invariant.underway _ _ (sends_start _ _ _)
+pub returns-in_err-who-clause-front : goal.returns-in_err-who-clause-front
+returns-in_err-who-clause-front g c = underway_front _ _ _ _ _ _ _ _ _ _ c.loop-who.invariant.underway _ _ (sends_start _ _ _)
 
 pub returns-in_err-play_item-in-Item-clause-front : goal.returns-in_err-play_item-in-Item-clause-front
 returns-in_err-play_item-in-Item-clause-front g c =
-    let line = subst (λ x. Follows c.args.over c.args.policy.now c.loop-item.number c.loop-item.rest.now x) c.in-Item.is c.in_ok-item.ensures in
-    underway_cut _ _ _ _ _ _ _ _ _ _ c.loop-item.invariant.underway _ _ line.says _ _ c.play_item.ensures.front
+    let line = subst (λ x. Follows c.args.over c.args.policy.now c.loop-who.number c.loop-who.rest.now x) c.in-Item.is c.in_ok-who.ensures in
+    underway_cut _ _ _ _ _ _ _ _ _ _ c.loop-who.invariant.underway _ _ line.says _ _ c.play_item.ensures.front
 
-pub loop-item-preserved-in-Item : goal.loop-item-preserved-in-Item
-loop-item-preserved-in-Item g c =
-    let line = subst (λ x. Follows c.args.over c.args.policy.now c.loop-item.number c.loop-item.rest.now x) c.in-Item.is c.in_ok-item.ensures in
+pub play_item-requires-clause-arguments : goal.play_item-requires-clause-arguments
+play_item-requires-clause-arguments g c =
+    let line = subst (λ x. Follows c.args.over c.args.policy.now c.loop-who.number c.loop-who.rest.now x) c.in-Item.is c.in_ok-who.ensures in
+    subst (λ (top : Label). is_call top c.in-Item.call ≡ true) (sym c.loop-who.invariant.top) line.arguments
+
+pub loop-who-preserved-in-Item : goal.loop-who-preserved-in-Item
+loop-who-preserved-in-Item g c =
+    let line = subst (λ x. Follows c.args.over c.args.policy.now c.loop-who.number c.loop-who.rest.now x) c.in-Item.is c.in_ok-who.ensures in
     let shorter = line.shorter in
-    let i = c.loop-item.invariant in
+    let i = c.loop-who.invariant in
     record {
       underway = underway_item _ _ _ _ _ _ _ _ _ _ i.underway _ _ line.says _ _ _ c.in_ok-play_item-in-Item.ensures.ok c.in_ok-play_item-in-Item.ensures.state;
+      top = ap (λ (s : State). s.top) c.in_ok-play_item-in-Item.ensures.state ∙ step_top (state_of c.loop-who.kernel) c.in-Item.who c.in-Item.call ∙ i.top;
       few = omega arith;
       counted = omega arith;
       out_later = omega arith;
@@ -36,11 +48,11 @@ loop-item-preserved-in-Item g c =
 
 pub returns-in_err-finish-in-Ended-clause-front : goal.returns-in_err-finish-in-Ended-clause-front
 returns-in_err-finish-in-Ended-clause-front g c =
-    underway_end_cut _ _ _ _ _ _ _ _ _ _ c.loop-item.invariant.underway _ (subst (λ x. Follows c.args.over c.args.policy.now c.loop-item.number c.loop-item.rest.now x) c.in-Ended.is c.in_ok-item.ensures) _ c.finish.ensures.front
+    underway_end_cut _ _ _ _ _ _ _ _ _ _ c.loop-who.invariant.underway _ (subst (λ x. Follows c.args.over c.args.policy.now c.loop-who.number c.loop-who.rest.now x) c.in-Ended.is c.in_ok-who.ensures) _ c.finish.ensures.front
 
 pub returns-in-Ended-clause-whole : goal.returns-in-Ended-clause-whole
 returns-in-Ended-clause-whole g c =
-    underway_end _ _ _ _ _ _ _ _ _ _ c.loop-item.invariant.underway _ (subst (λ x. Follows c.args.over c.args.policy.now c.loop-item.number c.loop-item.rest.now x) c.in-Ended.is c.in_ok-item.ensures) _ c.in_ok-finish-in-Ended.ensures.ok
+    underway_end _ _ _ _ _ _ _ _ _ _ c.loop-who.invariant.underway _ (subst (λ x. Follows c.args.over c.args.policy.now c.loop-who.number c.loop-who.rest.now x) c.in-Ended.is c.in_ok-who.ensures) _ c.in_ok-finish-in-Ended.ensures.ok
 
 pub returns-in-Ended-clause-front : goal.returns-in-Ended-clause-front
 returns-in-Ended-clause-front g c = sends_all _ _ _ _ _ (returns-in-Ended-clause-whole g c).all

@@ -1,7 +1,7 @@
 use Rattle.std.proofs.Common.{◌∙◌, ap, subst, ℕ, List}
 use Rattle.std.specs.List.{flat_map}
 use Rattle.kern_model.specs.declared.numbers.Pid.{Pid}
-use Rattle.labsys.specs.Kernel.{state_of}
+use Rattle.kern_core.specs.Kernel.{state_of}
 use Rattle.labsys.specs.Playing.{AppendsFront}
 use Rattle.labsys.specs.Texts.{end_text, label_in, caps_in, ends_text}
 use Rattle.labsys.proofs.Sending.{cut_pieces}

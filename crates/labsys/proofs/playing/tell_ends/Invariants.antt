@@ -2,7 +2,7 @@ use Rattle.std.proofs.Common.{◌≤◌, take}
 use Rattle.std.specs.List.{flat_map}
 use Rattle.std.specs.Io.KnownBytes.{Appends}
 use Rattle.kern_model.specs.declared.numbers.Pid.{Pid}
-use Rattle.labsys.specs.Kernel.{state_of}
+use Rattle.kern_core.specs.Kernel.{state_of}
 use Rattle.labsys.specs.Texts.{end_text, label_in, caps_in}
 use Rattle.labsys.proofs.playing.tell_ends.Given as goal
 

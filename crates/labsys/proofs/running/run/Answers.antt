@@ -1,4 +1,4 @@
-use Rattle.labsys.proofs.ClauseLemmas.{run_whole, run_front, run_covered, run_replies_first, run_printed, run_isolated, run_isolated_whole, run_two_inputs, run_two_whole}
+use Rattle.labsys.proofs.ClauseLemmas.{run_whole, run_front, run_covered, run_replies_first, run_printed, run_dropped, run_isolated, run_isolated_whole, run_two_inputs, run_two_whole}
 use Rattle.labsys.proofs.running.run.Goals as goal
 
 pub returns-clause-whole : goal.returns-clause-whole
@@ -15,6 +15,9 @@ returns-clause-replies_first g c = run_replies_first c.play-played.result _ _ _ 
 
 pub returns-clause-printed : goal.returns-clause-printed
 returns-clause-printed g c = run_printed c.play-played.result _ _ _ _ _ _ _ c.play-played.ensures.plays
+
+pub returns-clause-dropped : goal.returns-clause-dropped
+returns-clause-dropped g c = run_dropped c.play-played.result _ _ _ _ _ _ _ c.play-played.ensures.plays
 
 pub returns-clause-isolated : goal.returns-clause-isolated
 returns-clause-isolated g c = run_isolated c.play-played.result _ _ _ _ _ _ _ c.play-played.ensures.plays

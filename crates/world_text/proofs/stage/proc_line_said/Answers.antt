@@ -1,10 +1,10 @@
 use Rattle.std.proofs.Common.{◌∙◌, ap}
 use Rattle.std.proofs.lemmas.Result.{IfOk-weaker}
-use Rattle.world_text.specs.Stage.{caps_of}
+use Rattle.world_text.specs.Stage.{proc_caps_of}
 use Rattle.world_text.proofs.WordLemmas.{proc_read}
 use Rattle.world_text.proofs.stage.proc_line_said.Goals as goal
 
 pub returns : goal.returns
 returns c =
     IfOk-weaker c.proc_said.result _ _
-    (λ said h. h ∙ proc_read c.args.policy c.args.bound c.args.draft c.args.words.now c.index-words-4.result c.caps_of-caps.result c.if-words-ne5.false (c.caps_of-caps.ensures ∙ ap caps_of c.items.ensures)) c.proc_said.ensures
+    (λ said h. h ∙ proc_read c.args.policy c.args.bound c.args.draft c.args.words.now c.index-words-4.result c.proc_caps_of-caps.result c.if-words-ne5.false (c.proc_caps_of-caps.ensures ∙ ap proc_caps_of c.items.ensures)) c.proc_said.ensures

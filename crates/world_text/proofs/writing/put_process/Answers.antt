@@ -10,5 +10,4 @@ pub returns : goal.returns
 unfolding line_of process_words
 returns c =
     let groups = rw c.items.ensures at c.in_ok-put_groups_word.ensures in
-    let caps = rw c.caps_text.ensures at c.in_ok-put_quoted_word.ensures in
-    gathered _ _ _ _ _ _ _ _ _ _ _ _ _ _ _ c.in_ok-extend_from_slice.ensures.items c.in_ok-put_label.ensures c.in_ok-put_number_word.ensures c.in_ok-put_number_word-2.ensures groups caps c.in_ok-push.ensures.items
+    gathered _ _ _ _ _ _ _ _ _ _ _ _ _ _ _ c.in_ok-extend_from_slice.ensures.items c.in_ok-put_label.ensures c.in_ok-put_number_word.ensures c.in_ok-put_number_word-2.ensures groups c.in_ok-put_caps.ensures c.in_ok-push.ensures.items

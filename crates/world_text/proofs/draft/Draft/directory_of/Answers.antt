@@ -3,7 +3,7 @@ use Rattle.std.specs.Option.{option_map}
 use Rattle.std.proofs.lemmas.Bool.{eqb-false}
 use Rattle.fs_path.specs.Name.{Name}
 use Rattle.kern_model.specs.World.{given}
-use Rattle.world_text.specs.Stage.{directory_of}
+use Rattle.world_text.specs.Placing.{directory_of}
 use Rattle.world_text.specs.Standing.{standing_of}
 use Rattle.world_text.proofs.DraftLemmas.{directory_stands}
 use Rattle.world_text.proofs.draft.Draft.directory_of.Goals as goal

@@ -1,0 +1,32 @@
+-- The names of capabilities in one spelling.
+use Rattle.std.specs.Prelude.{◌≡◌, ℕ, Bool, true, false, List, None, Some, refl}
+use Rattle.std.specs.Bool.{then_some}
+use Rattle.std.specs.Str.{str_to_ascii_lowercase}
+use Rattle.std.proofs.Common.{ap, sym, ◌∙◌}
+use Rattle.std.proofs.lemmas.Bool.{both_ways}
+use Rattle.cap_bits.specs.Cap.{cap_name, cap_named, cap_named_by, all_caps}
+use Rattle.cap_bits.specs.declared.cap.Cap.{Cap}
+use Rattle.cap_bits.specs.declared.cap.Cap.TheVariants as cap
+use Rattle.lab_text.specs.Names.{same_bytes}
+use Rattle.aud_record.specs.ListedLaws.{named_is, cap_again}
+use Rattle.aud_record.specs.Numbers.{same_itself, same_is, none_from}
+use Rattle.aud_record.specs.Spelled.{named}
+
+lower_name : (c : Cap) → str_to_ascii_lowercase (cap_name c) ≡ cap_name c
+lower_name cap.Chown = refl
+lower_name _ = refl
+
+-- a capability's name names it in any spelling
+in_any_case : (word : List ℕ) (c : Cap) → named cap_name all_caps word ≡ Some c → cap_named word ≡ Some c
+in_any_case word c h = cap_named_by word c (let text = named_is cap_name all_caps word c h in ap str_to_ascii_lowercase text ∙ lower_name c)
+
+pub no_cap : (word : List ℕ) → cap_named word ≡ None → named cap_name all_caps word ≡ None
+no_cap word none = none_from (named cap_name all_caps word) (λ c h. let some = in_any_case word c h in cc)
+
+pub one_cap : (word : List ℕ) (c : Cap) (t : Bool) → cap_named word ≡ Some c → t ≡ same_bytes word (cap_name c) → then_some t c ≡ named cap_name all_caps word
+one_cap word c true some told = sym (ap (named cap_name all_caps) (same_is word (cap_name c) (sym told)) ∙ cap_again c)
+one_cap word c false some told =
+    sym (none_from (named cap_name all_caps word) (λ d h.
+    let other = in_any_case word d h in
+    let equal : d ≡ c = cc in
+    both_ways (same_bytes word (cap_name c)) (sym told) (ap (λ n. same_bytes word n) (ap cap_name (sym equal) ∙ sym (named_is cap_name all_caps word d h)) ∙ same_itself word)))

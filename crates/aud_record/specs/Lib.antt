@@ -1,0 +1,16 @@
+pub mod Events
+pub mod Written
+pub mod Fits
+pub mod Words
+pub mod Listed
+pub mod Spelled
+pub mod Forms
+pub mod Said
+pub mod Numbers
+pub mod ListedLaws
+pub mod WordLaws
+pub mod Quoted
+pub mod FieldLaws
+pub mod FormLaws
+pub mod KindLaws
+pub mod Again

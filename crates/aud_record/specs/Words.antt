@@ -1,0 +1,72 @@
+-- The words of a line, one space between each and the next. A fault tells how many bytes of the line stand from its place on.
+use Rattle.std.specs.Prelude.{◌≡◌, ℕ, ◌+◌, ◌==◌, ◌&&◌, not, nat_lt, Bool, false, cond, List, [], ◌∷◌, length, take, drop, Option, None, Some, Result, Ok, Err}
+use Rattle.std.specs.List.{prefix_len}
+use Rattle.fs_path.specs.Words.{is_space}
+use Rattle.aud_record.specs.declared.fault.Fault.{Fault}
+use Rattle.aud_record.specs.declared.fault.Fault.TheVariants as fault
+
+-- ---- where a word ends
+
+-- how many bytes of a quoted word stand behind its opening quote: the closing one is the first without a backslash before it that counts, and a backslash counts unless one that counts stands before it
+abbrev pub quoted_len : Bool → List ℕ → ℕ
+quoted_len escaped [] = 0
+quoted_len escaped (b ∷ bs) = cond (b == 34 && not escaped) 1 (1 + quoted_len (b == 92 && not escaped) bs)
+
+-- how many bytes the word has with which bytes begin: a quoted word ends with its closing quote, and any other before the next space
+unfoldable pub word_len : List ℕ → ℕ
+word_len [] = 0
+word_len (b ∷ bs) = cond (b == 34) (1 + quoted_len false bs) (prefix_len (λ c. not (is_space c)) (b ∷ bs))
+
+abbrev pub first_word : List ℕ → List ℕ
+first_word left = take (word_len left) left
+
+abbrev pub behind_word : List ℕ → List ℕ
+behind_word left = drop (word_len left) left
+
+-- ---- reading
+
+infixl 10 ◌>>=◌
+abbrev pub ◌>>=◌ : {A B : Type 0} → Result A Fault → (A → Result B Fault) → Result B Fault
+(Ok x) >>= f = f x
+(Err e) >>= f = Err e
+
+-- what a function returned, seen by view, is what reading gives, unless memory ran out
+abbrev pub Fails : {Y : Type 0} → Fault → Result Y Fault → Type 0
+Fails (fault.NoMemory _) read = Unit {0}
+Fails f read = read ≡ Err f
+
+abbrev pub Gives : {X Y : Type 0} → (X → Y) → Result X Fault → Result Y Fault → Type 0
+Gives view (Ok x) read = read ≡ Ok (view x)
+Gives view (Err f) read = Fails f read
+
+-- the same where the function answers the value, and what stands behind it is left
+abbrev pub Reads : {X : Type 0} → Result X Fault → Result (X × List ℕ) Fault → List ℕ → Type 0
+Reads (Ok x) read left = read ≡ Ok (x, left)
+Reads (Err f) read left = Fails f read
+
+-- what stands behind the space that is due
+unfoldable pub behind_space : List ℕ → Result (List ℕ) Fault
+behind_space [] = Err (fault.Syntax 0)
+behind_space (b ∷ bs) = cond (is_space b) (Ok bs) (Err (fault.Syntax (length (b ∷ bs))))
+
+-- a value with which the line ends; a further word is at fault where it begins
+unfoldable pub ended : {X : Type 0} → X → List ℕ → Result X Fault
+ended x [] = Ok x
+ended x (b ∷ bs) = Err (fault.Syntax (cond (is_space b) (length bs) (length (b ∷ bs))))
+
+-- the fault where the first word says nothing: an unknown word where there is one and it is due from a list
+unfoldable pub fault_of : Bool → List ℕ → Fault
+fault_of listed left = cond (listed && nat_lt 0 (length (first_word left))) (fault.UnknownWord (length left)) (fault.Syntax (length left))
+
+-- what a word says and what stands behind it
+abbrev pub worded : {X : Type 0} → Bool → List ℕ → Option X → Result (X × List ℕ) Fault
+worded listed left (Some x) = Ok (x, behind_word left)
+worded listed left None = Err (fault_of listed left)
+
+-- what the first word says, by what each word says
+unfoldable pub word_said : {X : Type 0} → Bool → (List ℕ → Option X) → List ℕ → Result (X × List ℕ) Fault
+word_said listed said left = worded listed left (said (first_word left))
+
+-- what the word behind a space says
+unfoldable pub field_said : {X : Type 0} → Bool → (List ℕ → Option X) → List ℕ → Result (X × List ℕ) Fault
+field_said listed said left = behind_space left >>= word_said listed said

@@ -1,0 +1,85 @@
+-- The texts of the audit trail: its header, and one line for each record.
+use Rattle.std.specs.Prelude.{ℕ, Bool, cond, List, [], ◌∷◌, ◌++◌, Option, None, Some, codes}
+use Rattle.std.specs.Fmt.{decimal}
+use Rattle.std.specs.List.{flat_map}
+use Rattle.cap_bits.specs.Cap.{cap_name}
+use Rattle.cap_bits.specs.CapSet.{CapSet}
+use Rattle.cap_bits.specs.declared.state.CapState.{CapState}
+use Rattle.cap_clause.specs.Written.{caps_text, set_text}
+use Rattle.fs_path.specs.Words.{quoted_text, line_text}
+use Rattle.lab_lattice.specs.Label.{Label}
+use Rattle.lab_text.specs.Numbered.{numbered_text}
+use Rattle.lab_text.specs.Policy.{PolicyNames}
+use Rattle.lab_text.specs.Text.{label_text}
+use Rattle.kern_model.specs.Names.{word_of, check_word, errno_word, place_text, ending_text}
+use Rattle.kern_model.specs.declared.checks.Thing.{Thing}
+use Rattle.kern_model.specs.declared.checks.Thing.TheVariants as thing
+use Rattle.kern_model.specs.declared.numbers.Oid.{Oid}
+use Rattle.kern_model.specs.declared.numbers.Pid.{Pid}
+use Rattle.kern_model.specs.declared.records.Rec.{Rec}
+use Rattle.kern_model.specs.declared.records.Rec.TheVariants as rec
+use Rattle.aud_record.specs.Events.{event_of, event_word, who_of}
+
+-- ---- words
+
+-- the number of a process: `n@label`
+abbrev pub pid_text : PolicyNames → Pid → List ℕ
+pid_text p pid = numbered_text p pid.n pid.label
+
+-- the number of an object: `n@label`
+abbrev pub oid_text : PolicyNames → Oid → List ℕ
+oid_text p oid = numbered_text p oid.n oid.label
+
+-- a capability state between quotes
+abbrev pub caps_word : CapState → List ℕ
+caps_word caps = quoted_text (caps_text caps)
+
+-- what a check is about: `obj:` or `proc:`, and its number
+abbrev pub thing_text : PolicyNames → Thing → List ℕ
+thing_text p (thing.Object oid) = codes "obj:" ++ oid_text p oid
+thing_text p (thing.Process pid) = codes "proc:" ++ pid_text p pid
+
+-- the new label of a check, `-` where it has none
+abbrev pub new_label_text : PolicyNames → Option Label → List ℕ
+new_label_text p None = codes "-"
+new_label_text p (Some label) = label_text p label
+
+abbrev pub switch_word : Bool → List ℕ
+switch_word on = cond on (codes "on") (codes "off")
+
+-- ---- lines
+
+-- words with one space between them, and a line feed
+unfoldable pub line_of : List (List ℕ) → List ℕ
+line_of words = line_text words ++ 10 ∷ []
+
+-- the words behind the number of the process that a record is about; an ending is two words
+abbrev pub rest_words : PolicyNames → Rec → List (List ℕ)
+rest_words p (rec.Boot who label caps) = label_text p label ∷ caps_word caps ∷ []
+rest_words p (rec.Fork who child) = pid_text p child ∷ []
+rest_words p (rec.Exec who file file_caps caps) = oid_text p file ∷ caps_word file_caps ∷ caps_word caps ∷ []
+rest_words p (rec.Exit who ending) = ending_text ending ∷ []
+rest_words p (rec.CapSetProc who caps) = caps_word caps ∷ []
+rest_words p (rec.CapSetFile who file caps) = oid_text p file ∷ caps_word caps ∷ []
+rest_words p (rec.MacSetProc who old new) = label_text p old ∷ label_text p new ∷ []
+rest_words p (rec.MacSetFile who object old new) = oid_text p object ∷ label_text p old ∷ label_text p new ∷ []
+rest_words p (rec.Exercise who label cap check thing thing_label new_label place) =
+    label_text p label ∷ cap_name cap ∷ check_word check ∷ thing_text p thing ∷ label_text p thing_label ∷ new_label_text p new_label ∷ place_text place ∷ []
+rest_words p (rec.Deny who call errno check place) = word_of call ∷ errno_word errno ∷ check_word check ∷ place_text place ∷ []
+rest_words p (rec.Switch who on) = switch_word on ∷ []
+rest_words p (rec.Note who bytes) = quoted_text bytes ∷ []
+
+-- the words of a record: its kind, the process that it is about, and the rest
+abbrev pub rec_words : PolicyNames → Rec → List (List ℕ)
+rec_words p r = event_word (event_of r) ∷ pid_text p (who_of r) ∷ rest_words p r
+
+-- a record behind the number of its call
+unfoldable pub rec_text : PolicyNames → ℕ → Rec → List ℕ
+rec_text p call r = line_of (decimal call ∷ rec_words p r)
+
+-- the words of the four lines before the records: the format, the names of the world and its bound
+abbrev pub header_words : PolicyNames → CapSet → List (List (List ℕ))
+header_words p bound = (codes "trail" ∷ codes "1" ∷ []) ∷ (codes "levels" ∷ p.levels) ∷ (codes "categories" ∷ p.cats) ∷ (codes "bound" ∷ set_text bound ∷ []) ∷ []
+
+unfoldable pub header_text : PolicyNames → CapSet → List ℕ
+header_text p bound = flat_map line_of (header_words p bound)

@@ -1,0 +1,19 @@
+//! The texts of the audit trail: its header, and a line for each record.
+#![tactic(auto)]
+
+mod event;
+mod fault;
+mod fields;
+mod forms;
+mod line;
+mod names;
+mod reading;
+mod spelled;
+#[cfg(test)]
+mod tests;
+mod words;
+mod written;
+
+pub use reading::{ReadRec, RecError, rec_read};
+pub use std::alloc::AllocError as NoMemory;
+pub use written::{header_text, rec_text};

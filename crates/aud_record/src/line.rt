@@ -1,0 +1,181 @@
+// A line as it is written, word by word.
+ghost use Rattle.std.specs.Prelude.{◌≡◌, [], ◌∷◌, ◌++◌, IfOk};
+ghost use Rattle.std.specs.Fmt.{decimal};
+ghost use Rattle.fs_path.specs.Words.{quoted_text, behind_spaces};
+ghost use Rattle.lab_text.specs.Text.{label_text};
+ghost use Rattle.kern_model.specs.Names.{place_text, ending_text};
+ghost use Rattle.aud_record.specs.Written.{pid_text, oid_text, caps_word, thing_text, new_label_text};
+
+use crate::NoMemory;
+use cap_bits::CapState;
+use cap_clause::cap_to_text;
+use fs_path::{put_number, put_quoted};
+use kern_model::{Ending, Oid, Pid, Place, Thing, put_ending, put_place};
+use lab_lattice::Label;
+use lab_text::{Policy, Word, mac_to_text, put_numbered};
+use std::alloc::Global;
+use std::marker::Model;
+
+/// What is written of a text.
+#[derive(Drop)]
+pub struct Line {
+    alloc: Global,
+    text: Vec<u8>,
+}
+
+impl Model for Line {
+    ghost use Rattle.std.specs.Prelude.{List, ℕ};
+
+    ghost Value = { List ℕ };
+
+    ghost view = { λ l. l.text.items };
+}
+
+impl Line {
+    /// Nothing.
+    pub fn new(alloc: Global) -> Line
+        ensures { result ≡ [] }
+    {
+        Line {
+            alloc,
+            text: Vec::new(alloc),
+        }
+    }
+
+    /// A number in front of the words.
+    pub fn number(mut self, n: u64) -> Result<Line, NoMemory>
+        ensures { IfOk result (λ line. line ≡ self ++ decimal n) }
+    {
+        put_number(self.alloc, &mut self.text, n)?;
+        Ok(self)
+    }
+
+    /// Bytes as they are.
+    pub fn bytes(mut self, bytes: &[u8]) -> Result<Line, NoMemory>
+        ensures { IfOk result (λ line. line ≡ self ++ bytes.now) }
+    {
+        self.text.extend_from_slice(bytes)?;
+        Ok(self)
+    }
+
+    /// A word behind a space.
+    pub fn word(self, word: &[u8]) -> Result<Line, NoMemory>
+        ensures { IfOk result (λ line. line ≡ self ++ 32 ∷ word.now) }
+    {
+        self.bytes(b" ")?.bytes(word)
+    }
+
+    /// Words, each behind a space.
+    pub fn words(self, words: &[Word]) -> Result<Line, NoMemory>
+        ensures { IfOk result (λ line. line ≡ self ++ behind_spaces words.now) }
+    {
+        let mut line = self;
+        for word in words {
+            line = line.word(word.bytes())?;
+        }
+        Ok(line)
+    }
+
+    /// A quoted word behind a space.
+    pub fn quoted(self, bytes: &[u8]) -> Result<Line, NoMemory>
+        ensures { IfOk result (λ line. line ≡ self ++ 32 ∷ quoted_text bytes.now) }
+    {
+        let mut line = self.bytes(b" ")?;
+        put_quoted(&mut line.text, bytes)?;
+        Ok(line)
+    }
+
+    /// A label behind a space.
+    pub fn label(self, policy: &Policy, label: &Label) -> Result<Line, NoMemory>
+        ensures { IfOk result (λ line. line ≡ self ++ 32 ∷ label_text policy.now label.now) }
+    {
+        let label = mac_to_text(self.alloc, policy, label)?;
+        self.word(label.as_slice())
+    }
+
+    /// The new label of a check, or `-`, behind a space.
+    pub fn new_label(self, policy: &Policy, label: &Option<Label>) -> Result<Line, NoMemory>
+        ensures { IfOk result (λ line. line ≡ self ++ 32 ∷ new_label_text policy.now label.now) }
+    {
+        match label {
+            Some(label) => self.label(policy, label),
+            None => self.word(b"-"),
+        }
+    }
+
+    /// The number of a process behind a space.
+    pub fn pid(self, policy: &Policy, pid: &Pid) -> Result<Line, NoMemory>
+        ensures { IfOk result (λ line. line ≡ self ++ 32 ∷ pid_text policy.now pid.now) }
+    {
+        let mut line = self.bytes(b" ")?;
+        put_numbered(
+            line.alloc,
+            &mut line.text,
+            policy,
+            u64::from(pid.n),
+            &pid.label,
+        )?;
+        Ok(line)
+    }
+
+    /// The number of an object behind a space.
+    pub fn oid(self, policy: &Policy, oid: &Oid) -> Result<Line, NoMemory>
+        ensures { IfOk result (λ line. line ≡ self ++ 32 ∷ oid_text policy.now oid.now) }
+    {
+        let mut line = self.bytes(b" ")?;
+        put_numbered(
+            line.alloc,
+            &mut line.text,
+            policy,
+            u64::from(oid.n),
+            &oid.label,
+        )?;
+        Ok(line)
+    }
+
+    /// What a check is about, behind a space.
+    pub fn thing(self, policy: &Policy, thing: &Thing) -> Result<Line, NoMemory>
+        ensures { IfOk result (λ line. line ≡ self ++ 32 ∷ thing_text policy.now thing.now) }
+    {
+        let (mark, n, label) = match thing {
+            Thing::Object(oid) => (b"obj:".as_slice(), oid.n, &oid.label),
+            Thing::Process(pid) => (b"proc:".as_slice(), pid.n, &pid.label),
+        };
+        let mut line = self.word(mark)?;
+        put_numbered(line.alloc, &mut line.text, policy, u64::from(n), label)?;
+        Ok(line)
+    }
+
+    /// A capability state behind a space.
+    pub fn caps(self, caps: &CapState) -> Result<Line, NoMemory>
+        ensures { IfOk result (λ line. line ≡ self ++ 32 ∷ caps_word caps.now) }
+    {
+        let caps = cap_to_text(self.alloc, caps)?;
+        self.quoted(caps.as_slice())
+    }
+
+    /// A place behind a space.
+    pub fn place(self, place: Place) -> Result<Line, NoMemory>
+        ensures { IfOk result (λ line. line ≡ self ++ 32 ∷ place_text place) }
+    {
+        let mut line = self.bytes(b" ")?;
+        put_place(line.alloc, &mut line.text, place)?;
+        Ok(line)
+    }
+
+    /// The two words of an ending behind a space.
+    pub fn ending(self, ending: Ending) -> Result<Line, NoMemory>
+        ensures { IfOk result (λ line. line ≡ self ++ 32 ∷ ending_text ending) }
+    {
+        let mut line = self.bytes(b" ")?;
+        put_ending(line.alloc, &mut line.text, ending)?;
+        Ok(line)
+    }
+
+    /// What was written.
+    pub fn into_text(self) -> Vec<u8>
+        ensures { result.items ≡ self }
+    {
+        self.text
+    }
+}

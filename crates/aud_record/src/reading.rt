@@ -1,0 +1,95 @@
+// The reading of a record.
+ghost use Rattle.std.specs.Prelude.{◌≡◌, ℕ, ◌^◌, ◌<◌, true, List, ◌++◌, length, take, IfOk, Ok};
+ghost use Rattle.kern_model.specs.declared.records.Rec.{Rec};
+ghost use Rattle.aud_record.specs.Fits.{rec_fits};
+ghost use Rattle.aud_record.specs.Said.{line_said, placed, rec_said, Answers};
+ghost use Rattle.aud_record.specs.Words.{Gives};
+ghost use Rattle.aud_record.specs.Written.{rec_text};
+
+use crate::NoMemory;
+use crate::fault::Fault;
+use crate::forms::record;
+use crate::words::Words;
+use fs_path::next_line;
+use kern_model::Rec;
+use lab_text::Policy;
+use std::alloc::Global;
+
+/// A record that was read.
+#[derive(Debug, Drop)]
+pub struct ReadRec {
+    /// The number of its call.
+    pub call: u64,
+    pub rec: Rec,
+    /// How many bytes its line has, with the line feed.
+    pub used: usize,
+}
+
+/// Why no record is read. Places are bytes, counted from 0: where the word at fault begins, or where a word is due.
+#[derive(Clone, Copy, Debug, PartialEq, Eq)]
+pub enum RecError {
+    /// What stands here is not what is due.
+    Syntax(usize),
+    /// The word that stands here is none of the words from which this one is chosen.
+    UnknownWord(usize),
+    /// The text has no line feed.
+    Truncated,
+    /// Memory ran out.
+    NoMemory(NoMemory),
+}
+
+// The number of a call and the record that a line says.
+#[tactic(auto, unfolding(crate::specs::Said::line_said))]
+fn read_line(alloc: Global, policy: &Policy, line: &[u8]) -> Result<(u64, Rec), Fault>
+    ensures { Gives (λ x. x) result (line_said policy.now line.now) }
+{
+    let mut words = Words::new(line);
+    let call = words.call_number(alloc)?;
+    let event = words.event()?;
+    let who = words.pid(alloc, policy)?;
+    let rec = record(alloc, policy, event, who, &mut words)?;
+    Ok((call, rec))
+}
+
+// A fault with its place in a line of so many bytes.
+fn placed(len: usize, fault: Fault) -> RecError
+    ensures { result ≡ placed len fault }
+{
+    match fault {
+        Fault::Syntax(left) => RecError::Syntax(len.saturating_sub(left)),
+        Fault::UnknownWord(left) => RecError::UnknownWord(len.saturating_sub(left)),
+        Fault::NoMemory(e) => RecError::NoMemory(e),
+    }
+}
+
+// The record with which a text begins.
+#[tactic(auto, unfolding(crate::specs::Said::rec_said))]
+fn first_record(alloc: Global, policy: &Policy, text: &[u8]) -> Result<ReadRec, RecError>
+    ensures { Answers result (rec_said policy.now text.now) }
+{
+    let Some((line, _)) = next_line(text) else {
+        return Err(RecError::Truncated);
+    };
+    match read_line(alloc, policy, line) {
+        Ok((call, rec)) => Ok(ReadRec {
+            call,
+            rec,
+            used: line.len() + 1,
+        }),
+        Err(fault) => Err(placed(line.len(), fault)),
+    }
+}
+
+/// The record with which a text begins, whatever stands behind it. The first fault of the line counts, from the left.
+pub fn rec_read(alloc: Global, policy: &Policy, text: &[u8]) -> Result<ReadRec, RecError>
+    // What is read is written so, and its labels are valid.
+    ensures found { IfOk result (λ read. (take read.used text.now ≡ rec_text policy.now read.call read.rec) × (rec_fits policy.now read.rec ≡ true)) }
+    // What is written so is read, unless memory runs out.
+    ensures only { (call : ℕ) (rec : Rec) (rest : List ℕ) → call < 2 ^ 64 → rec_fits policy.now rec ≡ true → text.now ≡ rec_text policy.now call rec ++ rest → Answers result (Ok (record { call = call; rec = rec; used = length (rec_text policy.now call rec) })) }
+    // Which fault it is.
+    ensures cause { Answers result (rec_said policy.now text.now) }
+{
+    // Its names make a policy, which the clause `only` needs.
+    let _names = policy.levels();
+    first_record(alloc, policy, text)
+}

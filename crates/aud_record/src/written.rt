@@ -1,0 +1,97 @@
+// The writing of the trail.
+ghost use Rattle.std.specs.Prelude.{◌≡◌, true, List, ℕ, ◌++◌, length, IfOk, Ok};
+ghost use Rattle.cap_clause.specs.Written.{set_text};
+ghost use Rattle.fs_path.specs.Words.{behind_spaces};
+ghost use Rattle.aud_record.specs.Fits.{rec_fits};
+ghost use Rattle.aud_record.specs.Said.{rec_said};
+ghost use Rattle.aud_record.specs.Written.{switch_word, rest_words, rec_text, header_text};
+
+use crate::NoMemory;
+use crate::event::{Event, who};
+use crate::line::Line;
+use cap_bits::CapSet;
+use cap_clause::set_to_text;
+use kern_model::Rec;
+use lab_text::Policy;
+use std::alloc::Global;
+
+fn switch_word(on: bool) -> &'static [u8]
+    ensures { result.now ≡ switch_word on }
+{
+    if on { b"on" } else { b"off" }
+}
+
+// The words behind the number of the process.
+fn put_rest(line: Line, policy: &Policy, rec: &Rec) -> Result<Line, NoMemory>
+    ensures { IfOk result (λ new. new ≡ line ++ behind_spaces (rest_words policy.now rec.now)) }
+{
+    match rec {
+        Rec::Boot(_, label, caps) => line.label(policy, label)?.caps(caps),
+        Rec::Fork(_, child) => line.pid(policy, child),
+        Rec::Exec(_, file, file_caps, caps) => line.oid(policy, file)?.caps(file_caps)?.caps(caps),
+        Rec::Exit(_, ending) => line.ending(*ending),
+        Rec::CapSetProc(_, caps) => line.caps(caps),
+        Rec::CapSetFile(_, file, caps) => line.oid(policy, file)?.caps(caps),
+        Rec::MacSetProc(_, old, new) => line.label(policy, old)?.label(policy, new),
+        Rec::MacSetFile(_, object, old, new) => line
+            .oid(policy, object)?
+            .label(policy, old)?
+            .label(policy, new),
+        Rec::Exercise(_, label, cap, check, thing, thing_label, new_label, place) => line
+            .label(policy, label)?
+            .word(cap.name())?
+            .word(check.word())?
+            .thing(policy, thing)?
+            .label(policy, thing_label)?
+            .new_label(policy, new_label)?
+            .place(*place),
+        Rec::Deny(_, call, errno, check, place) => line
+            .word(call.word())?
+            .word(errno.word())?
+            .word(check.word())?
+            .place(*place),
+        Rec::Switch(_, on) => line.word(switch_word(*on)),
+        Rec::Note(_, bytes) => line.quoted(bytes.items()),
+    }
+}
+
+// The line of a record.
+#[tactic(auto, unfolding(crate::specs::Written::line_of, crate::specs::Written::rec_text))]
+fn line_of(alloc: Global, policy: &Policy, call: u64, rec: &Rec) -> Result<Vec<u8>, NoMemory>
+    ensures { IfOk result (λ text. text.items ≡ rec_text policy.now call rec.now) }
+{
+    let line = Line::new(alloc)
+        .number(call)?
+        .word(Event::of(rec).word())?
+        .pid(policy, &who(rec))?;
+    Ok(put_rest(line, policy, rec)?.bytes(b"\n")?.into_text())
+}
+
+/// The line of a record, behind the number of its call: 0 for those of the start. Of a label that is not valid in the
+/// policy only the names that the policy has are written.
+pub fn rec_text(alloc: Global, policy: &Policy, call: u64, rec: &Rec) -> Result<Vec<u8>, NoMemory>
+    ensures text { IfOk result (λ text. text.items ≡ rec_text policy.now call rec.now) }
+    // It is read again, whatever stands behind it.
+    ensures again { IfOk result (λ text. rec_fits policy.now rec.now ≡ true → (rest : List ℕ) → rec_said policy.now (text.items ++ rest) ≡ Ok (record { call = call; rec = rec.now; used = length text.items })) }
+{
+    // Its names make a policy, which the clause `again` needs.
+    let _names = policy.levels();
+    line_of(alloc, policy, call, rec)
+}
+
+/// The lines before the records: the format, the names of the world's levels and categories, and its bound.
+#[tactic(auto, unfolding(crate::specs::Written::line_of, crate::specs::Written::header_text))]
+pub fn header_text(alloc: Global, policy: &Policy, bound: &CapSet) -> Result<Vec<u8>, NoMemory>
+    ensures { IfOk result (λ text. text.items ≡ header_text policy.now bound.now) }
+{
+    let bound = set_to_text(alloc, bound)?;
+    let line = Line::new(alloc)
+        .bytes(b"trail 1\nlevels")?
+        .words(policy.levels())?
+        .bytes(b"\ncategories")?
+        .words(policy.cats())?
+        .bytes(b"\nbound")?
+        .word(bound.as_slice())?
+        .bytes(b"\n")?;
+    Ok(line.into_text())
+}

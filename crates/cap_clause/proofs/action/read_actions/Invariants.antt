@@ -1,0 +1,12 @@
+use Rattle.std.proofs.Common.{◌≡◌, ◌+◌, length}
+use Rattle.cap_clause.specs.Reading.{actions_said}
+use Rattle.cap_clause.proofs.action.read_actions.Given as goal
+
+abbrev pub invariant-loop-operator : goal.invariant-loop-operator
+invariant-loop-operator l = record {
+  said : actions_said l.start l.caps l.actions l.initial.state ≡ actions_said l.at l.caps l.left l.state;
+  place : l.at + length l.left ≡ l.start + length l.actions;
+}
+
+abbrev pub decreases-loop-operator : goal.decreases-loop-operator
+decreases-loop-operator l = length l.left

@@ -1,0 +1,26 @@
+use Rattle.std.proofs.Common.{◌≡◌, ◌++◌, ◌∙◌, ap, sym, map, List, ℕ}
+use Rattle.std.specs.Prelude.{◌==◌}
+use Rattle.std.specs.List.{join_with_byte}
+use Rattle.cap_clause.specs.Said.{caps_said}
+use Rattle.cap_clause.specs.Written.{group_text, firsts_of, caps_text}
+use Rattle.cap_clause.specs.WrittenAgain.{caps_again}
+use Rattle.cap_clause.proofs.WriteLemmas.{none_written, some_written}
+use Rattle.cap_clause.proofs.written.cap_to_text.Goals as goal
+use Rattle.cap_clause.proofs.written.cap_to_text.Goals.{Joined-is_empty, then-is_empty+in_ok-push, else-is_empty}
+
+written : (c : Joined-is_empty) → c.if-is_empty.text.items ≡ caps_text c.args.state.now
+written c =
+    let s = c.args.state.now in
+    let text = c.put_groups.new.text in
+    let clauses = c.in_ok-put_groups.ensures ∙ ap (λ (t : List ℕ). t ++ join_with_byte 32 (map (group_text s) (firsts_of s))) c.new-text.ensures.items in
+    let count = ap (λ n. n == 0) (sym text.ok.0) ∙ sym c.is_empty.ensures in
+    elim c.if-is_empty.branch [
+      | then-is_empty+in_ok-push w ↦ ap (λ t. t.items) w.text-is ∙ w.in_ok-push.ensures.items ∙ none_written s text.items clauses (count ∙ w.if-is_empty.true)
+      | else-is_empty w ↦ ap (λ t. t.items) w.text-is ∙ some_written s text.items clauses (count ∙ w.if-is_empty.false)
+    ]
+
+pub returns-clause-text : goal.returns-clause-text
+returns-clause-text c = written (goal.at.returns-clause-text c).Joined-is_empty
+
+pub returns-clause-again : goal.returns-clause-again
+returns-clause-again c = ap caps_said (written (goal.at.returns-clause-again c).Joined-is_empty) ∙ caps_again c.args.state.now

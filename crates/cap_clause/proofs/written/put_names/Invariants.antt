@@ -1,0 +1,12 @@
+use Rattle.std.proofs.Common.{◌≡◌, ◌-◌, ◌≤◌, ◌++◌, []}
+use Rattle.cap_clause.proofs.WriteLemmas.{names_from}
+use Rattle.cap_clause.proofs.written.put_names.Given as goal
+
+abbrev pub invariant-loop-cap : goal.invariant-loop-cap
+invariant-loop-cap l = record {
+  text : l.text.items ++ names_from l.mark l.caps l.number ≡ l.initial.text.items ++ names_from [] l.caps 0;
+  within : l.number ≤ 18;
+}
+
+abbrev pub decreases-loop-cap : goal.decreases-loop-cap
+decreases-loop-cap l = 18 - l.number

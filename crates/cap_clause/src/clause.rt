@@ -1,0 +1,95 @@
+// Clauses, and the texts of states.
+ghost use Rattle.std.specs.Prelude.{◌≡◌, ◌+◌, ◌<◌, ◌≤◌, ◌^◌, length, drop};
+ghost use Rattle.std.specs.List.{position_or_len, prefix_len};
+ghost use Rattle.cap_clause.specs.Clauses.{is_blank, is_operator, first_operator};
+ghost use Rattle.cap_clause.specs.Reading.{front_said, clause_said};
+ghost use Rattle.cap_clause.specs.Said.{caps_said};
+
+use crate::CapTextError;
+use crate::action::{Operator, first_operator, operator_of, read_actions};
+use crate::list::caps_listed;
+use cap_bits::{CapSet, CapState};
+
+// Whether a byte stands between clauses.
+fn is_blank(byte: u8) -> bool
+    ensures { result ≡ is_blank byte }
+{
+    byte == b' ' || byte == b'\t'
+}
+
+// How many blanks a text begins with.
+fn blanks_len(text: &[u8]) -> usize
+    ensures count { result ≡ prefix_len is_blank text.now }
+    ensures within { result ≤ length text.now }
+{
+    text.iter().take_while(|byte| is_blank(**byte)).count()
+}
+
+// A text without the blanks at its front.
+fn past_blanks(text: &[u8]) -> &[u8]
+    ensures { result.now ≡ drop (prefix_len is_blank text.now) text.now }
+{
+    &text[blanks_len(text)..]
+}
+
+// How many bytes stand before the first blank.
+fn clause_len(text: &[u8]) -> usize
+    ensures count { result ≡ position_or_len is_blank text.now }
+    ensures within { result ≤ length text.now }
+{
+    text.iter().take_while(|byte| !is_blank(**byte)).count()
+}
+
+// How many bytes stand before the first operator.
+fn list_len(clause: &[u8]) -> usize
+    ensures count { result ≡ position_or_len is_operator clause.now }
+    ensures within { result ≤ length clause.now }
+{
+    clause
+        .iter()
+        .take_while(|byte| operator_of(**byte).is_none())
+        .count()
+}
+
+// The capabilities that a clause which begins at a place is about: those in its list, or all where it begins with `=`.
+fn clause_caps(at: usize, clause: &[u8], list: &[u8]) -> Result<CapSet, CapTextError>
+    requires { at + length list.now + 1 < 2 ^ 64 }
+    ensures { result ≡ front_said at list.now (first_operator clause.now) }
+{
+    let Some((operator, _)) = first_operator(clause) else {
+        return caps_listed(at, list);
+    };
+    match operator {
+        Operator::Assign => Ok(CapSet::all()),
+        Operator::Raise | Operator::Lower => Err(CapTextError::NoNames(at)),
+    }
+}
+
+// What a clause that begins at a place makes of a state.
+fn read_clause(at: usize, clause: &[u8], state: CapState) -> Result<CapState, CapTextError>
+    requires { at + length clause.now + 1 < 2 ^ 64 }
+    ensures { result ≡ clause_said state (record { at = at; bytes = clause.now }) }
+{
+    let (list, actions) = clause.split_at(list_len(clause));
+    let caps = clause_caps(at, clause, list)?;
+    read_actions(at + list.len(), caps, actions, state)
+}
+
+/// The state that a text stands for: what its clauses make, one after another, of the state with no capability in any
+/// set. It takes no memory.
+pub fn cap_from_text(text: &[u8]) -> Result<CapState, CapTextError>
+    ensures said { result ≡ caps_said text.now }
+{
+    let mut left = past_blanks(text);
+    if left.is_empty() {
+        return Err(CapTextError::Empty);
+    }
+    let mut state = CapState::none();
+    while !left.is_empty() {
+        let at = text.len() - left.len();
+        let (clause, rest) = left.split_at(clause_len(left));
+        state = read_clause(at, clause, state)?;
+        left = past_blanks(rest);
+    }
+    Ok(state)
+}

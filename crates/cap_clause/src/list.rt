@@ -1,0 +1,84 @@
+// Lists of capabilities, and the texts of sets.
+ghost use Rattle.std.specs.Prelude.{◌≡◌, ◌+◌, ◌==◌, ◌<◌, ◌^◌, ◌∷◌, position, length};
+ghost use Rattle.std.specs.List.{slice_split};
+ghost use Rattle.std.specs.Option.{option_copied};
+ghost use Rattle.std.specs.Str.{str_eq_ignore_ascii_case};
+ghost use Rattle.cap_clause.specs.Clauses.{is_comma, caps_named, list_said};
+ghost use Rattle.cap_clause.specs.Reading.{pieces_in, bytes_left};
+ghost use Rattle.cap_clause.specs.Said.{set_said};
+
+use crate::CapTextError;
+use cap_bits::{Cap, CapSet};
+
+// The place of the first comma.
+fn comma_in(text: &[u8]) -> Option<usize>
+    ensures { result ≡ position is_comma text.now }
+{
+    text.iter().position(|byte| *byte == b',')
+}
+
+// What stands before the first comma, and what stands behind it, if there is one.
+#[tactic(auto, using(crate::proofs::ListLemmas::cut_at, crate::proofs::ListLemmas::cut_none))]
+fn cut(text: &[u8]) -> (&[u8], Option<&[u8]>)
+    ensures pieces { slice_split is_comma text.now ≡ result.0.now ∷ pieces_in (option_copied result.1) }
+    ensures fewer { length result.0.now + bytes_left (option_copied result.1) ≡ length text.now }
+{
+    match comma_in(text) {
+        Some(place) => (&text[..place], Some(&text[place + 1..])),
+        None => (text, None),
+    }
+}
+
+// Whether a word is this one, in any case of its ASCII letters.
+fn is_word(own: &[u8], word: &[u8]) -> bool
+    ensures { result ≡ str_eq_ignore_ascii_case own.now word.now }
+{
+    own.eq_ignore_ascii_case(word)
+}
+
+// The capabilities that a word stands for.
+#[tactic(auto, unfolding(crate::specs::Clauses::caps_named))]
+fn caps_named(word: &[u8]) -> Option<CapSet>
+    ensures { result ≡ caps_named word.now }
+{
+    if is_word(b"all", word) {
+        return Some(CapSet::all());
+    }
+    let cap = Cap::from_name(word)?;
+    Some(CapSet::none().with(cap))
+}
+
+// The capabilities in a list that begins at a place.
+#[tactic(auto, unfolding(crate::specs::Clauses::list_said))]
+pub fn caps_listed(start: usize, list: &[u8]) -> Result<CapSet, CapTextError>
+    requires { start + length list.now + 1 < 2 ^ 64 }
+    ensures { result ≡ list_said start list.now }
+{
+    let mut caps = CapSet::none();
+    let mut at = start;
+    let mut left = Some(list);
+    while let Some(text) = left {
+        let (piece, more) = cut(text);
+        let Some(named) = caps_named(piece) else {
+            return Err(CapTextError::UnknownName(at));
+        };
+        caps = caps.union(named);
+        at += piece.len() + 1;
+        left = more;
+    }
+    Ok(caps)
+}
+
+/// The set that a text stands for: `none`, or names and `all` with commas between them. It takes no memory.
+#[tactic(auto, unfolding(crate::specs::Said::set_said))]
+pub fn set_from_text(text: &[u8]) -> Result<CapSet, CapTextError>
+    ensures said { result ≡ set_said text.now }
+{
+    if text.is_empty() {
+        return Err(CapTextError::Empty);
+    }
+    if is_word(b"none", text) {
+        return Ok(CapSet::none());
+    }
+    caps_listed(0, text)
+}

@@ -1,0 +1,148 @@
+// The texts that are written.
+ghost use Rattle.std.specs.Prelude.{◌≡◌, ◌++◌, ◌∷◌, map, OnOk, IfOk, Ok};
+ghost use Rattle.std.specs.Bool.{beq};
+ghost use Rattle.std.specs.List.{filter, join_with_byte};
+ghost use Rattle.cap_bits.specs.Cap.{cap_name};
+ghost use Rattle.cap_bits.specs.CapSet.{has};
+ghost use Rattle.cap_bits.specs.State.{has_flag};
+ghost use Rattle.cap_clause.specs.Clauses.{all_flags};
+ghost use Rattle.cap_clause.specs.Said.{caps_said, set_said};
+ghost use Rattle.cap_clause.specs.Written.{caps_of, list_text, set_text, group_of, flag_byte, group_text, firsts_of, caps_text};
+
+use crate::NoMemory;
+use cap_bits::{Cap, CapSet, CapState, Flag};
+use std::alloc::Global;
+
+// Writes the names of capabilities with commas between them.
+fn put_names(text: &mut Vec<u8>, caps: &CapSet) -> Result<(), NoMemory>
+    ensures { OnOk result (text.new.items ≡ text.old.items ++ join_with_byte 44 (map cap_name (caps_of caps.now))) }
+{
+    let mut mark: &[u8] = b"";
+    let mut number = 0;
+    while let Some(cap) = Cap::from_number(number) {
+        if caps.has(cap) {
+            text.extend_from_slice(mark)?;
+            text.extend_from_slice(cap.name())?;
+            mark = b",";
+        }
+        number += 1;
+    }
+    Ok(())
+}
+
+// Writes capabilities as a list.
+#[tactic(auto, unfolding(crate::specs::Written::list_text))]
+fn put_list(text: &mut Vec<u8>, caps: &CapSet) -> Result<(), NoMemory>
+    ensures { OnOk result (text.new.items ≡ text.old.items ++ list_text caps.now) }
+{
+    if *caps == CapSet::all() {
+        return text.extend_from_slice(b"all");
+    }
+    put_names(text, caps)
+}
+
+// Writes a set.
+#[tactic(auto, unfolding(crate::specs::Written::set_text))]
+fn put_set(text: &mut Vec<u8>, set: &CapSet) -> Result<(), NoMemory>
+    ensures { OnOk result (text.new.items ≡ text.old.items ++ set_text set.now) }
+{
+    if *set == CapSet::none() {
+        return text.extend_from_slice(b"none");
+    }
+    put_list(text, set)
+}
+
+/// The canonical text of a set.
+pub fn set_to_text(alloc: Global, set: &CapSet) -> Result<Vec<u8>, NoMemory>
+    ensures text { IfOk result (λ text. text.items ≡ set_text set.now) }
+    ensures again { IfOk result (λ text. set_said text.items ≡ Ok set.now) }
+{
+    let mut text = Vec::new(alloc);
+    put_set(&mut text, set)?;
+    Ok(text)
+}
+
+// The byte of a flag.
+fn flag_byte(flag: Flag) -> u8
+    ensures { result ≡ flag_byte flag }
+{
+    match flag {
+        Flag::Effective => b'e',
+        Flag::Inheritable => b'i',
+        Flag::Permitted => b'p',
+    }
+}
+
+// Writes the flags of a capability.
+fn put_flags(text: &mut Vec<u8>, state: &CapState, cap: Cap) -> Result<(), NoMemory>
+    ensures { OnOk result (text.new.items ≡ text.old.items ++ map flag_byte (filter (has_flag state.now cap) all_flags)) }
+{
+    for flag in [Flag::Effective, Flag::Inheritable, Flag::Permitted] {
+        if state.get_flag(cap, flag) {
+            text.push(flag_byte(flag))?;
+        }
+    }
+    Ok(())
+}
+
+// The capabilities that are in a set where this one is, or else those that are not.
+fn alike(set: CapSet, cap: Cap) -> CapSet
+    ensures { (q : Cap) → has result q ≡ beq (has set cap) (has set q) }
+{
+    if set.has(cap) {
+        set
+    } else {
+        CapSet::all().minus(set)
+    }
+}
+
+// The capabilities with the flags of this one.
+fn group_of(state: &CapState, cap: Cap) -> CapSet
+    ensures { result ≡ group_of state.now cap }
+{
+    alike(state.e, cap)
+        .meet(alike(state.i, cap))
+        .meet(alike(state.p, cap))
+}
+
+// Writes the clause of a group.
+#[tactic(auto, using(std::proofs::Common::append_assoc), unfolding(crate::specs::Written::group_text))]
+fn put_group(text: &mut Vec<u8>, state: &CapState, cap: Cap) -> Result<(), NoMemory>
+    ensures { OnOk result (text.new.items ≡ text.old.items ++ group_text state.now cap) }
+{
+    put_list(text, &group_of(state, cap))?;
+    text.push(b'=')?;
+    put_flags(text, state, cap)
+}
+
+// Writes the clauses of all groups with spaces between them.
+fn put_groups(text: &mut Vec<u8>, state: &CapState) -> Result<(), NoMemory>
+    ensures { OnOk result (text.new.items ≡ text.old.items ++ join_with_byte 32 (map (group_text state.now) (firsts_of state.now))) }
+{
+    let mut left = state.e.union(state.i).union(state.p);
+    let mut mark: &[u8] = b"";
+    let mut candidate = 0;
+    while let Some(cap) = Cap::from_number(candidate) {
+        if left.has(cap) {
+            text.extend_from_slice(mark)?;
+            put_group(text, state, cap)?;
+            left = left.minus(group_of(state, cap));
+            mark = b" ";
+        }
+        candidate += 1;
+    }
+    Ok(())
+}
+
+/// The canonical text of a state.
+pub fn cap_to_text(alloc: Global, state: &CapState) -> Result<Vec<u8>, NoMemory>
+    ensures text { IfOk result (λ text. text.items ≡ caps_text state.now) }
+    ensures again { IfOk result (λ text. caps_said text.items ≡ Ok state.now) }
+{
+    let mut text = Vec::new(alloc);
+    put_groups(&mut text, state)?;
+    if text.is_empty() {
+        text.push(b'=')?;
+    }
+    Ok(text)
+}

@@ -1,0 +1,2 @@
+pub mod FinMap
+pub mod FinSet

@@ -1,0 +1,2 @@
+//! Finite maps and sets whose functions can be unfolded. What they are is in `specs/`.
+#![tactic(auto)]

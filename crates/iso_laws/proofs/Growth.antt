@@ -1,0 +1,73 @@
+-- Permitted sets grow by exec alone, by the records.
+use Rattle.std.specs.Prelude.{◌≡◌, ◌⊎◌, Bool, true, false, ◌&&◌, ◌||◌, List, [], ◌∷◌, ◌++◌, refl, cond}
+use Rattle.std.proofs.Common.{sym, ◌∙◌, ap, inl, inr}
+use Rattle.std.proofs.lemmas.Bool.{true≢false}
+use Rattle.cap_bits.specs.CapSet.{CapSet, has, has-no_caps, has-union_of, has-meet_of, within-has, meet_of}
+use Rattle.cap_bits.specs.declared.cap.Cap.{Cap}
+use Rattle.cap_bits.specs.declared.state.CapState.{CapState}
+use Rattle.cap_bits.specs.State.{no_flags}
+use Rattle.lab_lattice.specs.Label.{Label}
+use Rattle.kern_model.specs.declared.numbers.Oid.{Oid}
+use Rattle.kern_model.specs.declared.numbers.Pid.{Pid}
+use Rattle.kern_model.specs.declared.records.Rec.{Rec}
+use Rattle.kern_model.specs.declared.records.Rec.TheVariants as rec
+use Rattle.kern_model.specs.declared.world.World.{World}
+use Rattle.kern_model.specs.declared.world.ScriptItem.{ScriptItem}
+use Rattle.kern_model.specs.Exec.{exec_caps, exec_permitted}
+use Rattle.kern_model.specs.Keys.{pid_cmp_exact, same_pid}
+use Rattle.kern_model.specs.Lineage.{told_behind, told, caps_of, all_recs, origin, ancestor, FromStart, FromExec, GrowsByExec}
+use Rattle.kern_model.proofs.MapLemmas.{same_key}
+use Rattle.iso_laws.proofs.Drops.{Drops, AllDrop, all_drop}
+
+-- what a set of one of two states has, by a test whether two numbers are one
+by_one : (Q : Type 0) (q k : Pid) (cap : Cap) (new old : CapState) → (q ≡ k → has new.p cap ≡ true → Q) → (has old.p cap ≡ true → Q) → has (cond (same_pid q k) new old).p cap ≡ true → Q
+by_one Q q k cap new old f g =
+    elim (same_pid q k) as (λ b. same_pid q k ≡ b → has (cond b new old).p cap ≡ true → Q) [
+      | true ↦ λ t. f (same_key pid_cmp_exact q k t)
+      | false ↦ λ _. g
+    ] refl
+
+either_parent : (Q : Type 0) (b : Bool) (f : Pid → CapState) (cap : Cap) (who q : Pid) → (has (f (cond b who q)).p cap ≡ true → Q) → has (cond b (f who) (f q)).p cap ≡ true → Q
+either_parent Q true f cap who q g = g
+either_parent Q false f cap who q g = g
+
+-- ---- where a capability is from
+-- what follows from a capability that is permitted behind these records, if the same follows from each place that it may be from
+module _ (bound : CapSet) (cap : Cap) (Q : Type 0) where
+  abbrev Had : CapState → Type 0
+  Had caps = has caps.p cap ≡ true → Q
+
+  -- it was permitted to the ancestor before the record, or the record is where it is from
+  behind : (f : Pid → CapState) (r : Rec) (q : Pid) → Drops f r → Had (f (origin r q))
+      → ((label : Label) (caps : CapState) → r ≡ rec.Boot q label caps → Had caps)
+      → ((id : Oid) (file new : CapState) → r ≡ rec.Exec q id file new → Had (exec_caps (f q) file bound))
+      → Had (told_behind bound f r q)
+  behind f (rec.Boot who label caps) q drops before start program = by_one Q q who cap caps (f q) (λ same. start label caps (ap (λ w. rec.Boot w label caps) (sym same))) before
+  behind f (rec.Fork who child) q drops before start program = either_parent Q (same_pid q child) f cap who q before
+  behind f (rec.Exec who id file new) q drops before start program = by_one Q q who cap (exec_caps (f q) file bound) (f q) (λ same. program id file new (ap (λ w. rec.Exec w id file new) (sym same))) before
+  behind f (rec.CapSetProc who caps) q drops before start program =
+      by_one Q q who cap caps (f q) (λ same h. before (ap (λ w. has (f w).p cap) same ∙ within-has caps.p (f who).p drops cap h)) before
+  behind f r q drops before start program = before
+
+  behind_all : (f : Pid → CapState) (rs : List Rec) (q : Pid) → AllDrop bound f rs → Had (f (ancestor rs q))
+      → ((before after : List Rec) (label : Label) (caps : CapState) → rs ≡ before ++ rec.Boot (ancestor after q) label caps ∷ after → Had caps)
+      → ((before after : List Rec) (id : Oid) (file new : CapState) → rs ≡ before ++ rec.Exec (ancestor after q) id file new ∷ after → Had (exec_caps (told bound f before (ancestor after q)) file bound))
+      → Had (told bound f rs q)
+  behind_all f [] q drops before start program = before
+  behind_all f (r ∷ rs) q drops before start program =
+      behind_all (told_behind bound f r) rs q drops.1
+      (behind f r (ancestor rs q) drops.0 before (λ label caps e. start [] rs label caps (ap (λ x. x ∷ rs) e)) (λ id file new e. program [] rs id file new (ap (λ x. x ∷ rs) e)))
+      (λ first after label caps e. start (r ∷ first) after label caps (ap (λ xs. r ∷ xs) e))
+      (λ first after id file new e. program (r ∷ first) after id file new (ap (λ xs. r ∷ xs) e))
+
+-- what the exec formula permits, by its members
+has-exec_permitted : (old file : CapState) (bound : CapSet) (cap : Cap) → has (exec_permitted old file bound) cap ≡ (has file.p cap && has bound cap || has file.i cap && has old.i cap)
+has-exec_permitted old file bound cap =
+    has-union_of (meet_of file.p bound) (meet_of file.i old.i) cap ∙ (λ i. has-meet_of file.p bound cap i || has-meet_of file.i old.i cap i)
+
+pub growth_is_told : (w : World) (items : List ScriptItem) → GrowsByExec w.bound (all_recs w items)
+growth_is_told w items q cap =
+    behind_all w.bound cap (FromStart (all_recs w items) q cap ⊎ FromExec w.bound (all_recs w items) q cap) (λ _. no_flags) (all_recs w items) q (all_drop w items)
+    (λ h. absurd (true≢false (sym h ∙ has-no_caps cap)))
+    (λ before after label caps e h. inl (record { before = before; after = after; label = label; caps = caps; split = e; permitted = h }))
+    (λ before after id file new e h. inr (record { before = before; after = after; id = id; file = file; new = new; split = e; given = sym (has-exec_permitted (caps_of w.bound before (ancestor after q)) file w.bound cap) ∙ h }))

@@ -1,0 +1,32 @@
+-- For which calls the laws of a step stand so far.
+use Rattle.std.specs.Prelude.{Bool, true, false, List}
+use Rattle.std.specs.List.{list_all}
+use Rattle.kern_model.specs.declared.calls.Call.{Call}
+use Rattle.kern_model.specs.declared.calls.Call.TheVariants as call
+use Rattle.kern_model.specs.declared.world.ScriptItem.{ScriptItem}
+
+-- whether a call tells or sets what its caller is, or tells the label or the capability sets of an object
+abbrev pub has_laws : Call → Bool
+has_laws (call.Chdir path) = true
+has_laws (call.Umask mode) = true
+has_laws (call.CapGetFile path) = true
+has_laws (call.CapGetFd fd) = true
+has_laws (call.MacGetFile path) = true
+has_laws (call.MacGetFd fd) = true
+has_laws (call.Exec path) = true
+has_laws call.Getpid = true
+has_laws call.Getppid = true
+has_laws call.Getids = true
+has_laws (call.Setuid user) = true
+has_laws (call.Setgid group) = true
+has_laws call.CapGetProc = true
+has_laws (call.CapSetProc caps) = true
+has_laws call.MacGetProc = true
+has_laws (call.MacSetProc label) = true
+has_laws (call.AudWrite bytes) = true
+has_laws (call.AudSwitch on) = true
+has_laws _ = false
+
+-- whether each call of a script has laws
+abbrev pub have_laws : List ScriptItem → Bool
+have_laws items = list_all (λ (i : ScriptItem). has_laws i.call) items

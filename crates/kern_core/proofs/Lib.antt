@@ -1,0 +1,7 @@
+pub mod BootLemmas
+pub mod CheckLemmas
+pub mod KernelLemmas
+pub mod LendLemmas
+pub mod PlayLemmas
+pub mod Tellings
+pub mod WalkLemmas

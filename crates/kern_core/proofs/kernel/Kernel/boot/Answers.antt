@@ -1,0 +1,24 @@
+use Rattle.std.proofs.Common.{◌≡◌, ◌∙◌, ap, sym, subst, ℕ, List}
+use Rattle.fin_maps.specs.FinMap as map
+use Rattle.fin_maps.specs.FinMap.{FinMap}
+use Rattle.lab_lattice.specs.Label.{label_cmp}
+use Rattle.kern_model.specs.declared.world.WorldObject.{WorldObject}
+use Rattle.kern_model.specs.declared.world.WorldProc.{WorldProc}
+use Rattle.kern_model.specs.State.{State}
+use Rattle.kern_model.specs.World.{objects_at}
+use Rattle.kern_core.specs.Starts.{RoomForObjects, CanStart}
+use Rattle.kern_core.specs.Tables.{held_by}
+use Rattle.kern_core.proofs.BootLemmas.{all_room, all_can, objects_keep}
+use Rattle.kern_core.proofs.kernel.Kernel.boot.Goals as goal
+
+pub boot_objects-requires : goal.boot_objects-requires
+boot_objects-requires c =
+    subst (λ (m : FinMap label_cmp ℕ). RoomForObjects m c.items.result.now) (sym (ap (λ (s : State). s.object_numbers) c.empty-tables.ensures))
+    (subst (λ (os : List WorldObject). RoomForObjects map.empty os) (sym c.items.ensures) (all_room 65535 (λ l. objects_at l c.args.world.now.objects) c.requires.world.room.objects))
+
+pub boot_processes-requires : goal.boot_processes-requires
+boot_processes-requires c =
+    let none_drawn : c.boot_objects.new.self.process_numbers ≡ map.empty =
+    ap (λ (s : State). s.process_numbers) c.in_ok-boot_objects.ensures ∙ objects_keep (held_by c.empty-tables.result) c.items.result.now ∙ ap (λ (s : State). s.process_numbers) c.empty-tables.ensures in
+    subst (λ (m : FinMap label_cmp ℕ). CanStart m c.items-2.result.now) (sym none_drawn)
+    (subst (λ (ws : List WorldProc). CanStart map.empty ws) (sym c.items-2.ensures) (all_can c.args.world.now c.requires.world))

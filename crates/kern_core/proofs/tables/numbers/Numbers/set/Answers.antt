@@ -1,0 +1,10 @@
+use Rattle.std.proofs.Common.{ap, ◌∙◌}
+use Rattle.fin_maps.specs.FinMap as map
+use Rattle.lab_lattice.specs.Label.{label_cmp_total, label_cmp_exact}
+use Rattle.kern_model.proofs.TableLemmas.{one_set}
+use Rattle.kern_core.proofs.tables.numbers.Numbers.set.Goals as goal
+
+pub returns : goal.returns
+returns c =
+    one_set label_cmp_total label_cmp_exact c.self.inside.kept.entries c.insert.new.self.entries c.args.label c.args.value c.in_ok-insert.ensures.updates.0
+    ∙ ap (λ m. map.insert m c.args.label c.args.value) c.self.view_is

@@ -1,0 +1,9 @@
+use Rattle.std.proofs.Common.{ap, sym, ◌∙◌}
+use Rattle.fin_maps.specs.FinMap as map
+use Rattle.kern_model.specs.Keys.{oid_cmp, oid_cmp_total}
+use Rattle.kern_model.proofs.TableLemmas.{get_at}
+use Rattle.kern_core.proofs.tables.objects.Objects.get.Goals as goal
+
+pub returns : goal.returns
+unfolding oid_cmp
+returns c = c.get.ensures.value ∙ sym (get_at oid_cmp_total c.self.inside.kept.entries c.args.id.now) ∙ ap (λ m. map.get m c.args.id.now) c.self.view_is

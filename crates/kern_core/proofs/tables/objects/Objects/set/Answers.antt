@@ -1,0 +1,11 @@
+use Rattle.std.proofs.Common.{ap, ◌∙◌}
+use Rattle.fin_maps.specs.FinMap as map
+use Rattle.kern_model.specs.Keys.{oid_cmp, oid_cmp_total, oid_cmp_exact}
+use Rattle.kern_model.proofs.TableLemmas.{one_set}
+use Rattle.kern_core.proofs.tables.objects.Objects.set.Goals as goal
+
+pub returns : goal.returns
+unfolding oid_cmp
+returns c =
+    one_set oid_cmp_total oid_cmp_exact c.self.inside.kept.entries c.insert.new.self.entries c.args.id c.args.value c.in_ok-insert.ensures.updates.0
+    ∙ ap (λ m. map.insert m c.args.id c.args.value) c.self.view_is

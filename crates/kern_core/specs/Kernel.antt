@@ -1,0 +1,29 @@
+-- The state of a kernel.
+use Rattle.std.specs.Prelude.{◌≡◌, ◌⊎◌, Bool, None}
+use Rattle.fin_maps.specs.FinMap as map
+use Rattle.kern_model.specs.declared.calls.Call.{Call}
+use Rattle.kern_model.specs.declared.calls.Call.TheVariants as call
+use Rattle.kern_model.specs.declared.calls.Reply.{Reply}
+use Rattle.kern_model.specs.declared.calls.Reply.TheVariants as reply
+use Rattle.kern_model.specs.declared.numbers.Pid.{Pid}
+use Rattle.kern_model.specs.State.{State}
+use Rattle.kern_core.specs.declared.kernel.Kernel.{Kernel}
+use Rattle.kern_core.specs.Tables.{held_by}
+
+-- the state of a kernel
+unfoldable pub state_of : Kernel → State
+state_of k = held_by k.tables
+
+-- whether memory ran out in a call
+unfoldable pub has_failed : Kernel → Bool
+has_failed k = k.failed
+
+-- a call that was denied or refused
+abbrev pub IsStopped : Reply → Type 0
+IsStopped (reply.Done answer) = ⊥
+IsStopped (reply.Denied errno check place) = Unit {0}
+IsStopped (reply.Refused errno) = Unit {0}
+
+-- a call for which no memory is wanted: no living process has the number, or the caller asks for its own capability sets
+abbrev pub TakesNoMemory : State → Pid → Call → Type 0
+TakesNoMemory s who c = (map.get s.procs who ≡ None) ⊎ (c ≡ call.CapGetProc)

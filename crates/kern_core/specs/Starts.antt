@@ -1,0 +1,32 @@
+-- What the parts of a start want.
+use Rattle.std.specs.Prelude.{◌≡◌, ℕ, ◌+◌, ◌≤◌, true, List, [], ◌∷◌, Option, None, Some}
+use Rattle.std.specs.List.{AllByRecursion}
+use Rattle.fin_maps.specs.FinMap.{FinMap}
+use Rattle.cap_bits.specs.CapSet.{is_within}
+use Rattle.fs_path.specs.Name.{Name}
+use Rattle.lab_lattice.specs.Label.{Label, label_cmp}
+use Rattle.kern_model.specs.declared.numbers.Oid.{Oid}
+use Rattle.kern_model.specs.declared.world.WorldObject.{WorldObject}
+use Rattle.kern_model.specs.declared.world.WorldProc.{WorldProc}
+use Rattle.kern_model.specs.Keys.{Spot}
+use Rattle.kern_model.specs.State.{State, Change, SetEntry, drawn}
+use Rattle.kern_model.specs.Boot.{entry_for}
+use Rattle.kern_model.specs.World.{objects_at, procs_at}
+
+-- there are numbers left for these objects at each label
+abbrev pub RoomForObjects : FinMap label_cmp ℕ → List WorldObject → Type 0
+RoomForObjects numbers os = (l : Label) → drawn numbers l + objects_at l os ≤ 65535
+
+-- these processes can start: there are numbers left for them at each label, and what is effective is permitted
+pub record CanStart (numbers : FinMap label_cmp ℕ) (ws : List WorldProc) : Type 0 where
+  pub room : (l : Label) → drawn numbers l + procs_at l ws ≤ 4095
+  pub within : AllByRecursion (λ (w : WorldProc). is_within w.caps.e w.caps.p ≡ true) ws
+
+-- the change that makes an entry at the spot, if there is one
+abbrev pub entry_at : Option Spot → Oid → List Change
+entry_at None id = []
+entry_at (Some spot) id = SetEntry spot id ∷ []
+
+-- the spot is where a new object with these names, from a directory, gets its entry
+abbrev pub IsSpotOf : State → Oid → List Name → Option Spot → Type 0
+IsSpotOf s dir names spot = (id : Oid) → entry_for s dir names id ≡ entry_at spot id

@@ -1,0 +1,117 @@
+// The first state of a world.
+ghost use Rattle.std.specs.Prelude.{◌≡◌, ◌<◌, ◌++◌, ◌∷◌, [], true, IfOk, OnOk};
+ghost use Rattle.cap_bits.specs.CapSet.{is_within};
+ghost use Rattle.kern_model.specs.declared.records.Rec.TheVariants as rec;
+ghost use Rattle.kern_model.specs.State.{drawn, next_process};
+ghost use Rattle.kern_model.specs.Boot.{boot_object, boot_objects, boot_process, boot_processes, nothing, started};
+ghost use Rattle.kern_core.specs.Tables.{held_by};
+ghost use Rattle.kern_core.specs.Starts.{CanStart, RoomForObjects, IsSpotOf};
+
+use crate::made::{object_from, process_from};
+use crate::process::root_directory;
+use crate::tables::{Entries, Numbers, Objects, Procs, Spot, Tables};
+use cap_bits::CapSet;
+use kern_model::{Name, NoMemory, Oid, Pid, Rec, RecList, WorldObject, WorldProc};
+use lab_lattice::Label;
+use std::alloc::Global;
+
+impl Tables {
+    /// The tables in which nothing is yet.
+    pub fn empty(alloc: Global, bound: CapSet, top: Label) -> Tables
+        ensures { held_by result ≡ nothing bound top }
+    {
+        Tables {
+            alloc,
+            objects: Objects::new(alloc),
+            entries: Entries::new(alloc),
+            procs: Procs::new(alloc),
+            object_numbers: Numbers::new(alloc),
+            process_numbers: Numbers::new(alloc),
+            bound,
+            top,
+        }
+    }
+
+    /// Makes the objects of a world, in their order.
+    pub fn boot_objects(&mut self, objects: &[WorldObject]) -> Result<(), NoMemory>
+        requires { RoomForObjects self.old.object_numbers objects.now }
+        ensures { OnOk result (held_by self.new ≡ boot_objects (held_by self.old) objects.now) }
+    {
+        for object in objects {
+            self.boot_object(object)?;
+        }
+        Ok(())
+    }
+
+    /// Makes the processes of a world, in their order, with a record for each.
+    pub fn boot_processes(&mut self, procs: &[WorldProc]) -> Result<RecList, NoMemory>
+        requires { CanStart self.old.process_numbers procs.now }
+        ensures state { OnOk result (held_by self.new ≡ boot_processes (held_by self.old) procs.now) }
+        ensures recs { IfOk result (λ recs. recs ≡ started (held_by self.old) procs.now) }
+    {
+        let mut recs = RecList::new(self.alloc);
+        for process in procs {
+            let who = self.boot_process(process)?;
+            note_start(&mut recs, who, process)?;
+        }
+        Ok(recs)
+    }
+
+    // Makes an object under the next number of its label, and its entry.
+    fn boot_object(&mut self, object: &WorldObject) -> Result<(), NoMemory>
+        requires { drawn self.old.object_numbers object.now.label < 65535 }
+        ensures { OnOk result (held_by self.new ≡ boot_object (held_by self.old) object.now) }
+    {
+        let spot = self.spot_of(root_directory(), object.path.components())?;
+        let n = self.object_numbers.last(&object.label) + 1;
+        let id = Oid {
+            label: object.label,
+            n,
+        };
+        self.object_numbers.set(object.label, n)?;
+        self.objects.set(id, object_from(self.alloc, object)?)?;
+        if let Some(spot) = spot {
+            self.entries.set(spot, id)?;
+        }
+        Ok(())
+    }
+
+    // The spot of a new object with these names, from a directory; the root has none.
+    fn spot_of(&self, dir: Oid, names: &[Name]) -> Result<Option<Spot>, NoMemory>
+        ensures { IfOk result (λ spot. IsSpotOf (held_by self.now) dir names.now spot) }
+    {
+        match names {
+            [] => Ok(None),
+            [name] => Ok(Some((dir, name.copy(self.alloc)?))),
+            [name, rest @ ..] => {
+                let spot = (dir, name.copy(self.alloc)?);
+                let next = self.look(&spot).unwrap_or(dir);
+                self.spot_of(next, rest)
+            }
+        }
+    }
+
+    // Makes a process under the next number of its label, in the root directory, and tells the number.
+    fn boot_process(&mut self, process: &WorldProc) -> Result<Pid, NoMemory>
+        requires number { drawn self.old.process_numbers process.now.label < 4095 }
+        requires within { is_within process.now.caps.e process.now.caps.p ≡ true }
+        ensures state { OnOk result (held_by self.new ≡ boot_process (held_by self.old) process.now) }
+        ensures number { IfOk result (λ who. who ≡ next_process (held_by self.old) process.now.label) }
+    {
+        let n = self.process_numbers.last(&process.label) + 1;
+        let who = Pid {
+            label: process.label,
+            n,
+        };
+        self.process_numbers.set(process.label, n)?;
+        self.procs.set(who, process_from(self.alloc, process)?)?;
+        Ok(who)
+    }
+}
+
+// Adds the record of a process that starts with the world.
+fn note_start(recs: &mut RecList, who: Pid, process: &WorldProc) -> Result<(), NoMemory>
+    ensures { OnOk result (recs.new ≡ recs.old ++ rec.Boot who process.now.label process.now.caps ∷ []) }
+{
+    recs.push(Rec::Boot(who, process.label, process.caps))
+}

@@ -1,0 +1,106 @@
+// Bodies of calls.
+ghost use Rattle.std.specs.Prelude.{◌≡◌, true, IfOk, IfErr, IsOk, IsSome};
+ghost use Rattle.fin_maps.specs.FinMap as map;
+ghost use Rattle.kern_model.specs.declared.calls.Answer.TheVariants as answer;
+ghost use Rattle.kern_model.specs.State.{Process};
+ghost use Rattle.kern_model.specs.AttrRows.{get_label, on_path};
+ghost use Rattle.kern_model.specs.ProcessRows.{cap_set_proc_row};
+ghost use Rattle.kern_model.specs.Step.{IsPlayed};
+ghost use Rattle.chk_rules.specs.Asking.{judge_from};
+ghost use Rattle.chk_rules.specs.Ends.{EndsBy};
+ghost use Rattle.kern_core.specs.Built.{is_built};
+ghost use Rattle.kern_core.specs.Kernel.{TakesNoMemory};
+ghost use Rattle.kern_core.specs.Plays.{Plays, Keeps};
+ghost use Rattle.kern_core.specs.Tables.{held_by};
+
+use crate::checks::{cap_grow, mac_read};
+use crate::outcome::{Played, no_process, tell};
+use crate::process::Proc;
+use crate::tables::Tables;
+use cap_bits::CapState;
+use chk_rules::{Checks, Stop, must};
+use kern_model::{Answer, Call, NoMemory, Outcome, Path, Pid, Place, Rec};
+use proc_creds::NotAllowed;
+
+/// Whether this kernel can play a call.
+pub fn built(call: &Call) -> bool
+    ensures { result ≡ is_built call.now }
+{
+    match call {
+        Call::MacGetFile(path) => path.absolute && path.components().len() == 1,
+        Call::CapGetProc | Call::CapSetProc(_) => true,
+        _ => false,
+    }
+}
+
+impl Tables {
+    /// Plays one call of a process.
+    pub fn call(&mut self, who: &Pid, call: &Call) -> Result<Outcome, NoMemory>
+        requires built { is_built call.now ≡ true }
+        ensures played { IfOk result (λ outcome. IsPlayed (held_by self.old) who.now call.now outcome (held_by self.new)) }
+        ensures ready { TakesNoMemory (held_by self.old) who.now call.now → IsOk result }
+    {
+        let Some(process) = self.procs.get(who) else {
+            return Ok(no_process(self.alloc));
+        };
+        let audited = process.audited();
+        let mut checks = Checks::new(self.alloc, *who, process.label(), process.caps().e);
+        let played = match call {
+            Call::MacGetFile(path) => self.mac_get_file(&mut checks, process, path),
+            Call::CapGetProc => Ok(cap_get_proc(process)),
+            Call::CapSetProc(caps) => self.cap_set_proc(&mut checks, who, *caps),
+            _ => unreachable!(),
+        };
+        tell(checks, who, audited, call.name(), played)
+    }
+
+    // The label of what the path leads to.
+    fn mac_get_file(&self, checks: &mut Checks, process: &Proc, path: &Path) -> Result<Played, Stop>
+        ensures played { IfOk result (λ played. Plays (held_by self.now) checks.old (on_path (held_by self.now) process.now path.now (get_label (held_by self.now) process.now)) (held_by self.now) checks.new played) }
+        ensures stop { IfErr result (λ stop. EndsBy (judge_from checks.old (on_path (held_by self.now) process.now path.now (get_label (held_by self.now) process.now))) checks.new stop) }
+    {
+        let id = self.reach(checks, process, path)?;
+        let object = self.metadata(&id);
+        let place = Place::First(path.components().len() as u8);
+        must(checks, &mac_read(process, &object, place))?;
+        Ok(Played {
+            answer: Answer::Mark(object.label),
+            own: None,
+        })
+    }
+
+    // The caller's capability sets become these.
+    fn cap_set_proc(
+        &mut self,
+        checks: &mut Checks,
+        who: &Pid,
+        caps: CapState,
+    ) -> Result<Played, Stop>
+        requires living { IsSome (map.get (held_by self.old).procs who.now) }
+        ensures played { (p : Process) → map.get (held_by self.old).procs who.now ≡ Some p → IfOk result (λ played. Plays (held_by self.old) checks.old (cap_set_proc_row (held_by self.old) who.now p caps) (held_by self.new) checks.new played) }
+        ensures stop { (p : Process) → map.get (held_by self.old).procs who.now ≡ Some p → IfErr result (λ stop. EndsBy (judge_from checks.old (cap_set_proc_row (held_by self.old) who.now p caps)) checks.new stop) }
+        ensures same { IfErr result (λ stop. Keeps stop (held_by self.old) (held_by self.new)) }
+    {
+        let Some(process) = self.procs.get_mut(who) else {
+            unreachable!();
+        };
+        must(checks, &cap_grow(who, process, &caps))?;
+        match process.cap_set(caps) {
+            Ok(()) => Ok(Played {
+                answer: Answer::Nothing,
+                own: Some(Rec::CapSetProc(*who, caps)),
+            }),
+            Err(NotAllowed) => unreachable!(),
+        }
+    }
+}
+
+// What the caller's capability sets are.
+fn cap_get_proc(process: &Proc) -> Played
+    ensures { result ≡ record { answer = answer.Caps process.now.caps; own = None } }
+{
+    Played {
+        answer: Answer::Caps(process.caps()),
+        own: None,
+    }
+}

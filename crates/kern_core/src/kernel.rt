@@ -1,0 +1,96 @@
+// The kernel.
+ghost use Rattle.std.specs.Prelude.{◌≡◌, true, false, IfOk, IsErr, IsOk, OnErr, OnOk, option_map};
+ghost use Rattle.fin_maps.specs.FinMap as map;
+ghost use Rattle.kern_model.specs.Arguments.{is_call};
+ghost use Rattle.kern_model.specs.Boot.{boot, boot_recs};
+ghost use Rattle.kern_model.specs.State.{Process};
+ghost use Rattle.kern_model.specs.Step.{IsPlayed};
+ghost use Rattle.kern_model.specs.World.{IsWorld};
+ghost use Rattle.kern_core.specs.Built.{is_built};
+ghost use Rattle.kern_core.specs.Kernel.{state_of, has_failed, IsStopped, TakesNoMemory};
+
+use crate::tables::Tables;
+use cap_bits::CapState;
+use kern_model::{Call, NoMemory, Outcome, Pid, PidList, RecList, World};
+use lab_lattice::Label;
+use std::alloc::Global;
+
+/// A kernel. Where memory runs out in a call it has failed for good: it plays no call any more.
+#[derive(Drop)]
+pub struct Kernel {
+    tables: Tables,
+    failed: bool,
+}
+
+impl Kernel {
+    /// The kernel in the first state of a world, and a record for each process, in the order of the world's lines.
+    #[tactic(auto, unfolding(crate::specs::Kernel::state_of, crate::specs::Kernel::has_failed))]
+    pub fn boot(alloc: Global, world: &World) -> Result<(Kernel, RecList), NoMemory>
+        requires world { IsWorld world.now }
+        ensures state { IfOk result (λ b. state_of b.0 ≡ boot world.now) }
+        ensures recs { IfOk result (λ b. b.1 ≡ boot_recs world.now) }
+        ensures sound { IfOk result (λ b. has_failed b.0 ≡ false) }
+    {
+        let mut tables = Tables::empty(alloc, world.bound, world.top);
+        tables.boot_objects(world.objects.items())?;
+        let recs = tables.boot_processes(world.procs.items())?;
+        let kernel = Kernel {
+            tables,
+            failed: false,
+        };
+        Ok((kernel, recs))
+    }
+
+    /// Plays one call of a process: the reply, and the records that it leaves. Where memory runs out nothing is said
+    /// of the state.
+    #[tactic(auto, unfolding(crate::specs::Kernel::state_of, crate::specs::Kernel::has_failed))]
+    pub fn call(&mut self, who: &Pid, call: &Call) -> Result<Outcome, NoMemory>
+        requires arguments { is_call (state_of self.old).top call.now ≡ true }
+        requires built { is_built call.now ≡ true }
+        ensures played { IfOk result (λ outcome. IsPlayed (state_of self.old) who.now call.now outcome (state_of self.new)) }
+        ensures kept { IfOk result (λ outcome. IsStopped outcome.reply → state_of self.new ≡ state_of self.old) }
+        ensures sound { OnOk result ((has_failed self.new ≡ false) × (has_failed self.old ≡ false)) }
+        ensures failed { OnErr result (has_failed self.new ≡ true) }
+        ensures for_good { has_failed self.old ≡ true → IsErr result }
+        ensures ready { has_failed self.old ≡ false → TakesNoMemory (state_of self.old) who.now call.now → IsOk result }
+    {
+        if self.failed {
+            return Err(NoMemory);
+        }
+        let outcome = self.tables.call(who, call);
+        self.failed = outcome.is_err();
+        outcome
+    }
+
+    /// Whether memory ran out in a call.
+    #[tactic(auto, unfolding(crate::specs::Kernel::has_failed))]
+    pub fn failed(&self) -> bool
+        ensures { result ≡ has_failed self.now }
+    {
+        self.failed
+    }
+
+    /// The capability sets of the living process with this number, if there is one.
+    #[tactic(auto, unfolding(crate::specs::Kernel::state_of))]
+    pub fn caps_of(&self, who: &Pid) -> Option<CapState>
+        ensures { result ≡ option_map (λ (p : Process). p.caps) (map.get (state_of self.now).procs who.now) }
+    {
+        self.tables.procs.caps_of(who)
+    }
+
+    /// The label of the living process with this number, if there is one.
+    #[tactic(auto, unfolding(crate::specs::Kernel::state_of))]
+    pub fn label_of(&self, who: &Pid) -> Option<Label>
+        ensures { result ≡ option_map (λ (p : Process). p.label) (map.get (state_of self.now).procs who.now) }
+    {
+        self.tables.procs.label_of(who)
+    }
+
+    /// The numbers of the living processes, by label and then by number.
+    #[tactic(auto, unfolding(crate::specs::Kernel::state_of))]
+    pub fn live(&self) -> Result<PidList, NoMemory>
+        ensures { IfOk result (λ numbers. numbers ≡ map.keys (state_of self.now).procs) }
+    {
+        self.tables.procs.live(self.tables.alloc)
+    }
+}

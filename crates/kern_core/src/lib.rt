@@ -1,0 +1,18 @@
+//! The kernel: objects and processes, and the calls on them.
+#![tactic(auto)]
+
+mod boot;
+mod calls;
+mod checks;
+mod kernel;
+mod made;
+mod outcome;
+mod process;
+mod tables;
+#[cfg(test)]
+mod tests;
+mod walk;
+
+pub use calls::built;
+pub use kern_model::NoMemory;
+pub use kernel::Kernel;

@@ -1,0 +1,68 @@
+// What is told of a call.
+ghost use Rattle.std.specs.Prelude.{◌≡◌, [], None, IfOk, IsOk};
+ghost use Rattle.kern_model.specs.declared.calls.Reply.TheVariants as reply;
+ghost use Rattle.kern_model.specs.declared.calls.Errno.TheVariants as errno;
+ghost use Rattle.kern_core.specs.Plays.{LeavesNothing, OutcomeOf};
+
+use chk_rules::{Checks, Stop};
+use kern_model::{Answer, CallName, Errno, NoMemory, Outcome, Pid, Rec, RecList, Reply};
+use std::alloc::Global;
+
+/// What a call answers that was done, and its own record if it leaves one.
+#[derive(Debug, Drop)]
+pub struct Played {
+    pub answer: Answer,
+    pub own: Option<Rec>,
+}
+
+/// The outcome where no living process has the number. No memory is taken.
+pub fn no_process(alloc: Global) -> Outcome
+    ensures { result ≡ record { reply = reply.Refused errno.ESRCH; recs = [] } }
+{
+    Outcome {
+        reply: Reply::Refused(Errno::ESRCH),
+        recs: RecList::new(alloc),
+    }
+}
+
+/// The outcome of a call that was played or stopped: behind the exercises stands the call's own record, or that of
+/// the denial where the caller's switch is on. No memory is taken where the call is done and leaves no record of its own.
+pub fn tell(
+    checks: Checks,
+    who: &Pid,
+    audited: bool,
+    name: CallName,
+    played: Result<Played, Stop>,
+) -> Result<Outcome, NoMemory>
+    ensures told { IfOk result (λ outcome. OutcomeOf checks who.now audited name played outcome) }
+    ensures ready { LeavesNothing played → IsOk result }
+{
+    let mut recs = checks.into_exercises();
+    match played {
+        Ok(played) => {
+            let Played { answer, own } = played;
+            if let Some(own) = own {
+                recs.push(own)?;
+            }
+            let reply = Reply::Done(answer);
+            Ok(Outcome { reply, recs })
+        }
+        Err(Stop::Denied(check, place)) => {
+            let errno = check.errno().unwrap_or(Errno::EPERM);
+            if audited {
+                recs.push(Rec::Deny(*who, name, errno, check, place))?;
+            }
+            let reply = Reply::Denied {
+                errno,
+                check,
+                place,
+            };
+            Ok(Outcome { reply, recs })
+        }
+        Err(Stop::Refused(errno)) => {
+            let reply = Reply::Refused(errno);
+            Ok(Outcome { reply, recs })
+        }
+        Err(Stop::NoMemory(e)) => Err(e),
+    }
+}

@@ -1,0 +1,88 @@
+// What a kernel holds.
+ghost use Rattle.std.specs.Prelude.{◌≡◌};
+ghost use Rattle.kern_model.specs.Kinds.{is_dir};
+ghost use Rattle.kern_model.specs.State.{look};
+ghost use Rattle.kern_core.specs.Tables.{held_by, metadata_of};
+
+mod entries;
+mod numbers;
+mod objects;
+mod procs;
+
+use cap_bits::{CapSet, CapState};
+pub use entries::{Entries, Spot};
+use kern_model::{Attr, Kind, Oid};
+use lab_lattice::Label;
+pub use numbers::Numbers;
+pub use objects::Objects;
+pub use procs::Procs;
+use std::alloc::Global;
+
+/// Objects, entries and processes, the last number drawn of each label, and the bound of capabilities over exec.
+#[derive(Drop)]
+pub struct Tables {
+    pub alloc: Global,
+    pub objects: Objects,
+    pub entries: Entries,
+    pub procs: Procs,
+    pub object_numbers: Numbers,
+    pub process_numbers: Numbers,
+    pub bound: CapSet,
+    pub top: Label,
+}
+
+/// An object as checks read it: all but its content.
+#[derive(Clone, Copy)]
+pub struct Metadata {
+    pub id: Oid,
+    pub kind: Kind,
+    pub label: Label,
+    pub attr: Attr,
+}
+
+impl Metadata {
+    /// Whether the object is a directory.
+    pub fn is_directory(&self) -> bool
+        ensures { result ≡ is_dir self.now.kind }
+    {
+        match self.kind {
+            Kind::Dir => true,
+            Kind::File | Kind::Fifo | Kind::Pipe => false,
+        }
+    }
+}
+
+impl Tables {
+    /// The metadata of an object, or of the stub where there is none.
+    #[tactic(auto, unfolding(kern_model::specs::Maps::get_or))]
+    pub fn metadata(&self, id: &Oid) -> Metadata
+        ensures { result ≡ metadata_of (held_by self.now) id.now }
+    {
+        match self.objects.get(id) {
+            Some(object) => Metadata {
+                id: *id,
+                kind: object.kind,
+                label: object.label,
+                attr: object.attr,
+            },
+            None => Metadata {
+                id: *id,
+                kind: Kind::File,
+                label: self.top,
+                attr: Attr {
+                    owner: 0,
+                    group: 0,
+                    mode: 0,
+                    caps: CapState::none(),
+                },
+            },
+        }
+    }
+
+    /// Where an entry leads, if it is there.
+    pub fn look(&self, spot: &Spot) -> Option<Oid>
+        ensures { result ≡ look (held_by self.now) spot.now.0 spot.now.1 }
+    {
+        self.entries.get(spot)
+    }
+}

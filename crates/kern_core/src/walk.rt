@@ -1,0 +1,142 @@
+// The walk of a path.
+ghost use Rattle.std.specs.Prelude.{◌≡◌, ◌≤◌, ◌+◌, [], ◌∷◌, IfOk, IfErr, OnOk, length};
+ghost use Rattle.kern_model.specs.Walk.{start_of};
+ghost use Rattle.kern_core.specs.Tables.{held_by};
+ghost use Rattle.kern_core.specs.Walks.{object_found, Enters, StopsAt, FindsFrom, StopsFrom, PassesTo, PassStops, Reaches, StopsReaching};
+
+use crate::checks::{dac_search, mac_read};
+use crate::process::{Proc, root_directory};
+use crate::tables::Tables;
+use chk_rules::{Checks, Stop, must};
+use kern_model::{Errno, Name, Oid, Path, Place};
+
+/// What a walk found.
+#[derive(Debug, Drop)]
+pub enum Found {
+    /// The path has no names: where it starts.
+    Start(Oid),
+    /// The last directory, the last name, and what it leads to, if that is there.
+    Entry(Oid, Name, Option<Oid>),
+}
+
+impl Found {
+    /// The object that is there, if one is.
+    fn object(&self) -> Option<Oid>
+        ensures { result ≡ object_found self.now }
+    {
+        match self {
+            Found::Start(id) => Some(*id),
+            Found::Entry(_, _, object) => *object,
+        }
+    }
+}
+
+impl Tables {
+    /// Walks a path to an object that is there.
+    pub fn reach(&self, checks: &mut Checks, process: &Proc, path: &Path) -> Result<Oid, Stop>
+        ensures reached { IfOk result (λ id. Reaches (held_by self.now) process.now path.now checks.old id checks.new) }
+        ensures stop { IfErr result (λ stop. StopsReaching (held_by self.now) process.now path.now checks.old stop checks.new) }
+        ensures asker { checks.new.asker ≡ checks.old.asker }
+    {
+        let found = self.walk(checks, process, path)?;
+        found.object().ok_or(Stop::Refused(Errno::ENOENT))
+    }
+
+    /// Walks a path from where it starts. Its last name may be absent.
+    pub fn walk(&self, checks: &mut Checks, process: &Proc, path: &Path) -> Result<Found, Stop>
+        ensures found { IfOk result (λ found. FindsFrom (held_by self.now) process.now 0 (start_of process.now path.now) path.now.names checks.old found checks.new) }
+        ensures stop { IfErr result (λ stop. StopsFrom (held_by self.now) process.now 0 (start_of process.now path.now) path.now.names checks.old stop checks.new) }
+        ensures asker { checks.new.asker ≡ checks.old.asker }
+    {
+        let start = if path.absolute {
+            root_directory()
+        } else {
+            process.cwd()
+        };
+        self.walk_from(checks, process, 0, start, path.components())
+    }
+
+    // Walks the names from a directory, which stands at this place of the path.
+    fn walk_from(
+        &self,
+        checks: &mut Checks,
+        process: &Proc,
+        at: u8,
+        dir: Oid,
+        names: &[Name],
+    ) -> Result<Found, Stop>
+        requires { at + length names.now ≤ 32 }
+        ensures found { IfOk result (λ found. FindsFrom (held_by self.now) process.now at dir names.now checks.old found checks.new) }
+        ensures stop { IfErr result (λ stop. StopsFrom (held_by self.now) process.now at dir names.now checks.old stop checks.new) }
+        ensures asker { checks.new.asker ≡ checks.old.asker }
+    {
+        match names {
+            [] => Ok(Found::Start(dir)),
+            [name] => self.find(checks, process, at, dir, name),
+            [name, rest @ ..] => {
+                let next = self.pass(checks, process, at, dir, name)?;
+                self.walk_from(checks, process, at + 1, next, rest)
+            }
+        }
+    }
+
+    // Looks up the last name of a walk, which may be absent.
+    #[tactic(auto, unfolding(chk_rules::specs::Ends::EndsBy))]
+    fn find(
+        &self,
+        checks: &mut Checks,
+        process: &Proc,
+        at: u8,
+        dir: Oid,
+        name: &Name,
+    ) -> Result<Found, Stop>
+        ensures found { IfOk result (λ found. FindsFrom (held_by self.now) process.now at dir (name.now ∷ []) checks.old found checks.new) }
+        ensures stop { IfErr result (λ stop. StopsAt (held_by self.now) process.now (Place.First at) dir checks.old stop checks.new) }
+        ensures asker { checks.new.asker ≡ checks.old.asker }
+    {
+        self.enter(checks, process, Place::First(at), &dir)?;
+        let spot = (dir, name.copy(self.alloc)?);
+        let object = self.look(&spot);
+        let (_, name) = spot;
+        Ok(Found::Entry(dir, name, object))
+    }
+
+    // Goes on to where a name leads.
+    #[tactic(auto, unfolding(chk_rules::specs::Ends::EndsBy))]
+    fn pass(
+        &self,
+        checks: &mut Checks,
+        process: &Proc,
+        at: u8,
+        dir: Oid,
+        name: &Name,
+    ) -> Result<Oid, Stop>
+        ensures passed { IfOk result (λ next. PassesTo (held_by self.now) process.now (Place.First at) dir name.now checks.old next checks.new) }
+        ensures stop { IfErr result (λ stop. PassStops (held_by self.now) process.now (Place.First at) dir name.now checks.old stop checks.new) }
+        ensures asker { checks.new.asker ≡ checks.old.asker }
+    {
+        self.enter(checks, process, Place::First(at), &dir)?;
+        let spot = (dir, name.copy(self.alloc)?);
+        self.look(&spot).ok_or(Stop::Refused(Errno::ENOENT))
+    }
+
+    // Enters one directory: it may be read, is one, and may be searched.
+    fn enter(
+        &self,
+        checks: &mut Checks,
+        process: &Proc,
+        place: Place,
+        dir: &Oid,
+    ) -> Result<(), Stop>
+        ensures entered { OnOk result (Enters (held_by self.now) process.now place dir.now checks.old checks.new) }
+        ensures stop { IfErr result (λ stop. StopsAt (held_by self.now) process.now place dir.now checks.old stop checks.new) }
+        ensures asker { checks.new.asker ≡ checks.old.asker }
+    {
+        let object = self.metadata(dir);
+        must(checks, &mac_read(process, &object, place))?;
+        if !object.is_directory() {
+            return Err(Stop::Refused(Errno::ENOTDIR));
+        }
+        must(checks, &dac_search(process, &object, place))
+    }
+}

@@ -1,0 +1,104 @@
+// Credentials.
+ghost use Rattle.std.specs.Prelude.{◌≡◌, true, false, IfOk, OnOk, OnErr};
+ghost use Rattle.kern_model.specs.Rules.{may_become};
+
+use cap_bits::CapState;
+use kern_model::{GroupList, Ids, Mode, NoMemory};
+use lab_lattice::Label;
+use std::alloc::Global;
+use std::marker::Model;
+
+/// What a process is and may do. What is effective is permitted.
+#[derive(Debug, Drop)]
+pub struct Creds {
+    pub ids: Ids,
+    /// The present label.
+    pub label: Label,
+    pub caps: CapState,
+    /// The permission bits that a new object does not get, within octal 0777.
+    pub umask: Mode,
+}
+
+impl Model for Creds {
+    ghost use Rattle.std.specs.Prelude.{◌≡◌, true};
+    ghost use Rattle.fin_maps.specs.FinSet as set;
+    ghost use Rattle.std.specs.Coded.{codes};
+    ghost use Rattle.cap_bits.specs.Cap.{cap_cmp, cap_code};
+    ghost use Rattle.cap_bits.specs.CapSet.{is_within};
+    ghost use Rattle.lab_lattice.specs.Label.{label_code};
+    ghost use Rattle.proc_creds.specs.Credentials.{Credentials};
+
+    ghost Value = { Credentials };
+
+    ghost coded = { Prim.hlevel (codes, set.code {R = cap_cmp} cap_code, label_code) };
+
+    ghost view = { λ c. record { ids = c.ids; label = c.label; caps = c.caps; umask = c.umask } };
+
+    ghost invariant = { λ c. is_within c.caps.e c.caps.p ≡ true };
+}
+
+/// The rule of the change fails.
+#[derive(Clone, Copy, Debug, PartialEq, Eq)]
+pub struct NotAllowed;
+
+// Whether a state can be had from another: what is permitted was, what is effective is permitted, what is inheritable
+// was inheritable or permitted.
+fn may_become(old: &CapState, new: &CapState) -> bool
+    ensures { result ≡ may_become old.now new.now }
+{
+    new.p.within(&old.p) && new.e.within(&new.p) && new.i.within(&old.i.union(old.p))
+}
+
+fn copy_groups(alloc: Global, groups: &GroupList) -> Result<GroupList, NoMemory>
+    ensures { IfOk result (λ copy. copy ≡ groups.now) }
+{
+    GroupList::from_slice(alloc, groups.items())
+}
+
+/// The same users and groups once more.
+pub fn copy_ids(alloc: Global, ids: &Ids) -> Result<Ids, NoMemory>
+    ensures { IfOk result (λ copy. copy ≡ ids.now) }
+{
+    Ok(Ids {
+        ruid: ids.ruid,
+        euid: ids.euid,
+        suid: ids.suid,
+        rgid: ids.rgid,
+        egid: ids.egid,
+        sgid: ids.sgid,
+        groups: copy_groups(alloc, &ids.groups)?,
+    })
+}
+
+impl Creds {
+    /// Whether the check `cap_grow` allows these capability sets.
+    pub fn may_set(&self, state: &CapState) -> bool
+        ensures { result ≡ may_become self.now.caps state.now }
+    {
+        may_become(&self.caps, state)
+    }
+
+    /// Sets the capability sets, where the check `cap_grow` allows them.
+    pub fn cap_set(&mut self, state: CapState) -> Result<(), NotAllowed>
+        ensures set { OnOk result ((may_become self.old.caps state ≡ true) × (self.new ≡ record self.old { caps = state })) }
+        ensures refused { OnErr result ((may_become self.old.caps state ≡ false) × (self.new ≡ self.old)) }
+    {
+        if !self.may_set(&state) {
+            return Err(NotAllowed);
+        }
+        self.caps = state;
+        Ok(())
+    }
+
+    /// The same credentials once more.
+    pub fn copy(&self, alloc: Global) -> Result<Creds, NoMemory>
+        ensures { IfOk result (λ copy. copy ≡ self.now) }
+    {
+        Ok(Creds {
+            ids: copy_ids(alloc, &self.ids)?,
+            label: self.label,
+            caps: self.caps,
+            umask: self.umask,
+        })
+    }
+}

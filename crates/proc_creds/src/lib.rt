@@ -1,0 +1,9 @@
+//! The credentials of a process, and the rules by which it changes them.
+#![tactic(auto)]
+
+mod creds;
+#[cfg(test)]
+mod tests;
+
+pub use creds::{Creds, NotAllowed, copy_ids};
+pub use kern_model::NoMemory;

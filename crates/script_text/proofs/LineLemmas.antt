@@ -1,0 +1,25 @@
+-- What comes of a line by its words.
+use Rattle.std.proofs.Common.{◌≡◌, ℕ, ◌≤◌, false, List, length, ◌∙◌, ap, Ok, Err, Some, cond, IfOk}
+use Rattle.std.proofs.lemmas.Bool.{le-ltb}
+use Rattle.fs_path.specs.declared.words.LineWord.{LineWord}
+use Rattle.fs_path.specs.Words.{is_blank, words_of}
+use Rattle.lab_text.specs.Policy.{PolicyNames, top_of}
+use Rattle.script_text.specs.declared.line.Line.{Line}
+use Rattle.script_text.specs.declared.line.Line.TheVariants as line
+use Rattle.script_text.specs.declared.fault.LineError.TheVariants as error
+use Rattle.script_text.specs.Line.{MayBePlayed, item_said, line_said, words_said}
+use Rattle.script_text.specs.LineLaws.{said_played}
+use Rattle.script_text.specs.Reading.{Reading, Answers}
+
+-- a line that is not too long says what its words say
+line_by_words : (policy : PolicyNames) (text : List ℕ) (words : List LineWord) → length text ≤ 2048 → is_blank text ≡ false → words_of text ≡ Some words → line_said policy text ≡ item_said policy words
+unfolding line_said
+line_by_words policy text words short some is =
+    ap (λ v. cond v (Err error.TooLong) (cond (is_blank text) (Ok line.Blank) (words_said policy (words_of text)))) (le-ltb 2048 (length text) short)
+    ∙ ap (λ v. cond v (Ok line.Blank) (words_said policy (words_of text))) some ∙ ap (words_said policy) is
+
+-- what is answered for a line may be played
+pub answer_played : (policy : PolicyNames) (text : List ℕ) (words : List LineWord) (r : Reading Line) → length text ≤ 2048 → is_blank text ≡ false → words_of text ≡ Some words
+    → Answers (item_said policy words) r → IfOk r (MayBePlayed (top_of policy))
+answer_played policy text words (Ok l) short some is answer = said_played policy text l (line_by_words policy text words short some is ∙ answer)
+answer_played policy text words (Err e) short some is answer = tt

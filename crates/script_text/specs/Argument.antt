@@ -1,0 +1,149 @@
+-- What single words of a line say: its tag, and the arguments of its call.
+use Rattle.std.specs.Prelude.{ℕ, ◌==◌, ◌&&◌, Bool, true, false, cond, drop, List, Option, None, Some, Result, Ok, Err, is_some, ℤ, pos, neg_ℤ, codes}
+use Rattle.std.specs.Bool.{beq}
+use Rattle.std.specs.List.{filter, list_any, starts_with}
+use Rattle.std.specs.Option.{ok_or, option_and_then, option_map}
+use Rattle.cap_bits.specs.declared.state.CapState.{CapState}
+use Rattle.cap_clause.specs.Said.{caps_said}
+use Rattle.cap_clause.specs.declared.error.CapTextError.{CapTextError}
+use Rattle.fs_path.specs.Lines.{cut}
+use Rattle.fs_path.specs.Path.{PathValue}
+use Rattle.fs_path.specs.PathText.{path_fault, path_said}
+use Rattle.fs_path.specs.declared.path.PathError.{PathError}
+use Rattle.fs_path.specs.Options.{keep_if}
+use Rattle.fs_path.specs.Values.{numeral, number_of, mode_of}
+use Rattle.kern_model.specs.Arguments.{are_flags}
+use Rattle.kern_model.specs.declared.calls.OpenFlags.{OpenFlags}
+use Rattle.kern_model.specs.declared.calls.Signal.{Signal}
+use Rattle.kern_model.specs.declared.calls.Signal.TheVariants as sent
+use Rattle.kern_model.specs.declared.calls.Whence.{Whence}
+use Rattle.kern_model.specs.declared.calls.Whence.TheVariants as from
+use Rattle.kern_model.specs.declared.numbers.Pid.{Pid}
+use Rattle.lab_lattice.specs.Label.{Label}
+use Rattle.lab_text.specs.Names.{same_bytes}
+use Rattle.lab_text.specs.Policy.{PolicyNames}
+use Rattle.lab_text.specs.Text.{label_said}
+use Rattle.script_text.specs.declared.fault.LineError.TheVariants as error
+use Rattle.script_text.specs.Reading.{Reading}
+
+-- what a word of the right form says
+abbrev pub formed : {X : Type 0} → Option X → Reading X
+formed said = ok_or said error.Syntax
+
+-- ---- paths, labels and capabilities
+
+abbrev pub path_by : Option PathError → PathValue → Reading PathValue
+path_by None said = Ok said
+path_by (Some fault) said = Err error.BadPath
+
+-- a path
+unfoldable pub path : List ℕ → Reading PathValue
+path word = path_by (path_fault word) (path_said word)
+
+-- a label
+unfoldable pub label : PolicyNames → List ℕ → Reading Label
+label policy word = ok_or (label_said policy word) error.BadLabel
+
+abbrev pub caps_by : Result CapState CapTextError → Reading CapState
+caps_by (Ok said) = Ok said
+caps_by (Err fault) = Err error.BadCaps
+
+-- capability sets
+unfoldable pub caps : List ℕ → Reading CapState
+caps word = caps_by (caps_said word)
+
+-- ---- numbers of processes
+
+-- the number of a process, from 1 to 4,095, of what stands before and behind `@`
+abbrev pub process : PolicyNames → List ℕ × List ℕ → Option Pid
+process policy parts = option_and_then (λ n. option_map (λ at. record { label = at; n = n }) (label_said policy parts.1)) (numeral 10 10 1 4095 parts.0)
+
+-- a tag: `n@label`
+unfoldable pub tag : PolicyNames → List ℕ → Reading Pid
+tag policy word = ok_or (option_and_then (process policy) (cut 64 word)) error.BadTag
+
+-- a number, `@` and a rest
+abbrev pub numbered : List ℕ → Option (List ℕ × List ℕ)
+numbered word = option_and_then (λ (parts : List ℕ × List ℕ). keep_if (is_some (number_of parts.0)) parts) (cut 64 word)
+
+abbrev pub pid_by : PolicyNames → Option (List ℕ × List ℕ) → Reading Pid
+pid_by policy None = Err error.Syntax
+pid_by policy (Some parts) = ok_or (process policy parts) error.BadLabel
+
+-- the number of a process: of the form of a number, `@` and a rest
+unfoldable pub pid : PolicyNames → List ℕ → Reading Pid
+pid policy word = pid_by policy (numbered word)
+
+-- ---- values
+
+-- a number
+unfoldable pub number : List ℕ → Reading ℕ
+number word = formed (number_of word)
+
+-- a number up to a limit
+unfoldable pub up_to : ℕ → List ℕ → Reading ℕ
+up_to high word = formed (numeral 10 10 0 high word)
+
+-- a mode
+unfoldable pub mode : List ℕ → Reading ℕ
+mode word = formed (mode_of word)
+
+-- a mode of permission bits alone
+unfoldable pub permissions : List ℕ → Reading ℕ
+permissions word = formed (numeral 8 4 0 511 word)
+
+-- bytes
+unfoldable pub bytes : List ℕ → Reading (List ℕ)
+bytes word = Ok word
+
+-- a number, before which `-` may stand
+abbrev pub signed : List ℕ → Option ℤ
+signed word =
+    cond (starts_with ◌==◌ word (codes "-")) (option_map (λ n. neg_ℤ (pos n)) (number_of (drop 1 word)))
+    (option_map (λ n. pos n) (number_of word))
+
+-- an offset
+unfoldable pub offset : List ℕ → Reading ℤ
+offset word = formed (signed word)
+
+-- ---- words of a list
+
+-- from where an offset is counted
+unfoldable pub whence : List ℕ → Reading Whence
+whence word =
+    cond (same_bytes word (codes "set")) (Ok from.Set)
+    (cond (same_bytes word (codes "cur")) (Ok from.Cur)
+    (cond (same_bytes word (codes "end")) (Ok from.End) (Err error.Syntax)))
+
+unfoldable pub signal : List ℕ → Reading Signal
+signal word =
+    cond (same_bytes word (codes "0")) (Ok sent.Zero)
+    (cond (same_bytes word (codes "TERM")) (Ok sent.Term)
+    (cond (same_bytes word (codes "KILL")) (Ok sent.Kill) (Err error.Syntax)))
+
+unfoldable pub switch : List ℕ → Reading Bool
+switch word =
+    cond (same_bytes word (codes "on")) (Ok true)
+    (cond (same_bytes word (codes "off")) (Ok false) (Err error.Syntax))
+
+-- ---- flags
+
+-- the letters of the flags, in their order
+abbrev pub flag_letters : List ℕ
+flag_letters = codes "rwcxta"
+
+-- whether a letter stands in a word
+abbrev pub stands_in : List ℕ → ℕ → Bool
+stands_in word letter = list_any (λ b. b == letter) word
+
+-- the flags whose letters stand in a word
+abbrev pub flags_in : List ℕ → OpenFlags
+flags_in word = record { r = stands_in word 114; w = stands_in word 119; c = stands_in word 99; x = stands_in word 120; t = stands_in word 116; a = stands_in word 97 }
+
+-- a word is letters of flags in their order, each at most once
+abbrev pub is_in_order : List ℕ → Bool
+is_in_order word = same_bytes (filter (stands_in word) flag_letters) word
+
+-- flags that go together, with `c` or without it
+unfoldable pub flags : Bool → List ℕ → Reading OpenFlags
+flags makes word = formed (keep_if (is_in_order word && are_flags (flags_in word) && beq (flags_in word).c makes) (flags_in word))

@@ -1,0 +1,106 @@
+-- The calls by their words and arguments.
+use Rattle.std.specs.Prelude.{ℕ, List, [], ◌∷◌, Option, None, Some, Ok, Err, true, false}
+use Rattle.std.specs.List.{find}
+use Rattle.kern_model.specs.declared.calls.Call.{Call}
+use Rattle.kern_model.specs.declared.calls.Call.TheVariants as call
+use Rattle.kern_model.specs.declared.calls.CallName.{CallName}
+use Rattle.kern_model.specs.declared.calls.CallName.TheVariants as name
+use Rattle.kern_model.specs.Names.{word_of}
+use Rattle.lab_text.specs.Names.{same_bytes}
+use Rattle.lab_text.specs.Policy.{PolicyNames}
+use Rattle.script_text.specs.declared.fault.LineError.TheVariants as error
+use Rattle.script_text.specs.Reading.{Reading, both, made}
+use Rattle.script_text.specs.Argument as argument
+
+-- ---- the words of calls
+
+abbrev pub all_calls : List CallName
+all_calls =
+    name.OpenPath ∷ name.Close ∷ name.Read ∷ name.Write ∷ name.Lseek ∷ name.Dup ∷ name.Pipe ∷ name.Mkfifo ∷ name.Fstat
+    ∷ name.Mkdir ∷ name.Rmdir ∷ name.Link ∷ name.Unlink ∷ name.Rename ∷ name.Readdir ∷ name.Stat ∷ name.Chdir
+    ∷ name.Chmod ∷ name.Chown ∷ name.Umask ∷ name.CapGetFile ∷ name.CapSetFile ∷ name.CapGetFd ∷ name.CapSetFd ∷ name.MacGetFile ∷ name.MacSetFile ∷ name.MacGetFd ∷ name.MacSetFd
+    ∷ name.Fork ∷ name.Exec ∷ name.Exit ∷ name.Wait ∷ name.Kill ∷ name.Getpid ∷ name.Getppid ∷ name.Getids ∷ name.Setuid ∷ name.Setgid
+    ∷ name.CapGetProc ∷ name.CapSetProc ∷ name.MacGetProc ∷ name.MacSetProc ∷ name.AudWrite ∷ name.AudSwitch ∷ []
+
+-- the call with a word
+unfoldable pub call_named : List ℕ → Option CallName
+call_named word = find (λ call. same_bytes (word_of call) word) all_calls
+
+-- ---- the table
+
+-- a call of two values
+abbrev pub two : {A B : Type 0} → (A → B → Call) → Reading A → Reading B → Reading Call
+two make a b = made (λ args. make args.0 args.1) (both a b)
+
+-- a call of three values
+abbrev pub three : {A B C : Type 0} → (A → B → C → Call) → Reading A → Reading B → Reading C → Reading Call
+three make a b c = made (λ args. make args.0 args.1.0 args.1.1) (both a (both b c))
+
+-- the calls without arguments
+unfoldable pub none_said : CallName → Reading Call
+none_said name.Pipe = Ok call.Pipe
+none_said name.Fork = Ok call.Fork
+none_said name.Wait = Ok call.Wait
+none_said name.Getpid = Ok call.Getpid
+none_said name.Getppid = Ok call.Getppid
+none_said name.Getids = Ok call.Getids
+none_said name.CapGetProc = Ok call.CapGetProc
+none_said name.MacGetProc = Ok call.MacGetProc
+none_said _ = Err error.Syntax
+
+-- the calls with one argument
+unfoldable pub one_said : PolicyNames → CallName → List ℕ → Reading Call
+one_said policy name.Close w = made call.Close (argument.number w)
+one_said policy name.Dup w = made call.Dup (argument.number w)
+one_said policy name.Fstat w = made call.Fstat (argument.number w)
+one_said policy name.Rmdir w = made call.Rmdir (argument.path w)
+one_said policy name.Unlink w = made call.Unlink (argument.path w)
+one_said policy name.Readdir w = made call.Readdir (argument.path w)
+one_said policy name.Stat w = made call.Stat (argument.path w)
+one_said policy name.Chdir w = made call.Chdir (argument.path w)
+one_said policy name.Umask w = made call.Umask (argument.permissions w)
+one_said policy name.CapGetFile w = made call.CapGetFile (argument.path w)
+one_said policy name.CapGetFd w = made call.CapGetFd (argument.number w)
+one_said policy name.MacGetFile w = made call.MacGetFile (argument.path w)
+one_said policy name.MacGetFd w = made call.MacGetFd (argument.number w)
+one_said policy name.Exec w = made call.Exec (argument.path w)
+one_said policy name.Exit w = made call.Exit (argument.up_to 255 w)
+one_said policy name.Setuid w = made call.Setuid (argument.number w)
+one_said policy name.Setgid w = made call.Setgid (argument.number w)
+one_said policy name.CapSetProc w = made call.CapSetProc (argument.caps w)
+one_said policy name.MacSetProc w = made call.MacSetProc (argument.label policy w)
+one_said policy name.AudWrite w = made call.AudWrite (argument.bytes w)
+one_said policy name.AudSwitch w = made call.AudSwitch (argument.switch w)
+one_said policy _ w = Err error.Syntax
+
+-- the calls with two arguments
+unfoldable pub two_said : PolicyNames → CallName → List ℕ → List ℕ → Reading Call
+two_said policy name.OpenPath v w = two (λ path flags. call.OpenPath path flags None) (argument.path v) (argument.flags false w)
+two_said policy name.Read v w = two call.Read (argument.number v) (argument.up_to 65536 w)
+two_said policy name.Write v w = two call.Write (argument.number v) (argument.bytes w)
+two_said policy name.Mkfifo v w = two call.Mkfifo (argument.path v) (argument.mode w)
+two_said policy name.Mkdir v w = two call.Mkdir (argument.path v) (argument.mode w)
+two_said policy name.Link v w = two call.Link (argument.path v) (argument.path w)
+two_said policy name.Rename v w = two call.Rename (argument.path v) (argument.path w)
+two_said policy name.Chmod v w = two call.Chmod (argument.path v) (argument.mode w)
+two_said policy name.CapSetFile v w = two call.CapSetFile (argument.path v) (argument.caps w)
+two_said policy name.CapSetFd v w = two call.CapSetFd (argument.number v) (argument.caps w)
+two_said policy name.MacSetFile v w = two call.MacSetFile (argument.path v) (argument.label policy w)
+two_said policy name.MacSetFd v w = two call.MacSetFd (argument.number v) (argument.label policy w)
+two_said policy name.Kill v w = two call.Kill (argument.pid policy v) (argument.signal w)
+two_said policy _ v w = Err error.Syntax
+
+-- the calls with three arguments
+unfoldable pub three_said : CallName → List ℕ → List ℕ → List ℕ → Reading Call
+three_said name.OpenPath u v w = three (λ path flags mode. call.OpenPath path flags (Some mode)) (argument.path u) (argument.flags true v) (argument.mode w)
+three_said name.Lseek u v w = three call.Lseek (argument.number u) (argument.whence v) (argument.offset w)
+three_said name.Chown u v w = three call.Chown (argument.path u) (argument.number v) (argument.number w)
+three_said _ u v w = Err error.Syntax
+
+-- the call of a name and its arguments, or their first fault
+abbrev pub call_said : PolicyNames → CallName → List (List ℕ) → Reading Call
+call_said policy name [] = none_said name
+call_said policy name (w ∷ []) = one_said policy name w
+call_said policy name (v ∷ w ∷ []) = two_said policy name v w
+call_said policy name (u ∷ v ∷ w ∷ []) = three_said name u v w
+call_said policy name _ = Err error.Syntax

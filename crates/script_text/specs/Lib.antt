@@ -1,0 +1,6 @@
+pub mod Reading
+pub mod Argument
+pub mod Calls
+pub mod Line
+pub mod Reply
+pub mod LineLaws

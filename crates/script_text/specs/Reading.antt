@@ -1,0 +1,43 @@
+-- What words say: a value, or a fault.
+use Rattle.std.specs.Prelude.{◌≡◌, ℕ, nat_le, cond, Result, Ok, Err}
+use Rattle.script_text.specs.declared.fault.LineError.{LineError}
+use Rattle.script_text.specs.declared.fault.LineError.TheVariants as error
+
+abbrev pub Reading : Type 0 → Type 0
+Reading X = Result X LineError
+
+-- the place of a fault in the order in which faults are judged; want of memory stands before them, and no word has it
+abbrev pub rank : LineError → ℕ
+rank (error.NoMemory m) = 0
+rank error.TooLong = 1
+rank error.Syntax = 2
+rank error.BadTag = 3
+rank error.BadPath = 4
+rank error.BadLabel = 5
+rank error.BadCaps = 6
+
+-- the first of two faults
+abbrev pub first_of : LineError → LineError → LineError
+first_of e f = cond (nat_le (rank e) (rank f)) e f
+
+-- two values, or the first fault of both
+unfoldable pub both : {A B : Type 0} → Reading A → Reading B → Reading (A × B)
+both (Ok a) (Ok b) = Ok (a, b)
+both (Ok a) (Err f) = Err f
+both (Err e) (Ok b) = Err e
+both (Err e) (Err f) = Err (first_of e f)
+
+-- what is made of a value
+unfoldable pub made : {A B : Type 0} → (A → B) → Reading A → Reading B
+made make (Ok a) = Ok (make a)
+made make (Err e) = Err e
+
+-- a cause for which something else than a value was said, or that memory ran out
+abbrev pub IsCause : {X : Type 0} → Reading X → LineError → Type 0
+IsCause said (error.NoMemory m) = Unit {0}
+IsCause said e = said ≡ Err e
+
+-- an answer is what was said, unless memory ran out
+abbrev pub Answers : {X : Type 0} → Reading X → Reading X → Type 0
+Answers said (Ok x) = said ≡ Ok x
+Answers said (Err e) = IsCause said e

@@ -1,0 +1,67 @@
+-- The lines of replies.
+use Rattle.std.specs.Prelude.{ℕ, List, [], ◌∷◌, ◌++◌, map, None, Some, codes}
+use Rattle.std.specs.Fmt.{decimal}
+use Rattle.cap_clause.specs.Written.{caps_text}
+use Rattle.fs_path.specs.Values.{mode_text, groups_text}
+use Rattle.fs_path.specs.Words.{quoted_text, line_text}
+use Rattle.kern_model.specs.declared.calls.Answer.{Answer}
+use Rattle.kern_model.specs.declared.calls.Answer.TheVariants as answer
+use Rattle.kern_model.specs.declared.calls.Reply.{Reply}
+use Rattle.kern_model.specs.declared.calls.Reply.TheVariants as reply
+use Rattle.kern_model.specs.declared.numbers.Ids.{Ids}
+use Rattle.kern_model.specs.declared.numbers.Pid.{Pid}
+use Rattle.kern_model.specs.declared.objects.StatAnswer.{StatAnswer}
+use Rattle.kern_model.specs.Names.{check_word, ending_text, errno_word, kind_word, place_text}
+use Rattle.lab_text.specs.Numbered.{numbered_text}
+use Rattle.lab_text.specs.Policy.{PolicyNames}
+use Rattle.lab_text.specs.Text.{label_text}
+
+-- the number of a process
+abbrev pub pid_text : PolicyNames → Pid → List ℕ
+pid_text policy who = numbered_text policy who.n who.label
+
+-- what is told of an object: kind, mode, owner, group, size, names, number and label
+abbrev pub stat_words : PolicyNames → StatAnswer → List (List ℕ)
+stat_words policy s =
+    kind_word s.kind ∷ mode_text s.mode ∷ decimal s.owner ∷ decimal s.group ∷ decimal s.size ∷ decimal s.names
+    ∷ numbered_text policy s.id.n s.id.label ∷ label_text policy s.label ∷ []
+
+-- real, effective and saved user, the same of the group, and the supplementary groups
+abbrev pub ids_words : Ids → List (List ℕ)
+ids_words ids =
+    decimal ids.ruid ∷ decimal ids.euid ∷ decimal ids.suid ∷ decimal ids.rgid ∷ decimal ids.egid ∷ decimal ids.sgid
+    ∷ groups_text ids.groups ∷ []
+
+-- the words of an answer
+unfoldable pub answer_words : PolicyNames → Answer → List (List ℕ)
+answer_words policy answer.Nothing = []
+answer_words policy (answer.Number n) = decimal n ∷ []
+answer_words policy (answer.Two m n) = decimal m ∷ decimal n ∷ []
+answer_words policy (answer.Bytes bytes) = quoted_text bytes ∷ []
+answer_words policy (answer.Names names) = map quoted_text names
+answer_words policy (answer.Stat s) = stat_words policy s
+answer_words policy (answer.Bits mode) = mode_text mode ∷ []
+answer_words policy (answer.Caps caps) = quoted_text (caps_text caps) ∷ []
+answer_words policy (answer.Mark label) = label_text policy label ∷ []
+answer_words policy (answer.Process who) = pid_text policy who ∷ []
+answer_words policy (answer.Parent None) = codes "none" ∷ []
+answer_words policy (answer.Parent (Some who)) = pid_text policy who ∷ []
+answer_words policy (answer.Ids ids) = ids_words ids
+answer_words policy (answer.Ended who ending) = pid_text policy who ∷ ending_text ending ∷ []
+
+-- the words of what a call came to: `ok` and its answer, or an errno, with check and place where a check denied it
+unfoldable pub outcome_words : PolicyNames → Reply → List (List ℕ)
+outcome_words policy (reply.Done answer) = codes "ok" ∷ answer_words policy answer
+outcome_words policy (reply.Denied errno check place) = errno_word errno ∷ check_word check ∷ place_text place ∷ []
+outcome_words policy (reply.Refused errno) = errno_word errno ∷ []
+
+-- the reply line: the tag, the word of the call and what it came to
+unfoldable pub reply_said : PolicyNames → Pid → List ℕ → Reply → List ℕ
+reply_said policy who word reply = line_text (pid_text policy who ∷ word ∷ outcome_words policy reply) ++ 10 ∷ []
+
+-- ---- as it is written
+
+-- a text with further words, each behind a space
+abbrev pub with_words : List ℕ → List (List ℕ) → List ℕ
+with_words text [] = text
+with_words text (word ∷ words) = with_words (text ++ 32 ∷ word) words

@@ -1,0 +1,237 @@
+// What single words of a line say: its tag, and the arguments of its call.
+ghost use Rattle.std.specs.Prelude.{◌≡◌};
+ghost use Rattle.kern_model.specs.Arguments.{are_flags};
+ghost use Rattle.script_text.specs.Reading.{Answers};
+ghost use Rattle.script_text.specs.Argument as argument;
+
+use crate::LineError;
+use cap_bits::CapState;
+use cap_clause::cap_from_text;
+use fs_path::{ByteList, LineWord, Path, PathError, cut, mode_of, number_of, numeral};
+use kern_model::{Mode, OpenFlags, Pid, Signal, Whence};
+use lab_lattice::Label;
+use lab_text::{Policy, mac_from_text};
+use std::alloc::Global;
+
+/// A path.
+#[tactic(auto, unfolding(crate::specs::Argument::path))]
+pub fn path(alloc: Global, word: &LineWord) -> Result<Path, LineError>
+    ensures { Answers (argument.path word.now.bytes) result }
+{
+    match Path::read(alloc, word.bytes.items()) {
+        Ok(path) => Ok(path),
+        Err(PathError::NoMemory(e)) => Err(LineError::NoMemory(e)),
+        Err(_) => Err(LineError::BadPath),
+    }
+}
+
+/// A label.
+#[tactic(auto, unfolding(crate::specs::Argument::label))]
+pub fn label(policy: &Policy, word: &LineWord) -> Result<Label, LineError>
+    ensures { result ≡ argument.label policy.now word.now.bytes }
+{
+    mac_from_text(policy, word.bytes.items()).map_err(|_| LineError::BadLabel)
+}
+
+/// Capability sets.
+#[tactic(auto, unfolding(crate::specs::Argument::caps))]
+pub fn caps(word: &LineWord) -> Result<CapState, LineError>
+    ensures { result ≡ argument.caps word.now.bytes }
+{
+    cap_from_text(word.bytes.items()).map_err(|_| LineError::BadCaps)
+}
+
+// The number of a process, of what stands before and behind `@`.
+fn process(policy: &Policy, number: &[u8], label: &[u8]) -> Option<Pid>
+    ensures { result ≡ argument.process policy.now (number.now, label.now) }
+{
+    let n = numeral(number, 10, 10, 1, 4095)?;
+    let label = mac_from_text(policy, label).ok()?;
+    Some(Pid { label, n: n as u16 })
+}
+
+/// The tag of a line.
+#[tactic(auto, unfolding(crate::specs::Argument::tag))]
+pub fn tag(policy: &Policy, word: &LineWord) -> Result<Pid, LineError>
+    ensures { result ≡ argument.tag policy.now word.now.bytes }
+{
+    let (number, label) = cut(word.bytes.items(), b'@').ok_or(LineError::BadTag)?;
+    process(policy, number, label).ok_or(LineError::BadTag)
+}
+
+/// The number of a process.
+#[tactic(auto, unfolding(crate::specs::Argument::pid))]
+pub fn pid(policy: &Policy, word: &LineWord) -> Result<Pid, LineError>
+    ensures { result ≡ argument.pid policy.now word.now.bytes }
+{
+    let (number, label) = cut(word.bytes.items(), b'@').ok_or(LineError::Syntax)?;
+    let _form = number_of(number).ok_or(LineError::Syntax)?;
+    process(policy, number, label).ok_or(LineError::BadLabel)
+}
+
+/// A number.
+#[tactic(auto, unfolding(crate::specs::Argument::number))]
+pub fn number(word: &LineWord) -> Result<u32, LineError>
+    ensures { result ≡ argument.number word.now.bytes }
+{
+    number_of(word.bytes.items()).ok_or(LineError::Syntax)
+}
+
+/// A number up to a limit.
+#[tactic(auto, unfolding(crate::specs::Argument::up_to))]
+pub fn up_to(high: u32, word: &LineWord) -> Result<u32, LineError>
+    ensures { result ≡ argument.up_to high word.now.bytes }
+{
+    let n = numeral(word.bytes.items(), 10, 10, 0, u64::from(high)).ok_or(LineError::Syntax)?;
+    Ok(n as u32)
+}
+
+/// A number that fits a byte.
+#[tactic(auto, unfolding(crate::specs::Argument::up_to))]
+pub fn code(word: &LineWord) -> Result<u8, LineError>
+    ensures { result ≡ argument.up_to 255 word.now.bytes }
+{
+    let n = numeral(word.bytes.items(), 10, 10, 0, 255).ok_or(LineError::Syntax)?;
+    Ok(n as u8)
+}
+
+/// A mode.
+#[tactic(auto, unfolding(crate::specs::Argument::mode))]
+pub fn mode(word: &LineWord) -> Result<Mode, LineError>
+    ensures { result ≡ argument.mode word.now.bytes }
+{
+    mode_of(word.bytes.items()).ok_or(LineError::Syntax)
+}
+
+/// A mode of permission bits alone.
+#[tactic(auto, unfolding(crate::specs::Argument::permissions))]
+pub fn permissions(word: &LineWord) -> Result<Mode, LineError>
+    ensures { result ≡ argument.permissions word.now.bytes }
+{
+    let mode = numeral(word.bytes.items(), 8, 4, 0, 0o777).ok_or(LineError::Syntax)?;
+    Ok(mode as u16)
+}
+
+/// Bytes.
+#[tactic(auto, unfolding(crate::specs::Argument::bytes))]
+pub fn bytes(alloc: Global, word: &LineWord) -> Result<ByteList, LineError>
+    ensures { Answers (argument.bytes word.now.bytes) result }
+{
+    ByteList::from_slice(alloc, word.bytes.items()).map_err(LineError::NoMemory)
+}
+
+fn signed(word: &[u8]) -> Option<i64>
+    ensures { result ≡ argument.signed word.now }
+{
+    if word.starts_with(b"-") {
+        let n = number_of(&word[1..])?;
+        return Some(-i64::from(n));
+    }
+    number_of(word).map(i64::from)
+}
+
+/// An offset.
+#[tactic(auto, unfolding(crate::specs::Argument::offset))]
+pub fn offset(word: &LineWord) -> Result<i64, LineError>
+    ensures { result ≡ argument.offset word.now.bytes }
+{
+    signed(word.bytes.items()).ok_or(LineError::Syntax)
+}
+
+/// From where an offset is counted.
+#[tactic(auto, unfolding(crate::specs::Argument::whence))]
+pub fn whence(word: &LineWord) -> Result<Whence, LineError>
+    ensures { result ≡ argument.whence word.now.bytes }
+{
+    match word.bytes.items() {
+        b"set" => Ok(Whence::Set),
+        b"cur" => Ok(Whence::Cur),
+        b"end" => Ok(Whence::End),
+        _ => Err(LineError::Syntax),
+    }
+}
+
+/// A signal.
+#[tactic(auto, unfolding(crate::specs::Argument::signal))]
+pub fn signal(word: &LineWord) -> Result<Signal, LineError>
+    ensures { result ≡ argument.signal word.now.bytes }
+{
+    match word.bytes.items() {
+        b"0" => Ok(Signal::Zero),
+        b"TERM" => Ok(Signal::Term),
+        b"KILL" => Ok(Signal::Kill),
+        _ => Err(LineError::Syntax),
+    }
+}
+
+/// `on` or `off`.
+#[tactic(auto, unfolding(crate::specs::Argument::switch))]
+pub fn switch(word: &LineWord) -> Result<bool, LineError>
+    ensures { result ≡ argument.switch word.now.bytes }
+{
+    match word.bytes.items() {
+        b"on" => Ok(true),
+        b"off" => Ok(false),
+        _ => Err(LineError::Syntax),
+    }
+}
+
+// Whether a letter stands in a word.
+fn stands_in(word: &[u8], letter: u8) -> bool
+    ensures { result ≡ argument.stands_in word.now letter }
+{
+    word.iter().any(|byte| *byte == letter)
+}
+
+// The flags whose letters stand in a word.
+fn flags_in(word: &[u8]) -> OpenFlags
+    ensures { result ≡ argument.flags_in word.now }
+{
+    OpenFlags {
+        r: stands_in(word, b'r'),
+        w: stands_in(word, b'w'),
+        c: stands_in(word, b'c'),
+        x: stands_in(word, b'x'),
+        t: stands_in(word, b't'),
+        a: stands_in(word, b'a'),
+    }
+}
+
+// Whether a word is letters of flags in their order, each at most once.
+fn is_in_order(word: &[u8]) -> bool
+    ensures { result ≡ argument.is_in_order word.now }
+{
+    let mut left = word;
+    for letter in b"rwcxta" {
+        if stands_in(word, *letter) {
+            let [first, rest @ ..] = left else {
+                return false;
+            };
+            if first != letter {
+                return false;
+            }
+            left = rest;
+        }
+    }
+    left.is_empty()
+}
+
+// Whether flags go together.
+fn are_flags(flags: OpenFlags) -> bool
+    ensures { result ≡ are_flags flags }
+{
+    let OpenFlags { r, w, c, x, t, a } = flags;
+    (r || w) && (!x || c) && (!t || w) && (!a || w)
+}
+
+/// Flags that go together, with `c` or without it.
+#[tactic(auto, unfolding(crate::specs::Argument::flags))]
+pub fn flags(makes: bool, word: &LineWord) -> Result<OpenFlags, LineError>
+    ensures { result ≡ argument.flags makes word.now.bytes }
+{
+    let flags = flags_in(word.bytes.items());
+    if !is_in_order(word.bytes.items()) || !are_flags(flags) || flags.c != makes {
+        return Err(LineError::Syntax);
+    }
+    Ok(flags)
+}

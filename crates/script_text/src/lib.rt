@@ -1,0 +1,15 @@
+//! The lines of scripts, which are calls by their words, and the lines of replies.
+#![tactic(auto)]
+
+mod argument;
+mod call;
+mod fault;
+mod line;
+mod reply;
+#[cfg(test)]
+mod tests;
+
+pub use fault::LineError;
+pub use fs_path::NoMemory;
+pub use line::{Line, read_line};
+pub use reply::reply_text;

@@ -1,0 +1,58 @@
+// The lines of a script.
+ghost use Rattle.std.specs.Prelude.{◌≡◌, IfOk, IfErr};
+ghost use Rattle.lab_text.specs.Policy.{top_of};
+ghost use Rattle.script_text.specs.Reading.{Answers, IsCause};
+ghost use Rattle.script_text.specs.Line.{item_said, line_said, MayBePlayed};
+
+use crate::call::{call_named, call_of};
+use crate::fault::both;
+use crate::{LineError, argument};
+use fs_path::{LineWord, is_blank, words_of};
+use kern_model::{Call, Pid};
+use lab_text::Policy;
+use std::alloc::Global;
+
+const MAX_LINE: usize = 2048;
+
+/// What a line of a script says.
+#[derive(Debug, Drop)]
+pub enum Line {
+    /// Nothing: it has no words, or is a comment.
+    Blank,
+    /// One call of a process.
+    One { who: Pid, call: Call },
+}
+
+// What the words of a line say.
+#[tactic(auto, unfolding(crate::specs::Line::item_said, crate::specs::Reading::made, crate::specs::Reading::both))]
+fn item_of(alloc: Global, policy: &Policy, words: &[LineWord]) -> Result<Line, LineError>
+    ensures { Answers (item_said policy.now words.now) result }
+{
+    let [tag, name, arguments @ ..] = words else {
+        return Err(LineError::Syntax);
+    };
+    if tag.quoted || name.quoted {
+        return Err(LineError::Syntax);
+    }
+    let name = call_named(name.bytes.items()).ok_or(LineError::Syntax)?;
+    let call = call_of(alloc, policy, name, arguments);
+    let (who, call) = both(argument::tag(policy, tag), call)?;
+    Ok(Line::One { who, call })
+}
+
+/// What a line of a script says, which is judged without its line feed.
+#[tactic(auto, unfolding(crate::specs::Line::line_said))]
+pub fn read_line(alloc: Global, policy: &Policy, line: &[u8]) -> Result<Line, LineError>
+    ensures said { IfOk result (λ said. line_said policy.now line.now ≡ Ok said) }
+    ensures item { IfOk result (MayBePlayed (top_of policy.now)) }
+    ensures cause { IfErr result (IsCause (line_said policy.now line.now)) }
+{
+    if line.len() > MAX_LINE {
+        return Err(LineError::TooLong);
+    }
+    if is_blank(line) {
+        return Ok(Line::Blank);
+    }
+    let words = words_of(alloc, line)?.ok_or(LineError::Syntax)?;
+    item_of(alloc, policy, words.items())
+}

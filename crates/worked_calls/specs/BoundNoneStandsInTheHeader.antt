@@ -1,0 +1,50 @@
+-- The trail's header has the world's bound.
+-- Written by tests/worked_calls.py from tests/cases/capability_and_trail/bound_none_stands_in_the_header.case.
+use Rattle.std.specs.Prelude.{List, [], ◌∷◌, codes}
+use Rattle.cap_bits.specs.CapSet.{no_caps}
+use Rattle.cap_bits.specs.State.{no_flags}
+use Rattle.lab_lattice.specs.Label.{Label, label_at}
+use Rattle.kern_model.specs.declared.calls.Call.TheVariants as call
+use Rattle.kern_model.specs.declared.calls.CallName.TheVariants as name
+use Rattle.kern_model.specs.declared.calls.Errno.TheVariants as errno
+use Rattle.kern_model.specs.declared.calls.Reply.TheVariants as reply
+use Rattle.kern_model.specs.declared.checks.CheckName.TheVariants as check
+use Rattle.kern_model.specs.declared.checks.Place.TheVariants as place
+use Rattle.kern_model.specs.declared.records.Rec.{Rec}
+use Rattle.kern_model.specs.declared.records.Rec.TheVariants as rec
+use Rattle.kern_model.specs.declared.world.World.{World}
+use Rattle.worked_calls.specs.Worked.{octal, absolute, dir, file, proc, Line, Left, lives, pid, line}
+
+abbrev pub unc : Label
+unc = label_at 0 []
+
+abbrev pub sec : Label
+sec = label_at 2 []
+
+abbrev pub world : World
+world = record {
+  top = label_at 2 (0 ∷ 1 ∷ []);
+  bound = no_caps;
+  objects =
+      dir [] (octal 777) 0 0 unc
+      ∷ file (codes "a" ∷ []) (octal 644) 10 10 sec (codes "hello") no_flags
+      ∷ [];
+  procs =
+      proc unc 10 10 [] no_flags
+      ∷ [];
+}
+
+abbrev pub boots : List Rec
+boots =
+    rec.Boot (pid 1 unc) unc no_flags
+    ∷ []
+
+abbrev pub lines : List Line
+lines =
+    line (pid 1 unc) (call.MacGetFile (absolute (codes "a" ∷ []))) (reply.Denied errno.EACCES check.MacRead (place.First 1)) (rec.Deny (pid 1 unc) name.MacGetFile errno.EACCES check.MacRead (place.First 1) ∷ [])
+    ∷ []
+
+abbrev pub ends : List Left
+ends =
+    lives (pid 1 unc) unc no_flags
+    ∷ []

@@ -1,0 +1,74 @@
+-- Where a file stands on the way, each call that walks a path answers ENOTDIR.
+-- Written by tests/worked_calls.py from tests/worked/walks/file_on_the_way_stops_each_path_call.case.
+use Rattle.std.specs.Prelude.{List, [], ◌∷◌, None, codes}
+use Rattle.cap_bits.specs.CapSet.{all_of_caps}
+use Rattle.cap_bits.specs.State.{no_flags}
+use Rattle.cap_bits.specs.declared.cap.Cap.TheVariants as cap
+use Rattle.lab_lattice.specs.Label.{Label, label_at}
+use Rattle.kern_model.specs.declared.calls.Call.TheVariants as call
+use Rattle.kern_model.specs.declared.calls.Errno.TheVariants as errno
+use Rattle.kern_model.specs.declared.calls.Reply.TheVariants as reply
+use Rattle.kern_model.specs.declared.records.Rec.{Rec}
+use Rattle.kern_model.specs.declared.records.Rec.TheVariants as rec
+use Rattle.kern_model.specs.declared.world.World.{World}
+use Rattle.worked_calls.specs.Worked.{octal, absolute, sets, flags, dir, file, proc, Line, Left, lives, pid, line}
+
+abbrev pub low : Label
+low = label_at 0 []
+
+abbrev pub high : Label
+high = label_at 1 []
+
+abbrev pub world : World
+world = record {
+  top = label_at 1 [];
+  bound = all_of_caps;
+  objects =
+      dir [] (octal 777) 0 0 low
+      ∷ file (codes "f" ∷ []) (octal 666) 10 10 low (codes "abc") no_flags
+      ∷ dir (codes "shut" ∷ []) (octal 700) 0 0 low
+      ∷ dir (codes "up" ∷ []) (octal 755) 10 10 high
+      ∷ [];
+  procs =
+      proc low 10 10 [] no_flags
+      ∷ proc low 10 10 [] (sets (cap.MacRead ∷ []) [] (cap.MacRead ∷ []))
+      ∷ proc low 10 10 [] (sets (cap.DacReadSearch ∷ []) [] (cap.DacReadSearch ∷ []))
+      ∷ [];
+}
+
+abbrev pub boots : List Rec
+boots =
+    rec.Boot (pid 1 low) low no_flags
+    ∷ rec.Boot (pid 2 low) low (sets (cap.MacRead ∷ []) [] (cap.MacRead ∷ []))
+    ∷ rec.Boot (pid 3 low) low (sets (cap.DacReadSearch ∷ []) [] (cap.DacReadSearch ∷ []))
+    ∷ []
+
+abbrev pub lines : List Line
+lines =
+    line (pid 1 low) (call.OpenPath (absolute (codes "f" ∷ codes "a" ∷ [])) (flags (codes "r")) None) (reply.Refused errno.ENOTDIR) []
+    ∷ line (pid 1 low) (call.Mkfifo (absolute (codes "f" ∷ codes "a" ∷ [])) (octal 644)) (reply.Refused errno.ENOTDIR) []
+    ∷ line (pid 1 low) (call.Mkdir (absolute (codes "f" ∷ codes "a" ∷ [])) (octal 755)) (reply.Refused errno.ENOTDIR) []
+    ∷ line (pid 1 low) (call.Rmdir (absolute (codes "f" ∷ codes "a" ∷ []))) (reply.Refused errno.ENOTDIR) []
+    ∷ line (pid 1 low) (call.Link (absolute (codes "f" ∷ codes "a" ∷ [])) (absolute (codes "b" ∷ []))) (reply.Refused errno.ENOTDIR) []
+    ∷ line (pid 1 low) (call.Link (absolute (codes "f" ∷ [])) (absolute (codes "f" ∷ codes "a" ∷ []))) (reply.Refused errno.ENOTDIR) []
+    ∷ line (pid 1 low) (call.Unlink (absolute (codes "f" ∷ codes "a" ∷ []))) (reply.Refused errno.ENOTDIR) []
+    ∷ line (pid 1 low) (call.Rename (absolute (codes "f" ∷ codes "a" ∷ [])) (absolute (codes "b" ∷ []))) (reply.Refused errno.ENOTDIR) []
+    ∷ line (pid 1 low) (call.Rename (absolute (codes "f" ∷ [])) (absolute (codes "f" ∷ codes "a" ∷ []))) (reply.Refused errno.ENOTDIR) []
+    ∷ line (pid 1 low) (call.Readdir (absolute (codes "f" ∷ codes "a" ∷ []))) (reply.Refused errno.ENOTDIR) []
+    ∷ line (pid 1 low) (call.Stat (absolute (codes "f" ∷ codes "a" ∷ []))) (reply.Refused errno.ENOTDIR) []
+    ∷ line (pid 1 low) (call.Chdir (absolute (codes "f" ∷ codes "a" ∷ []))) (reply.Refused errno.ENOTDIR) []
+    ∷ line (pid 1 low) (call.Chmod (absolute (codes "f" ∷ codes "a" ∷ [])) (octal 644)) (reply.Refused errno.ENOTDIR) []
+    ∷ line (pid 1 low) (call.Chown (absolute (codes "f" ∷ codes "a" ∷ [])) 10 10) (reply.Refused errno.ENOTDIR) []
+    ∷ line (pid 1 low) (call.CapGetFile (absolute (codes "f" ∷ codes "a" ∷ []))) (reply.Refused errno.ENOTDIR) []
+    ∷ line (pid 1 low) (call.CapSetFile (absolute (codes "f" ∷ codes "a" ∷ [])) no_flags) (reply.Refused errno.ENOTDIR) []
+    ∷ line (pid 1 low) (call.MacGetFile (absolute (codes "f" ∷ codes "a" ∷ []))) (reply.Refused errno.ENOTDIR) []
+    ∷ line (pid 1 low) (call.MacSetFile (absolute (codes "f" ∷ codes "a" ∷ [])) low) (reply.Refused errno.ENOTDIR) []
+    ∷ line (pid 1 low) (call.Exec (absolute (codes "f" ∷ codes "a" ∷ []))) (reply.Refused errno.ENOTDIR) []
+    ∷ []
+
+abbrev pub ends : List Left
+ends =
+    lives (pid 1 low) low no_flags
+    ∷ lives (pid 2 low) low (sets (cap.MacRead ∷ []) [] (cap.MacRead ∷ []))
+    ∷ lives (pid 3 low) low (sets (cap.DacReadSearch ∷ []) [] (cap.DacReadSearch ∷ []))
+    ∷ []

@@ -1,0 +1,54 @@
+-- A name of a hidden file is listed, keeps its directory from being removed, and is not removed itself.
+-- Written by tests/worked_calls.py from tests/worked/directories/hidden_name_is_listed_and_keeps_its_directory.case.
+use Rattle.std.specs.Prelude.{List, [], ◌∷◌, codes}
+use Rattle.cap_bits.specs.CapSet.{all_of_caps}
+use Rattle.cap_bits.specs.State.{no_flags}
+use Rattle.lab_lattice.specs.Label.{Label, label_at}
+use Rattle.kern_model.specs.declared.calls.Answer.TheVariants as answer
+use Rattle.kern_model.specs.declared.calls.Call.TheVariants as call
+use Rattle.kern_model.specs.declared.calls.CallName.TheVariants as name
+use Rattle.kern_model.specs.declared.calls.Errno.TheVariants as errno
+use Rattle.kern_model.specs.declared.calls.Reply.TheVariants as reply
+use Rattle.kern_model.specs.declared.checks.CheckName.TheVariants as check
+use Rattle.kern_model.specs.declared.checks.Place.TheVariants as place
+use Rattle.kern_model.specs.declared.records.Rec.{Rec}
+use Rattle.kern_model.specs.declared.records.Rec.TheVariants as rec
+use Rattle.kern_model.specs.declared.world.World.{World}
+use Rattle.worked_calls.specs.Worked.{octal, absolute, dir, file, proc, Line, Left, lives, pid, line}
+
+abbrev pub unc : Label
+unc = label_at 0 []
+
+abbrev pub sec : Label
+sec = label_at 2 []
+
+abbrev pub world : World
+world = record {
+  top = label_at 2 (0 ∷ 1 ∷ []);
+  bound = all_of_caps;
+  objects =
+      dir [] (octal 777) 0 0 unc
+      ∷ dir (codes "d" ∷ []) (octal 755) 10 10 unc
+      ∷ file (codes "d" ∷ codes "h" ∷ []) (octal 644) 10 10 sec [] no_flags
+      ∷ [];
+  procs =
+      proc unc 10 10 [] no_flags
+      ∷ [];
+}
+
+abbrev pub boots : List Rec
+boots =
+    rec.Boot (pid 1 unc) unc no_flags
+    ∷ []
+
+abbrev pub lines : List Line
+lines =
+    line (pid 1 unc) (call.Rmdir (absolute (codes "d" ∷ []))) (reply.Refused errno.ENOTEMPTY) []
+    ∷ line (pid 1 unc) (call.Unlink (absolute (codes "d" ∷ codes "h" ∷ []))) (reply.Denied errno.EACCES check.MacWrite (place.First 2)) (rec.Deny (pid 1 unc) name.Unlink errno.EACCES check.MacWrite (place.First 2) ∷ [])
+    ∷ line (pid 1 unc) (call.Readdir (absolute (codes "d" ∷ []))) (reply.Done (answer.Names (codes "h" ∷ []))) []
+    ∷ []
+
+abbrev pub ends : List Left
+ends =
+    lives (pid 1 unc) unc no_flags
+    ∷ []

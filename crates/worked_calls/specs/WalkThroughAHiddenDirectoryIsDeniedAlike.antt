@@ -1,0 +1,50 @@
+-- A hidden directory on the way gives the same answer as a hidden file.
+-- Written by tests/worked_calls.py from tests/worked/directories/walk_through_a_hidden_directory_is_denied_alike.case.
+use Rattle.std.specs.Prelude.{List, [], ◌∷◌, codes}
+use Rattle.cap_bits.specs.CapSet.{all_of_caps}
+use Rattle.cap_bits.specs.State.{no_flags}
+use Rattle.lab_lattice.specs.Label.{Label, label_at}
+use Rattle.kern_model.specs.declared.calls.Call.TheVariants as call
+use Rattle.kern_model.specs.declared.calls.CallName.TheVariants as name
+use Rattle.kern_model.specs.declared.calls.Errno.TheVariants as errno
+use Rattle.kern_model.specs.declared.calls.Reply.TheVariants as reply
+use Rattle.kern_model.specs.declared.checks.CheckName.TheVariants as check
+use Rattle.kern_model.specs.declared.checks.Place.TheVariants as place
+use Rattle.kern_model.specs.declared.records.Rec.{Rec}
+use Rattle.kern_model.specs.declared.records.Rec.TheVariants as rec
+use Rattle.kern_model.specs.declared.world.World.{World}
+use Rattle.worked_calls.specs.Worked.{octal, absolute, dir, proc, Line, Left, lives, pid, line}
+
+abbrev pub unc : Label
+unc = label_at 0 []
+
+abbrev pub sec : Label
+sec = label_at 2 []
+
+abbrev pub world : World
+world = record {
+  top = label_at 2 (0 ∷ 1 ∷ []);
+  bound = all_of_caps;
+  objects =
+      dir [] (octal 777) 0 0 unc
+      ∷ dir (codes "hid" ∷ []) (octal 777) 10 10 sec
+      ∷ [];
+  procs =
+      proc unc 10 10 [] no_flags
+      ∷ [];
+}
+
+abbrev pub boots : List Rec
+boots =
+    rec.Boot (pid 1 unc) unc no_flags
+    ∷ []
+
+abbrev pub lines : List Line
+lines =
+    line (pid 1 unc) (call.Stat (absolute (codes "hid" ∷ codes "x" ∷ []))) (reply.Denied errno.EACCES check.MacRead (place.First 1)) (rec.Deny (pid 1 unc) name.Stat errno.EACCES check.MacRead (place.First 1) ∷ [])
+    ∷ []
+
+abbrev pub ends : List Left
+ends =
+    lives (pid 1 unc) unc no_flags
+    ∷ []

@@ -1,0 +1,34 @@
+// Written by tests/worked_calls.py.
+ghost use Rattle.std.specs.Prelude.{◌≡◌, true};
+ghost use Rattle.kern_model.specs.Boot.{boot_recs};
+ghost use Rattle.worked_calls.specs.RelabellingOfAProcessIsRecorded as relabelling_of_a_process_is_recorded;
+ghost use Rattle.worked_calls.specs.WritingEmptiesTheCapabilitySets as writing_empties_the_capability_sets;
+ghost use Rattle.worked_calls.specs.WritingWithCapFsetidKeepsTheCapabilitySets as writing_with_cap_fsetid_keeps_the_capability_sets;
+ghost use Rattle.worked_calls.specs.Worked.{ran, may_be_played, left, script_of, expected};
+
+/// A process raises its own label twice; the exercise names the old label and the new one.
+#[tactic(auto, unfolding(crate::specs::Worked::ran, crate::specs::Worked::may_be_played, crate::specs::Worked::left))]
+pub fn relabelling_of_a_process_is_recorded()
+    ensures start { boot_recs relabelling_of_a_process_is_recorded.world ≡ relabelling_of_a_process_is_recorded.boots }
+    ensures arguments { may_be_played relabelling_of_a_process_is_recorded.world (script_of relabelling_of_a_process_is_recorded.lines) ≡ true }
+    ensures calls { ran relabelling_of_a_process_is_recorded.world (script_of relabelling_of_a_process_is_recorded.lines) ≡ expected relabelling_of_a_process_is_recorded.lines }
+    ensures ends { left relabelling_of_a_process_is_recorded.world (script_of relabelling_of_a_process_is_recorded.lines) ≡ relabelling_of_a_process_is_recorded.ends }
+{}
+
+/// A write of a byte clears the set-id bits and empties the capability sets.
+#[tactic(auto, unfolding(crate::specs::Worked::ran, crate::specs::Worked::may_be_played, crate::specs::Worked::left))]
+pub fn writing_empties_the_capability_sets()
+    ensures start { boot_recs writing_empties_the_capability_sets.world ≡ writing_empties_the_capability_sets.boots }
+    ensures arguments { may_be_played writing_empties_the_capability_sets.world (script_of writing_empties_the_capability_sets.lines) ≡ true }
+    ensures calls { ran writing_empties_the_capability_sets.world (script_of writing_empties_the_capability_sets.lines) ≡ expected writing_empties_the_capability_sets.lines }
+    ensures ends { left writing_empties_the_capability_sets.world (script_of writing_empties_the_capability_sets.lines) ≡ writing_empties_the_capability_sets.ends }
+{}
+
+/// With the capability the bits and the sets stay.
+#[tactic(auto, unfolding(crate::specs::Worked::ran, crate::specs::Worked::may_be_played, crate::specs::Worked::left))]
+pub fn writing_with_cap_fsetid_keeps_the_capability_sets()
+    ensures start { boot_recs writing_with_cap_fsetid_keeps_the_capability_sets.world ≡ writing_with_cap_fsetid_keeps_the_capability_sets.boots }
+    ensures arguments { may_be_played writing_with_cap_fsetid_keeps_the_capability_sets.world (script_of writing_with_cap_fsetid_keeps_the_capability_sets.lines) ≡ true }
+    ensures calls { ran writing_with_cap_fsetid_keeps_the_capability_sets.world (script_of writing_with_cap_fsetid_keeps_the_capability_sets.lines) ≡ expected writing_with_cap_fsetid_keeps_the_capability_sets.lines }
+    ensures ends { left writing_with_cap_fsetid_keeps_the_capability_sets.world (script_of writing_with_cap_fsetid_keeps_the_capability_sets.lines) ≡ writing_with_cap_fsetid_keeps_the_capability_sets.ends }
+{}

@@ -1,0 +1,111 @@
+-- What the words of a line spell, from what holds of a world and of what is written.
+use Rattle.std.specs.Prelude.{◌≡◌, ℕ, ◌+◌, ◌/◌, ◌%◌, ◌≤◌, ◌<◌, ◌==◌, nat_le, nat_lt, Bool, true, false, cond, List, [], ◌∷◌, length, refl}
+use Rattle.std.proofs.Common.{subst, arith}
+use Rattle.std.specs.List.{AllByRecursion, list_all}
+use Rattle.std.proofs.lemmas.Bool.{and_parts, leb-true, ltb-true, eqb-true}
+use Rattle.fs_path.specs.Name.{is_name}
+use Rattle.fs_path.specs.Path.{PathValue, HasForm, written_len}
+use Rattle.lab_lattice.specs.Label.{Label, dominates}
+use Rattle.lab_text.specs.Policy.{PolicyNames, top_of, is_valid}
+use Rattle.cap_bits.specs.CapSet.{is_within}
+use Rattle.cap_bits.specs.State.{no_flags}
+use Rattle.kern_model.specs.declared.numbers.Ids.{Ids}
+use Rattle.kern_model.specs.declared.objects.Body.{Body}
+use Rattle.kern_model.specs.declared.objects.Body.TheVariants as body
+use Rattle.kern_model.specs.declared.world.WorldObject.{WorldObject}
+use Rattle.kern_model.specs.declared.world.WorldProc.{WorldProc}
+use Rattle.kern_model.specs.Kinds.{is_file, is_mode, kind_of}
+use Rattle.kern_model.specs.World.{IsWorldObject, IsWorldProc}
+use Rattle.world_text.specs.CanBeRead.{are_bytes, IsNumber, HasBytes, IsWrittenObject, IsWrittenIds}
+
+-- an absolute path of names that are bytes
+pub record IsSpelledPath (path : PathValue) : Type 0 where
+  pub absolute : path.absolute ≡ true
+  pub form : HasForm path.absolute path.names
+  pub names : list_all is_name path.names ≡ true
+  pub bytes : list_all are_bytes path.names ≡ true
+
+-- a directory, a file or a FIFO
+abbrev pub IsSpelledBody : Body → Type 0
+IsSpelledBody body.Dir = Unit {0}
+IsSpelledBody (body.File bytes) = are_bytes bytes ≡ true
+IsSpelledBody body.Fifo = Unit {0}
+IsSpelledBody body.Pipe = ⊥
+
+-- what the words of an object's line spell
+pub record IsSpelledObject (o : WorldObject) : Type 0 where
+  pub path : IsSpelledPath o.path
+  pub mode : o.attr.mode ≤ 4095
+  pub not_sticky : (o.attr.mode / 512) % 2 ≡ 0
+  pub owner : IsNumber o.attr.owner
+  pub group : IsNumber o.attr.group
+  pub body : IsSpelledBody o.body
+
+-- ids of one user and one group
+pub record IsSpelledIds (ids : Ids) : Type 0 where
+  pub user : IsNumber ids.euid
+  pub group : IsNumber ids.egid
+  pub ruid : ids.ruid ≡ ids.euid
+  pub suid : ids.suid ≡ ids.euid
+  pub rgid : ids.rgid ≡ ids.egid
+  pub sgid : ids.sgid ≡ ids.egid
+  pub groups : list_all (λ g. nat_le g 4294967295) ids.groups ≡ true
+  pub few : length ids.groups ≤ 16
+
+body_spelled : (b : Body) → (b ≡ body.Pipe → ⊥) → HasBytes b → IsSpelledBody b
+body_spelled body.Dir no_pipe bytes = tt
+body_spelled (body.File xs) no_pipe bytes = bytes
+body_spelled body.Fifo no_pipe bytes = tt
+body_spelled body.Pipe no_pipe bytes = absurd (no_pipe refl)
+
+object_spelled : (top : Label) (o : WorldObject) → IsWorldObject top o → IsWrittenObject o → IsSpelledObject o
+object_spelled top o is written =
+    let path = and_parts _ _ is.path in
+    let form = and_parts _ _ path.0 in
+    let mode = and_parts _ _ is.mode in
+    let low = ltb-true o.attr.mode 4096 mode.0 in
+    record {
+      path = record { absolute = is.absolute; form = record { few = leb-true _ _ form.0; short = leb-true _ _ form.1 }; names = path.1; bytes = written.names };
+      mode = omega arith;
+      not_sticky = eqb-true _ _ mode.1;
+      owner = written.owner;
+      group = written.group;
+      body = body_spelled o.body is.no_pipe written.body;
+    }
+
+ids_spelled : (top : Label) (p : WorldProc) → IsWorldProc top p → IsWrittenIds p.ids → IsSpelledIds p.ids
+ids_spelled top p is written = record {
+  user = written.user;
+  group = written.group;
+  ruid = is.ids.ruid;
+  suid = is.ids.suid;
+  rgid = is.ids.rgid;
+  sgid = is.ids.sgid;
+  groups = written.groups;
+  few = is.few;
+}
+
+-- what follows for each from what holds of each
+each : {X : Type 0} (P Q R : X → Type 0) → ((x : X) → P x → Q x → R x) → (xs : List X) → AllByRecursion P xs → AllByRecursion Q xs → AllByRecursion R xs
+each P Q R f [] ps qs = tt
+each P Q R f (x ∷ xs) ps qs = (f x ps.0 qs.0, each P Q R f xs ps.1 qs.1)
+
+module _ (top : Label) (os : List WorldObject) (are : AllByRecursion (IsWorldObject top) os) where
+  pub objects_spelled : AllByRecursion (λ (o : WorldObject). IsWrittenObject o) os → AllByRecursion (λ (o : WorldObject). IsSpelledObject o) os
+  objects_spelled written = each (IsWorldObject top) _ (λ (o : WorldObject). IsSpelledObject o) (object_spelled top) os are written
+
+  pub objects_below : AllByRecursion (λ (o : WorldObject). dominates top o.label ≡ true) os
+  objects_below = each (IsWorldObject top) (IsWorldObject top) (λ (o : WorldObject). dominates top o.label ≡ true) (λ o is _. is.below) os are are
+
+  pub objects_plain : AllByRecursion (λ (o : WorldObject). is_file (kind_of o.body) ≡ false → o.attr.caps ≡ no_flags) os
+  objects_plain = each (IsWorldObject top) (IsWorldObject top) (λ (o : WorldObject). is_file (kind_of o.body) ≡ false → o.attr.caps ≡ no_flags) (λ o is _. is.only_file) os are are
+
+module _ (top : Label) (ps : List WorldProc) (are : AllByRecursion (IsWorldProc top) ps) where
+  pub procs_spelled : AllByRecursion (λ (p : WorldProc). IsWrittenIds p.ids) ps → AllByRecursion (λ (p : WorldProc). IsSpelledIds p.ids) ps
+  procs_spelled written = each (IsWorldProc top) _ (λ (p : WorldProc). IsSpelledIds p.ids) (ids_spelled top) ps are written
+
+  pub procs_below : AllByRecursion (λ (p : WorldProc). dominates top p.label ≡ true) ps
+  procs_below = each (IsWorldProc top) (IsWorldProc top) (λ (p : WorldProc). dominates top p.label ≡ true) (λ p is _. is.below) ps are are
+
+  pub procs_within : AllByRecursion (λ (p : WorldProc). is_within p.caps.e p.caps.p ≡ true) ps
+  procs_within = each (IsWorldProc top) (IsWorldProc top) (λ (p : WorldProc). is_within p.caps.e p.caps.p ≡ true) (λ p is _. is.within) ps are are
