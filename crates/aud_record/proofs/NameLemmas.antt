@@ -8,9 +8,9 @@ use Rattle.cap_bits.specs.Cap.{cap_name, cap_named, cap_named_by, all_caps}
 use Rattle.cap_bits.specs.declared.cap.Cap.{Cap}
 use Rattle.cap_bits.specs.declared.cap.Cap.TheVariants as cap
 use Rattle.lab_text.specs.Names.{same_bytes}
-use Rattle.aud_record.specs.ListedLaws.{named_is, cap_again}
+use Rattle.kern_model.specs.Named.{named, named_is}
+use Rattle.aud_record.specs.ListedLaws.{cap_again}
 use Rattle.aud_record.specs.Numbers.{same_itself, same_is, none_from}
-use Rattle.aud_record.specs.Spelled.{named}
 
 lower_name : (c : Cap) → str_to_ascii_lowercase (cap_name c) ≡ cap_name c
 lower_name cap.Chown = refl

@@ -10,16 +10,16 @@ use Rattle.fs_path.specs.Words.{is_apart, behind_spaces, line_text}
 use Rattle.lab_text.specs.Policy.{PolicyNames, MakePolicy}
 use Rattle.kern_model.specs.declared.numbers.Pid.{Pid}
 use Rattle.kern_model.specs.declared.records.Rec.{Rec}
-use Rattle.aud_record.specs.Events.{event_of, event_word, who_of}
+use Rattle.kern_model.specs.Named.{named}
+use Rattle.aud_record.specs.Events.{event_of, event_word, who_of, all_events}
 use Rattle.aud_record.specs.FieldLaws.{spelled_is, spelled_again, field_word}
 use Rattle.aud_record.specs.Fits.{pid_fits, rest_tests, all_hold, rec_fits}
 use Rattle.aud_record.specs.FormLaws.{bound_is, word_again, field_again, Reads, word_is, field_is, behind_is, made, values_fit, form_again, words_lack, IsFormed, form_is}
 use Rattle.aud_record.specs.Forms.{Kind, Process, form_of, form_said}
 use Rattle.aud_record.specs.KindLaws.{form_wide, of_kind, made_by}
-use Rattle.aud_record.specs.Listed.{all_events}
 use Rattle.aud_record.specs.Numbers.{number_is, number_again}
 use Rattle.aud_record.specs.Said.{line_said, line_read, read_by, rec_said}
-use Rattle.aud_record.specs.Spelled.{named, number_spelled, pid_spelled}
+use Rattle.aud_record.specs.Spelled.{number_spelled, pid_spelled}
 use Rattle.aud_record.specs.WordLaws.{lacks, lacks-append, cut_again, cut_is, word_lacks}
 use Rattle.aud_record.specs.Words.{◌>>=◌, word_said, field_said}
 use Rattle.aud_record.specs.Written.{rest_words, rec_words, line_of, rec_text, pid_text}

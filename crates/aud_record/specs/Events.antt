@@ -1,5 +1,5 @@
 -- The kinds of records.
-use Rattle.std.specs.Prelude.{ℕ, List, codes}
+use Rattle.std.specs.Prelude.{ℕ, List, [], ◌∷◌, codes}
 use Rattle.kern_model.specs.declared.numbers.Pid.{Pid}
 use Rattle.kern_model.specs.declared.records.Rec.{Rec}
 use Rattle.kern_model.specs.declared.records.Rec.TheVariants as rec
@@ -35,6 +35,11 @@ event_word event.Exercise = codes "exercise"
 event_word event.Deny = codes "deny"
 event_word event.Switch = codes "switch"
 event_word event.Note = codes "note"
+
+-- all of them
+abbrev pub all_events : List Event
+all_events =
+    event.Boot ∷ event.Fork ∷ event.Exec ∷ event.Exit ∷ event.CapSetProc ∷ event.CapSetFile ∷ event.MacSetProc ∷ event.MacSetFile ∷ event.Exercise ∷ event.Deny ∷ event.Switch ∷ event.Note ∷ []
 
 -- the process that a record is about
 abbrev pub who_of : Rec → Pid

@@ -41,13 +41,14 @@ use Rattle.kern_model.specs.declared.checks.Thing.{Thing}
 use Rattle.kern_model.specs.declared.checks.Thing.TheVariants as thing
 use Rattle.kern_model.specs.declared.numbers.Oid.{Oid}
 use Rattle.kern_model.specs.declared.numbers.Pid.{Pid}
+use Rattle.kern_model.specs.Named.{named, named_is, call_again, check_again, errno_again}
 use Rattle.aud_record.specs.Events.{event_word}
 use Rattle.aud_record.specs.Fits.{numbered_fits, pid_fits, oid_fits, thing_fits, new_label_fits, place_fits, are_bytes}
 use Rattle.aud_record.specs.Forms.{Choice, first_of, other_of, OnOrOff, ExitOrKill, TermOrKill, Field, Number, Either, Kind, Capability, Check, Error, Call, Process, Object, Mark, NewMark, Caps, Bytes, About, Where, Of, spelled}
-use Rattle.aud_record.specs.ListedLaws.{named_is, event_again, cap_again, check_again, errno_again, call_again}
+use Rattle.aud_record.specs.ListedLaws.{event_again, cap_again}
 use Rattle.aud_record.specs.Numbers.{same_itself, same_is, kept_is, number_is, number_again}
 use Rattle.aud_record.specs.Quoted.{unquoted_bytes, quoted_unquoted, plain_small}
-use Rattle.aud_record.specs.Spelled.{named, number_spelled, label_spelled, numbered_spelled, pid_spelled, oid_spelled, behind_front, thing_spelled, new_label_spelled, step_spelled, place_spelled, unquoted, bytes_spelled, caps_spelled, choice_spelled}
+use Rattle.aud_record.specs.Spelled.{number_spelled, label_spelled, numbered_spelled, pid_spelled, oid_spelled, behind_front, thing_spelled, new_label_spelled, step_spelled, place_spelled, unquoted, bytes_spelled, caps_spelled, choice_spelled}
 use Rattle.aud_record.specs.WordLaws.{lacks, lacks-append, cut_again, cut_is, IsWord}
 use Rattle.aud_record.specs.Written.{pid_text, oid_text, caps_word, thing_text, new_label_text}
 use Rattle.aud_record.specs.declared.event.Event.{Event}

@@ -5,7 +5,7 @@ use Rattle.cap_bits.specs.declared.cap.Cap.{Cap}
 use Rattle.cap_bits.specs.declared.state.CapState.{CapState}
 use Rattle.lab_lattice.specs.Label.{Label}
 use Rattle.lab_text.specs.Policy.{PolicyNames}
-use Rattle.kern_model.specs.Names.{word_of, check_word, errno_word}
+use Rattle.kern_model.specs.Named.{named, call_named, check_named, errno_named}
 use Rattle.kern_model.specs.declared.calls.CallName.{CallName}
 use Rattle.kern_model.specs.declared.calls.Ending.TheVariants as ending
 use Rattle.kern_model.specs.declared.calls.Errno.{Errno}
@@ -16,9 +16,8 @@ use Rattle.kern_model.specs.declared.numbers.Oid.{Oid}
 use Rattle.kern_model.specs.declared.numbers.Pid.{Pid}
 use Rattle.kern_model.specs.declared.records.Rec.{Rec}
 use Rattle.kern_model.specs.declared.records.Rec.TheVariants as rec
-use Rattle.aud_record.specs.Events.{event_word}
-use Rattle.aud_record.specs.Listed.{all_events, all_checks, all_errnos, all_calls}
-use Rattle.aud_record.specs.Spelled.{named, number_spelled, label_spelled, pid_spelled, oid_spelled, thing_spelled, new_label_spelled, place_spelled, bytes_spelled, caps_spelled, choice_spelled}
+use Rattle.aud_record.specs.Events.{event_word, all_events}
+use Rattle.aud_record.specs.Spelled.{number_spelled, label_spelled, pid_spelled, oid_spelled, thing_spelled, new_label_spelled, place_spelled, bytes_spelled, caps_spelled, choice_spelled}
 use Rattle.aud_record.specs.Words.{◌>>=◌, ended, field_said}
 use Rattle.aud_record.specs.declared.event.Event.{Event}
 use Rattle.aud_record.specs.declared.event.Event.TheVariants as event
@@ -101,9 +100,9 @@ spelled p (Number bound) = number_spelled bound
 spelled p (Either choice) = choice_spelled (first_of choice) (other_of choice)
 spelled p Kind = named event_word all_events
 spelled p Capability = named cap_name all_caps
-spelled p Check = named check_word all_checks
-spelled p Error = named errno_word all_errnos
-spelled p Call = named word_of all_calls
+spelled p Check = check_named
+spelled p Error = errno_named
+spelled p Call = call_named
 spelled p Process = pid_spelled p
 spelled p Object = oid_spelled p
 spelled p Mark = label_spelled p

@@ -2,7 +2,6 @@ pub mod Events
 pub mod Written
 pub mod Fits
 pub mod Words
-pub mod Listed
 pub mod Spelled
 pub mod Forms
 pub mod Said

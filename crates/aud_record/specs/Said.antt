@@ -3,10 +3,10 @@ use Rattle.std.specs.Prelude.{◌≡◌, ℕ, ◌+◌, ◌-◌, ◌^◌, true, f
 use Rattle.fs_path.specs.Lines.{cut}
 use Rattle.lab_text.specs.Policy.{PolicyNames}
 use Rattle.kern_model.specs.declared.records.Rec.{Rec}
-use Rattle.aud_record.specs.Events.{event_word}
+use Rattle.kern_model.specs.Named.{named}
+use Rattle.aud_record.specs.Events.{event_word, all_events}
 use Rattle.aud_record.specs.Forms.{form_of, form_said}
-use Rattle.aud_record.specs.Listed.{all_events}
-use Rattle.aud_record.specs.Spelled.{named, number_spelled, pid_spelled}
+use Rattle.aud_record.specs.Spelled.{number_spelled, pid_spelled}
 use Rattle.aud_record.specs.Words.{◌>>=◌, word_said, field_said}
 use Rattle.aud_record.specs.declared.fault.Fault.{Fault}
 use Rattle.aud_record.specs.declared.fault.Fault.TheVariants as fault

@@ -1,7 +1,6 @@
 -- What a word of a record stands for. Each value has one spelling, which is the one that is written.
 use Rattle.std.specs.Prelude.{ℕ, ◌^◌, ◌==◌, ◌&&◌, nat_lt, Bool, true, false, cond, List, [], ◌∷◌, Option, None, Some, codes}
 use Rattle.std.specs.Fmt.{decimal}
-use Rattle.std.specs.List.{find}
 use Rattle.std.specs.Option.{option_and_then, option_map, option_or}
 use Rattle.std.specs.Result.{result_ok}
 use Rattle.std.specs.Str.Parse.{digits_value}
@@ -22,10 +21,6 @@ use Rattle.kern_model.specs.declared.checks.Thing.TheVariants as thing
 use Rattle.kern_model.specs.declared.numbers.Oid.{Oid}
 use Rattle.kern_model.specs.declared.numbers.Pid.{Pid}
 use Rattle.aud_record.specs.Written.{caps_word}
-
--- which of some values has this word
-unfoldable pub named : {X : Type 0} → (X → List ℕ) → List X → List ℕ → Option X
-named word_of values word = find (λ x. same_bytes word (word_of x)) values
 
 -- the number below a bound with these decimal digits
 unfoldable pub number_spelled : ℕ → List ℕ → Option ℕ

@@ -1,6 +1,7 @@
 // The kinds of records.
 ghost use Rattle.std.specs.Prelude.{◌≡◌};
-ghost use Rattle.aud_record.specs.Events.{event_of, event_word, who_of};
+ghost use Rattle.kern_model.specs.Named.{named};
+ghost use Rattle.aud_record.specs.Events.{event_of, event_word, all_events, who_of};
 
 use kern_model::{Pid, Rec};
 
@@ -21,7 +22,30 @@ pub enum Event {
     Note,
 }
 
+const EVENTS: [Event; 12] = [
+    Event::Boot,
+    Event::Fork,
+    Event::Exec,
+    Event::Exit,
+    Event::CapSetProc,
+    Event::CapSetFile,
+    Event::MacSetProc,
+    Event::MacSetFile,
+    Event::Exercise,
+    Event::Deny,
+    Event::Switch,
+    Event::Note,
+];
+
 impl Event {
+    /// The kind of records with this word.
+    #[tactic(auto, unfolding(kern_model::specs::Named::named))]
+    pub fn from_word(word: &[u8]) -> Option<Event>
+        ensures { result ≡ named event_word all_events word.now }
+    {
+        EVENTS.iter().copied().find(|event| word == event.word())
+    }
+
     /// The kind of a record.
     pub fn of(rec: &Rec) -> Event
         ensures { result ≡ event_of rec.now }

@@ -1,16 +1,15 @@
 // The words of a record by what is due in their place.
 ghost use Rattle.std.specs.Prelude.{◌≡◌, ◌^◌, true, false};
 ghost use Rattle.cap_bits.specs.Cap.{all_caps, cap_name};
-ghost use Rattle.kern_model.specs.Names.{word_of, check_word, errno_word};
-ghost use Rattle.aud_record.specs.Events.{event_word};
-ghost use Rattle.aud_record.specs.Listed.{all_events, all_checks, all_errnos, all_calls};
-ghost use Rattle.aud_record.specs.Spelled.{named, number_spelled, label_spelled, pid_spelled, oid_spelled, thing_spelled, new_label_spelled, place_spelled, bytes_spelled, caps_spelled, choice_spelled};
+ghost use Rattle.kern_model.specs.Named.{named, call_named, check_named, errno_named};
+ghost use Rattle.aud_record.specs.Events.{event_word, all_events};
+ghost use Rattle.aud_record.specs.Spelled.{number_spelled, label_spelled, pid_spelled, oid_spelled, thing_spelled, new_label_spelled, place_spelled, bytes_spelled, caps_spelled, choice_spelled};
 ghost use Rattle.aud_record.specs.Words.{Reads, word_said, field_said};
 
 use crate::event::Event;
 use crate::fault::Fault;
+use crate::spelled;
 use crate::words::Words;
-use crate::{names, spelled};
 use cap_bits::{Cap, CapState};
 use fs_path::ByteList;
 use kern_model::{CallName, CheckName, Errno, Oid, Pid, Place, Thing};
@@ -55,7 +54,7 @@ impl Words<'_> {
         ensures { Reads result (field_said true (named event_word all_events) self.old.left.now) self.new.left.now }
     {
         let due = self.next()?;
-        let said = names::event_named(due.word);
+        let said = Event::from_word(due.word);
         self.or_unknown(due, said)
     }
 
@@ -65,37 +64,37 @@ impl Words<'_> {
         ensures { Reads result (field_said true (named cap_name all_caps) self.old.left.now) self.new.left.now }
     {
         let due = self.next()?;
-        let said = names::cap_named(due.word);
+        let said = spelled::cap_spelled(due.word);
         self.or_unknown(due, said)
     }
 
     /// A check.
     #[tactic(auto, unfolding(crate::specs::Words::word_said, crate::specs::Words::field_said))]
     pub fn check(&mut self) -> Result<CheckName, Fault>
-        ensures { Reads result (field_said true (named check_word all_checks) self.old.left.now) self.new.left.now }
+        ensures { Reads result (field_said true (check_named) self.old.left.now) self.new.left.now }
     {
         let due = self.next()?;
-        let said = names::check_named(due.word);
+        let said = CheckName::from_word(due.word);
         self.or_unknown(due, said)
     }
 
     /// An error number.
     #[tactic(auto, unfolding(crate::specs::Words::word_said, crate::specs::Words::field_said))]
     pub fn errno(&mut self) -> Result<Errno, Fault>
-        ensures { Reads result (field_said true (named errno_word all_errnos) self.old.left.now) self.new.left.now }
+        ensures { Reads result (field_said true (errno_named) self.old.left.now) self.new.left.now }
     {
         let due = self.next()?;
-        let said = names::errno_named(due.word);
+        let said = Errno::from_word(due.word);
         self.or_unknown(due, said)
     }
 
     /// A call.
     #[tactic(auto, unfolding(crate::specs::Words::word_said, crate::specs::Words::field_said))]
     pub fn call(&mut self) -> Result<CallName, Fault>
-        ensures { Reads result (field_said true (named word_of all_calls) self.old.left.now) self.new.left.now }
+        ensures { Reads result (field_said true (call_named) self.old.left.now) self.new.left.now }
     {
         let due = self.next()?;
-        let said = names::call_named(due.word);
+        let said = CallName::from_word(due.word);
         self.or_unknown(due, said)
     }
 

@@ -6,7 +6,6 @@ mod fault;
 mod fields;
 mod forms;
 mod line;
-mod names;
 mod reading;
 mod spelled;
 #[cfg(test)]

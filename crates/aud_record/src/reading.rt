@@ -67,17 +67,13 @@ fn placed(len: usize, fault: Fault) -> RecError
 fn first_record(alloc: Global, policy: &Policy, text: &[u8]) -> Result<ReadRec, RecError>
     ensures { Answers result (rec_said policy.now text.now) }
 {
-    let Some((line, _)) = next_line(text) else {
-        return Err(RecError::Truncated);
-    };
-    match read_line(alloc, policy, line) {
-        Ok((call, rec)) => Ok(ReadRec {
-            call,
-            rec,
-            used: line.len() + 1,
-        }),
-        Err(fault) => Err(placed(line.len(), fault)),
-    }
+    let (line, _) = next_line(text).ok_or(RecError::Truncated)?;
+    let (call, rec) = read_line(alloc, policy, line).map_err(|fault| placed(line.len(), fault))?;
+    Ok(ReadRec {
+        call,
+        rec,
+        used: line.len() + 1,
+    })
 }
 
 /// The record with which a text begins, whatever stands behind it. The first fault of the line counts, from the left.

@@ -1,10 +1,12 @@
 // What single words stand for. Each value has one spelling: where there may be others, what was read is written and compared.
 ghost use Rattle.std.specs.Prelude.{◌≡◌, ◌^◌, ◌≤◌, IfOk, MatchOption, Some, None};
 ghost use Rattle.std.specs.Option.{option_copied};
+ghost use Rattle.cap_bits.specs.Cap.{all_caps, cap_name};
+ghost use Rattle.kern_model.specs.Named.{named};
 ghost use Rattle.aud_record.specs.Spelled.{number_spelled, label_spelled, numbered_spelled, pid_spelled, oid_spelled, behind_front, thing_spelled, new_label_spelled, step_spelled, place_spelled, unquoted, bytes_spelled, caps_spelled, choice_spelled};
 
 use crate::NoMemory;
-use cap_bits::CapState;
+use cap_bits::{Cap, CapState};
 use cap_clause::{cap_from_text, cap_to_text};
 use fs_path::{ByteList, cut, put_quoted, words_of};
 use kern_model::{Oid, Pid, Place, Thing};
@@ -208,4 +210,12 @@ pub fn choice_spelled(first: &[u8], other: &[u8], word: &[u8]) -> Option<bool>
         return Some(false);
     }
     None
+}
+
+/// The capability with this name, in lower case alone.
+pub fn cap_spelled(word: &[u8]) -> Option<Cap>
+    ensures { result ≡ named cap_name all_caps word.now }
+{
+    let cap = Cap::from_name(word)?;
+    (word == cap.name()).then_some(cap)
 }

@@ -116,6 +116,20 @@ fn kill_permitted() -> CapState {
     caps
 }
 
+const LOW: &[u8] = b"unc";
+
+const HIGH: &[u8] = b"sec:a";
+
+fn pid(policy: &Policy, at: &[u8], n: u16) -> Result<Pid, Fail> {
+    let label = label(policy, at)?;
+    Ok(Pid { label, n })
+}
+
+fn oid(policy: &Policy, at: &[u8], n: u16) -> Result<Oid, Fail> {
+    let label = label(policy, at)?;
+    Ok(Oid { label, n })
+}
+
 // Whether a record has this line, is read from it, and the record that is read has this line again.
 fn is_written(
     alloc: Global,
@@ -130,70 +144,58 @@ fn is_written(
     Ok(text.as_slice() == line && again.as_slice() == line && read.used == line.len())
 }
 
+// The number of the first call whose record has another line.
+fn other_line(
+    alloc: Global,
+    policy: &Policy,
+    lines: &[(u64, Rec, &[u8])],
+) -> Result<Option<u64>, Fail> {
+    for (call, rec, line) in lines {
+        if !is_written(alloc, policy, *call, rec, line)? {
+            return Ok(Some(*call));
+        }
+    }
+    Ok(None)
+}
+
 #[test]
-fn kinds(rt: HostRuntime) -> Result<(), Fail> {
-    let alloc = rt.alloc();
-    let policy = policy(alloc, &[b"a", b"b"])?;
-    let low = label(&policy, b"unc")?;
-    let high = label(&policy, b"sec:a")?;
-    let one = Pid { label: low, n: 1 };
-    let two = Pid { label: high, n: 2 };
-    let file = Oid { label: high, n: 7 };
-    let note = ByteList::from_slice(alloc, b"a \"\\\n\xff")?;
-    let exercise = Rec::Exercise(
-        one,
-        low,
-        Cap::MacUpgrade,
-        CheckName::MacUpgrade,
-        Thing::Object(file),
-        low,
-        Some(high),
-        Place::Second(10),
-    );
-    let signal = Rec::Exercise(
-        one,
-        low,
-        Cap::Kill,
-        CheckName::Kill,
-        Thing::Process(two),
-        high,
-        None,
-        Place::Target,
-    );
-    let denied = Rec::Deny(
-        one,
-        CallName::OpenPath,
-        Errno::EACCES,
-        CheckName::DacWrite,
-        Place::First(0),
-    );
-    let lines: [(u64, Rec, &[u8]); 17] = [
-        (
-            0,
-            Rec::Boot(one, high, CapState::none()),
-            b"0 boot 1@unc sec:a \"=\"\n",
-        ),
-        (1, Rec::Fork(one, two), b"1 fork 1@unc 2@sec:a\n"),
-        (
-            2,
-            Rec::Exec(one, file, kill_permitted(), CapState::none()),
-            b"2 exec 1@unc 7@sec:a \"cap_kill=ep\" \"=\"\n",
-        ),
-        (
-            3,
-            Rec::Exit(one, Ending::Exit(255)),
-            b"3 exit 1@unc exit 255\n",
-        ),
+fn processes_come_and_go(rt: HostRuntime) -> Result<(), Fail> {
+    let policy = policy(rt.alloc(), &[b"a", b"b"])?;
+    let one = pid(&policy, LOW, 1)?;
+    let boot = Rec::Boot(one, label(&policy, HIGH)?, CapState::none());
+    let fork = Rec::Fork(one, pid(&policy, HIGH, 2)?);
+    let file = oid(&policy, HIGH, 7)?;
+    let exec = Rec::Exec(one, file, kill_permitted(), CapState::none());
+    let exit = Rec::Exit(one, Ending::Exit(255));
+    let lines: [(u64, Rec, &[u8]); 6] = [
+        (0, boot, b"0 boot 1@unc sec:a \"=\"\n"),
+        (1, fork, b"1 fork 1@unc 2@sec:a\n"),
+        (2, exec, b"2 exec 1@unc 7@sec:a \"cap_kill=ep\" \"=\"\n"),
+        (3, exit, b"3 exit 1@unc exit 255\n"),
         (4, Rec::Exit(one, Ending::Term), b"4 exit 1@unc kill TERM\n"),
         (5, Rec::Exit(one, Ending::Kill), b"5 exit 1@unc kill KILL\n"),
+    ];
+    assert_eq!(rt; other_line(rt.alloc(), &policy, &lines)?, None);
+    Ok(())
+}
+
+#[test]
+fn sets_and_labels(rt: HostRuntime) -> Result<(), Fail> {
+    let policy = policy(rt.alloc(), &[b"a", b"b"])?;
+    let one = pid(&policy, LOW, 1)?;
+    let file = oid(&policy, HIGH, 7)?;
+    let low = label(&policy, LOW)?;
+    let high = label(&policy, HIGH)?;
+    let caps = kill_permitted();
+    let lines: [(u64, Rec, &[u8]); 4] = [
         (
             6,
-            Rec::CapSetProc(one, kill_permitted()),
+            Rec::CapSetProc(one, caps),
             b"6 cap_set_proc 1@unc \"cap_kill=ep\"\n",
         ),
         (
             7,
-            Rec::CapSetFile(one, file, kill_permitted()),
+            Rec::CapSetFile(one, file, caps),
             b"7 cap_set_file 1@unc 7@sec:a \"cap_kill=ep\"\n",
         ),
         (
@@ -206,17 +208,74 @@ fn kinds(rt: HostRuntime) -> Result<(), Fail> {
             Rec::MacSetFile(one, file, high, low),
             b"9 mac_set_file 1@unc 7@sec:a sec:a unc\n",
         ),
+    ];
+    assert_eq!(rt; other_line(rt.alloc(), &policy, &lines)?, None);
+    Ok(())
+}
+
+// Of an object and a new label.
+fn upgrade(policy: &Policy) -> Result<Rec, Fail> {
+    Ok(Rec::Exercise(
+        pid(policy, LOW, 1)?,
+        label(policy, LOW)?,
+        Cap::MacUpgrade,
+        CheckName::MacUpgrade,
+        Thing::Object(oid(policy, HIGH, 7)?),
+        label(policy, LOW)?,
+        Some(label(policy, HIGH)?),
+        Place::Second(10),
+    ))
+}
+
+// Of a process.
+fn signal(policy: &Policy) -> Result<Rec, Fail> {
+    Ok(Rec::Exercise(
+        pid(policy, LOW, 1)?,
+        label(policy, LOW)?,
+        Cap::Kill,
+        CheckName::Kill,
+        Thing::Process(pid(policy, HIGH, 2)?),
+        label(policy, HIGH)?,
+        None,
+        Place::Target,
+    ))
+}
+
+#[test]
+fn checks(rt: HostRuntime) -> Result<(), Fail> {
+    let policy = policy(rt.alloc(), &[b"a", b"b"])?;
+    let denied = Rec::Deny(
+        pid(&policy, LOW, 1)?,
+        CallName::OpenPath,
+        Errno::EACCES,
+        CheckName::DacWrite,
+        Place::First(0),
+    );
+    let lines: [(u64, Rec, &[u8]); 3] = [
         (
             10,
-            exercise,
+            upgrade(&policy)?,
             b"10 exercise 1@unc unc cap_mac_upgrade mac_upgrade obj:7@sec:a unc sec:a q10\n",
         ),
         (
             11,
-            signal,
+            signal(&policy)?,
             b"11 exercise 1@unc unc cap_kill kill proc:2@sec:a sec:a - pid\n",
         ),
         (12, denied, b"12 deny 1@unc open EACCES dac_write p0\n"),
+    ];
+    assert_eq!(rt; other_line(rt.alloc(), &policy, &lines)?, None);
+    Ok(())
+}
+
+#[test]
+fn switches_and_notes(rt: HostRuntime) -> Result<(), Fail> {
+    let policy = policy(rt.alloc(), &[b"a", b"b"])?;
+    let one = pid(&policy, LOW, 1)?;
+    let two = pid(&policy, HIGH, 2)?;
+    let note = ByteList::from_slice(rt.alloc(), b"a \"\\\n\xff")?;
+    let nothing = ByteList::new(rt.alloc());
+    let lines: [(u64, Rec, &[u8]); 4] = [
         (13, Rec::Switch(two, true), b"13 switch 2@sec:a on\n"),
         (14, Rec::Switch(two, false), b"14 switch 2@sec:a off\n"),
         (
@@ -224,15 +283,9 @@ fn kinds(rt: HostRuntime) -> Result<(), Fail> {
             Rec::Note(one, note),
             b"15 note 1@unc \"a \\\"\\\\\\x0a\\xff\"\n",
         ),
-        (
-            16,
-            Rec::Note(one, ByteList::new(alloc)),
-            b"16 note 1@unc \"\"\n",
-        ),
+        (16, Rec::Note(one, nothing), b"16 note 1@unc \"\"\n"),
     ];
-    for (call, rec, line) in &lines {
-        assert!(rt; is_written(alloc, &policy, *call, rec, line)?);
-    }
+    assert_eq!(rt; other_line(rt.alloc(), &policy, &lines)?, None);
     Ok(())
 }
 

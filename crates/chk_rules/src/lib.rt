@@ -4,6 +4,8 @@
 mod checks;
 mod rules;
 mod stop;
+#[cfg(test)]
+mod tests;
 
 pub use checks::{Checks, must};
 pub use kern_model::Want;

@@ -1,13 +1,13 @@
 -- The ranges of numbers, modes and groups that words stand for.
-use Rattle.std.specs.Prelude.{◌≡◌, ℕ, ◌+◌, ◌≤◌, ◌<◌, ◌/◌, ◌%◌, ◌==◌, ◌&&◌, nat_le, nat_lt, Bool, true, false, cond, List, [], ◌∷◌, length, Option, Some, None, refl, codes}
+use Rattle.std.specs.Prelude.{◌≡◌, ℕ, ◌≤◌, ◌<◌, ◌/◌, ◌%◌, ◌==◌, nat_le, Bool, true, false, cond, List, [], ◌∷◌, length, Option, Some, None, refl, codes}
 use Rattle.std.specs.Cmp.Lexicographic.{pointwise}
-use Rattle.std.specs.List.{list_all, slice_split}
-use Rattle.std.specs.Option.{option_and_then, option_map}
-use Rattle.std.proofs.Common.{ap, sym, ◌∙◌, subst, arith}
+use Rattle.std.specs.List.{slice_split}
+use Rattle.std.specs.Option.{option_map}
+use Rattle.std.proofs.Common.{ap, sym, subst, arith}
 use Rattle.std.proofs.lemmas.Bool.{and_parts, leb-true, eqb-true}
 use Rattle.std.proofs.lemmas.Option.{cond_some, option_and_then_some, same_Some}
 use Rattle.fs_path.specs.Options.{keep_if}
-use Rattle.fs_path.specs.Values.{is_digit, worth, numeral, number_of, mode_of, numbers_of, few_numbers, groups_of}
+use Rattle.fs_path.specs.Values.{numeral, number_of, mode_of, numbers_of, few_numbers, groups_of}
 
 -- a numeral is at least its lowest and at most its highest value
 pub numeral_range : (base most low high : ℕ) (word : List ℕ) (n : ℕ) → numeral base most low high word ≡ Some n → (low ≤ n) × (n ≤ high)

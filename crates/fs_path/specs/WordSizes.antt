@@ -1,12 +1,12 @@
 -- No word of a line has more bytes than the line.
-use Rattle.std.specs.Prelude.{◌≡◌, ℕ, zero, suc, ◌+◌, ◌≤◌, true, false, cond, Bool, ◌==◌, List, [], ◌∷◌, length, drop, Option, Some, None, refl}
+use Rattle.std.specs.Prelude.{◌≡◌, ℕ, zero, suc, ◌≤◌, false, cond, Bool, ◌==◌, List, [], ◌∷◌, length, drop, Option, Some, None, refl}
 use Rattle.std.proofs.Common.{subst, arith}
 use Rattle.std.specs.List.{AllByRecursion, prefix_len, take_while}
 use Rattle.std.specs.Option.{option_and_then, option_map}
 use Rattle.std.proofs.lemmas.Bool.{cond_both}
 use Rattle.std.proofs.lemmas.List.{length-take}
 use Rattle.fs_path.specs.declared.words.LineWord.{LineWord}
-use Rattle.fs_path.specs.Words.{is_bare, is_plain, escaped, first_item, onto_front, items_within, items_of, quoted_word, begun_word, apart, is_apart, first_word, past_spaces, words_by, words_within, words_of}
+use Rattle.fs_path.specs.Words.{is_bare, first_item, onto_front, items_within, items_of, quoted_word, begun_word, apart, is_apart, first_word, past_spaces, words_by, words_within, words_of}
 use Rattle.fs_path.specs.WordSteps.{AtMost, item_shorter, word_shorter, past_shorter}
 
 -- the bytes that stand between quotes are at most n

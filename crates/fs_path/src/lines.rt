@@ -2,8 +2,8 @@
 ghost use Rattle.std.specs.Prelude.{◌≡◌, ◌==◌, ◌+◌, ◌≤◌, IfSome, MatchOption, None, Some, length, position};
 ghost use Rattle.fs_path.specs.Lines.{cut};
 
-// The place of the first `at`.
-fn place_of(text: &[u8], at: u8) -> Option<usize>
+/// The place of the first `at`.
+pub fn place_of(text: &[u8], at: u8) -> Option<usize>
     ensures { result ≡ position (λ b. b == at) text.now }
 {
     text.iter().position(|byte| *byte == at)

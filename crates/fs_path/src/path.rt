@@ -1,10 +1,11 @@
 // Paths.
 ghost use Rattle.std.specs.Prelude.{◌≡◌, ◌+◌, ◌==◌, ◌<◌, ◌≤◌, ◌^◌, ◌∷◌, ◌++◌, [], IfOk, IfErr, OnOk, None, true, cond, length};
-ghost use Rattle.std.specs.List.{position, slice_split};
+ghost use Rattle.std.specs.List.{slice_split};
 ghost use Rattle.std.specs.Option.{option_copied};
 ghost use Rattle.fs_path.specs.Path.{written_len};
 ghost use Rattle.fs_path.specs.PathText.{is_slash, names_of, components_of, is_empty_or_dot, starts_badly, component_fault, first_fault, path_fault, path_said, Says, IsNoPath, pieces_in, has_no_slash, kept};
 
+use crate::lines::place_of;
 use crate::name::MAX_NAME;
 use crate::{List, Name, NoMemory};
 use std::alloc::Global;
@@ -63,13 +64,6 @@ impl From<NoMemory> for PathError {
     fn from(value: NoMemory) -> Self {
         PathError::NoMemory(value)
     }
-}
-
-// The place of the first `byte`.
-fn place_of(bytes: &[u8], byte: u8) -> Option<usize>
-    ensures { result ≡ position (λ b. b == byte) bytes.now }
-{
-    bytes.iter().position(|b| *b == byte)
 }
 
 // What stands before the first `/`, and what stands behind it, if there is one.

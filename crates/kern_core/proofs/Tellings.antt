@@ -11,9 +11,9 @@ use Rattle.kern_model.specs.declared.numbers.Pid.{Pid}
 use Rattle.kern_model.specs.declared.records.Outcome as told
 use Rattle.kern_model.specs.declared.records.Rec.{Rec}
 use Rattle.kern_model.specs.Names.{name_of}
-use Rattle.kern_model.specs.Row.{Give, Judged, Stopped, Refused, Done, judged, judge}
+use Rattle.kern_model.specs.Row.{Give, Judged, Stopped, Refused, Done, judged}
 use Rattle.kern_model.specs.State.{State, Process}
-use Rattle.kern_model.specs.Step.{IsPlayed, step, step_by, settled, asker}
+use Rattle.kern_model.specs.Step.{IsPlayed, step, step_by, settled}
 use Rattle.kern_model.specs.Table.{row}
 use Rattle.kern_model.proofs.RowLemmas.{judge-give}
 use Rattle.chk_rules.specs.Asking.{Asking, asking, judge_from}

@@ -1,5 +1,5 @@
 -- The walk, name by name.
-use Rattle.std.specs.Prelude.{◌≡◌, true, false, not, Option, Some, None, refl, Result, Ok, Err, ok_or}
+use Rattle.std.specs.Prelude.{◌≡◌, true, false, not, Option, Some, None, refl, Result, ok_or}
 use Rattle.std.specs.Result.{IfOk, IfErr}
 use Rattle.std.proofs.Common.{ap, sym, ◌∙◌, subst}
 use Rattle.fs_path.specs.Name.{Name}
@@ -22,7 +22,7 @@ use Rattle.chk_rules.specs.declared.stop.Stop.{Stop}
 use Rattle.chk_rules.specs.declared.stop.Stop.TheVariants as stop
 use Rattle.kern_core.specs.declared.walk.Found as walked
 use Rattle.kern_core.specs.declared.walk.Found.TheVariants as found
-use Rattle.kern_core.specs.Walks.{found_of, object_found, Enters, StopsAt, FindsFrom, PassesTo, PassStops, Reaches, StopsReaching}
+use Rattle.kern_core.specs.Walks.{found_of, object_found, Enters, StopsAt, FindsFrom, PassStops, Reaches, StopsReaching}
 
 -- what ends an equal row ends the row
 pub ends_over : {i j : Judged} (after : Asking) (how : Stop) → i ≡ j → EndsBy j after how → EndsBy i after how

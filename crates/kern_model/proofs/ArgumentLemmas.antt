@@ -1,5 +1,5 @@
 -- What arguments are in their ranges.
-use Rattle.std.specs.Prelude.{◌≡◌, ◌&&◌, nat_le, true, length, cond, ◌+◌}
+use Rattle.std.specs.Prelude.{◌≡◌, true, length, cond, ◌+◌}
 use Rattle.std.specs.List.{list_all}
 use Rattle.std.proofs.lemmas.Bool.{and_from, le-leb}
 use Rattle.fs_path.specs.Name.{is_name}

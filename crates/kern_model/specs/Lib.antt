@@ -1,6 +1,7 @@
 pub mod Maps
 pub mod Keys
 pub mod Names
+pub mod Named
 pub mod Kinds
 pub mod State
 pub mod Entries

@@ -5,6 +5,7 @@
 mod calls;
 mod checks;
 mod kernel;
+mod named;
 mod numbers;
 mod objects;
 mod records;

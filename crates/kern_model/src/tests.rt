@@ -175,3 +175,29 @@ fn many_processes(rt: HostRuntime) -> Result<(), Fail> {
     assert!(rt; !world_valid(&world));
     Ok(())
 }
+
+#[test]
+fn places_and_endings(rt: HostRuntime) -> Result<(), NoMemory> {
+    let alloc = rt.alloc();
+    let mut text = Vec::new(alloc);
+    let places = [
+        Place::First(0),
+        Place::Second(31),
+        Place::Handle,
+        Place::Target,
+        Place::Caller,
+    ];
+    for place in places {
+        put_place(alloc, &mut text, place)?;
+        text.push(b' ')?;
+    }
+    for ending in [Ending::Exit(255), Ending::Term, Ending::Kill] {
+        put_ending(alloc, &mut text, ending)?;
+        text.push(b' ')?;
+    }
+    assert_eq!(rt;
+        text.as_slice(),
+        b"p0 q31 fd pid self exit 255 kill TERM kill KILL ".as_slice()
+    );
+    Ok(())
+}

@@ -168,3 +168,13 @@ fn ends_of_a_policy(rt: HostRuntime) -> Result<(), Fail> {
     assert_eq!(rt; policy.cats().len(), 2);
     Ok(())
 }
+
+#[test]
+fn number_of_a_label(rt: HostRuntime) -> Result<(), Fail> {
+    let policy = policy_of(rt.alloc(), THREE, TWO)?;
+    let label = mac_from_text(&policy, b"sec:b,a")?;
+    let mut text = Vec::new(rt.alloc());
+    put_numbered(rt.alloc(), &mut text, &policy, 4_095, &label)?;
+    assert_eq!(rt; text.as_slice(), b"4095@sec:a,b".as_slice());
+    Ok(())
+}

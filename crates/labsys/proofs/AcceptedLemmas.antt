@@ -1,5 +1,5 @@
 -- What an input's accepted world and its script are.
-use Rattle.std.proofs.Common.{◌≡◌, ℕ, ◌+◌, Bool, true, false, cond, List, [], ◌∷◌, length, take, refl, sym, ◌∙◌, ap, subst, Some}
+use Rattle.std.proofs.Common.{◌≡◌, ℕ, ◌+◌, Bool, true, false, cond, List, [], ◌∷◌, length, take, refl, sym, subst, Some}
 use Rattle.std.specs.Prelude.{nat_lt, Result, Ok, Err}
 use Rattle.std.proofs.lemmas.Bool.{and_from}
 use Rattle.lab_lattice.specs.Label.{Label}
@@ -22,7 +22,7 @@ use Rattle.world_text.specs.Reading.{Reading, Accepted, Refused as Stopped, Ende
 use Rattle.labsys.specs.declared.status.Ending.TheVariants.{Refused}
 use Rattle.labsys.specs.declared.status.Part.TheVariants as part
 use Rattle.labsys.specs.declared.status.Refusal.TheVariants as refusal
-use Rattle.labsys.specs.Input.{Accepted as AcceptedWorld, Script, Input, no_world, script, item_of, after_line, script_from, has_fifo, of_world, input_by, input_of}
+use Rattle.labsys.specs.Input.{Accepted as AcceptedWorld, Script, Input, no_world, script, item_of, after_line, script_from, has_fifo, input_by, input_of}
 
 -- ---- scripts
 

@@ -13,7 +13,7 @@ use Rattle.labsys.specs.declared.status.Refusal.TheVariants as refusal
 use Rattle.labsys.specs.declared.status.Part.{Part}
 use Rattle.labsys.specs.declared.status.Part.TheVariants as part
 use Rattle.labsys.specs.declared.status.Fault.{Fault}
-use Rattle.labsys.specs.declared.status.Fault.TheVariants.{Read, Write, Trail, NoMemory}
+use Rattle.labsys.specs.declared.status.Fault.TheVariants.{Read}
 use Rattle.lab_text.specs.Policy.{PolicyNames}
 use Rattle.world_text.specs.declared.world.WorldText.{WorldText}
 use Rattle.world_text.specs.declared.stage.Stage.{Stage}
@@ -138,17 +138,6 @@ lines_not text = input_not (read_text text) (has_piece 1 at.Format (pieces 10 te
 -- an error that is no read fault
 no_read : (fault : Fault) (W T P : Type 0) → Caused fault ⊥ W T → fault ≡ Read → P
 no_read fault W T P cause is = absurd (subst (λ f. Caused f ⊥ W T) is cause)
-
--- what has a cause among fewer has one among more
-pub caused_more : (r : Result Ending Fault) (R W T : Type 0) → IfErr r (λ fault. Caused fault ⊥ W T) → IfErr r (λ fault. Caused fault R W T)
-caused_more (Ok e) R W T h = tt
-caused_more (Err fault) R W T h = more fault h
-  where
-    more : (fault : Fault) → Caused fault ⊥ W T → Caused fault R W T
-    more Read h = absurd h
-    more Write h = h
-    more Trail h = h
-    more NoMemory h = h
 
 -- the last line alone, where no world was accepted
 pub without_world : (o o' t : Option (List ℕ)) (e : Ending) → AppendsFront o o' (last_text 0 e) → SendsFront o o' t t (order_of (no_world e))

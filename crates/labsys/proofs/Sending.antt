@@ -82,10 +82,6 @@ appends_more a b c xs ys w f = record {
   wrote = Appends-trans a b c _ _ w f.wrote;
 }
 
--- nothing of what was to come
-pub appends_none : (a b : Option (List ℕ)) (xs ys : List ℕ) → Appends a b xs → AppendsFront a b (xs ++ ys)
-appends_none a b xs ys w = record { part = xs; rest = ys; front = refl; wrote = w }
-
 -- what stands in front goes on
 pub appends_longer : (a b : Option (List ℕ)) (xs ys : List ℕ) → AppendsFront a b xs → AppendsFront a b (xs ++ ys)
 appends_longer a b xs ys f = record {
@@ -94,13 +90,6 @@ appends_longer a b xs ys f = record {
   front = ap (λ (r : List ℕ). r ++ ys) f.front ∙ append_assoc f.part f.rest ys;
   wrote = f.wrote;
 }
-
--- all of it is a front
-pub appends_all : (a b : Option (List ℕ)) (xs : List ℕ) → Appends a b xs → AppendsFront a b xs
-appends_all a b xs w = record { part = xs; rest = []; front = sym (append-nil xs); wrote = w }
-
-pub appends_start : (a : Option (List ℕ)) (xs : List ℕ) → AppendsFront a a xs
-appends_start a xs = record { part = []; rest = xs; front = refl; wrote = Appends-nil a }
 
 -- the first pieces
 pub some_pieces : {X : Type 0} (f : X → List ℕ) (xs : List X) (i : ℕ) (a b : Option (List ℕ)) → Appends a b (flat_map f (take i xs)) → AppendsFront a b (flat_map f xs)

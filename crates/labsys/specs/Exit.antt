@@ -1,5 +1,5 @@
 -- The exit status of the program.
-use Rattle.std.specs.Prelude.{ℕ}
+use Rattle.std.specs.Prelude.{ℕ, Bool, true, false}
 use Rattle.labsys.specs.declared.status.Status.{Status}
 use Rattle.labsys.specs.declared.status.Status.TheVariants.{Done, Usage, Refused, ReadFault, WriteFault, TrailFault, NoMemory, TooLong}
 
@@ -13,3 +13,10 @@ exit_code WriteFault = 4
 exit_code TrailFault = 5
 exit_code NoMemory = 6
 exit_code TooLong = 7
+
+-- whether the last line of the output tells how the run ended
+abbrev pub is_told : Status → Bool
+is_told Done = true
+is_told Refused = true
+is_told TooLong = true
+is_told _ = false

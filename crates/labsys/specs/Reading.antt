@@ -1,5 +1,5 @@
 -- What is read of an input, line by line.
-use Rattle.std.specs.Prelude.{◌≡◌, ℕ, ◌+◌, ◌≤◌, ◌<◌, Bool, true, List, [], ◌∷◌, length, Option, Some}
+use Rattle.std.specs.Prelude.{◌≡◌, ℕ, ◌+◌, ◌≤◌, ◌<◌, Bool, true, List, [], ◌∷◌, length, Some}
 use Rattle.fs_path.specs.Lines.{pieces}
 use Rattle.lab_text.specs.Policy.{PolicyNames, top_of}
 use Rattle.kern_model.specs.declared.calls.Call.{Call}

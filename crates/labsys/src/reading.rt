@@ -96,23 +96,15 @@ pub fn read_world(alloc: Global, text: &[u8], over: bool) -> Result<ReadWorld<'_
 fn last_ending(over: bool, number: u64, last: &[u8]) -> Ending
     ensures { result ≡ last_piece over number last.now }
 {
-    let long = last.len() > MAX_LINE;
-    if over {
-        return if long {
-            Ending::Refused(number, Part::Script, Refusal::TooLong)
-        } else {
-            Ending::TooMuch
-        };
-    }
-    if last.is_empty() {
+    if last.is_empty() && !over {
         return Ending::Whole;
     }
-    let why = if long {
+    let why = if last.len() > MAX_LINE {
         Refusal::TooLong
     } else {
         Refusal::Syntax
     };
-    Ending::Refused(number, Part::Script, why)
+    ends_at(over, number, Part::Script, why, last)
 }
 
 // Why a line is refused that `read_line` refuses; want of memory refuses none.

@@ -32,10 +32,7 @@ fn status_from(played: Result<Ending, Fault>) -> Status
 fn is_file_word(word: &[u8]) -> bool
     ensures { IsTrue result ↔ IsFileWord word.now }
 {
-    match word {
-        [] => false,
-        [first, ..] => *first != b'-',
-    }
+    word.first().is_some_and(|first| *first != b'-')
 }
 
 // Whether the words are `play FILE`.

@@ -1,4 +1,7 @@
 // How inputs and runs end.
+ghost use Rattle.std.specs.Prelude.{◌≡◌, is_none};
+ghost use Rattle.labsys.specs.Exit.{is_told};
+
 use kern_model::NoMemory;
 use world_text::WorldFault;
 
@@ -116,8 +119,10 @@ impl From<NoMemory> for Fault {
 }
 
 impl Status {
-    /// What the program prints of it to standard error, if anything. No clause speaks of these words.
-    pub fn complaint(self) -> Option<&'static str> {
+    /// What the program prints of it to standard error: words that no clause fixes, and nothing where the output tells.
+    pub fn complaint(self) -> Option<&'static str>
+        ensures { is_none result ≡ is_told self }
+    {
         match self {
             Status::Done | Status::Refused | Status::TooLong => None,
             Status::Usage => Some("usage"),

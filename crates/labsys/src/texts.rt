@@ -11,34 +11,40 @@ use lab_lattice::Label;
 use lab_text::{Policy, mac_to_text, put_numbered};
 use std::alloc::Global;
 
-#[tactic(auto, unfolding(crate::specs::Texts::part_text))]
-fn part_word(part: Part) -> &'static [u8]
-    ensures { result.now ≡ part_text part }
-{
-    match part {
-        Part::World => b"world",
-        Part::Script => b"script",
+impl Part {
+    /// Its word in a last line.
+    #[tactic(auto, unfolding(crate::specs::Texts::part_text))]
+    pub fn word(self) -> &'static [u8]
+        ensures { result.now ≡ part_text self }
+    {
+        match self {
+            Part::World => b"world",
+            Part::Script => b"script",
+        }
     }
 }
 
-#[tactic(auto, unfolding(crate::specs::Texts::refusal_text))]
-fn refusal_word(why: Refusal) -> &'static [u8]
-    ensures { result.now ≡ refusal_text why }
-{
-    match why {
-        Refusal::NotBuilt => b"not_built",
-        Refusal::Syntax => b"syntax",
-        Refusal::UnknownName => b"unknown_name",
-        Refusal::Repeated => b"repeated",
-        Refusal::NoParent => b"no_parent",
-        Refusal::RootLabel => b"root_label",
-        Refusal::LabelOrder => b"label_order",
-        Refusal::TooMany => b"too_many",
-        Refusal::TooLong => b"too_long",
-        Refusal::BadTag => b"bad_tag",
-        Refusal::BadPath => b"bad_path",
-        Refusal::BadLabel => b"bad_label",
-        Refusal::BadCaps => b"bad_caps",
+impl Refusal {
+    /// Its word in a last line.
+    #[tactic(auto, unfolding(crate::specs::Texts::refusal_text))]
+    pub fn word(self) -> &'static [u8]
+        ensures { result.now ≡ refusal_text self }
+    {
+        match self {
+            Refusal::NotBuilt => b"not_built",
+            Refusal::Syntax => b"syntax",
+            Refusal::UnknownName => b"unknown_name",
+            Refusal::Repeated => b"repeated",
+            Refusal::NoParent => b"no_parent",
+            Refusal::RootLabel => b"root_label",
+            Refusal::LabelOrder => b"label_order",
+            Refusal::TooMany => b"too_many",
+            Refusal::TooLong => b"too_long",
+            Refusal::BadTag => b"bad_tag",
+            Refusal::BadPath => b"bad_path",
+            Refusal::BadLabel => b"bad_label",
+            Refusal::BadCaps => b"bad_caps",
+        }
     }
 }
 
@@ -79,9 +85,9 @@ pub fn last_line(alloc: Global, count: u64, ending: Ending) -> Result<Vec<u8>, N
             text.extend_from_slice(b"refused ")?;
             put_number(alloc, &mut text, line)?;
             text.push(b' ')?;
-            text.extend_from_slice(part_word(part))?;
+            text.extend_from_slice(part.word())?;
             text.push(b' ')?;
-            text.extend_from_slice(refusal_word(why))?;
+            text.extend_from_slice(why.word())?;
         }
         Ending::TooMuch => text.extend_from_slice(b"too long")?,
     }

@@ -1,5 +1,5 @@
 // What no clause says: that the calls succeed with ample memory.
-use crate::{Creds, NotAllowed};
+use crate::{Creds, NotAllowed, copy_ids};
 use cap_bits::{Cap, CapSet, CapState};
 use kern_model::{GroupList, Ids};
 use std::alloc::Global;
@@ -39,5 +39,7 @@ fn sets_grow_by_nothing(rt: HostRuntime) -> Result<(), Fail> {
     assert_eq!(rt; creds.cap_set(CapState::none()), Ok(()));
     let copy = creds.copy(alloc)?;
     assert_eq!(rt; (copy.ids.egid, copy.umask), (5, 18));
+    let ids = copy_ids(alloc, &creds.ids)?;
+    assert_eq!(rt; (ids.ruid, ids.sgid, ids.groups.items().len()), (1, 6, 0));
     Ok(())
 }

@@ -1,30 +1,13 @@
 -- The calls by their words and arguments.
-use Rattle.std.specs.Prelude.{ℕ, List, [], ◌∷◌, Option, None, Some, Ok, Err, true, false}
-use Rattle.std.specs.List.{find}
+use Rattle.std.specs.Prelude.{ℕ, List, [], ◌∷◌, None, Some, Ok, Err, true, false}
 use Rattle.kern_model.specs.declared.calls.Call.{Call}
 use Rattle.kern_model.specs.declared.calls.Call.TheVariants as call
 use Rattle.kern_model.specs.declared.calls.CallName.{CallName}
 use Rattle.kern_model.specs.declared.calls.CallName.TheVariants as name
-use Rattle.kern_model.specs.Names.{word_of}
-use Rattle.lab_text.specs.Names.{same_bytes}
 use Rattle.lab_text.specs.Policy.{PolicyNames}
 use Rattle.script_text.specs.declared.fault.LineError.TheVariants as error
 use Rattle.script_text.specs.Reading.{Reading, both, made}
 use Rattle.script_text.specs.Argument as argument
-
--- ---- the words of calls
-
-abbrev pub all_calls : List CallName
-all_calls =
-    name.OpenPath ∷ name.Close ∷ name.Read ∷ name.Write ∷ name.Lseek ∷ name.Dup ∷ name.Pipe ∷ name.Mkfifo ∷ name.Fstat
-    ∷ name.Mkdir ∷ name.Rmdir ∷ name.Link ∷ name.Unlink ∷ name.Rename ∷ name.Readdir ∷ name.Stat ∷ name.Chdir
-    ∷ name.Chmod ∷ name.Chown ∷ name.Umask ∷ name.CapGetFile ∷ name.CapSetFile ∷ name.CapGetFd ∷ name.CapSetFd ∷ name.MacGetFile ∷ name.MacSetFile ∷ name.MacGetFd ∷ name.MacSetFd
-    ∷ name.Fork ∷ name.Exec ∷ name.Exit ∷ name.Wait ∷ name.Kill ∷ name.Getpid ∷ name.Getppid ∷ name.Getids ∷ name.Setuid ∷ name.Setgid
-    ∷ name.CapGetProc ∷ name.CapSetProc ∷ name.MacGetProc ∷ name.MacSetProc ∷ name.AudWrite ∷ name.AudSwitch ∷ []
-
--- the call with a word
-unfoldable pub call_named : List ℕ → Option CallName
-call_named word = find (λ call. same_bytes (word_of call) word) all_calls
 
 -- ---- the table
 

@@ -3,6 +3,7 @@ use Rattle.std.specs.Prelude.{◌≡◌, ℕ, true, ◌||◌, nat_lt, cond, List
 use Rattle.fs_path.specs.declared.words.LineWord.{LineWord}
 use Rattle.fs_path.specs.Words.{is_blank, words_of}
 use Rattle.kern_model.specs.Arguments.{is_call, is_number}
+use Rattle.kern_model.specs.Named.{call_named}
 use Rattle.kern_model.specs.declared.calls.CallName.{CallName}
 use Rattle.lab_lattice.specs.Label.{Label}
 use Rattle.lab_text.specs.Policy.{PolicyNames}
@@ -11,7 +12,7 @@ use Rattle.script_text.specs.declared.line.Line.TheVariants as line
 use Rattle.script_text.specs.declared.fault.LineError.TheVariants as error
 use Rattle.script_text.specs.Reading.{Reading, both, made}
 use Rattle.script_text.specs.Argument as argument
-use Rattle.script_text.specs.Calls.{call_named, call_said}
+use Rattle.script_text.specs.Calls.{call_said}
 
 -- the bytes of words
 abbrev pub bytes_in : List LineWord → List (List ℕ)

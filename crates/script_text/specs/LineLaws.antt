@@ -29,7 +29,8 @@ use Rattle.lab_text.specs.Policy.{PolicyNames, top_of}
 use Rattle.lab_text.specs.Said.{said_valid}
 use Rattle.lab_text.specs.Text.{label_said}
 use Rattle.script_text.specs.Argument.{path_by, process, pid_by, path as a_path, label as a_label, tag as a_tag, pid as a_pid, up_to as a_number_up_to, mode as a_mode, permissions as a_permission, offset as an_offset, signed, flags as some_flags, flags_in, is_in_order, numbered}
-use Rattle.script_text.specs.Calls.{call_named, call_said, none_said, one_said, two_said, three_said}
+use Rattle.kern_model.specs.Named.{call_named}
+use Rattle.script_text.specs.Calls.{call_said, none_said, one_said, two_said, three_said}
 use Rattle.script_text.specs.Line.{MayBePlayed, bytes_in, item_by, item_said, line_said, words_said}
 use Rattle.script_text.specs.Reading.{Reading, both, made}
 use Rattle.script_text.specs.declared.line.Line.{Line}

@@ -1,7 +1,7 @@
 // Calls by their words and arguments.
 ghost use Rattle.std.specs.Prelude.{◌≡◌, IsOkAnd, MatchResult};
 ghost use Rattle.script_text.specs.Reading.{Answers, both};
-ghost use Rattle.script_text.specs.Calls.{call_named, call_said, none_said, one_said, two_said, three_said};
+ghost use Rattle.script_text.specs.Calls.{call_said, none_said, one_said, two_said, three_said};
 ghost use Rattle.script_text.specs.Line.{bytes_in};
 
 use crate::LineError;
@@ -14,62 +14,6 @@ use fs_path::LineWord;
 use kern_model::{Call, CallName};
 use lab_text::Policy;
 use std::alloc::Global;
-
-// Each call once.
-const ALL: [CallName; 44] = [
-    CallName::OpenPath,
-    CallName::Close,
-    CallName::Read,
-    CallName::Write,
-    CallName::Lseek,
-    CallName::Dup,
-    CallName::Pipe,
-    CallName::Mkfifo,
-    CallName::Fstat,
-    CallName::Mkdir,
-    CallName::Rmdir,
-    CallName::Link,
-    CallName::Unlink,
-    CallName::Rename,
-    CallName::Readdir,
-    CallName::Stat,
-    CallName::Chdir,
-    CallName::Chmod,
-    CallName::Chown,
-    CallName::Umask,
-    CallName::CapGetFile,
-    CallName::CapSetFile,
-    CallName::CapGetFd,
-    CallName::CapSetFd,
-    CallName::MacGetFile,
-    CallName::MacSetFile,
-    CallName::MacGetFd,
-    CallName::MacSetFd,
-    CallName::Fork,
-    CallName::Exec,
-    CallName::Exit,
-    CallName::Wait,
-    CallName::Kill,
-    CallName::Getpid,
-    CallName::Getppid,
-    CallName::Getids,
-    CallName::Setuid,
-    CallName::Setgid,
-    CallName::CapGetProc,
-    CallName::CapSetProc,
-    CallName::MacGetProc,
-    CallName::MacSetProc,
-    CallName::AudWrite,
-    CallName::AudSwitch,
-];
-
-/// The call with this word.
-#[tactic(auto, unfolding(crate::specs::Calls::call_named))]
-pub fn call_named(word: &[u8]) -> Option<CallName>
-    ensures { result ≡ call_named word.now }
-{
-    ALL.iter().copied().find(|call| call.word() == word)
-}
 
 // The calls without arguments.
 #[tactic(auto, unfolding(crate::specs::Calls::none_said))]

@@ -4,11 +4,11 @@ ghost use Rattle.lab_text.specs.Policy.{top_of};
 ghost use Rattle.script_text.specs.Reading.{Answers, IsCause};
 ghost use Rattle.script_text.specs.Line.{item_said, line_said, MayBePlayed};
 
-use crate::call::{call_named, call_of};
+use crate::call::call_of;
 use crate::fault::both;
 use crate::{LineError, argument};
 use fs_path::{LineWord, is_blank, words_of};
-use kern_model::{Call, Pid};
+use kern_model::{Call, CallName, Pid};
 use lab_text::Policy;
 use std::alloc::Global;
 
@@ -34,7 +34,7 @@ fn item_of(alloc: Global, policy: &Policy, words: &[LineWord]) -> Result<Line, L
     if tag.quoted || name.quoted {
         return Err(LineError::Syntax);
     }
-    let name = call_named(name.bytes.items()).ok_or(LineError::Syntax)?;
+    let name = CallName::from_word(name.bytes.items()).ok_or(LineError::Syntax)?;
     let call = call_of(alloc, policy, name, arguments);
     let (who, call) = both(argument::tag(policy, tag), call)?;
     Ok(Line::One { who, call })

@@ -43,7 +43,7 @@ use Rattle.world_text.specs.declared.stage.Said.TheVariants.{Refuses, GoesOn, Be
 use Rattle.world_text.specs.declared.world.WorldText.{WorldText}
 use Rattle.world_text.specs.Tree.{Tree}
 use Rattle.world_text.specs.Placing.{is_directory, is_above, directory_of, is_root, object_fault, process_fault}
-use Rattle.world_text.specs.Stage.{world_of, unless, refuse_or, with_form, or_else, behind_keyword, by_keyword, format_said, levels_said, categories_said, bound_said, set_of, caps_of, path_of, label_form, may_start, proc_caps_of, Placed, object_said, made, tree_said, Owned, ids_of, process_said, proc_said, placed_of, owned_of, dir_said, file_said, fifo_said, proc_line_said, script_said, tree_line_said, words_said, line_said}
+use Rattle.world_text.specs.Stage.{world_of, unless, refuse_or, with_form, or_else, by_keyword, format_said, levels_said, categories_said, bound_said, set_of, caps_of, path_of, label_form, may_start, proc_caps_of, Placed, object_said, made, tree_said, Owned, ids_of, process_said, proc_said, placed_of, owned_of, dir_said, file_said, fifo_said, proc_line_said, script_said, tree_line_said, words_said, line_said}
 use Rattle.world_text.specs.Reading.{Reading, Accepted, Refused, Ended, after, reading, read_text}
 
 -- ---- what holds of a reading as far as it has come

@@ -1,12 +1,11 @@
 -- What the words of a line spell, from what holds of a world and of what is written.
-use Rattle.std.specs.Prelude.{◌≡◌, ℕ, ◌+◌, ◌/◌, ◌%◌, ◌≤◌, ◌<◌, ◌==◌, nat_le, nat_lt, Bool, true, false, cond, List, [], ◌∷◌, length, refl}
-use Rattle.std.proofs.Common.{subst, arith}
+use Rattle.std.specs.Prelude.{◌≡◌, ◌/◌, ◌%◌, ◌≤◌, nat_le, true, false, List, [], ◌∷◌, length, refl}
+use Rattle.std.proofs.Common.{arith}
 use Rattle.std.specs.List.{AllByRecursion, list_all}
 use Rattle.std.proofs.lemmas.Bool.{and_parts, leb-true, ltb-true, eqb-true}
 use Rattle.fs_path.specs.Name.{is_name}
-use Rattle.fs_path.specs.Path.{PathValue, HasForm, written_len}
+use Rattle.fs_path.specs.Path.{PathValue, HasForm}
 use Rattle.lab_lattice.specs.Label.{Label, dominates}
-use Rattle.lab_text.specs.Policy.{PolicyNames, top_of, is_valid}
 use Rattle.cap_bits.specs.CapSet.{is_within}
 use Rattle.cap_bits.specs.State.{no_flags}
 use Rattle.kern_model.specs.declared.numbers.Ids.{Ids}
@@ -14,7 +13,7 @@ use Rattle.kern_model.specs.declared.objects.Body.{Body}
 use Rattle.kern_model.specs.declared.objects.Body.TheVariants as body
 use Rattle.kern_model.specs.declared.world.WorldObject.{WorldObject}
 use Rattle.kern_model.specs.declared.world.WorldProc.{WorldProc}
-use Rattle.kern_model.specs.Kinds.{is_file, is_mode, kind_of}
+use Rattle.kern_model.specs.Kinds.{is_file, kind_of}
 use Rattle.kern_model.specs.World.{IsWorldObject, IsWorldProc}
 use Rattle.world_text.specs.CanBeRead.{are_bytes, IsNumber, HasBytes, IsWrittenObject, IsWrittenIds}
 

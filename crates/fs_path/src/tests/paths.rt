@@ -1,5 +1,5 @@
 // What no clause says: how texts of paths are read, against a table.
-use crate::{Path, PathError};
+use crate::{Name, Path, PathError};
 use std::alloc::Global;
 use std::test::Fail;
 
@@ -86,5 +86,14 @@ fn faults(rt: HostRuntime) -> Result<(), Fail> {
             "{text:?}"
         );
     }
+    Ok(())
+}
+
+#[test]
+fn path_of_one_name(rt: HostRuntime) -> Result<(), Fail> {
+    let name = Name::read(rt.alloc(), b"a")?.ok_or("a name")?;
+    let path = Path::in_root(rt.alloc(), name.copy(rt.alloc())?)?;
+    assert!(rt; is_path(&path, (true, &[b"a"])));
+    assert_eq!(rt; name.bytes(), b"a".as_slice());
     Ok(())
 }

@@ -1,7 +1,7 @@
 // What no clause says: lines, values and what is written of them, against tables.
 use crate::{
     NoMemory, groups_of, is_blank, mode_of, number_of, put_groups, put_mode, put_number,
-    put_quoted, words_of,
+    put_quoted, put_word, words_of,
 };
 use std::alloc::Global;
 
@@ -173,5 +173,16 @@ fn writing(rt: HostRuntime) -> Result<(), NoMemory> {
         text.as_slice(),
         b"0 18446744073709551615 00006041 -5 10,0,4294967295".as_slice()
     );
+    Ok(())
+}
+
+#[test]
+fn words_stand_between_quotes_where_they_must(rt: HostRuntime) -> Result<(), NoMemory> {
+    let mut text = Vec::new(rt.alloc());
+    for word in [b"a~b".as_slice(), b"a b", b"\"", b""] {
+        put_word(&mut text, word)?;
+        text.push(b' ')?;
+    }
+    assert_eq!(rt; text.as_slice(), br#"a~b "a b" "\"" "" "#.as_slice());
     Ok(())
 }

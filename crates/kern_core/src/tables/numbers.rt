@@ -50,10 +50,7 @@ impl Numbers {
     pub fn last(&self, label: &Label) -> u16
         ensures { result ≡ drawn self.now label.now }
     {
-        match self.get(label) {
-            Some(n) => n,
-            None => 0,
-        }
+        self.get(label).unwrap_or(0)
     }
 
     /// Puts a number in place of what was there.

@@ -61,20 +61,14 @@ impl Procs {
     pub fn label_of(&self, who: &Pid) -> Option<Label>
         ensures { result ≡ option_map (λ (p : Process). p.label) (map.get self.now who.now) }
     {
-        match self.get(who) {
-            Some(process) => Some(process.label()),
-            None => None,
-        }
+        self.get(who).map(Proc::label)
     }
 
     /// The capability sets of the process with this number, if there is one.
     pub fn caps_of(&self, who: &Pid) -> Option<CapState>
         ensures { result ≡ option_map (λ (p : Process). p.caps) (map.get self.now who.now) }
     {
-        match self.get(who) {
-            Some(process) => Some(process.caps()),
-            None => None,
-        }
+        self.get(who).map(Proc::caps)
     }
 
     /// The numbers of the processes, in order.

@@ -14,7 +14,7 @@ use Rattle.aud_record.specs.Written.{rec_text}
 use Rattle.kern_core.specs.Kernel.{state_of}
 use Rattle.script_text.specs.Reply.{reply_said}
 use Rattle.labsys.specs.Input.{item_of}
-use Rattle.labsys.specs.Order.{Turn, turn_of}
+use Rattle.labsys.specs.Order.{turn_of}
 use Rattle.labsys.specs.Texts.{reply_text}
 use Rattle.labsys.proofs.Sending.{sends_start, turn_recs, turn_reply, turn_all}
 use Rattle.labsys.proofs.playing.play_item.Goals as goal

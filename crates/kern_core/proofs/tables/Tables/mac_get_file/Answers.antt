@@ -4,7 +4,7 @@ use Rattle.kern_model.specs.declared.calls.Answer.TheVariants as answer
 use Rattle.kern_model.specs.declared.checks.Place.TheVariants.{First}
 use Rattle.kern_model.specs.AttrRows.{get_label}
 use Rattle.kern_model.specs.Rules.{mac_read}
-use Rattle.kern_model.specs.Row.{Row, Need, Give, Done, judged}
+use Rattle.kern_model.specs.Row.{Need, Give, Done, judged}
 use Rattle.kern_model.specs.State.{object_at}
 use Rattle.kern_model.specs.Walk.{last_place}
 use Rattle.kern_model.proofs.RowLemmas.{judge-give}

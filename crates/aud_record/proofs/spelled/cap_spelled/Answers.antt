@@ -1,7 +1,7 @@
 use Rattle.std.proofs.Common.{sym, ap, ◌∙◌}
 use Rattle.lab_text.specs.Names.{same_bytes}
 use Rattle.aud_record.proofs.NameLemmas.{no_cap, one_cap}
-use Rattle.aud_record.proofs.names.cap_named.Goals as goal
+use Rattle.aud_record.proofs.spelled.cap_spelled.Goals as goal
 
 pub returns-in_err-cap : goal.returns-in_err-cap
 returns-in_err-cap c = c.from_residual.ensures ∙ sym (no_cap c.args.word.now (sym c.from_name.ensures ∙ c.in_err-cap.was))
