@@ -1,16 +1,20 @@
 -- What a step keeps.
-use Rattle.std.specs.Prelude.{◌≡◌, refl, [], Option, Some, None}
+use Rattle.std.specs.Prelude.{◌≡◌, refl, true, [], Option, Some, None}
 use Rattle.fin_maps.specs.FinMap as map
 use Rattle.std.proofs.Common.{ap, sym, ◌∙◌, subst}
 use Rattle.kern_model.specs.declared.calls.Call.{Call}
 use Rattle.kern_model.specs.declared.calls.CallName.{CallName}
 use Rattle.kern_model.specs.declared.numbers.Pid.{Pid}
 use Rattle.kern_model.specs.declared.records.Outcome as told
+use Rattle.kern_model.specs.Arguments.{is_call}
 use Rattle.kern_model.specs.Names.{name_of}
 use Rattle.kern_model.specs.Row.{Judged, End, Stopped, Refused, Done, judge}
 use Rattle.kern_model.specs.State.{State, Process}
 use Rattle.kern_model.specs.Step.{Outcome, IsPlayed, step, step_by, settled, asker, reply_of, state_after}
 use Rattle.kern_model.specs.Table.{row}
+use Rattle.kern_model.specs.Valid.{IsValid}
+use Rattle.iso_laws.proofs.Steps.{valid_after}
+use Rattle.kern_core.specs.Built.{is_built, built_laws}
 use Rattle.kern_core.specs.Kernel.{IsStopped}
 
 -- ---- a call that stopped
@@ -30,3 +34,8 @@ kept_by s who c (Some p) h = kept_at s who p (name_of c) (judge (asker who p) []
 pub kept_played : (s t : State) (who : Pid) (c : Call) (o : told.Outcome) → IsPlayed s who c o t → IsStopped o.reply → t ≡ s
 unfolding step
 kept_played s t who c o is h = sym (ap (λ (u : Outcome). u.state) is) ∙ kept_by s who c (map.get s.procs who) (subst IsStopped (sym (ap (λ (u : Outcome). u.reply) is)) h)
+
+-- ---- a call that was played
+-- leaves a valid state valid
+pub valid_played : (s t : State) (who : Pid) (c : Call) (o : told.Outcome) → is_built c ≡ true → is_call s.top c ≡ true → IsValid s → IsPlayed s who c o t → IsValid t
+valid_played s t who c o built arguments valid is = subst IsValid (ap (λ (u : Outcome). u.state) is) (valid_after s who c (built_laws c built) arguments valid)

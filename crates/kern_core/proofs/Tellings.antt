@@ -1,8 +1,9 @@
 -- What was played or stopped is the step of the table.
-use Rattle.std.specs.Prelude.{◌≡◌, List, [], ◌∷◌, ◌++◌, Option, Some, None, refl, Result, Ok, Err}
+use Rattle.std.specs.Prelude.{◌≡◌, [], Option, Some, None, refl, Result, Ok, Err}
 use Rattle.std.specs.Result.{IfOk, IfErr}
 use Rattle.fin_maps.specs.FinMap as map
 use Rattle.std.proofs.Common.{ap, sym, ◌∙◌, subst}
+use Rattle.std.proofs.lemmas.List.{append-nil}
 use Rattle.kern_model.specs.declared.calls.Answer.{Answer}
 use Rattle.kern_model.specs.declared.calls.Call.{Call}
 use Rattle.kern_model.specs.declared.calls.Errno.TheVariants as errno
@@ -23,10 +24,6 @@ use Rattle.chk_rules.specs.declared.stop.Stop.TheVariants as stop
 use Rattle.kern_core.specs.declared.outcome.Played.{Played}
 use Rattle.kern_core.specs.Plays.{Plays, Keeps, OutcomeOf}
 use Rattle.kern_core.proofs.PlayLemmas.{keeps_same}
-
-append_none : {X : Type 0} (xs : List X) → xs ++ [] ≡ xs
-append_none [] = refl
-append_none (x ∷ xs) = ap (λ ys. x ∷ ys) (append_none xs)
 
 -- a call of a process was played along its row, or stopped there
 pub record GoesAlong (s : State) (who : Pid) (p : Process) (a : Asking) (c : Call) (t : State) (after : Asking) (r : Result Played Stop) : Type 0 where
@@ -83,5 +80,5 @@ module _ (s : State) (who : Pid) (c : Call) where
     is_played t after (Err (stop.Denied name place)) goes o tells =
         ended (judged after.used (Stopped name place)) goes.stop ∙ (λ i. record { state = sym goes.same i; reply = sym tells.reply i; recs = sym tells.recs i })
     is_played t after (Err (stop.Refused n)) goes o tells =
-        ended (judged after.used (Refused n)) goes.stop ∙ (λ i. record { state = sym goes.same i; reply = sym tells.reply i; recs = (append_none after.used ∙ sym tells.recs) i })
+        ended (judged after.used (Refused n)) goes.stop ∙ (λ i. record { state = sym goes.same i; reply = sym tells.reply i; recs = (append-nil after.used ∙ sym tells.recs) i })
     is_played t after (Err (stop.NoMemory m)) goes o tells = absurd tells

@@ -5,6 +5,7 @@ ghost use Rattle.kern_model.specs.Arguments.{is_call};
 ghost use Rattle.kern_model.specs.Boot.{boot, boot_recs};
 ghost use Rattle.kern_model.specs.State.{Process};
 ghost use Rattle.kern_model.specs.Step.{IsPlayed};
+ghost use Rattle.kern_model.specs.Valid.{IsValid};
 ghost use Rattle.kern_model.specs.World.{IsWorld};
 ghost use Rattle.kern_core.specs.Built.{is_built};
 ghost use Rattle.kern_core.specs.Kernel.{state_of, has_failed, IsStopped, TakesNoMemory};
@@ -29,6 +30,7 @@ impl Kernel {
         requires world { IsWorld world.now }
         ensures state { IfOk result (λ b. state_of b.0 ≡ boot world.now) }
         ensures recs { IfOk result (λ b. b.1 ≡ boot_recs world.now) }
+        ensures valid { IfOk result (λ b. IsValid (state_of b.0)) }
         ensures sound { IfOk result (λ b. has_failed b.0 ≡ false) }
     {
         let mut tables = Tables::empty(alloc, world.bound, world.top);
@@ -49,6 +51,7 @@ impl Kernel {
         requires built { is_built call.now ≡ true }
         ensures played { IfOk result (λ outcome. IsPlayed (state_of self.old) who.now call.now outcome (state_of self.new)) }
         ensures kept { IfOk result (λ outcome. IsStopped outcome.reply → state_of self.new ≡ state_of self.old) }
+        ensures valid { IsValid (state_of self.old) → OnOk result (IsValid (state_of self.new)) }
         ensures sound { OnOk result ((has_failed self.new ≡ false) × (has_failed self.old ≡ false)) }
         ensures failed { OnErr result (has_failed self.new ≡ true) }
         ensures for_good { has_failed self.old ≡ true → IsErr result }

@@ -8,9 +8,8 @@ use Rattle.kern_model.specs.Arguments.{is_call, is_number, is_script}
 use Rattle.kern_model.specs.World.{IsWorld}
 use Rattle.kern_model.specs.declared.calls.Call.{Call}
 use Rattle.kern_model.specs.declared.numbers.Pid.{Pid}
-use Rattle.kern_model.specs.declared.calls.Call.TheVariants as call
-use Rattle.kern_core.specs.Built.{is_built}
-use Rattle.iso_laws.specs.LawCalls.{has_laws, have_laws}
+use Rattle.kern_core.specs.Built.{is_built, built_laws}
+use Rattle.iso_laws.specs.LawCalls.{have_laws}
 use Rattle.script_text.specs.declared.line.Line.{Line}
 use Rattle.script_text.specs.declared.line.Line.TheVariants as line
 use Rattle.script_text.specs.declared.fault.LineError.{LineError}
@@ -30,13 +29,6 @@ use Rattle.labsys.specs.Input.{Accepted as AcceptedWorld, Script, Input, no_worl
 pub record MayBePlayed (top : Label) (s : Script) : Type 0 where
   pub arguments : is_script top s.items ≡ true
   pub laws : have_laws s.items ≡ true
-
--- the calls that are built have laws
-built_laws : (c : Call) → is_built c ≡ true → has_laws c ≡ true
-built_laws (call.MacGetFile path) h = refl
-built_laws call.CapGetProc h = refl
-built_laws (call.CapSetProc caps) h = refl
-built_laws c h = absurd (cc)
 
 module _ (policy : PolicyNames) where
   by_built : (who : Pid) (c : Call) (n : ℕ) (more : Script) → (is_number (top_of policy) who ≡ true) × (is_call (top_of policy) c ≡ true) → (b : Bool) → is_built c ≡ b → MayBePlayed (top_of policy) more

@@ -1,14 +1,15 @@
 -- The clauses of the top call, from what a run did.
 use Rattle.std.specs.Prelude.{Result, MatchResult, Ok, Err, None, Some}
-use Rattle.std.proofs.Common.{◌≡◌, ℕ, List, ◌++◌, refl, sym, ◌∙◌, ap, subst}
+use Rattle.std.proofs.Common.{◌≡◌, ℕ, ◌<◌, List, ◌++◌, length, refl, sym, ◌∙◌, ap, subst}
 use Rattle.std.proofs.lemmas.List.{append_cancel_left}
 use Rattle.std.specs.declared.option.Option.{Option}
 use Rattle.std.specs.Io.KnownBytes.{Appends, Consumes, IsAtEnd}
 use Rattle.lab_lattice.specs.Label.{Label}
 use Rattle.kern_model.specs.Boot.{boot}
 use Rattle.kern_model.specs.Fronts.{IsFront}
-use Rattle.kern_model.specs.Lineage.{OnlyDrops, all_recs}
+use Rattle.kern_model.specs.Lineage.{OnlyDrops, GrowsByExec}
 use Rattle.iso_laws.proofs.Drops.{drops_are_told}
+use Rattle.iso_laws.proofs.Growth.{growth_is_told}
 use Rattle.labsys.specs.declared.status.Ending.{Ending}
 use Rattle.labsys.specs.declared.status.Ending.TheVariants.{Whole, Refused as IsRefused, TooMuch}
 use Rattle.labsys.specs.declared.status.Fault.{Fault}
@@ -16,13 +17,13 @@ use Rattle.labsys.specs.declared.status.Fault.TheVariants.{Read, Write, Trail, N
 use Rattle.labsys.specs.declared.status.Status.{Status}
 use Rattle.labsys.specs.declared.status.Status.TheVariants.{Done, Usage, Refused, ReadFault, WriteFault, TrailFault, NoMemory, TooLong}
 use Rattle.labsys.specs.Input.{Accepted, input_of}
-use Rattle.labsys.specs.Order.{Sent, out_of, trail_of, order_by, order_of, out_by, out_text, trail_text, turns_of, replies_of, tail_text}
+use Rattle.labsys.specs.Order.{Sent, out_of, trail_of, order_by, order_of, out_by, out_text, trail_text, turns_of, head_text, replies_of, records_of, trail_by, tail_text}
 use Rattle.labsys.specs.Playing.{Finishes, Plays, left_of}
-use Rattle.labsys.specs.Clauses.{status_of, ends_with, OnWhole, OnKnown, WhereTold, WhereAccepted, Covered, RepliesFirst, told_text, Written, Isolated, IsolatedWhole, SameBelow, TwoInputs, TwoWhole}
+use Rattle.labsys.specs.Clauses.{status_of, ends_with, OnWhole, OnKnown, WhereTold, WhereAccepted, Covered, RepliesFirst, Printed, Dropped, Written, Isolated, IsolatedWhole, SameBelow, TwoInputs, TwoWhole}
 use Rattle.labsys.proofs.Sending.{out_of-append, trail_of-append}
-use Rattle.labsys.proofs.Coverage.{order_out, order_trail, covered, replies_first}
+use Rattle.labsys.proofs.Coverage.{order_out, order_trail, covered, replies_first, recorded}
 use Rattle.labsys.proofs.AcceptedLemmas.{accepted_input}
-use Rattle.labsys.proofs.Printing.{text_told}
+use Rattle.labsys.proofs.Printing.{text_told, trail_told, all_numbered}
 use Rattle.labsys.proofs.Isolating.{written, is_isolated, is_isolated_whole, two_agree, two_whole}
 
 -- ---- the ends that tell
@@ -80,6 +81,12 @@ out_is : (text : List ℕ) (a : Accepted) (sent rest : List Sent) → (input_of 
 unfolding out_by
 out_is text a sent rest is e = sym (order_out (Some a) (input_of text).script) ∙ ap out_of (by_world text a sent rest is e) ∙ out_of-append sent rest
 
+-- the trail of an accepted input
+trail_is : (text : List ℕ) (a : Accepted) (sent rest : List Sent) → (input_of text).accepted ≡ Some a → order_of (input_of text) ≡ sent ++ rest
+    → head_text a ++ records_of (turns_of a (input_of text).script) ≡ trail_of sent ++ trail_of rest
+unfolding trail_by
+trail_is text a sent rest is e = sym (order_trail (Some a) (input_of text).script) ∙ ap trail_of (by_world text a sent rest is e) ∙ trail_of-append sent rest
+
 world_written : (text : List ℕ) (a : Accepted) (out : List ℕ) (sent rest : List Sent) → (input_of text).accepted ≡ Some a → order_of (input_of text) ≡ sent ++ rest → out ≡ out_of sent → Written (turns_of a (input_of text).script) out
 world_written text a out sent rest is e so = subst (Written (turns_of a (input_of text).script)) (sym so) (written (turns_of a (input_of text).script) _ (out_of sent) (out_of rest) (out_is text a sent rest is e))
 
@@ -112,14 +119,24 @@ module _ (r : Result Ending Fault) (s : Status) (l l' o o' t t' : Option (List �
   run_replies_first = where_told _ (λ text out trail sent rest e so st. on_known s _ (λ a is.
       subst (λ z. RepliesFirst a (input_of text).script z trail) (sym so) (subst (λ z. RepliesFirst a (input_of text).script (out_of sent) z) (sym st) (replies_first a (input_of text).script sent rest (by_world text a sent rest is e)))))
 
-  pub run_printed : WhereTold l o o' t t' (λ text out trail. OnKnown s (WhereAccepted (input_of text) (λ a. IsFront out (told_text a (input_of text).script))))
+  pub run_printed : WhereTold l o o' t t' (λ text out trail. OnKnown s (WhereAccepted (input_of text) (λ a. Printed a (input_of text).script out trail)))
   run_printed = where_told _ (λ text out trail sent rest e so st. on_known s _ (λ a is. record {
-    rest = out_of rest;
-    whole_is = sym (text_told a (input_of text).script) ∙ sym (order_out (Some a) (input_of text).script) ∙ ap out_of (by_world text a sent rest is e) ∙ out_of-append sent rest ∙ ap (λ (z : List ℕ). z ++ out_of rest) (sym so);
+    told = record {
+      rest = out_of rest;
+      whole_is = sym (text_told a (input_of text).script) ∙ sym (order_out (Some a) (input_of text).script) ∙ ap out_of (by_world text a sent rest is e) ∙ out_of-append sent rest ∙ ap (λ (z : List ℕ). z ++ out_of rest) (sym so);
+    };
+    recorded = λ more. st ∙ recorded a (input_of text).script sent rest (by_world text a sent rest is e) (subst (λ z. length (replies_of (turns_of a (input_of text).script)) < length z) so more) ∙ trail_told a (input_of text).script;
   }))
 
-  pub run_dropped : WhereTold l o o' t t' (λ text out trail. OnKnown s (WhereAccepted (input_of text) (λ a. OnlyDrops a.world.bound (all_recs a.world (input_of text).script.items))))
-  run_dropped = where_told _ (λ text out trail sent rest e so st. on_known s _ (λ a is. drops_are_told a.world (input_of text).script.items))
+  pub run_dropped : WhereTold l o o' t t' (λ text out trail. OnKnown s (WhereAccepted (input_of text) (λ a. Dropped a (input_of text).script trail)))
+  run_dropped = where_told _ (λ text out trail sent rest e so st. on_known s _ (λ a is. record {
+    begins = record {
+      rest = trail_of rest;
+      whole_is = sym (trail_told a (input_of text).script) ∙ trail_is text a sent rest is e ∙ ap (λ (z : List ℕ). z ++ trail_of rest) (sym st);
+    };
+    drops = subst (OnlyDrops a.world.bound) (sym (all_numbered a (input_of text).script)) (drops_are_told a.world (input_of text).script.items);
+    grows = subst (GrowsByExec a.world.bound) (sym (all_numbered a (input_of text).script)) (growth_is_told a.world (input_of text).script.items);
+  }))
 
   pub run_isolated : (k : Label) → WhereTold l o o' t t' (λ text out trail. OnKnown s (WhereAccepted (input_of text) (λ a. Isolated k a (input_of text).script out)))
   run_isolated k = where_told _ (λ text out trail sent rest e so st. on_known s _ (λ a is.

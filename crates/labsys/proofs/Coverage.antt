@@ -96,6 +96,13 @@ replies_pos (t ∷ ts) m all le = let p = all.0 in omega (arith, length-append t
 
 -- ---- fronts
 
+empty_back : (xs ys : List ℕ) → xs ++ ys ≡ [] → ys ≡ []
+empty_back [] ys e = e
+empty_back (x ∷ xs) ys e = absurd (cc)
+
+only_front : (xs ys zs : List ℕ) → ys ≡ [] → xs ++ ys ≡ zs → xs ≡ zs
+only_front xs ys zs none e = sym (append-nil xs) ∙ ap (λ (z : List ℕ). xs ++ z) (sym none) ∙ e
+
 -- among records nothing stands in the output
 none_out : (r : List ℕ) (x y : List Sent) → to_trail r ≡ x ++ y → length (out_of x) ≡ 0
 none_out r x y e = let h = ap length (sym (out_of-to_trail r) ∙ ap out_of e ∙ out_of-append x y) in omega (arith, h, length-append (out_of x) (out_of y))
@@ -105,6 +112,10 @@ some_out p x y e = let h = ap length (sym (out_of-to_out p) ∙ ap out_of e ∙ 
 
 none_trail : (p : List ℕ) (x y : List Sent) → to_out p ≡ x ++ y → length (trail_of x) ≡ 0
 none_trail p x y e = let h = ap length (sym (trail_of-to_out p) ∙ ap trail_of e ∙ trail_of-append x y) in omega (arith, h, length-append (trail_of x) (trail_of y))
+
+-- nor behind any of it
+none_behind : (p : List ℕ) (x y : List Sent) → to_out p ≡ x ++ y → trail_of y ≡ []
+none_behind p x y e = empty_back (trail_of x) (trail_of y) (sym (sym (trail_of-to_out p) ∙ ap trail_of e ∙ trail_of-append x y))
 
 some_trail : (r : List ℕ) (x y : List Sent) → to_trail r ≡ x ++ y → length (trail_of x) ≤ length r
 some_trail r x y e = let h = ap length (sym (trail_of-to_trail r) ∙ ap trail_of e ∙ trail_of-append x y) in omega (arith, h, length-append (trail_of x) (trail_of y))
@@ -222,3 +233,29 @@ pub replies_first : (a : Accepted) (m : Script) (sent rest : List Sent) → orde
     → length (head_text a ++ records_of (take k (turns_of a m))) < length (trail_of sent) → IsFront (replies_of (take k (turns_of a m))) (out_of sent)
 unfolding order_by order_in
 replies_first a m sent rest e k le h = first_behind (head_text a) (turns_of a m) (tail_text a.policy 0 (boot a.world) m) sent rest e k le h
+
+-- ---- behind the replies
+
+-- what goes on behind the replies in the output has all records in front of it
+pub recorded : (a : Accepted) (m : Script) (sent rest : List Sent) → order_by (Some a) m ≡ sent ++ rest
+    → length (replies_of (turns_of a m)) < length (out_of sent) → trail_of sent ≡ head_text a ++ records_of (turns_of a m)
+unfolding order_by order_in trail_by
+recorded a m sent rest e more =
+    let ts = turns_of a m in
+    let tail = tail_text a.policy 0 (boot a.world) m in
+    let turns = to_trail (head_text a) ++ flat_map told ts in
+    let parts : turns ++ to_out tail ≡ sent ++ rest = append_assoc (to_trail (head_text a)) (flat_map told ts) (to_out tail) ∙ e in
+    let out_turns = ap length (sym (out_of-append turns (to_out tail)) ∙ ap out_of (append_assoc (to_trail (head_text a)) (flat_map told ts) (to_out tail)) ∙ out_behind (head_text a) (flat_map told ts ++ to_out tail) ∙ turns_out ts tail) in
+    elim (split turns (to_out tail) sent rest parts) [
+      | Within y a_is ↦ absurd (omega (
+        arith,
+        out_turns,
+        more,
+        ap length (ap out_of a_is ∙ out_of-append sent y),
+        length-append (out_of sent) (out_of y),
+        length-append (out_of turns) (out_of (to_out tail)),
+        ap length (out_of-to_out tail),
+        length-append (replies_of ts) tail,
+      ))
+      | Past z front_is b_is ↦ only_front (trail_of sent) (trail_of rest) _ (none_behind tail z rest b_is) (sym (trail_of-append sent rest) ∙ sym (ap trail_of e) ∙ order_trail (Some a) m)
+    ]

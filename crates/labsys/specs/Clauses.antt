@@ -1,14 +1,16 @@
 -- What a run means, in words on the bytes of its ends.
-use Rattle.std.specs.Prelude.{◌≡◌, ℕ, ◌+◌, ◌≤◌, ◌<◌, List, [], ◌∷◌, ◌++◌, length, take, Result, Ok, Err, Option, Some, codes, string_bytes}
+use Rattle.std.specs.Prelude.{◌≡◌, ℕ, ◌+◌, ◌≤◌, ◌<◌, List, [], ◌∷◌, ◌++◌, length, map, take, Result, Ok, Err, Option, Some, codes, string_bytes}
 use Rattle.std.specs.List.{flat_map}
-use Rattle.fin_maps.specs.FinMap as map
+use Rattle.fin_maps.specs.FinMap as finite
 use Rattle.std.specs.declared.string.String.{String}
 use Rattle.std.specs.declared.alloc.Global.{Global}
 use Rattle.lab_lattice.specs.Label.{Label}
-use Rattle.kern_model.specs.Boot.{boot}
+use Rattle.aud_record.specs.Written.{rec_text, header_text}
+use Rattle.kern_model.specs.declared.records.Rec.{Rec}
+use Rattle.kern_model.specs.Boot.{boot, boot_recs}
 use Rattle.kern_model.specs.State.{State}
 use Rattle.kern_model.specs.Run.{Played, run, state_after_run}
-use Rattle.kern_model.specs.Lineage.{caps_of, all_recs}
+use Rattle.kern_model.specs.Lineage.{caps_of, OnlyDrops, GrowsByExec}
 use Rattle.kern_model.specs.Isolation.{part, part_script, answers, alone, up_to}
 use Rattle.kern_model.specs.Fronts.{IsFront, Agree}
 use Rattle.labsys.specs.declared.status.Ending.{Ending}
@@ -94,17 +96,45 @@ pub record Written (turns : List Turn) (out : List ℕ) : Type 0 where
   pub begins : IsFront (replies_of (take count turns)) out
   pub no_more : count + 1 ≤ length turns → length out < length (replies_of (take (count + 1) turns))
 
--- ---- capability sets
+-- ---- records and capability sets
+
+-- the records of calls from the n-th on, each with the number of its call
+abbrev pub numbered_from : ℕ → List Played → List (ℕ × Rec)
+numbered_from n [] = []
+numbered_from n (p ∷ ps) = map (λ (r : Rec). (n, r)) p.recs ++ numbered_from (n + 1) ps
+
+-- the records of a run, each with the number of its call; 0 is that of the start
+abbrev pub numbered_recs : Accepted → Script → List (ℕ × Rec)
+numbered_recs a script = map (λ (r : Rec). (0, r)) (boot_recs a.world) ++ numbered_from 1 (run (boot a.world) script.items)
+
+-- records without the numbers of their calls
+abbrev pub recs_in : List (ℕ × Rec) → List Rec
+recs_in recs = map (λ (r : ℕ × Rec). r.1) recs
+
+-- the trail that has these records
+abbrev pub trail_with : Accepted → List (ℕ × Rec) → List ℕ
+trail_with a recs = header_text a.policy a.world.bound ++ flat_map (λ (r : ℕ × Rec). rec_text a.policy r.0 r.1) recs
 
 -- the state behind the last call
 abbrev pub last_state : Accepted → Script → State
 last_state a script = state_after_run (boot a.world) script.items
 
--- the output in which each end line has the capability sets that the records tell
-abbrev pub told_text : Accepted → Script → List ℕ
-told_text a script = replies_of (turns_of a script)
-    ++ (flat_map (λ who. end_text a.policy who (label_in (last_state a script) who) (Some (caps_of a.world.bound (all_recs a.world script.items) who))) (map.keys (last_state a script).procs)
+-- the output in which each end line has the capability sets that records tell
+abbrev pub told_text : Accepted → Script → List Rec → List ℕ
+told_text a script recs = replies_of (turns_of a script)
+    ++ (flat_map (λ who. end_text a.policy who (label_in (last_state a script) who) (Some (caps_of a.world.bound recs who))) (finite.keys (last_state a script).procs)
     ++ last_text (length script.items) script.ending)
+
+-- each end line has the capability sets that the records of the run tell, and where out goes on behind the replies they all stand in the trail
+pub record Printed (a : Accepted) (script : Script) (out trail : List ℕ) : Type 0 where
+  pub told : IsFront out (told_text a script (recs_in (numbered_recs a script)))
+  pub recorded : length (replies_of (turns_of a script)) < length out → trail ≡ trail_with a (numbered_recs a script)
+
+-- the trail is of the records of the run, or a front of that; in them `cap_set_proc` makes nothing permitted that was not, and permitted sets grow by exec alone
+pub record Dropped (a : Accepted) (script : Script) (trail : List ℕ) : Type 0 where
+  pub begins : IsFront trail (trail_with a (numbered_recs a script))
+  pub drops : OnlyDrops a.world.bound (recs_in (numbered_recs a script))
+  pub grows : GrowsByExec a.world.bound (recs_in (numbered_recs a script))
 
 -- ---- isolation
 

@@ -4,10 +4,9 @@ ghost use Rattle.std.specs.Io.KnownBytes.{IsAtEnd};
 ghost use Rattle.io_ends.specs.Causes.{Rose};
 ghost use Rattle.lab_lattice.specs.Label.{Label};
 ghost use Rattle.kern_model.specs.Fronts.{IsFront};
-ghost use Rattle.kern_model.specs.Lineage.{OnlyDrops, all_recs};
 ghost use Rattle.labsys.specs.Input.{input_of};
 ghost use Rattle.labsys.specs.Order.{out_text, trail_text};
-ghost use Rattle.labsys.specs.Clauses.{status_of, ends_with, OnWhole, OnKnown, HasCauses, WhereTold, WhereAccepted, Covered, RepliesFirst, told_text, Isolated, IsolatedWhole, SameBelow, TwoInputs, TwoWhole, ArePlayWords, IsFileWord, IsComplete};
+ghost use Rattle.labsys.specs.Clauses.{status_of, ends_with, OnWhole, OnKnown, HasCauses, WhereTold, WhereAccepted, Covered, RepliesFirst, Printed, Dropped, Isolated, IsolatedWhole, SameBelow, TwoInputs, TwoWhole, ArePlayWords, IsFileWord, IsComplete};
 
 use crate::playing::play;
 use crate::{Ending, Fault, Status};
@@ -88,13 +87,12 @@ pub fn run<S: Source, K: Sink, T: Sink>(
         (λ text o t. OnWhole result (WhereAccepted (input_of text) (λ a. WhereAccepted (input_of other) (λ b.
         SameBelow l a (input_of text).script b (input_of other).script → TwoWhole l a (input_of text).script b (input_of other).script o)))) }
 
-    // Each end line has the capability sets that the records tell.
+    // Each end line has the capability sets that the records tell, all of which are in the trail then.
     ensures printed { WhereTold (S.left source.old) (K.held out.old) (K.held out.new) (T.held trail.old) (T.held trail.new)
-        (λ text o t. OnKnown result (WhereAccepted (input_of text) (λ a. IsFront o (told_text a (input_of text).script)))) }
-
-    // What a call makes permitted was permitted before it, by the records.
+        (λ text o t. OnKnown result (WhereAccepted (input_of text) (λ a. Printed a (input_of text).script o t))) }
+    // The trail is of records in which permitted sets grow by exec alone.
     ensures dropped { WhereTold (S.left source.old) (K.held out.old) (K.held out.new) (T.held trail.old) (T.held trail.new)
-        (λ text o t. OnKnown result (WhereAccepted (input_of text) (λ a. OnlyDrops a.world.bound (all_recs a.world (input_of text).script.items)))) }
+        (λ text o t. OnKnown result (WhereAccepted (input_of text) (λ a. Dropped a (input_of text).script t))) }
 
     ensures to_the_end { result ≡ Status.Done → IsAtEnd (S.left source.new) }
     ensures few { (text rest : List ℕ) → S.left source.old ≡ Some text → S.left source.new ≡ Some rest → length text ≤ length rest + 16777217 }
