@@ -5,8 +5,10 @@
 
 First scripts of doubling length on a world of one file and one process, up to the limit of an input, of one call and of
 three; then worlds of doubling size, up to the limits of a label, with one call for each file; then worlds that fill an input
-up to its limit, all files in one directory or 32 names deep.
+up to its limit, all files in one directory or 32 names deep. It prints the rows of the table in README.md: wall time, and the
+most memory that the run held at a time.
 """
+import os
 import pathlib
 import subprocess
 import tempfile
@@ -50,36 +52,40 @@ def filled_world(size, depth):
 
 
 def run(folder, text):
-    """The status and the seconds of one run."""
+    """The status, the seconds and the MiB of one run."""
     path = pathlib.Path(folder) / "input"
     path.write_bytes(text)
     with open(path, "rb") as source:
         begin = time.monotonic()
-        done = subprocess.run([TOP / "labsys", "play", "trail.out"], stdin=source, stdout=subprocess.DEVNULL, cwd=folder)
-        return done.returncode, time.monotonic() - begin
+        child = subprocess.Popen([TOP / "labsys", "play", "trail.out"], stdin=source, stdout=subprocess.DEVNULL, cwd=folder)
+        _, status, used = os.wait4(child.pid, 0)
+        child.returncode = os.waitstatus_to_exitcode(status)
+        return child.returncode, time.monotonic() - begin, used.ru_maxrss / 1024
 
 
 def show(folder, title, text):
-    status, seconds = run(folder, text)
-    print(f"{title:<32} {len(text):>9} bytes {seconds:>6.2f} s" + ("" if status == 0 else f"  status {status}"))
+    status, seconds, resident = run(folder, text)
+    ended = "" if status == 0 else f" status {status}"
+    print(f"| {title} | {len(text):,} | {seconds:.2f} | {resident:,.0f} MiB |{ended}", flush=True)
 
 
 def main():
     with tempfile.TemporaryDirectory() as folder:
         run(folder, long_script(1000))  # builds the program, if it is not built
+        print("| Input | Bytes | Seconds | Resident |\n|---|---|---|---|")
         for part in (32, 16, 8, 4, 2, 1):
             text = long_script(LIMIT // part)
-            show(folder, f"{text.count(b'mac_get_file')} calls", text)
+            show(folder, f"{text.count(b'mac_get_file'):,} calls", text)
         for part in (32, 16, 8, 4, 2, 1):
             text = mixed_script(LIMIT // part)
-            show(folder, f"{text.count(b'1@unc ')} calls of three kinds", text)
+            show(folder, f"{text.count(b'1@unc '):,} calls of three kinds", text)
         for part in (8, 4, 2, 1):
             files, procs = 65_534 // part, 4_095 // part
-            show(folder, f"{files} files, {procs} processes", large_world(files, procs))
+            show(folder, f"{files:,} files, {procs:,} processes", large_world(files, procs))
         for depth in (2, 32):
             for part in (8, 4, 2, 1):
                 text = filled_world(LIMIT // part, depth)
-                show(folder, f"{text.count(b'file ')} files, {depth} names deep", text)
+                show(folder, f"{text.count(b'file '):,} files, {depth} names deep", text)
 
 
 if __name__ == "__main__":

@@ -7,6 +7,7 @@ ghost use Rattle.worked_calls.specs.DirectoryOverAHiddenTreeIsShownAlike as dire
 ghost use Rattle.worked_calls.specs.HiddenFileUnderADirectoryIsDeniedAtP2 as hidden_file_under_a_directory_is_denied_at_p2;
 ghost use Rattle.worked_calls.specs.HiddenNameIsListedAndKeepsItsDirectory as hidden_name_is_listed_and_keeps_its_directory;
 ghost use Rattle.worked_calls.specs.NothingIsFoundOrMadeInARemovedDirectory as nothing_is_found_or_made_in_a_removed_directory;
+ghost use Rattle.worked_calls.specs.RenameLooksAtTheTargetBeforeTheLoop as rename_looks_at_the_target_before_the_loop;
 ghost use Rattle.worked_calls.specs.RenameTakesThePlaceOfTargetsByKind as rename_takes_the_place_of_targets_by_kind;
 ghost use Rattle.worked_calls.specs.WalkThroughAHiddenDirectoryIsDeniedAlike as walk_through_a_hidden_directory_is_denied_alike;
 ghost use Rattle.worked_calls.specs.WalkThroughAHiddenFileIsDenied as walk_through_a_hidden_file_is_denied;
@@ -64,6 +65,15 @@ pub fn nothing_is_found_or_made_in_a_removed_directory()
     ensures arguments { may_be_played nothing_is_found_or_made_in_a_removed_directory.world (script_of nothing_is_found_or_made_in_a_removed_directory.lines) ≡ true }
     ensures calls { ran nothing_is_found_or_made_in_a_removed_directory.world (script_of nothing_is_found_or_made_in_a_removed_directory.lines) ≡ expected nothing_is_found_or_made_in_a_removed_directory.lines }
     ensures ends { left nothing_is_found_or_made_in_a_removed_directory.world (script_of nothing_is_found_or_made_in_a_removed_directory.lines) ≡ nothing_is_found_or_made_in_a_removed_directory.ends }
+{}
+
+/// A directory is not moved below itself at any depth; what stands at the target is told before that, and the order of labels before the target.
+#[tactic(auto, unfolding(crate::specs::Worked::ran, crate::specs::Worked::may_be_played, crate::specs::Worked::left))]
+pub fn rename_looks_at_the_target_before_the_loop()
+    ensures start { boot_recs rename_looks_at_the_target_before_the_loop.world ≡ rename_looks_at_the_target_before_the_loop.boots }
+    ensures arguments { may_be_played rename_looks_at_the_target_before_the_loop.world (script_of rename_looks_at_the_target_before_the_loop.lines) ≡ true }
+    ensures calls { ran rename_looks_at_the_target_before_the_loop.world (script_of rename_looks_at_the_target_before_the_loop.lines) ≡ expected rename_looks_at_the_target_before_the_loop.lines }
+    ensures ends { left rename_looks_at_the_target_before_the_loop.world (script_of rename_looks_at_the_target_before_the_loop.lines) ≡ rename_looks_at_the_target_before_the_loop.ends }
 {}
 
 /// A directory replaces only an empty directory, a file only something that is no directory; two names of one file stay.

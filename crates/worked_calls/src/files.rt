@@ -3,6 +3,8 @@ ghost use Rattle.std.specs.Prelude.{◌≡◌, true};
 ghost use Rattle.kern_model.specs.Boot.{boot_recs};
 ghost use Rattle.worked_calls.specs.CapabilityEffectiveButNotNeededChangesNoReply as capability_effective_but_not_needed_changes_no_reply;
 ghost use Rattle.worked_calls.specs.CapabilityPermittedButNotNeededChangesNoReply as capability_permitted_but_not_needed_changes_no_reply;
+ghost use Rattle.worked_calls.specs.EntriesAreLeftByModeBeforeTheObject as entries_are_left_by_mode_before_the_object;
+ghost use Rattle.worked_calls.specs.FullDescriptorsComeBeforeThePath as full_descriptors_come_before_the_path;
 ghost use Rattle.worked_calls.specs.ReadingAcrossCategoriesIsDeniedBothWays as reading_across_categories_is_denied_both_ways;
 ghost use Rattle.worked_calls.specs.SeekOnADescriptorNotOpenIsEbadf as seek_on_a_descriptor_not_open_is_ebadf;
 ghost use Rattle.worked_calls.specs.WritingClearsTheSetIdBits as writing_clears_the_set_id_bits;
@@ -25,6 +27,24 @@ pub fn capability_permitted_but_not_needed_changes_no_reply()
     ensures arguments { may_be_played capability_permitted_but_not_needed_changes_no_reply.world (script_of capability_permitted_but_not_needed_changes_no_reply.lines) ≡ true }
     ensures calls { ran capability_permitted_but_not_needed_changes_no_reply.world (script_of capability_permitted_but_not_needed_changes_no_reply.lines) ≡ expected capability_permitted_but_not_needed_changes_no_reply.lines }
     ensures ends { left capability_permitted_but_not_needed_changes_no_reply.world (script_of capability_permitted_but_not_needed_changes_no_reply.lines) ≡ capability_permitted_but_not_needed_changes_no_reply.ends }
+{}
+
+/// The directory's label, then its mode, then the object's label; the order of labels before a directory that is gone.
+#[tactic(auto, unfolding(crate::specs::Worked::ran, crate::specs::Worked::may_be_played, crate::specs::Worked::left))]
+pub fn entries_are_left_by_mode_before_the_object()
+    ensures start { boot_recs entries_are_left_by_mode_before_the_object.world ≡ entries_are_left_by_mode_before_the_object.boots }
+    ensures arguments { may_be_played entries_are_left_by_mode_before_the_object.world (script_of entries_are_left_by_mode_before_the_object.lines) ≡ true }
+    ensures calls { ran entries_are_left_by_mode_before_the_object.world (script_of entries_are_left_by_mode_before_the_object.lines) ≡ expected entries_are_left_by_mode_before_the_object.lines }
+    ensures ends { left entries_are_left_by_mode_before_the_object.world (script_of entries_are_left_by_mode_before_the_object.lines) ≡ entries_are_left_by_mode_before_the_object.ends }
+{}
+
+/// With 32 descriptors open is refused before its path is looked at, and dup before nothing.
+#[tactic(auto, unfolding(crate::specs::Worked::ran, crate::specs::Worked::may_be_played, crate::specs::Worked::left))]
+pub fn full_descriptors_come_before_the_path()
+    ensures start { boot_recs full_descriptors_come_before_the_path.world ≡ full_descriptors_come_before_the_path.boots }
+    ensures arguments { may_be_played full_descriptors_come_before_the_path.world (script_of full_descriptors_come_before_the_path.lines) ≡ true }
+    ensures calls { ran full_descriptors_come_before_the_path.world (script_of full_descriptors_come_before_the_path.lines) ≡ expected full_descriptors_come_before_the_path.lines }
+    ensures ends { left full_descriptors_come_before_the_path.world (script_of full_descriptors_come_before_the_path.lines) ≡ full_descriptors_come_before_the_path.ends }
 {}
 
 /// Two labels with different categories: neither process reads the other's file.

@@ -29,6 +29,7 @@ mod utilities_and_words;
 mod walks;
 
 pub use attributes::{
+    ids_that_differ, nothing_overrides_these_checks, owners_and_set_id_bits,
     relabelling_of_a_process_is_recorded, writing_empties_the_capability_sets,
     writing_with_cap_fsetid_keeps_the_capability_sets,
 };
@@ -54,13 +55,17 @@ pub use directories::{
     directory_is_not_moved_inside_itself_nor_linked, directory_over_a_hidden_file_is_shown,
     directory_over_a_hidden_tree_is_shown_alike, hidden_file_under_a_directory_is_denied_at_p2,
     hidden_name_is_listed_and_keeps_its_directory, nothing_is_found_or_made_in_a_removed_directory,
-    rename_takes_the_place_of_targets_by_kind, walk_through_a_hidden_directory_is_denied_alike,
-    walk_through_a_hidden_file_is_denied,
+    rename_looks_at_the_target_before_the_loop, rename_takes_the_place_of_targets_by_kind,
+    walk_through_a_hidden_directory_is_denied_alike, walk_through_a_hidden_file_is_denied,
 };
-pub use exec::{bound_cuts_what_a_file_permits, forked_child_gains_by_its_own_exec};
+pub use exec::{
+    all_ids_are_looked_at, bound_cuts_what_a_file_permits, forked_child_gains_by_its_own_exec,
+    program_gives_by_each_set_alone,
+};
 pub use files::{
     capability_effective_but_not_needed_changes_no_reply,
     capability_permitted_but_not_needed_changes_no_reply,
+    entries_are_left_by_mode_before_the_object, full_descriptors_come_before_the_path,
     reading_across_categories_is_denied_both_ways, seek_on_a_descriptor_not_open_is_ebadf,
     writing_clears_the_set_id_bits, writing_with_cap_fsetid_keeps_the_set_id_bits,
 };
@@ -79,7 +84,10 @@ pub use opening::{
     open_is_refused_in_the_order_of_its_row, open_makes_and_empties_files,
     the_class_of_a_mode_alone_counts,
 };
-pub use pipes::{fifo_is_used_at_equal_labels_alone, pipe_takes_4096_bytes};
+pub use pipes::{
+    fifo_is_used_at_equal_labels_alone, files_and_pipes_outlive_their_descriptors,
+    pipe_takes_4096_bytes,
+};
 pub use processes::{
     children_are_awaited_in_the_order_of_their_ends, exercise_before_esrch_is_recorded,
     fork_numbers_are_drawn_per_label, fork_numbers_without_the_higher_forks,
