@@ -82,9 +82,9 @@ impl Tables {
     {
         match names {
             [] => Ok(None),
-            [name] => Ok(Some((dir, name.copy(self.alloc)?))),
+            [name] => Ok(Some((dir, name.copy()?))),
             [name, rest @ ..] => {
-                let spot = (dir, name.copy(self.alloc)?);
+                let spot = (dir, name.copy()?);
                 let next = self.look(&spot).unwrap_or(dir);
                 self.spot_of(next, rest)
             }
@@ -104,7 +104,7 @@ impl Tables {
             n,
         };
         self.process_numbers.set(process.label, n)?;
-        self.procs.set(who, process_from(self.alloc, process)?)?;
+        self.procs.set(who, process_from(process)?)?;
         Ok(who)
     }
 }

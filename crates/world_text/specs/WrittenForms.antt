@@ -2,7 +2,7 @@
 use Rattle.std.specs.Prelude.{◌≡◌, ◌/◌, ◌%◌, ◌≤◌, nat_le, true, false, List, [], ◌∷◌, length, refl}
 use Rattle.std.proofs.Common.{arith}
 use Rattle.std.specs.List.{AllByRecursion, list_all}
-use Rattle.std.proofs.lemmas.Bool.{and_parts, leb-true, ltb-true, eqb-true}
+use Rattle.std.proofs.lemmas.Bool.{and_parts, ltb-true, eqb-true}
 use Rattle.fs_path.specs.Name.{is_name}
 use Rattle.fs_path.specs.Path.{PathValue, HasForm}
 use Rattle.lab_lattice.specs.Label.{Label, dominates}
@@ -59,12 +59,10 @@ body_spelled body.Pipe no_pipe bytes = absurd (no_pipe refl)
 
 object_spelled : (top : Label) (o : WorldObject) → IsWorldObject top o → IsWrittenObject o → IsSpelledObject o
 object_spelled top o is written =
-    let path = and_parts _ _ is.path in
-    let form = and_parts _ _ path.0 in
     let mode = and_parts _ _ is.mode in
     let low = ltb-true o.attr.mode 4096 mode.0 in
     record {
-      path = record { absolute = is.absolute; form = record { few = leb-true _ _ form.0; short = leb-true _ _ form.1 }; names = path.1; bytes = written.names };
+      path = record { absolute = is.absolute; form = is.path; names = is.path.named; bytes = written.names };
       mode = omega arith;
       not_sticky = eqb-true _ _ mode.1;
       owner = written.owner;
