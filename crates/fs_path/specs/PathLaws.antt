@@ -203,7 +203,7 @@ path_form text h =
     let few = few_components 0 (components_of text) (omega arith) good.none in
     let same = length-map (components_of text) (λ (c : Component). c.bytes) in
     let written = written_text text in
-    record { few = omega arith; short = by_start (starts_with ◌==◌ text (47 ∷ [])) (omega (arith, good.short)) written }
+    record { few = omega arith; named = path_names text h; short = by_start (starts_with ◌==◌ text (47 ∷ [])) (omega (arith, good.short)) written }
   where
     by_start : (v : Bool) → length text ≤ 1023 → written_len (names_of (components_of text)) ≤ length text + cond v 0 1 → written_len (names_of (components_of text)) ≤ 1023 + cond v 0 1
     by_start v short h = omega arith

@@ -61,6 +61,13 @@ impl<T: Copy + Drop> List<T> {
         let kept = Vec::from_slice(alloc, items)?;
         Ok(List { kept })
     }
+
+    /// The same items once more.
+    pub fn copy(&self) -> Result<Self, NoMemory>
+        ensures { IfOk result (λ list. list ≡ self.now) }
+    {
+        List::from_slice(*self.kept.allocator(), self.items())
+    }
 }
 
 impl<T: PartialEq> PartialEq for List<T> {

@@ -93,10 +93,11 @@ impl Name {
     }
 
     /// The same name once more.
-    pub fn copy(&self, alloc: Global) -> Result<Name, NoMemory>
+    pub fn copy(&self) -> Result<Name, NoMemory>
         ensures { IfOk result (λ name. name ≡ self.now) }
     {
-        Name::of(alloc, self.bytes())
+        let kept = self.kept.copy()?;
+        Ok(Name { kept })
     }
 }
 

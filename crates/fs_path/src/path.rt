@@ -1,7 +1,8 @@
 // Paths.
 ghost use Rattle.std.specs.Prelude.{◌≡◌, ◌+◌, ◌==◌, ◌<◌, ◌≤◌, ◌^◌, ◌∷◌, ◌++◌, [], IfOk, IfErr, OnOk, None, true, cond, length};
-ghost use Rattle.std.specs.List.{slice_split};
+ghost use Rattle.std.specs.List.{list_all, slice_split};
 ghost use Rattle.std.specs.Option.{option_copied};
+ghost use Rattle.fs_path.specs.Name.{is_name};
 ghost use Rattle.fs_path.specs.Path.{written_len};
 ghost use Rattle.fs_path.specs.PathText.{is_slash, names_of, components_of, is_empty_or_dot, starts_badly, component_fault, first_fault, path_fault, path_said, Says, IsNoPath, pieces_in, has_no_slash, kept};
 
@@ -188,7 +189,7 @@ impl Path {
     pub fn in_root(alloc: Global, name: Name) -> Result<Path, NoMemory>
         ensures { IfOk result (λ path. path ≡ record { absolute = true; names = name ∷ [] }) }
     {
-        let _few = name.bytes();
+        let _bytes = name.bytes();
         let mut names = List::new(alloc);
         names.push(name)?;
         Ok(Path {
@@ -201,6 +202,7 @@ impl Path {
     pub fn components(&self) -> &[Name]
         ensures names { result.now ≡ self.now.names }
         ensures few { length result.now ≤ 32 }
+        ensures named { list_all is_name result.now ≡ true }
         ensures short { written_len result.now ≤ 1023 + cond self.now.absolute 0 1 }
     {
         self.names.items()

@@ -82,9 +82,9 @@ impl Tables {
     {
         match names {
             [] => Ok(None),
-            [name] => Ok(Some((dir, name.copy(self.alloc)?))),
+            [name] => Ok(Some((dir, name.copy()?))),
             [name, rest @ ..] => {
-                let spot = (dir, name.copy(self.alloc)?);
+                let spot = (dir, name.copy()?);
                 let next = self.look(&spot).unwrap_or(dir);
                 self.spot_of(next, rest)
             }

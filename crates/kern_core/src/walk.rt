@@ -95,7 +95,7 @@ impl Tables {
         ensures asker { checks.new.asker ≡ checks.old.asker }
     {
         self.enter(checks, process, Place::First(at), &dir)?;
-        let spot = (dir, name.copy(self.alloc)?);
+        let spot = (dir, name.copy()?);
         let object = self.look(&spot);
         let (_, name) = spot;
         Ok(Found::Entry(dir, name, object))
@@ -116,7 +116,7 @@ impl Tables {
         ensures asker { checks.new.asker ≡ checks.old.asker }
     {
         self.enter(checks, process, Place::First(at), &dir)?;
-        let spot = (dir, name.copy(self.alloc)?);
+        let spot = (dir, name.copy()?);
         self.look(&spot).ok_or(Stop::Refused(Errno::ENOENT))
     }
 

@@ -113,7 +113,7 @@ fn copy_names(alloc: Global, names: &[Name]) -> Result<NameList, NoMemory>
 {
     let mut copies = List::new(alloc);
     for name in names {
-        copies.push(name.copy(alloc)?)?;
+        copies.push(name.copy()?)?;
     }
     Ok(copies)
 }

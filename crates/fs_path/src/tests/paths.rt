@@ -92,7 +92,7 @@ fn faults(rt: HostRuntime) -> Result<(), Fail> {
 #[test]
 fn path_of_one_name(rt: HostRuntime) -> Result<(), Fail> {
     let name = Name::read(rt.alloc(), b"a")?.ok_or("a name")?;
-    let path = Path::in_root(rt.alloc(), name.copy(rt.alloc())?)?;
+    let path = Path::in_root(rt.alloc(), name.copy()?)?;
     assert!(rt; is_path(&path, (true, &[b"a"])));
     assert_eq!(rt; name.bytes(), b"a".as_slice());
     Ok(())
