@@ -2,9 +2,8 @@
 use Rattle.std.specs.Prelude.{◌≡◌, ◌/◌, ◌%◌, ◌≤◌, nat_le, true, false, List, [], ◌∷◌, length, refl}
 use Rattle.std.proofs.Common.{arith}
 use Rattle.std.specs.List.{AllByRecursion, list_all}
-use Rattle.std.proofs.lemmas.Bool.{and_parts, leb-true, ltb-true, eqb-true}
-use Rattle.fs_path.specs.Name.{is_name}
-use Rattle.fs_path.specs.Path.{PathValue, HasForm}
+use Rattle.std.proofs.lemmas.Bool.{and_parts, ltb-true, eqb-true}
+use Rattle.fs_path.specs.Path.{PathValue}
 use Rattle.lab_lattice.specs.Label.{Label, dominates}
 use Rattle.cap_bits.specs.CapSet.{is_within}
 use Rattle.cap_bits.specs.State.{no_flags}
@@ -15,14 +14,12 @@ use Rattle.kern_model.specs.declared.world.WorldObject.{WorldObject}
 use Rattle.kern_model.specs.declared.world.WorldProc.{WorldProc}
 use Rattle.kern_model.specs.Kinds.{is_file, kind_of}
 use Rattle.kern_model.specs.World.{IsWorldObject, IsWorldProc}
-use Rattle.world_text.specs.CanBeRead.{are_bytes, IsNumber, HasBytes, IsWrittenObject, IsWrittenIds}
+use Rattle.world_text.specs.CanBeRead.{are_bytes, IsNumber, HasBytes, IsWrittenPath, IsWrittenObject, IsWrittenIds}
 
--- an absolute path of names that are bytes
+-- an absolute path
 pub record IsSpelledPath (path : PathValue) : Type 0 where
   pub absolute : path.absolute ≡ true
-  pub form : HasForm path.absolute path.names
-  pub names : list_all is_name path.names ≡ true
-  pub bytes : list_all are_bytes path.names ≡ true
+  pub is : IsWrittenPath path
 
 -- a directory, a file or a FIFO
 abbrev pub IsSpelledBody : Body → Type 0
@@ -59,12 +56,10 @@ body_spelled body.Pipe no_pipe bytes = absurd (no_pipe refl)
 
 object_spelled : (top : Label) (o : WorldObject) → IsWorldObject top o → IsWrittenObject o → IsSpelledObject o
 object_spelled top o is written =
-    let path = and_parts _ _ is.path in
-    let form = and_parts _ _ path.0 in
     let mode = and_parts _ _ is.mode in
     let low = ltb-true o.attr.mode 4096 mode.0 in
     record {
-      path = record { absolute = is.absolute; form = record { few = leb-true _ _ form.0; short = leb-true _ _ form.1 }; names = path.1; bytes = written.names };
+      path = record { absolute = is.absolute; is = written.path };
       mode = omega arith;
       not_sticky = eqb-true _ _ mode.1;
       owner = written.owner;
@@ -90,7 +85,7 @@ each P Q R f [] ps qs = tt
 each P Q R f (x ∷ xs) ps qs = (f x ps.0 qs.0, each P Q R f xs ps.1 qs.1)
 
 module _ (top : Label) (os : List WorldObject) (are : AllByRecursion (IsWorldObject top) os) where
-  pub objects_spelled : AllByRecursion (λ (o : WorldObject). IsWrittenObject o) os → AllByRecursion (λ (o : WorldObject). IsSpelledObject o) os
+  pub objects_spelled : AllByRecursion IsWrittenObject os → AllByRecursion (λ (o : WorldObject). IsSpelledObject o) os
   objects_spelled written = each (IsWorldObject top) _ (λ (o : WorldObject). IsSpelledObject o) (object_spelled top) os are written
 
   pub objects_below : AllByRecursion (λ (o : WorldObject). dominates top o.label ≡ true) os
