@@ -8,6 +8,6 @@ mod stop;
 mod tests;
 
 pub use checks::{Checks, must};
-pub use kern_model::Want;
+pub use kern_model::{Check, NoMemory, Verdict, Want};
 pub use rules::{mac_read_ok, mode_allows};
 pub use stop::Stop;

@@ -12,7 +12,6 @@ use Rattle.fin_maps.specs.FinMap as map
 use Rattle.fin_maps.specs.FinMap.{FinMap, get-empty}
 use Rattle.cap_bits.specs.CapSet.{CapSet}
 use Rattle.fs_path.specs.Name.{Name, is_name}
-use Rattle.fs_path.specs.Path.{PathValue}
 use Rattle.lab_lattice.specs.Label.{Label, bottom, dominates, label_cmp}
 use Rattle.kern_model.specs.declared.numbers.Pid.{Pid}
 use Rattle.kern_model.specs.declared.numbers.Oid.{Oid}
@@ -23,7 +22,6 @@ use Rattle.kern_model.specs.declared.objects.Object.{Object}
 use Rattle.kern_model.specs.declared.world.World.{World}
 use Rattle.kern_model.specs.declared.world.WorldObject.{WorldObject}
 use Rattle.kern_model.specs.declared.world.WorldProc.{WorldProc}
-use Rattle.kern_model.specs.Arguments.{is_path}
 use Rattle.kern_model.specs.Boot.{object_of, process_of, entry_for, boot_object, boot_process, boot_objects, boot_processes, nothing, furnished, boot}
 use Rattle.kern_model.specs.Entries.{name_count}
 use Rattle.kern_model.specs.Keys.{Spot, oid_cmp, oid_cmp_total, oid_cmp_exact, same_oid, pid_cmp, pid_cmp_total, pid_cmp_exact, did_cmp, spot_cmp, spot_cmp_total, spot_cmp_exact}
@@ -50,10 +48,10 @@ same_ends (z ∷ xs) (w ∷ ys) x y e =
     let rest = same_ends xs ys x y tail in
     (λ i. head i ∷ rest.0 i, rest.1)
 
-last_is_name : (path : PathValue) (names : List Name) (name : Name) → path.names ≡ names ++ name ∷ [] → is_path path ≡ true → is_name name ≡ true
-last_is_name path names name e h =
-    let all : list_all is_name (names ++ name ∷ []) ≡ true = ap (list_all is_name) (sym e) ∙ (and_parts _ (list_all is_name path.names) h).1 in
-    let ends : list_all is_name (name ∷ []) ≡ true = (and_parts (list_all is_name names) _ (sym (list_all-append is_name names (name ∷ [])) ∙ all)).1 in
+last_is_name : (all names : List Name) (name : Name) → all ≡ names ++ name ∷ [] → list_all is_name all ≡ true → is_name name ≡ true
+last_is_name all names name e h =
+    let parts : list_all is_name (names ++ name ∷ []) ≡ true = ap (list_all is_name) (sym e) ∙ h in
+    let ends : list_all is_name (name ∷ []) ≡ true = (and_parts (list_all is_name names) _ (sym (list_all-append is_name names (name ∷ [])) ∙ parts)).1 in
     (and_parts (is_name name) true ends).0
 
 dir_empty : (b : Body) → kind_of b ≡ kind.Dir → bytes_of b ≡ []
@@ -270,7 +268,7 @@ module _ (top : Label) (before : List WorldObject) (s : State) (built : IsBuilt 
         (record {
           names = new_names ∙ sym own_names ∙ ap (λ ns. ns ++ end.name ∷ []) (sym (old_names dir.id (object_of placed.parent) dir.is));
           known = λ f. last_given (ap (given (before ++ o ∷ [])) (sym new_names) ∙ f);
-          name = last_is_name o.path (parent_names o.path.names) end.name end.whole world.path;
+          name = last_is_name o.path.names (parent_names o.path.names) end.name end.whole world.path.named;
           dir = object_of placed.parent;
           dir_is = stays dir.id (object_of placed.parent) dir.is;
           is_dir = ap kind_of placed.parent_dir;

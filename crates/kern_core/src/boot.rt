@@ -104,7 +104,7 @@ impl Tables {
             n,
         };
         self.process_numbers.set(process.label, n)?;
-        self.procs.set(who, process_from(self.alloc, process)?)?;
+        self.procs.set(who, process_from(process)?)?;
         Ok(who)
     }
 }

@@ -48,12 +48,12 @@ pub fn object_from(alloc: Global, object: &WorldObject) -> Result<Object, NoMemo
 }
 
 /// The process that a world describes.
-pub fn process_from(alloc: Global, process: &WorldProc) -> Result<Proc, NoMemory>
+pub fn process_from(process: &WorldProc) -> Result<Proc, NoMemory>
     requires { is_within process.now.caps.e process.now.caps.p ≡ true }
     ensures { IfOk result (λ made. made ≡ process_of process.now) }
 {
     let creds = Creds {
-        ids: copy_ids(alloc, &process.ids)?,
+        ids: copy_ids(&process.ids)?,
         label: process.label,
         caps: process.caps,
         umask: START_UMASK,

@@ -9,14 +9,12 @@ use Rattle.std.proofs.lemmas.Bool.Decides.{Decides-at, Decides-and, Decides-like
 use Rattle.std.proofs.lemmas.List.Sums.{sum_by-cons}
 use Rattle.std.proofs.lemmas.List.Elements.{All-from_recursion, recursion_from_All}
 use Rattle.std.proofs.lemmas.List.{drop_more}
-use Rattle.fs_path.specs.Name.{Name, is_name}
-use Rattle.fs_path.specs.Path.{PathValue, written_len}
+use Rattle.fs_path.specs.Name.{Name}
 use Rattle.lab_lattice.specs.Label.{Label, bottom, dominates, dominates_both}
 use Rattle.kern_model.specs.declared.objects.Body.TheVariants as body
 use Rattle.kern_model.specs.declared.world.World.{World}
 use Rattle.kern_model.specs.declared.world.WorldObject.{WorldObject}
 use Rattle.kern_model.specs.declared.world.WorldProc.{WorldProc}
-use Rattle.kern_model.specs.Arguments.{is_path}
 use Rattle.kern_model.specs.Rules.{same_label}
 use Rattle.kern_model.specs.World.{objects_at, procs_at, HasRoom, parent_names, given, IsPlaced, ArePlaced, IsWorldObject, IsWorldProc, IsWorld}
 use Rattle.kern_model.proofs.MapLemmas.{some_same}
@@ -31,12 +29,6 @@ parents_are_taken [] some = absurd (omega arith)
 parents_are_taken (name ∷ names) some =
     let fewer : length names ≡ length (name ∷ names) - 1 = omega arith in
     parents_of name names ∙ ap (λ n. take n (name ∷ names)) fewer
-
--- what is left of the form of a path whose text is short
-pub path_by_names : (path : PathValue) → length path.names ≤ 32 → written_len path.names ≤ 1023 + cond path.absolute 0 1 → list_all is_name path.names ≡ is_path path
-path_by_names path few short =
-    sym (ap (λ b. b && nat_le (written_len path.names) (1023 + cond path.absolute 0 1) && list_all is_name path.names) (le-leb _ _ few)
-    ∙ ap (λ b. b && list_all is_name path.names) (le-leb _ _ short))
 
 -- ---- places
 pub none_there : {X Y : Type 0} (f : X → Y) (w : Option X) → false ≡ is_some w → option_map f w ≡ None

@@ -5,13 +5,13 @@ use Rattle.std.specs.Cmp.Lexicographic.{pointwise}
 use Rattle.cap_bits.specs.CapSet.{is_within}
 use Rattle.cap_bits.specs.State.{no_flags}
 use Rattle.fs_path.specs.Name.{Name}
+use Rattle.fs_path.specs.Path.{HasForm}
 use Rattle.lab_lattice.specs.Label.{Label, bottom, dominates}
 use Rattle.kern_model.specs.declared.numbers.Ids.{Ids}
 use Rattle.kern_model.specs.declared.objects.Body.TheVariants as body
 use Rattle.kern_model.specs.declared.world.World.{World}
 use Rattle.kern_model.specs.declared.world.WorldObject.{WorldObject}
 use Rattle.kern_model.specs.declared.world.WorldProc.{WorldProc}
-use Rattle.kern_model.specs.Arguments.{is_path}
 use Rattle.kern_model.specs.Kinds.{is_file, kind_of, bytes_of, is_mode}
 use Rattle.kern_model.specs.Rules.{same_label}
 
@@ -58,7 +58,7 @@ ArePlaced before (o ∷ os) = IsPlaced before o × ArePlaced (before ++ o ∷ []
 -- an object of a world has an absolute path, a mode, a label below top, and at most 65,536 bytes; it is no pipe, and has no capabilities unless it is a file
 pub record IsWorldObject (top : Label) (o : WorldObject) : Type 0 where
   pub absolute : o.path.absolute ≡ true
-  pub path : is_path o.path ≡ true
+  pub path : HasForm o.path.absolute o.path.names
   pub mode : is_mode o.attr.mode ≡ true
   pub below : dominates top o.label ≡ true
   pub few : length (bytes_of o.body) ≤ 65536

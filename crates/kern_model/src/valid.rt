@@ -5,15 +5,13 @@ ghost use Rattle.std.specs.Bool.{Decides};
 ghost use Rattle.std.specs.List.{All, list_all};
 ghost use Rattle.cap_bits.specs.State.{no_flags};
 ghost use Rattle.lab_lattice.specs.Label.{bottom, dominates};
-ghost use Rattle.fs_path.specs.Name.{is_name};
 ghost use Rattle.kern_model.specs.declared.objects.Body.TheVariants as body;
 ghost use Rattle.kern_model.specs.declared.world.WorldObject.{WorldObject};
 ghost use Rattle.kern_model.specs.declared.world.WorldProc.{WorldProc};
-ghost use Rattle.kern_model.specs.Arguments.{is_path};
 ghost use Rattle.kern_model.specs.Kinds.{is_file, kind_of, bytes_of, is_mode};
 ghost use Rattle.kern_model.specs.World.{objects_at, procs_at, same_names, parent_names, given, IsPlaced, ArePlaced, IsWorldObject, AreOne, IsWorldProc, HasRoom, IsWorld};
 
-use crate::{Body, Ids, Mode, Name, Path, World, WorldObject, WorldProc};
+use crate::{Body, Ids, Mode, Name, World, WorldObject, WorldProc};
 use cap_bits::CapState;
 use lab_lattice::{Label, Lattice, bottom};
 
@@ -24,10 +22,6 @@ const MAX_PROCS: usize = 4_095;
 const MAX_BYTES: usize = 65_536;
 
 const MAX_GROUPS: usize = 16;
-
-const MAX_NAMES: usize = 32;
-
-const MAX_NAME: usize = 63;
 
 // Whether two paths have the same names.
 fn same_names(a: &[Name], b: &[Name]) -> bool
@@ -90,27 +84,6 @@ fn are_placed(objects: &[WorldObject]) -> bool
     true
 }
 
-fn is_name(name: &Name) -> bool
-    ensures { result ≡ is_name name.now }
-{
-    name.bytes().len() <= MAX_NAME
-}
-
-fn are_names(names: &[Name]) -> bool
-    ensures { result ≡ list_all is_name names.now }
-{
-    names.iter().all(|name| is_name(name))
-}
-
-// Whether a path has the form that every path keeps.
-#[tactic(auto, using(crate::proofs::WorldLemmas::path_by_names))]
-fn is_path(path: &Path) -> bool
-    ensures { result ≡ is_path path.now }
-{
-    let names = path.components();
-    names.len() <= MAX_NAMES && are_names(names)
-}
-
 fn is_mode(mode: Mode) -> bool
     ensures { result ≡ is_mode mode }
 {
@@ -140,7 +113,6 @@ fn is_world_object(top: &Label, object: &WorldObject) -> bool
     ensures { Decides result (IsWorldObject top.now object.now) }
 {
     object.path.absolute
-        && is_path(&object.path)
         && is_mode(object.attr.mode)
         && top.dominates(&object.label)
         && may_be_held(&object.body, &object.attr.caps)

@@ -3,9 +3,8 @@ ghost use Rattle.std.specs.Prelude.{◌≡◌, true, false, IfOk, OnOk, OnErr};
 ghost use Rattle.kern_model.specs.Rules.{may_become};
 
 use cap_bits::CapState;
-use kern_model::{GroupList, Ids, Mode, NoMemory};
+use kern_model::{Ids, Mode, NoMemory};
 use lab_lattice::Label;
-use std::alloc::Global;
 use std::marker::Model;
 
 /// What a process is and may do. What is effective is permitted.
@@ -49,14 +48,8 @@ fn may_become(old: &CapState, new: &CapState) -> bool
     new.p.within(&old.p) && new.e.within(&new.p) && new.i.within(&old.i.union(old.p))
 }
 
-fn copy_groups(alloc: Global, groups: &GroupList) -> Result<GroupList, NoMemory>
-    ensures { IfOk result (λ copy. copy ≡ groups.now) }
-{
-    GroupList::from_slice(alloc, groups.items())
-}
-
 /// The same users and groups once more.
-pub fn copy_ids(alloc: Global, ids: &Ids) -> Result<Ids, NoMemory>
+pub fn copy_ids(ids: &Ids) -> Result<Ids, NoMemory>
     ensures { IfOk result (λ copy. copy ≡ ids.now) }
 {
     Ok(Ids {
@@ -66,7 +59,7 @@ pub fn copy_ids(alloc: Global, ids: &Ids) -> Result<Ids, NoMemory>
         rgid: ids.rgid,
         egid: ids.egid,
         sgid: ids.sgid,
-        groups: copy_groups(alloc, &ids.groups)?,
+        groups: ids.groups.copy()?,
     })
 }
 
@@ -91,11 +84,11 @@ impl Creds {
     }
 
     /// The same credentials once more.
-    pub fn copy(&self, alloc: Global) -> Result<Creds, NoMemory>
+    pub fn copy(&self) -> Result<Creds, NoMemory>
         ensures { IfOk result (λ copy. copy ≡ self.now) }
     {
         Ok(Creds {
-            ids: copy_ids(alloc, &self.ids)?,
+            ids: copy_ids(&self.ids)?,
             label: self.label,
             caps: self.caps,
             umask: self.umask,

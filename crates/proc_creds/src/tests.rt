@@ -37,9 +37,9 @@ fn sets_grow_by_nothing(rt: HostRuntime) -> Result<(), Fail> {
     assert_eq!(rt; creds.cap_set(grown), Err(NotAllowed));
     assert_eq!(rt; creds.caps, inherits);
     assert_eq!(rt; creds.cap_set(CapState::none()), Ok(()));
-    let copy = creds.copy(alloc)?;
+    let copy = creds.copy()?;
     assert_eq!(rt; (copy.ids.egid, copy.umask), (5, 18));
-    let ids = copy_ids(alloc, &creds.ids)?;
+    let ids = copy_ids(&creds.ids)?;
     assert_eq!(rt; (ids.ruid, ids.sgid, ids.groups.items().len()), (1, 6, 0));
     Ok(())
 }

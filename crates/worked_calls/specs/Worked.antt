@@ -132,7 +132,7 @@ ran w items = run (boot w) items
 
 -- whether the arguments of all calls are in their ranges
 unfoldable pub may_be_played : World → List ScriptItem → Bool
-unfolding ran is_call is_name
+unfolding ran is_call
 may_be_played w items = is_script w.top items
 
 -- a process that lives when a script has been played, with its present label and its sets

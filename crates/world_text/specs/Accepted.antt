@@ -13,8 +13,8 @@ use Rattle.fs_path.specs.declared.words.LineWord.{LineWord}
 use Rattle.fs_path.specs.Name.{Name}
 use Rattle.fs_path.specs.Options.{keep_if, then}
 use Rattle.fs_path.specs.Lines.{pieces}
-use Rattle.fs_path.specs.Path.{PathValue}
-use Rattle.fs_path.specs.PathLaws.{path_form, path_names}
+use Rattle.fs_path.specs.Path.{PathValue, HasForm}
+use Rattle.fs_path.specs.PathLaws.{path_form}
 use Rattle.fs_path.specs.PathText.{path_fault, path_said}
 use Rattle.fs_path.specs.ValueRanges.{mode_range, groups_few}
 use Rattle.fs_path.specs.Values.{number_of, mode_of, groups_of}
@@ -29,11 +29,9 @@ use Rattle.kern_model.specs.declared.objects.Body.{Body}
 use Rattle.kern_model.specs.declared.objects.Body.TheVariants as body
 use Rattle.kern_model.specs.declared.world.WorldObject.{WorldObject}
 use Rattle.kern_model.specs.declared.world.WorldProc.{WorldProc}
-use Rattle.kern_model.specs.Arguments.{is_path}
 use Rattle.kern_model.specs.Kinds.{kind_of, bytes_of, is_dir, is_file, is_mode}
 use Rattle.kern_model.specs.Rules.{same_label}
 use Rattle.kern_model.specs.World.{IsWorld, IsWorldObject, IsWorldProc, IsPlaced, ArePlaced, given, parent_names, objects_at, procs_at, same_names}
-use Rattle.kern_model.proofs.ArgumentLemmas.{form_is_path}
 use Rattle.world_text.specs.declared.fault.WorldFault.{WorldFault}
 use Rattle.world_text.specs.declared.fault.WorldFault.TheVariants.{Syntax}
 use Rattle.world_text.specs.declared.stage.Stage.{Stage}
@@ -260,19 +258,19 @@ object_sound policy bound t o h s is =
 -- what the words of a tree line stand for is in its ranges
 record IsFormed (p : Placed) : Type 0 where
   absolute : p.path.absolute ≡ true
-  path : is_path p.path ≡ true
+  path : HasForm p.path.absolute p.path.names
   mode : is_mode p.mode ≡ true
 
 none_there : {X : Type 0} (o : Option X) → is_none o ≡ true → o ≡ None
 none_there None h = refl
 none_there (Some x) h = absurd (cc)
 
-path_formed : (word : List ℕ) (path : PathValue) → path_of word ≡ Some path → (path.absolute ≡ true) × (is_path path ≡ true)
+path_formed : (word : List ℕ) (path : PathValue) → path_of word ≡ Some path → (path.absolute ≡ true) × HasForm path.absolute path.names
 path_formed word path is =
     let kept = cond_some _ _ _ is in
     let parts = and_parts (is_none (path_fault word)) (path_said word).absolute kept.0 in
     let fine : path_fault word ≡ None = none_there (path_fault word) parts.0 in
-    (ap (λ (p : PathValue). p.absolute) (sym kept.1) ∙ parts.1, ap is_path (sym kept.1) ∙ form_is_path (path_said word) (path_form word fine) (path_names word fine))
+    (ap (λ (p : PathValue). p.absolute) (sym kept.1) ∙ parts.1, subst (λ (p : PathValue). HasForm p.absolute p.names) kept.1 (path_form word fine))
 
 mode_formed : (word : List ℕ) (mode : ℕ) → mode_of word ≡ Some mode → is_mode mode ≡ true
 mode_formed word mode is = let range = mode_range word mode is in and_from _ _ (lt-ltb mode 4096 range.0) (ap (λ n. n == 0) range.1)
@@ -286,7 +284,7 @@ placed_formed path mode uid gid label p is =
     let formed = path_formed path a a_is in
     record {
       absolute = ap (λ (q : Placed). q.path.absolute) (sym same) ∙ formed.0;
-      path = ap (λ (q : Placed). is_path q.path) (sym same) ∙ formed.1;
+      path = subst (λ (q : Placed). HasForm q.path.absolute q.path.names) same formed.1;
       mode = ap (λ (q : Placed). is_mode q.mode) (sym same) ∙ mode_formed mode m m_is;
     })))))
 

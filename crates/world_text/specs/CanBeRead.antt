@@ -2,7 +2,6 @@
 use Rattle.std.specs.Prelude.{◌≡◌, ℕ, ◌≤◌, nat_le, nat_lt, Bool, true, List, length, map}
 use Rattle.std.specs.List.{AllByRecursion, list_all}
 use Rattle.fs_path.specs.declared.words.LineWord.{LineWord}
-use Rattle.fs_path.specs.Path.{PathValue, HasForm}
 use Rattle.fs_path.specs.Words.{spelling, line_text}
 use Rattle.lab_text.specs.Policy.{MakePolicy, top_of}
 use Rattle.kern_model.specs.declared.numbers.Ids.{Ids}
@@ -27,14 +26,9 @@ abbrev pub HasBytes : Body → Type 0
 HasBytes (body.File bytes) = are_bytes bytes ≡ true
 HasBytes _ = Unit {0}
 
--- a path as its type keeps it, whose text is bytes
-pub record IsWrittenPath (path : PathValue) : Type 0 where
-  pub form : HasForm path.absolute path.names
-  pub bytes : are_bytes (path_text path.names) ≡ true
-
--- an object as its types keep it: its content is bytes, and its owner and group fit 32 bits
+-- an object as its types keep it: its path and its content are bytes, and its owner and group fit 32 bits
 pub record IsWrittenObject (o : WorldObject) : Type 0 where
-  pub path : IsWrittenPath o.path
+  pub path : are_bytes (path_text o.path.names) ≡ true
   pub owner : IsNumber o.attr.owner
   pub group : IsNumber o.attr.group
   pub body : HasBytes o.body

@@ -3,7 +3,7 @@ use Rattle.std.specs.Prelude.{◌≡◌, ◌/◌, ◌%◌, ◌≤◌, nat_le, tr
 use Rattle.std.proofs.Common.{arith}
 use Rattle.std.specs.List.{AllByRecursion, list_all}
 use Rattle.std.proofs.lemmas.Bool.{and_parts, ltb-true, eqb-true}
-use Rattle.fs_path.specs.Path.{PathValue}
+use Rattle.fs_path.specs.Path.{PathValue, HasForm}
 use Rattle.lab_lattice.specs.Label.{Label, dominates}
 use Rattle.cap_bits.specs.CapSet.{is_within}
 use Rattle.cap_bits.specs.State.{no_flags}
@@ -14,12 +14,14 @@ use Rattle.kern_model.specs.declared.world.WorldObject.{WorldObject}
 use Rattle.kern_model.specs.declared.world.WorldProc.{WorldProc}
 use Rattle.kern_model.specs.Kinds.{is_file, kind_of}
 use Rattle.kern_model.specs.World.{IsWorldObject, IsWorldProc}
-use Rattle.world_text.specs.CanBeRead.{are_bytes, IsNumber, HasBytes, IsWrittenPath, IsWrittenObject, IsWrittenIds}
+use Rattle.world_text.specs.CanBeRead.{are_bytes, IsNumber, HasBytes, IsWrittenObject, IsWrittenIds}
+use Rattle.world_text.specs.Written.{path_text}
 
--- an absolute path
+-- an absolute path whose text is bytes
 pub record IsSpelledPath (path : PathValue) : Type 0 where
   pub absolute : path.absolute ≡ true
-  pub is : IsWrittenPath path
+  pub form : HasForm path.absolute path.names
+  pub bytes : are_bytes (path_text path.names) ≡ true
 
 -- a directory, a file or a FIFO
 abbrev pub IsSpelledBody : Body → Type 0
@@ -59,7 +61,7 @@ object_spelled top o is written =
     let mode = and_parts _ _ is.mode in
     let low = ltb-true o.attr.mode 4096 mode.0 in
     record {
-      path = record { absolute = is.absolute; is = written.path };
+      path = record { absolute = is.absolute; form = is.path; bytes = written.path };
       mode = omega arith;
       not_sticky = eqb-true _ _ mode.1;
       owner = written.owner;

@@ -171,14 +171,14 @@ path_is names h =
 -- a path's text says that path
 pub path_again : (p : PathValue) → IsSpelledPath p → path_of (path_text p.names) ≡ Some p
 path_again p h =
-    let form : HasForm true p.names = subst (λ v. HasForm v p.names) h.absolute h.is.form in
-    let said = path_is p.names h.is.form.named in
+    let form : HasForm true p.names = subst (λ v. HasForm v p.names) h.absolute h.form in
+    let said = path_is p.names h.form.named in
     let same : p ≡ record { absolute = true; names = p.names } = ap (λ v. record { absolute = v; names = p.names }) h.absolute in
-    cond-true _ _ _ (and_from _ _ (ap is_none (path_fine p.names form h.is.form.named)) (ap (λ (q : PathValue). q.absolute) said)) ∙ ap Some (said ∙ sym same)
+    cond-true _ _ _ (and_from _ _ (ap is_none (path_fine p.names form h.form.named)) (ap (λ (q : PathValue). q.absolute) said)) ∙ ap Some (said ∙ sym same)
 
 -- a path's text can be written
 pub path_spelling : (p : PathValue) → IsSpelledPath p → has_spelling (with_quotes_if_needed (path_text p.names)) ≡ true
-path_spelling p h = word_spelling (path_text p.names) h.is.bytes
+path_spelling p h = word_spelling (path_text p.names) h.bytes
 
 -- ---- labels
 

@@ -6,7 +6,7 @@ ghost use Rattle.cap_clause.specs.Written.{caps_text};
 ghost use Rattle.fs_path.specs.Values.{mode_text, groups_text};
 ghost use Rattle.fs_path.specs.Words.{with_quotes_if_needed, spelling, quoted_text, behind_spaces};
 ghost use Rattle.lab_text.specs.Text.{label_text};
-ghost use Rattle.world_text.specs.CanBeRead.{are_bytes, IsNumber, HasBytes, IsWrittenPath, IsWrittenObject, IsWrittenIds, IsWorldText, HasShortLines};
+ghost use Rattle.world_text.specs.CanBeRead.{are_bytes, IsNumber, HasBytes, IsWrittenObject, IsWrittenIds, IsWorldText, HasShortLines};
 ghost use Rattle.world_text.specs.Reading.{Accepted, read_text};
 ghost use Rattle.world_text.specs.Written.{path_text, line_of, names_words, head_words, body_keyword, caps_words, body_words, object_words, process_words, next_number, written};
 
@@ -63,7 +63,7 @@ fn path_text(alloc: Global, names: &[Name]) -> Result<Vec<u8>, NoMemory>
 // A path behind a space.
 fn put_path(alloc: Global, text: &mut Vec<u8>, path: &Path) -> Result<(), NoMemory>
     ensures text { OnOk result (text.new.items ≡ text.old.items ++ 32 ∷ spelling (with_quotes_if_needed (path_text path.now.names))) }
-    ensures in_range { OnOk result (IsWrittenPath path.now) }
+    ensures in_range { OnOk result (are_bytes (path_text path.now.names) ≡ true) }
 {
     let path = path_text(alloc, path.components())?;
     put_any_word(text, path.as_slice())

@@ -1,8 +1,10 @@
 use Rattle.std.proofs.Common.{◌≡◌, ◌∙◌, ap, sym, subst, refl, ◌∷◌, [], ◌++◌, true, false, ℕ, ◌≤◌, length, count_by, codes, arith, Bool, List}
+use Rattle.std.proofs.lemmas.Bool.{and_from}
 use Rattle.std.proofs.lemmas.List.Sums.{count_by-le-length}
 use Rattle.cap_bits.specs.CapSet.{CapSet, no_caps, is_within, has-within}
 use Rattle.cap_bits.specs.State.{no_flags}
 use Rattle.fs_path.specs.Name.{Name, is_name}
+use Rattle.fs_path.specs.Path.{HasForm, written_len}
 use Rattle.kern_model.specs.declared.numbers.Ids.{Ids}
 use Rattle.kern_model.specs.declared.objects.Attr.{Attr}
 use Rattle.kern_model.specs.declared.objects.Body.{Body}
@@ -10,7 +12,6 @@ use Rattle.kern_model.specs.declared.objects.Body.TheVariants as body
 use Rattle.kern_model.specs.declared.world.World.{World}
 use Rattle.kern_model.specs.declared.world.WorldObject.{WorldObject}
 use Rattle.kern_model.specs.declared.world.WorldProc.{WorldProc}
-use Rattle.kern_model.specs.Arguments.{is_path}
 use Rattle.kern_model.specs.Rules.{same_label}
 use Rattle.kern_model.specs.World.{IsWorld, IsWorldObject, IsWorldProc}
 use Rattle.lab_lattice.specs.Label.{Label, bottom, dominates, dominates_itself, dominates_bottom}
@@ -37,11 +38,11 @@ procs_of top a b none other caps = living top none ∷ living a other ∷ living
 at_bottom : (top b : Label) → b ≡ bottom → dominates top b ≡ true
 at_bottom top b is = ap (dominates top) is ∙ dominates_bottom top
 
-file_fits : (top : Label) (names : List Name) (label : Label) → is_path (record { absolute = true; names = names }) ≡ true → dominates top label ≡ true → IsWorldObject top (made names label 420 (body.File []))
+file_fits : (top : Label) (names : List Name) (label : Label) → HasForm true names → dominates top label ≡ true → IsWorldObject top (made names label 420 (body.File []))
 file_fits top names label path below = record { absolute = refl; path = path; mode = refl; below = below; few = omega arith; no_pipe = λ e. cc; only_file = λ _. refl }
 
 root_fits : (top : Label) → IsWorldObject top (made [] bottom 493 body.Dir)
-root_fits top = record { absolute = refl; path = refl; mode = refl; below = dominates_bottom top; few = omega arith; no_pipe = λ e. cc; only_file = λ _. refl }
+root_fits top = record { absolute = refl; path = record { few = omega arith; named = refl; short = omega arith }; mode = refl; below = dominates_bottom top; few = omega arith; no_pipe = λ e. cc; only_file = λ _. refl }
 
 process_fits : (top label : Label) (caps : CapSet) → dominates top label ≡ true → IsWorldProc top (living label caps)
 process_fits top label caps below = record {
@@ -50,6 +51,10 @@ process_fits top label caps below = record {
   below = below;
   within = has-within caps caps (λ q h. h);
 }
+
+-- the path of one of the files has the form of a path
+has_form : (name : Name) → is_name name ≡ true → length name ≤ 63 → HasForm true (name ∷ [])
+has_form name is short = record { few = omega arith; named = and_from _ _ is refl; short = omega arith }
 
 few : {X : Type 0} (p : X → Bool) (xs : List X) (most : ℕ) → length xs ≤ most → count_by p xs ≤ most
 few p xs most h = omega (arith, count_by-le-length p xs)
@@ -70,7 +75,7 @@ small_world top a b f bound none other caps a_is b_is f_is = record {
       tt,
     ),
   );
-  objects = (root_fits top, (file_fits top low f refl (at_bottom top f f_is), (file_fits top high top refl (dominates_itself top), tt)));
+  objects = (root_fits top, (file_fits top low f (has_form (codes "low") refl (omega arith)) (at_bottom top f f_is), (file_fits top high top (has_form (codes "high") refl (omega arith)) (dominates_itself top), tt)));
   procs = (process_fits top top none (dominates_itself top), (process_fits top a other (at_bottom top a a_is), (process_fits top b caps (at_bottom top b b_is), tt)));
   room = record {
     objects = λ l. few (λ (o : WorldObject). same_label o.label l) (objects_of top f) 65535 (omega arith);
