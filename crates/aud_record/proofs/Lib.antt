@@ -1,3 +1,4 @@
+pub mod FitLemmas
 pub mod LineLemmas
 pub mod SpelledLemmas
 pub mod NameLemmas

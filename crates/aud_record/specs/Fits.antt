@@ -1,5 +1,5 @@
 -- Which records have a line that is read again.
-use Rattle.std.specs.Prelude.{ℕ, ◌^◌, ◌&&◌, nat_lt, Bool, true, List, [], ◌∷◌, Option, None, Some}
+use Rattle.std.specs.Prelude.{◌≡◌, ℕ, ◌^◌, ◌<◌, ◌&&◌, nat_lt, Bool, true, List, [], ◌∷◌, Option, None, Some}
 use Rattle.std.specs.List.{list_all}
 use Rattle.lab_lattice.specs.Label.{Label}
 use Rattle.lab_text.specs.Policy.{PolicyNames, is_valid}
@@ -14,6 +14,75 @@ use Rattle.kern_model.specs.declared.numbers.Pid.{Pid}
 use Rattle.kern_model.specs.declared.records.Rec.{Rec}
 use Rattle.kern_model.specs.declared.records.Rec.TheVariants as rec
 use Rattle.aud_record.specs.Events.{who_of}
+
+-- ---- labels
+
+-- the label of the number of an object or a process
+abbrev pub label_of : Thing → Label
+label_of (thing.Object oid) = oid.label
+label_of (thing.Process pid) = pid.label
+
+-- a label that may be none
+abbrev pub label_if : Option Label → List Label
+label_if None = []
+label_if (Some label) = label ∷ []
+
+-- the labels that stand after the number of the process
+abbrev pub rest_labels : Rec → List Label
+rest_labels (rec.Boot who label caps) = label ∷ []
+rest_labels (rec.Fork who child) = child.label ∷ []
+rest_labels (rec.Exec who file file_caps caps) = file.label ∷ []
+rest_labels (rec.CapSetFile who file caps) = file.label ∷ []
+rest_labels (rec.MacSetProc who old new) = old ∷ new ∷ []
+rest_labels (rec.MacSetFile who object old new) = object.label ∷ old ∷ new ∷ []
+rest_labels (rec.Exercise who label cap check thing thing_label new_label place) = label ∷ label_of thing ∷ thing_label ∷ label_if new_label
+rest_labels _ = []
+
+-- each label of a record is valid in the policy, those of its numbers too
+unfoldable pub has_valid_labels : PolicyNames → Rec → Bool
+has_valid_labels p r = list_all (is_valid p) ((who_of r).label ∷ rest_labels r)
+
+-- ---- numbers and bytes
+
+-- the count in the number of an object or a process
+abbrev pub count_of : Thing → ℕ
+count_of (thing.Object oid) = oid.n
+count_of (thing.Process pid) = pid.n
+
+-- a place in a path is a number of 8 bits
+abbrev pub PlaceInRange : Place → Type 0
+PlaceInRange (place.First n) = n < 2 ^ 8
+PlaceInRange (place.Second n) = n < 2 ^ 8
+PlaceInRange _ = Unit {0}
+
+-- a status is a number of 8 bits
+abbrev pub EndingInRange : Ending → Type 0
+EndingInRange (ending.Exit code) = code < 2 ^ 8
+EndingInRange _ = Unit {0}
+
+-- bytes are numbers below 256
+abbrev pub are_bytes : List ℕ → Bool
+are_bytes bytes = list_all (λ b. nat_lt b 256) bytes
+
+-- the numbers and bytes after the number of the process are in the ranges of their types
+abbrev pub RestInRange : Rec → Type 0
+RestInRange (rec.Fork who child) = child.n < 2 ^ 16
+RestInRange (rec.Exec who file file_caps caps) = file.n < 2 ^ 16
+RestInRange (rec.Exit who ending) = EndingInRange ending
+RestInRange (rec.CapSetFile who file caps) = file.n < 2 ^ 16
+RestInRange (rec.MacSetFile who object old new) = object.n < 2 ^ 16
+RestInRange (rec.Exercise who label cap check thing thing_label new_label place) = (count_of thing < 2 ^ 16) × PlaceInRange place
+RestInRange (rec.Deny who call errno check place) = PlaceInRange place
+RestInRange (rec.Note who bytes) = are_bytes bytes ≡ true
+RestInRange _ = Unit {0}
+
+-- the number of a call, and the numbers and bytes of its record, are in the ranges of their types, as those of every value in a program are
+pub record IsInRange (call : ℕ) (r : Rec) : Type 0 where
+  pub call_is : call < 2 ^ 64
+  pub count : (who_of r).n < 2 ^ 16
+  pub rest : RestInRange r
+
+-- ---- both, value by value
 
 -- a number of 16 bits, and a label that is valid
 abbrev pub numbered_fits : PolicyNames → ℕ → Label → Bool
@@ -42,9 +111,6 @@ place_fits _ = true
 abbrev pub ending_fits : Ending → Bool
 ending_fits (ending.Exit code) = nat_lt code (2 ^ 8)
 ending_fits _ = true
-
-abbrev pub are_bytes : List ℕ → Bool
-are_bytes bytes = list_all (λ b. nat_lt b 256) bytes
 
 -- what has to hold of a record behind the process that it is about
 abbrev pub rest_tests : PolicyNames → Rec → List Bool

@@ -1,9 +1,11 @@
 // A line as it is written, word by word.
-ghost use Rattle.std.specs.Prelude.{◌≡◌, [], ◌∷◌, ◌++◌, IfOk};
+ghost use Rattle.std.specs.Prelude.{◌≡◌, ◌<◌, ◌^◌, true, [], ◌∷◌, ◌++◌, IfOk, OnOk};
 ghost use Rattle.std.specs.Fmt.{decimal};
 ghost use Rattle.fs_path.specs.Words.{quoted_text, behind_spaces};
+ghost use Rattle.lab_text.specs.Numbered.{numbered_text};
 ghost use Rattle.lab_text.specs.Text.{label_text};
 ghost use Rattle.kern_model.specs.Names.{place_text, ending_text};
+ghost use Rattle.aud_record.specs.Fits.{are_bytes, count_of, PlaceInRange, EndingInRange};
 ghost use Rattle.aud_record.specs.Written.{pid_text, oid_text, caps_word, thing_text, new_label_text};
 
 use crate::NoMemory;
@@ -78,7 +80,8 @@ impl Line {
 
     /// A quoted word behind a space.
     pub fn quoted(self, bytes: &[u8]) -> Result<Line, NoMemory>
-        ensures { IfOk result (λ line. line ≡ self ++ 32 ∷ quoted_text bytes.now) }
+        ensures text { IfOk result (λ line. line ≡ self ++ 32 ∷ quoted_text bytes.now) }
+        ensures in_range { OnOk result (are_bytes bytes.now ≡ true) }
     {
         let mut line = self.bytes(b" ")?;
         put_quoted(&mut line.text, bytes)?;
@@ -103,47 +106,39 @@ impl Line {
         }
     }
 
+    // `n@label`.
+    fn numbered(mut self, policy: &Policy, n: u16, label: &Label) -> Result<Line, NoMemory>
+        ensures { IfOk result (λ line. line ≡ self ++ numbered_text policy.now n label.now) }
+    {
+        put_numbered(self.alloc, &mut self.text, policy, u64::from(n), label)?;
+        Ok(self)
+    }
+
     /// The number of a process behind a space.
     pub fn pid(self, policy: &Policy, pid: &Pid) -> Result<Line, NoMemory>
-        ensures { IfOk result (λ line. line ≡ self ++ 32 ∷ pid_text policy.now pid.now) }
+        ensures text { IfOk result (λ line. line ≡ self ++ 32 ∷ pid_text policy.now pid.now) }
+        ensures in_range { OnOk result (pid.now.n < 2 ^ 16) }
     {
-        let mut line = self.bytes(b" ")?;
-        put_numbered(
-            line.alloc,
-            &mut line.text,
-            policy,
-            u64::from(pid.n),
-            &pid.label,
-        )?;
-        Ok(line)
+        self.bytes(b" ")?.numbered(policy, pid.n, &pid.label)
     }
 
     /// The number of an object behind a space.
     pub fn oid(self, policy: &Policy, oid: &Oid) -> Result<Line, NoMemory>
-        ensures { IfOk result (λ line. line ≡ self ++ 32 ∷ oid_text policy.now oid.now) }
+        ensures text { IfOk result (λ line. line ≡ self ++ 32 ∷ oid_text policy.now oid.now) }
+        ensures in_range { OnOk result (oid.now.n < 2 ^ 16) }
     {
-        let mut line = self.bytes(b" ")?;
-        put_numbered(
-            line.alloc,
-            &mut line.text,
-            policy,
-            u64::from(oid.n),
-            &oid.label,
-        )?;
-        Ok(line)
+        self.bytes(b" ")?.numbered(policy, oid.n, &oid.label)
     }
 
     /// What a check is about, behind a space.
     pub fn thing(self, policy: &Policy, thing: &Thing) -> Result<Line, NoMemory>
-        ensures { IfOk result (λ line. line ≡ self ++ 32 ∷ thing_text policy.now thing.now) }
+        ensures text { IfOk result (λ line. line ≡ self ++ 32 ∷ thing_text policy.now thing.now) }
+        ensures in_range { OnOk result (count_of thing.now < 2 ^ 16) }
     {
-        let (mark, n, label) = match thing {
-            Thing::Object(oid) => (b"obj:".as_slice(), oid.n, &oid.label),
-            Thing::Process(pid) => (b"proc:".as_slice(), pid.n, &pid.label),
-        };
-        let mut line = self.word(mark)?;
-        put_numbered(line.alloc, &mut line.text, policy, u64::from(n), label)?;
-        Ok(line)
+        match thing {
+            Thing::Object(oid) => self.word(b"obj:")?.numbered(policy, oid.n, &oid.label),
+            Thing::Process(pid) => self.word(b"proc:")?.numbered(policy, pid.n, &pid.label),
+        }
     }
 
     /// A capability state behind a space.
@@ -156,7 +151,8 @@ impl Line {
 
     /// A place behind a space.
     pub fn place(self, place: Place) -> Result<Line, NoMemory>
-        ensures { IfOk result (λ line. line ≡ self ++ 32 ∷ place_text place) }
+        ensures text { IfOk result (λ line. line ≡ self ++ 32 ∷ place_text place) }
+        ensures in_range { OnOk result (PlaceInRange place) }
     {
         let mut line = self.bytes(b" ")?;
         put_place(line.alloc, &mut line.text, place)?;
@@ -165,7 +161,8 @@ impl Line {
 
     /// The two words of an ending behind a space.
     pub fn ending(self, ending: Ending) -> Result<Line, NoMemory>
-        ensures { IfOk result (λ line. line ≡ self ++ 32 ∷ ending_text ending) }
+        ensures text { IfOk result (λ line. line ≡ self ++ 32 ∷ ending_text ending) }
+        ensures in_range { OnOk result (EndingInRange ending) }
     {
         let mut line = self.bytes(b" ")?;
         put_ending(line.alloc, &mut line.text, ending)?;

@@ -1,7 +1,7 @@
 // The reading of a record.
-ghost use Rattle.std.specs.Prelude.{◌≡◌, ℕ, ◌^◌, ◌<◌, true, List, ◌++◌, length, take, IfOk, Ok};
+ghost use Rattle.std.specs.Prelude.{◌≡◌, ℕ, true, List, ◌++◌, length, take, IfOk, Ok};
 ghost use Rattle.kern_model.specs.declared.records.Rec.{Rec};
-ghost use Rattle.aud_record.specs.Fits.{rec_fits};
+ghost use Rattle.aud_record.specs.Fits.{has_valid_labels, IsInRange};
 ghost use Rattle.aud_record.specs.Said.{line_said, placed, rec_said, Answers};
 ghost use Rattle.aud_record.specs.Words.{Gives};
 ghost use Rattle.aud_record.specs.Written.{rec_text};
@@ -79,9 +79,9 @@ fn first_record(alloc: Global, policy: &Policy, text: &[u8]) -> Result<ReadRec, 
 /// The record with which a text begins, whatever stands behind it. The first fault of the line counts, from the left.
 pub fn rec_read(alloc: Global, policy: &Policy, text: &[u8]) -> Result<ReadRec, RecError>
     // What is read is written so, and its labels are valid.
-    ensures found { IfOk result (λ read. (take read.used text.now ≡ rec_text policy.now read.call read.rec) × (rec_fits policy.now read.rec ≡ true)) }
+    ensures found { IfOk result (λ read. (take read.used text.now ≡ rec_text policy.now read.call read.rec) × (has_valid_labels policy.now read.rec ≡ true)) }
     // What is written so is read, unless memory runs out.
-    ensures only { (call : ℕ) (rec : Rec) (rest : List ℕ) → call < 2 ^ 64 → rec_fits policy.now rec ≡ true → text.now ≡ rec_text policy.now call rec ++ rest → Answers result (Ok (record { call = call; rec = rec; used = length (rec_text policy.now call rec) })) }
+    ensures only { (call : ℕ) (rec : Rec) (rest : List ℕ) → has_valid_labels policy.now rec ≡ true → IsInRange call rec → text.now ≡ rec_text policy.now call rec ++ rest → Answers result (Ok (record { call = call; rec = rec; used = length (rec_text policy.now call rec) })) }
     // Which fault it is.
     ensures cause { Answers result (rec_said policy.now text.now) }
 {

@@ -1,8 +1,8 @@
 // The writing of the trail.
-ghost use Rattle.std.specs.Prelude.{◌≡◌, true, List, ℕ, ◌++◌, length, IfOk, Ok};
+ghost use Rattle.std.specs.Prelude.{◌≡◌, true, List, ℕ, ◌++◌, length, IfOk, OnOk, Ok};
 ghost use Rattle.cap_clause.specs.Written.{set_text};
 ghost use Rattle.fs_path.specs.Words.{behind_spaces};
-ghost use Rattle.aud_record.specs.Fits.{rec_fits};
+ghost use Rattle.aud_record.specs.Fits.{has_valid_labels, RestInRange, IsInRange};
 ghost use Rattle.aud_record.specs.Said.{rec_said};
 ghost use Rattle.aud_record.specs.Written.{switch_word, rest_words, rec_text, header_text};
 
@@ -23,7 +23,8 @@ fn switch_word(on: bool) -> &'static [u8]
 
 // The words behind the number of the process.
 fn put_rest(line: Line, policy: &Policy, rec: &Rec) -> Result<Line, NoMemory>
-    ensures { IfOk result (λ new. new ≡ line ++ behind_spaces (rest_words policy.now rec.now)) }
+    ensures text { IfOk result (λ new. new ≡ line ++ behind_spaces (rest_words policy.now rec.now)) }
+    ensures in_range { OnOk result (RestInRange rec.now) }
 {
     match rec {
         Rec::Boot(_, label, caps) => line.label(policy, label)?.caps(caps),
@@ -58,7 +59,8 @@ fn put_rest(line: Line, policy: &Policy, rec: &Rec) -> Result<Line, NoMemory>
 // The line of a record.
 #[tactic(auto, unfolding(crate::specs::Written::line_of, crate::specs::Written::rec_text))]
 fn line_of(alloc: Global, policy: &Policy, call: u64, rec: &Rec) -> Result<Vec<u8>, NoMemory>
-    ensures { IfOk result (λ text. text.items ≡ rec_text policy.now call rec.now) }
+    ensures text { IfOk result (λ text. text.items ≡ rec_text policy.now call rec.now) }
+    ensures in_range { OnOk result (IsInRange call rec.now) }
 {
     let line = Line::new(alloc)
         .number(call)?
@@ -71,8 +73,8 @@ fn line_of(alloc: Global, policy: &Policy, call: u64, rec: &Rec) -> Result<Vec<u
 /// policy only the names that the policy has are written.
 pub fn rec_text(alloc: Global, policy: &Policy, call: u64, rec: &Rec) -> Result<Vec<u8>, NoMemory>
     ensures text { IfOk result (λ text. text.items ≡ rec_text policy.now call rec.now) }
-    // It is read again, whatever stands behind it.
-    ensures again { IfOk result (λ text. rec_fits policy.now rec.now ≡ true → (rest : List ℕ) → rec_said policy.now (text.items ++ rest) ≡ Ok (record { call = call; rec = rec.now; used = length text.items })) }
+    // Where its labels are valid it is read again, whatever stands after it.
+    ensures again { IfOk result (λ text. has_valid_labels policy.now rec.now ≡ true → (rest : List ℕ) → rec_said policy.now (text.items ++ rest) ≡ Ok (record { call = call; rec = rec.now; used = length text.items })) }
 {
     // Its names make a policy, which the clause `again` needs.
     let _names = policy.levels();

@@ -136,6 +136,11 @@ impl Policy {
         Ok(Policy { levels, cats })
     }
 
+    /// The memory that its names stand in.
+    pub fn allocator(&self) -> Global {
+        *self.levels.allocator()
+    }
+
     /// The names of the levels, lowest first.
     pub fn levels(&self) -> &[Word]
         ensures names { result.now ≡ self.now.levels }

@@ -1,3 +1,4 @@
+pub mod RangeLemmas
 pub mod DraftLemmas
 pub mod PlacingLemmas
 pub mod LineLemmas

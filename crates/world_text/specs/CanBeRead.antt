@@ -11,7 +11,7 @@ use Rattle.kern_model.specs.declared.world.WorldObject.{WorldObject}
 use Rattle.kern_model.specs.declared.world.WorldProc.{WorldProc}
 use Rattle.kern_model.specs.World.{IsWorld}
 use Rattle.world_text.specs.declared.world.WorldText.{WorldText}
-use Rattle.world_text.specs.Written.{lines_of}
+use Rattle.world_text.specs.Written.{path_text, lines_of}
 
 -- numbers below 256
 abbrev pub are_bytes : List ℕ → Bool
@@ -26,14 +26,14 @@ abbrev pub HasBytes : Body → Type 0
 HasBytes (body.File bytes) = are_bytes bytes ≡ true
 HasBytes _ = Unit {0}
 
--- an object whose names and content are bytes, and whose owner and group fit 32 bits
+-- an object as its types keep it: its path and its content are bytes, and its owner and group fit 32 bits
 pub record IsWrittenObject (o : WorldObject) : Type 0 where
-  pub names : list_all are_bytes o.path.names ≡ true
+  pub path : are_bytes (path_text o.path.names) ≡ true
   pub owner : IsNumber o.attr.owner
   pub group : IsNumber o.attr.group
   pub body : HasBytes o.body
 
--- ids that fit 32 bits
+-- ids as their types keep them: numbers that fit 32 bits
 pub record IsWrittenIds (ids : Ids) : Type 0 where
   pub user : IsNumber ids.euid
   pub group : IsNumber ids.egid
@@ -43,11 +43,19 @@ pub record IsWrittenIds (ids : Ids) : Type 0 where
 abbrev pub IsShort : List LineWord → Type 0
 IsShort words = length (line_text (map spelling words)) ≤ 2048
 
--- a world whose text can be read
-pub record CanBeRead (w : WorldText) : Type 0 where
-  pub policy : MakePolicy w.policy
+-- a world, whose highest label is that of the names beside it
+pub record IsWorldText (w : WorldText) : Type 0 where
   pub world : IsWorld w.world
   pub top : w.world.top ≡ top_of w.policy
-  pub objects : AllByRecursion (λ (o : WorldObject). IsWrittenObject o) w.world.objects
+
+-- each line of the text of a world has at most 2,048 bytes
+abbrev pub HasShortLines : WorldText → Type 0
+HasShortLines w = AllByRecursion IsShort (lines_of w)
+
+-- a world whose text can be read: that it is one and its lines are short, and what the types of its parts keep
+pub record CanBeRead (w : WorldText) : Type 0 where
+  pub is : IsWorldText w
+  pub lines : HasShortLines w
+  pub policy : MakePolicy w.policy
+  pub objects : AllByRecursion IsWrittenObject w.world.objects
   pub procs : AllByRecursion (λ (p : WorldProc). IsWrittenIds p.ids) w.world.procs
-  pub lines : AllByRecursion IsShort (lines_of w)

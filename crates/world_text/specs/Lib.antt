@@ -1,12 +1,12 @@
 pub mod Tree
 pub mod Placing
 pub mod Stage
-pub mod Reading
 pub mod Standing
 pub mod Lines
-pub mod Accepted
 pub mod Written
 pub mod CanBeRead
+pub mod Reading
+pub mod Accepted
 pub mod WrittenForms
 pub mod WrittenWords
 pub mod WrittenValues

@@ -1,8 +1,8 @@
 -- What a text says of a world, line by line.
-use Rattle.std.specs.Prelude.{◌≡◌, ℕ, ◌+◌, ◌≤◌, List, [], ◌∷◌, length}
+use Rattle.std.specs.Prelude.{◌≡◌, ℕ, ◌+◌, ◌≤◌, List, [], ◌∷◌, length, Option, None, Some}
 use Rattle.fs_path.specs.Lines.{pieces}
 use Rattle.world_text.specs.declared.fault.WorldFault.{WorldFault}
-use Rattle.world_text.specs.declared.fault.WorldFault.TheVariants.{Syntax}
+use Rattle.world_text.specs.declared.fault.WorldFault.TheVariants as fault
 use Rattle.world_text.specs.declared.fault.WorldError.{WorldError}
 use Rattle.world_text.specs.declared.fault.WorldError.TheVariants as error
 use Rattle.world_text.specs.declared.reading.Front.{Front}
@@ -12,7 +12,9 @@ use Rattle.world_text.specs.declared.stage.Stage.{Stage}
 use Rattle.world_text.specs.declared.stage.Stage.TheVariants as at
 use Rattle.world_text.specs.declared.stage.Said.{Said}
 use Rattle.world_text.specs.declared.stage.Said.TheVariants.{Refuses, GoesOn, Begins}
+use Rattle.world_text.specs.CanBeRead.{IsWorldText, HasShortLines}
 use Rattle.world_text.specs.Stage.{line_said}
+use Rattle.world_text.specs.Written.{next_number}
 
 -- how the reading of a world ends
 pub data Reading : Type 0 where
@@ -43,13 +45,27 @@ abbrev pub IsRead : Reading → WorldText → Type 0
 IsRead (Accepted world n script) w = world ≡ w
 IsRead _ w = ⊥
 
--- a world is not read for this cause, if memory did not run out; a text that ends before its world does is refused at the
--- line that would be next, or at the line inside which it ends
+-- the error of a line with this number
+abbrev pub error_at : ℕ → WorldFault → WorldError
+error_at n fault.Syntax = error.Syntax n
+error_at n fault.UnknownName = error.UnknownName n
+error_at n fault.Repeated = error.Repeated n
+error_at n fault.NoParent = error.NoParent n
+error_at n fault.RootLabel = error.RootLabel n
+error_at n fault.LabelOrder = error.LabelOrder n
+error_at n fault.TooMany = error.TooMany n
+
+-- why a reading gives no world; a text that ends before its world does is refused at the line that would be next, or at the
+-- line inside which it ends
+abbrev pub error_of : Reading → Option WorldError
+error_of (Accepted world n script) = None
+error_of (Refused n fault) = Some (error_at n fault)
+error_of (Ended n last) = Some (error.Syntax n)
+
+-- a world is not read for this cause, if memory did not run out
 abbrev pub IsNotRead : Reading → WorldError → Type 0
 IsNotRead r (error.NoMemory _) = Unit {0}
-IsNotRead (Refused n fault) (error.Refused m why) = (n ≡ m) × (fault ≡ why)
-IsNotRead (Ended n last) (error.Refused m why) = (n ≡ m) × (why ≡ Syntax)
-IsNotRead (Accepted world n script) (error.Refused m why) = ⊥
+IsNotRead r e = error_of r ≡ Some e
 
 -- what the front of a text says, as it is answered
 abbrev pub IsFront : Reading → Front → Type 0
@@ -62,3 +78,13 @@ IsFront _ _ = ⊥
 abbrev pub IsWithin : ℕ → Front → Type 0
 IsWithin size (front.World w n rest) = length rest.now + n ≤ size + 1
 IsWithin size _ = Unit {0}
+
+-- what is accepted is a world
+abbrev pub IsAcceptedWorld : Front → Type 0
+IsAcceptedWorld (front.World w n rest) = IsWorldText w
+IsAcceptedWorld _ = Unit {0}
+
+-- a text is read, and another one, which is its world written, is read as the same world where its lines are short
+abbrev pub RoundTrips : Reading → Reading → Type 0
+RoundTrips (Accepted world n script) again = HasShortLines world → again ≡ Accepted world (next_number world) ([] ∷ [])
+RoundTrips _ again = ⊥

@@ -384,27 +384,27 @@ written_again w h =
     ap (reading 1 at.Format) (pieces_again (lines_of w) spelled)
     ∙ head_read w.policy w.world.bound (map (object_words w.policy) w.world.objects ++ (map (process_words w.policy) w.world.procs ++ script_words ∷ [])) h.policy h.lines.1.0 h.lines.1.1.0 h.lines.1.1.1.0
     ∙ steps_on (object_words w.policy) (λ os. tree_at w.policy w.world.bound os []) 5 [] w.world.objects (map (process_words w.policy) w.world.procs ++ script_words ∷ [])
-    (tree_adds w.policy w.world.bound w.world.objects h.world.first h.world.others h.policy h.world.objects_are h.world.no_names h.world.root_body h.world.root_label h.world.others_placed
-    objects_valid written (objects_plain w.world.top w.world.objects h.world.objects) tails.0 h.world.room.objects)
+    (tree_adds w.policy w.world.bound w.world.objects h.is.world.first h.is.world.others h.policy h.is.world.objects_are h.is.world.no_names h.is.world.root_body h.is.world.root_label h.is.world.others_placed
+    objects_valid written (objects_plain w.world.top w.world.objects h.is.world.objects) tails.0 h.is.world.room.objects)
     ∙ steps_on (process_words w.policy) (tree_at w.policy w.world.bound w.world.objects) (5 + length w.world.objects) [] w.world.procs (script_words ∷ [])
-    (processes_add w.policy w.world.bound w.world.objects [] w.world.procs h.policy some procs_valid owned (procs_within w.world.top w.world.procs h.world.procs) ends.0 h.world.room.procs)
+    (processes_add w.policy w.world.bound w.world.objects [] w.world.procs h.policy some procs_valid owned (procs_within w.world.top w.world.procs h.is.world.procs) ends.0 h.is.world.room.procs)
     ∙ step_last (5 + length w.world.objects + length w.world.procs) (tree_at w.policy w.world.bound w.world.objects w.world.procs) world script_words (script_line w.policy w.world.bound w.world.objects w.world.procs some)
     ∙ (λ i. Accepted (world_is i) (number i) ([] ∷ []))
   where
     objects_valid : AllByRecursion (λ (o : WorldObject). is_valid w.policy o.label ≡ true) w.world.objects
-    objects_valid = subst (λ (top : Label). AllByRecursion (λ (o : WorldObject). dominates top o.label ≡ true) w.world.objects) h.top (objects_below w.world.top w.world.objects h.world.objects)
+    objects_valid = subst (λ (top : Label). AllByRecursion (λ (o : WorldObject). dominates top o.label ≡ true) w.world.objects) h.is.top (objects_below w.world.top w.world.objects h.is.world.objects)
 
     procs_valid : AllByRecursion (λ (p : WorldProc). is_valid w.policy p.label ≡ true) w.world.procs
-    procs_valid = subst (λ (top : Label). AllByRecursion (λ (p : WorldProc). dominates top p.label ≡ true) w.world.procs) h.top (procs_below w.world.top w.world.procs h.world.procs)
+    procs_valid = subst (λ (top : Label). AllByRecursion (λ (p : WorldProc). dominates top p.label ≡ true) w.world.procs) h.is.top (procs_below w.world.top w.world.procs h.is.world.procs)
 
     written : AllByRecursion (λ (o : WorldObject). IsSpelledObject o) w.world.objects
-    written = objects_spelled w.world.top w.world.objects h.world.objects h.objects
+    written = objects_spelled w.world.top w.world.objects h.is.world.objects h.objects
 
     owned : AllByRecursion (λ (p : WorldProc). IsSpelledIds p.ids) w.world.procs
-    owned = procs_spelled w.world.top w.world.procs h.world.procs h.procs
+    owned = procs_spelled w.world.top w.world.procs h.is.world.procs h.procs
 
     some : (length w.world.objects == 0) ≡ false
-    some = some_objects w.world.objects h.world.first h.world.others h.world.objects_are
+    some = some_objects w.world.objects h.is.world.first h.is.world.others h.is.world.objects_are
 
     tails : AllByRecursion IsShort (map (object_words w.policy) w.world.objects) × AllByRecursion IsShort (map (process_words w.policy) w.world.procs ++ script_words ∷ [])
     tails = all_parts IsShort (map (object_words w.policy) w.world.objects) (map (process_words w.policy) w.world.procs ++ script_words ∷ []) h.lines.1.1.1.1
@@ -424,7 +424,7 @@ written_again w h =
     world = world_of w.policy w.world.bound (record { objects = w.world.objects; procs = w.world.procs })
 
     world_is : world ≡ w
-    world_is = ap (λ (top : Label). record { policy = w.policy; world = record { top = top; bound = w.world.bound; objects = w.world.objects; procs = w.world.procs } }) (sym h.top)
+    world_is = ap (λ (top : Label). record { policy = w.policy; world = record { top = top; bound = w.world.bound; objects = w.world.objects; procs = w.world.procs } }) (sym h.is.top)
 
     number : 5 + length w.world.objects + length w.world.procs + 1 ≡ next_number w
     number =

@@ -3,7 +3,6 @@ use Rattle.std.specs.Prelude.{◌≡◌, ◌/◌, ◌%◌, ◌≤◌, nat_le, tr
 use Rattle.std.proofs.Common.{arith}
 use Rattle.std.specs.List.{AllByRecursion, list_all}
 use Rattle.std.proofs.lemmas.Bool.{and_parts, ltb-true, eqb-true}
-use Rattle.fs_path.specs.Name.{is_name}
 use Rattle.fs_path.specs.Path.{PathValue, HasForm}
 use Rattle.lab_lattice.specs.Label.{Label, dominates}
 use Rattle.cap_bits.specs.CapSet.{is_within}
@@ -16,13 +15,13 @@ use Rattle.kern_model.specs.declared.world.WorldProc.{WorldProc}
 use Rattle.kern_model.specs.Kinds.{is_file, kind_of}
 use Rattle.kern_model.specs.World.{IsWorldObject, IsWorldProc}
 use Rattle.world_text.specs.CanBeRead.{are_bytes, IsNumber, HasBytes, IsWrittenObject, IsWrittenIds}
+use Rattle.world_text.specs.Written.{path_text}
 
--- an absolute path of names that are bytes
+-- an absolute path whose text is bytes
 pub record IsSpelledPath (path : PathValue) : Type 0 where
   pub absolute : path.absolute ≡ true
   pub form : HasForm path.absolute path.names
-  pub names : list_all is_name path.names ≡ true
-  pub bytes : list_all are_bytes path.names ≡ true
+  pub bytes : are_bytes (path_text path.names) ≡ true
 
 -- a directory, a file or a FIFO
 abbrev pub IsSpelledBody : Body → Type 0
@@ -62,7 +61,7 @@ object_spelled top o is written =
     let mode = and_parts _ _ is.mode in
     let low = ltb-true o.attr.mode 4096 mode.0 in
     record {
-      path = record { absolute = is.absolute; form = is.path; names = is.path.named; bytes = written.names };
+      path = record { absolute = is.absolute; form = is.path; bytes = written.path };
       mode = omega arith;
       not_sticky = eqb-true _ _ mode.1;
       owner = written.owner;
@@ -88,7 +87,7 @@ each P Q R f [] ps qs = tt
 each P Q R f (x ∷ xs) ps qs = (f x ps.0 qs.0, each P Q R f xs ps.1 qs.1)
 
 module _ (top : Label) (os : List WorldObject) (are : AllByRecursion (IsWorldObject top) os) where
-  pub objects_spelled : AllByRecursion (λ (o : WorldObject). IsWrittenObject o) os → AllByRecursion (λ (o : WorldObject). IsSpelledObject o) os
+  pub objects_spelled : AllByRecursion IsWrittenObject os → AllByRecursion (λ (o : WorldObject). IsSpelledObject o) os
   objects_spelled written = each (IsWorldObject top) _ (λ (o : WorldObject). IsSpelledObject o) (object_spelled top) os are written
 
   pub objects_below : AllByRecursion (λ (o : WorldObject). dominates top o.label ≡ true) os

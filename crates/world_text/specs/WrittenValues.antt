@@ -172,23 +172,13 @@ path_is names h =
 pub path_again : (p : PathValue) → IsSpelledPath p → path_of (path_text p.names) ≡ Some p
 path_again p h =
     let form : HasForm true p.names = subst (λ v. HasForm v p.names) h.absolute h.form in
-    let said = path_is p.names h.names in
+    let said = path_is p.names h.form.named in
     let same : p ≡ record { absolute = true; names = p.names } = ap (λ v. record { absolute = v; names = p.names }) h.absolute in
-    cond-true _ _ _ (and_from _ _ (ap is_none (path_fine p.names form h.names)) (ap (λ (q : PathValue). q.absolute) said)) ∙ ap Some (said ∙ sym same)
-
-slashes_bytes : (names : List Name) → list_all are_bytes names ≡ true → are_bytes (behind_slashes names) ≡ true
-slashes_bytes [] h = refl
-slashes_bytes (n ∷ ns) h =
-    let parts = and_parts (are_bytes n) (list_all are_bytes ns) h in
-    list_all-append (λ b. nat_lt b 256) n (behind_slashes ns) ∙ and_from (are_bytes n) (are_bytes (behind_slashes ns)) parts.0 (slashes_bytes ns parts.1)
-
-path_bytes : (names : List Name) → list_all are_bytes names ≡ true → are_bytes (path_text names) ≡ true
-path_bytes [] h = refl
-path_bytes (n ∷ ns) h = slashes_bytes (n ∷ ns) h
+    cond-true _ _ _ (and_from _ _ (ap is_none (path_fine p.names form h.form.named)) (ap (λ (q : PathValue). q.absolute) said)) ∙ ap Some (said ∙ sym same)
 
 -- a path's text can be written
 pub path_spelling : (p : PathValue) → IsSpelledPath p → has_spelling (with_quotes_if_needed (path_text p.names)) ≡ true
-path_spelling p h = word_spelling (path_text p.names) (path_bytes p.names h.bytes)
+path_spelling p h = word_spelling (path_text p.names) h.bytes
 
 -- ---- labels
 

@@ -1,5 +1,9 @@
 // Why a world is refused.
+ghost use Rattle.std.specs.Prelude.{◌≡◌};
+ghost use Rattle.world_text.specs.Reading.{error_at};
+
 use crate::NoMemory;
+use thiserror::Error;
 
 /// Why a line of a world is refused. Of several causes the first that is listed here counts, but that of a line of levels
 /// or categories `TooMany` goes before `Repeated`.
@@ -22,11 +26,61 @@ pub enum WorldFault {
     TooMany,
 }
 
-/// Why no world was read.
-#[derive(Clone, Copy, Debug, PartialEq, Eq)]
+/// Why no world was read: the fault of a line, with the number of that line, counted from 1. Of several faults that one
+/// counts which [`WorldFault`] says.
+#[derive(Clone, Copy, Debug, PartialEq, Eq, Error)]
 pub enum WorldError {
-    /// The line with this number, counted from 1, is refused.
-    Refused(u64, WorldFault),
+    /// The line is longer than 2,048 bytes, has not the form of the line that is due, has capabilities effective in a
+    /// process that are not permitted, or the text ends at it.
+    #[error("line {0} is too long or not of the form that is due there")]
+    Syntax(u64),
+    /// A level, a category or a capability is unknown.
+    #[error("line {0} names an unknown level, category or capability")]
+    UnknownName(u64),
+    /// A level or a category is named twice, or the path was given before.
+    #[error("line {0} names a level or a category twice, or gives a path again")]
+    Repeated(u64),
+    /// The path's directory was not given or is no directory, or the root was not given.
+    #[error("line {0} stands in no directory that was given")]
+    NoParent(u64),
+    /// The label does not dominate that of the path's directory.
+    #[error("line {0} has a label that does not dominate that of its directory")]
+    LabelOrder(u64),
+    /// The root is no directory, or its label is not the lowest.
+    #[error("line {0} gives a root that is no directory of the lowest label")]
+    RootLabel(u64),
+    /// There are more than 16 levels, 64 categories, 65,535 objects of a label or 4,095 processes of a label.
+    #[error("line {0} has or gives more than there may be")]
+    TooMany(u64),
     /// Memory ran out.
+    #[error("memory ran out")]
     NoMemory(NoMemory),
+}
+
+impl From<NoMemory> for WorldError {
+    ghost use Rattle.std.specs.Prelude.{◌≡◌};
+    ghost use Rattle.world_text.specs.declared.fault.WorldError.TheVariants as error;
+
+    ghost from_gives = { λ m e. e ≡ error.NoMemory m };
+
+    fn from(value: NoMemory) -> Self {
+        WorldError::NoMemory(value)
+    }
+}
+
+impl WorldError {
+    // The error of the line with this number.
+    pub(crate) fn at(number: u64, fault: WorldFault) -> WorldError
+        ensures { result ≡ error_at number fault }
+    {
+        match fault {
+            WorldFault::Syntax => WorldError::Syntax(number),
+            WorldFault::UnknownName => WorldError::UnknownName(number),
+            WorldFault::Repeated => WorldError::Repeated(number),
+            WorldFault::NoParent => WorldError::NoParent(number),
+            WorldFault::RootLabel => WorldError::RootLabel(number),
+            WorldFault::LabelOrder => WorldError::LabelOrder(number),
+            WorldFault::TooMany => WorldError::TooMany(number),
+        }
+    }
 }

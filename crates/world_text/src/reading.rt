@@ -1,6 +1,7 @@
 // The reading of a world.
 ghost use Rattle.std.specs.Prelude.{IfOk, IfErr, length};
-ghost use Rattle.world_text.specs.Reading.{read_text, IsFront, IsWithin, IsRead, IsNotRead};
+ghost use Rattle.world_text.specs.CanBeRead.{IsWorldText};
+ghost use Rattle.world_text.specs.Reading.{read_text, IsFront, IsWithin, IsAcceptedWorld, IsRead, IsNotRead};
 
 use crate::stage::{Said, Stage, line_said};
 use crate::{NoMemory, WorldError, WorldFault, WorldText};
@@ -22,6 +23,7 @@ pub enum Front<'a> {
 pub fn read_front(alloc: Global, text: &[u8]) -> Result<Front<'_>, NoMemory>
     ensures front { IfOk result (IsFront (read_text text.now)) }
     ensures number { IfOk result (IsWithin (length text.now)) }
+    ensures world { IfOk result IsAcceptedWorld }
 {
     let mut stage = Stage::Format;
     let mut rest = text;
@@ -39,16 +41,16 @@ pub fn read_front(alloc: Global, text: &[u8]) -> Result<Front<'_>, NoMemory>
 }
 
 impl WorldText {
-    /// The world that a text gives, up to the line `script`; what stands behind that line is not looked at.
+    /// The world that a text gives, up to the line `script`; what stands after that line is not looked at.
     pub fn read(alloc: Global, text: &[u8]) -> Result<WorldText, WorldError>
-        ensures world { IfOk result (IsRead (read_text text.now)) }
+        ensures read { IfOk result (IsRead (read_text text.now)) }
+        ensures world { IfOk result IsWorldText }
         ensures none { IfErr result (IsNotRead (read_text text.now)) }
     {
-        match read_front(alloc, text) {
-            Ok(Front::World(world, _, _)) => Ok(world),
-            Ok(Front::Refused(number, fault)) => Err(WorldError::Refused(number, fault)),
-            Ok(Front::Ended(number, _)) => Err(WorldError::Refused(number, WorldFault::Syntax)),
-            Err(e) => Err(WorldError::NoMemory(e)),
+        match read_front(alloc, text)? {
+            Front::World(world, _, _) => Ok(world),
+            Front::Refused(number, fault) => Err(WorldError::at(number, fault)),
+            Front::Ended(number, _) => Err(WorldError::Syntax(number)),
         }
     }
 }

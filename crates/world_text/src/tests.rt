@@ -409,8 +409,8 @@ fn answered(front: &Front<'_>) -> Answer {
 fn cause(answer: Answer) -> Option<WorldError> {
     match answer {
         World(_) => None,
-        Refused(number, fault) => Some(WorldError::Refused(number, fault)),
-        Ended(number, _) => Some(WorldError::Refused(number, Syntax)),
+        Refused(number, fault) => Some(WorldError::at(number, fault)),
+        Ended(number, _) => Some(WorldError::Syntax(number)),
     }
 }
 
@@ -506,8 +506,30 @@ const WRITTEN: &[u8] = b"world 1\n\
 fn written_again(rt: HostRuntime) -> Result<(), Fail> {
     let alloc = rt.alloc();
     for text in [SPELLED, WRITTEN] {
-        let written = WorldText::read(alloc, text)?.write(alloc)?;
+        let written = WorldText::read(alloc, text)?.write()?;
         assert_eq!(rt; written.as_slice(), WRITTEN);
     }
+    Ok(())
+}
+
+// A file that the process may not see, in a directory of the process's own label.
+const HIDDEN: &[u8] = b"world 1\n\
+    levels unc conf sec\n\
+    categories a b\n\
+    bound all\n\
+    dir / 0777 0 0 unc\n\
+    dir /d 0755 10 10 unc\n\
+    file /d/h 0644 10 10 sec \"\"\n\
+    proc unc 10 10 - \"=\"\n\
+    script\n";
+
+#[test]
+fn hidden_file_again(rt: HostRuntime) -> Result<(), Fail> {
+    let alloc = rt.alloc();
+    let written = canonical_text(alloc, HIDDEN)?;
+    assert_eq!(rt; written.as_slice(), HIDDEN);
+    let again = WorldText::read(alloc, &written)?;
+    assert_eq!(rt; again.world.objects.items().len(), 3);
+    assert_eq!(rt; again.world.procs.items().len(), 1);
     Ok(())
 }

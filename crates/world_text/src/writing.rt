@@ -1,19 +1,19 @@
 // The writing of a world.
-ghost use Rattle.std.specs.Prelude.{◌≡◌, [], ◌∷◌, ◌++◌, map, OnOk, IfOk};
+ghost use Rattle.std.specs.Prelude.{◌≡◌, ℕ, nat_le, true, [], ◌∷◌, ◌++◌, map, OnOk, IfOk};
 ghost use Rattle.std.specs.Fmt.{decimal};
-ghost use Rattle.std.specs.List.{flat_map};
+ghost use Rattle.std.specs.List.{AllByRecursion, flat_map, list_all};
 ghost use Rattle.cap_clause.specs.Written.{caps_text};
 ghost use Rattle.fs_path.specs.Values.{mode_text, groups_text};
 ghost use Rattle.fs_path.specs.Words.{with_quotes_if_needed, spelling, quoted_text, behind_spaces};
 ghost use Rattle.lab_text.specs.Text.{label_text};
-ghost use Rattle.world_text.specs.CanBeRead.{CanBeRead};
+ghost use Rattle.world_text.specs.CanBeRead.{are_bytes, IsNumber, HasBytes, IsWrittenObject, IsWrittenIds, IsWorldText, HasShortLines};
 ghost use Rattle.world_text.specs.Reading.{Accepted, read_text};
 ghost use Rattle.world_text.specs.Written.{path_text, line_of, names_words, head_words, body_keyword, caps_words, body_words, object_words, process_words, next_number, written};
 
 use crate::{NoMemory, WorldText};
 use cap_bits::{CapSet, CapState};
 use cap_clause::{cap_to_text, set_to_text};
-use fs_path::{Name, put_groups, put_mode, put_number, put_quoted, put_word};
+use fs_path::{Name, Path, put_groups, put_mode, put_number, put_quoted, put_word};
 use kern_model::{Body, WorldObject, WorldProc};
 use lab_lattice::Label;
 use lab_text::{Policy, Word, mac_to_text};
@@ -29,10 +29,20 @@ fn put_bare_word(text: &mut Vec<u8>, word: &[u8]) -> Result<(), NoMemory>
 
 // A quoted word behind a space.
 fn put_quoted_word(text: &mut Vec<u8>, bytes: &[u8]) -> Result<(), NoMemory>
-    ensures { OnOk result (text.new.items ≡ text.old.items ++ 32 ∷ quoted_text bytes.now) }
+    ensures text { OnOk result (text.new.items ≡ text.old.items ++ 32 ∷ quoted_text bytes.now) }
+    ensures in_range { OnOk result (are_bytes bytes.now ≡ true) }
 {
     text.push(b' ')?;
     put_quoted(text, bytes)
+}
+
+// A word behind a space, between quotes where it needs them.
+fn put_any_word(text: &mut Vec<u8>, word: &[u8]) -> Result<(), NoMemory>
+    ensures text { OnOk result (text.new.items ≡ text.old.items ++ 32 ∷ spelling (with_quotes_if_needed word.now)) }
+    ensures in_range { OnOk result (are_bytes word.now ≡ true) }
+{
+    text.push(b' ')?;
+    put_word(text, word)
 }
 
 // The text of an absolute path with these names.
@@ -51,12 +61,12 @@ fn path_text(alloc: Global, names: &[Name]) -> Result<Vec<u8>, NoMemory>
 }
 
 // A path behind a space.
-fn put_path(alloc: Global, text: &mut Vec<u8>, names: &[Name]) -> Result<(), NoMemory>
-    ensures { OnOk result (text.new.items ≡ text.old.items ++ 32 ∷ spelling (with_quotes_if_needed (path_text names.now))) }
+fn put_path(alloc: Global, text: &mut Vec<u8>, path: &Path) -> Result<(), NoMemory>
+    ensures text { OnOk result (text.new.items ≡ text.old.items ++ 32 ∷ spelling (with_quotes_if_needed (path_text path.now.names))) }
+    ensures in_range { OnOk result (are_bytes (path_text path.now.names) ≡ true) }
 {
-    let path = path_text(alloc, names)?;
-    text.push(b' ')?;
-    put_word(text, path.as_slice())
+    let path = path_text(alloc, path.components())?;
+    put_any_word(text, path.as_slice())
 }
 
 // A label behind a space.
@@ -74,7 +84,8 @@ fn put_label(
 
 // A number behind a space.
 fn put_number_word(alloc: Global, text: &mut Vec<u8>, n: u32) -> Result<(), NoMemory>
-    ensures { OnOk result (text.new.items ≡ text.old.items ++ 32 ∷ decimal n) }
+    ensures text { OnOk result (text.new.items ≡ text.old.items ++ 32 ∷ decimal n) }
+    ensures in_range { OnOk result (IsNumber n) }
 {
     text.push(b' ')?;
     put_number(alloc, text, u64::from(n))
@@ -90,7 +101,8 @@ fn put_mode_word(text: &mut Vec<u8>, mode: u16) -> Result<(), NoMemory>
 
 // Groups behind a space.
 fn put_groups_word(alloc: Global, text: &mut Vec<u8>, groups: &[u32]) -> Result<(), NoMemory>
-    ensures { OnOk result (text.new.items ≡ text.old.items ++ 32 ∷ groups_text groups.now) }
+    ensures text { OnOk result (text.new.items ≡ text.old.items ++ 32 ∷ groups_text groups.now) }
+    ensures in_range { OnOk result (list_all (λ g. nat_le g 4294967295) groups.now ≡ true) }
 {
     text.push(b' ')?;
     put_groups(alloc, text, groups)
@@ -158,7 +170,8 @@ fn body_keyword(body: &Body) -> &'static [u8]
 
 // What a file holds.
 fn put_body(alloc: Global, text: &mut Vec<u8>, body: &Body, caps: &CapState) -> Result<(), NoMemory>
-    ensures { OnOk result (text.new.items ≡ text.old.items ++ behind_spaces (map spelling (body_words body.now caps.now))) }
+    ensures text { OnOk result (text.new.items ≡ text.old.items ++ behind_spaces (map spelling (body_words body.now caps.now))) }
+    ensures in_range { OnOk result (HasBytes body.now) }
 {
     let Body::File(bytes) = body else {
         return Ok(());
@@ -174,10 +187,11 @@ fn put_object(
     policy: &Policy,
     object: &WorldObject,
 ) -> Result<(), NoMemory>
-    ensures { OnOk result (text.new.items ≡ text.old.items ++ line_of (object_words policy.now object.now)) }
+    ensures text { OnOk result (text.new.items ≡ text.old.items ++ line_of (object_words policy.now object.now)) }
+    ensures in_range { OnOk result (IsWrittenObject object.now) }
 {
     text.extend_from_slice(body_keyword(&object.body))?;
-    put_path(alloc, text, object.path.names.items())?;
+    put_path(alloc, text, &object.path)?;
     put_mode_word(text, object.attr.mode)?;
     put_number_word(alloc, text, object.attr.owner)?;
     put_number_word(alloc, text, object.attr.group)?;
@@ -194,7 +208,8 @@ fn put_process(
     policy: &Policy,
     process: &WorldProc,
 ) -> Result<(), NoMemory>
-    ensures { OnOk result (text.new.items ≡ text.old.items ++ line_of (process_words policy.now process.now)) }
+    ensures text { OnOk result (text.new.items ≡ text.old.items ++ line_of (process_words policy.now process.now)) }
+    ensures in_range { OnOk result (IsWrittenIds process.now.ids) }
 {
     text.extend_from_slice(b"proc")?;
     put_label(alloc, text, policy, &process.label)?;
@@ -212,7 +227,8 @@ fn put_objects(
     policy: &Policy,
     objects: &[WorldObject],
 ) -> Result<(), NoMemory>
-    ensures { OnOk result (text.new.items ≡ text.old.items ++ flat_map (λ object. line_of (object_words policy.now object)) objects.now) }
+    ensures text { OnOk result (text.new.items ≡ text.old.items ++ flat_map (λ object. line_of (object_words policy.now object)) objects.now) }
+    ensures in_range { OnOk result (AllByRecursion IsWrittenObject objects.now) }
 {
     for object in objects {
         put_object(alloc, text, policy, object)?;
@@ -226,7 +242,8 @@ fn put_processes(
     policy: &Policy,
     processes: &[WorldProc],
 ) -> Result<(), NoMemory>
-    ensures { OnOk result (text.new.items ≡ text.old.items ++ flat_map (λ process. line_of (process_words policy.now process)) processes.now) }
+    ensures text { OnOk result (text.new.items ≡ text.old.items ++ flat_map (λ process. line_of (process_words policy.now process)) processes.now) }
+    ensures in_range { OnOk result (AllByRecursion (λ process. IsWrittenIds process.ids) processes.now) }
 {
     for process in processes {
         put_process(alloc, text, policy, process)?;
@@ -251,18 +268,20 @@ fn put_head(
 }
 
 impl WorldText {
-    /// The written form of a world, up to the line `script`. Of a world that can be read it is read as that world.
+    /// The written form of a world, up to the line `script`.
     #[tactic(auto, unfolding(crate::specs::Written::line_of, crate::specs::Written::written))]
-    pub fn write(&self, alloc: Global) -> Result<Vec<u8>, NoMemory>
+    pub fn write(&self) -> Result<Vec<u8>, NoMemory>
         ensures text { IfOk result (λ text. text.items ≡ written self.now) }
-        ensures again { IfOk result (λ text. CanBeRead self.now → read_text text.items ≡ Accepted self.now (next_number self.now) ([] ∷ [])) }
+        // Where its lines are short it is read again as the same world.
+        ensures again { IfOk result (λ text. IsWorldText self.now → HasShortLines self.now → read_text text.items ≡ Accepted self.now (next_number self.now) ([] ∷ [])) }
     {
-        let objects = self.world.objects.items();
-        let processes = self.world.procs.items();
+        // The names of its levels make a policy, which the clause `again` needs.
+        let _names = self.policy.levels();
+        let alloc = self.policy.allocator();
         let mut text = Vec::new(alloc);
         put_head(alloc, &mut text, &self.policy, &self.world.bound)?;
-        put_objects(alloc, &mut text, &self.policy, objects)?;
-        put_processes(alloc, &mut text, &self.policy, processes)?;
+        put_objects(alloc, &mut text, &self.policy, self.world.objects.items())?;
+        put_processes(alloc, &mut text, &self.policy, self.world.procs.items())?;
         text.extend_from_slice(b"script\n")?;
         Ok(text)
     }

@@ -1,4 +1,5 @@
 use Rattle.std.proofs.Common.{◌+◌, ◌≤◌, length, refl, sym, subst, arith}
+use Rattle.world_text.specs.Accepted.{accepted_world, accepted_top}
 use Rattle.world_text.specs.Reading.{Reading, IsFront, read_text}
 use Rattle.world_text.specs.declared.reading.Front.TheVariants as front
 use Rattle.world_text.proofs.ReadingLemmas.{read_on, read_refused, read_world, read_end}
@@ -9,6 +10,12 @@ returns-in-Refuses-clause-front c =
     subst (λ (r : Reading). IsFront r (front.Refused c.loop-line.number c.in-Refuses.fault))
     (sym (read_refused (read_text c.args.text.now) c.loop-line.number c.loop-line.stage c.loop-line.rest.now c.in-Some.line.now c.in-Some.behind.now c.in_ok-fault.field-0 c.in-Refuses.fault c.loop-line.invariant.says c.in-Some.ensures.line
     c.in_ok-fault.ensures c.in-Refuses.is)) (refl, refl)
+
+pub returns-in-Begins-clause-world : goal.returns-in-Begins-clause-world
+returns-in-Begins-clause-world c =
+    let says = read_world (read_text c.args.text.now) c.loop-line.number c.loop-line.stage c.loop-line.rest.now c.in-Some.line.now c.in-Some.behind.now c.in_ok-fault.field-0 c.in-Begins.world c.loop-line.invariant.says c.in-Some.ensures.line
+    c.in_ok-fault.ensures c.in-Begins.is in
+    record { world = accepted_world c.args.text.now _ _ _ says; top = accepted_top c.args.text.now _ _ _ says }
 
 pub returns-in-Begins-clause-front : goal.returns-in-Begins-clause-front
 returns-in-Begins-clause-front c =

@@ -21,10 +21,18 @@ gathered a b d e head objects procs end s1 s2 s3 s4 = rw (s4, s3, s2, s1) (simp 
 pub returns-clause-text : goal.returns-clause-text
 unfolding line_of written
 returns-clause-text c =
-    let objects = rw c.items-objects.ensures at c.in_ok-put_objects.ensures in
-    let procs = rw c.items-processes.ensures at c.in_ok-put_processes.ensures in
+    let objects = rw c.items.ensures at c.in_ok-put_objects.ensures.text in
+    let procs = rw c.items-2.ensures at c.in_ok-put_processes.ensures.text in
     c.in_ok-extend_from_slice.ensures.items ∙ gathered _ _ _ _ _ _ _ _ c.new-text.ensures.items c.in_ok-put_head.ensures objects procs
     ∙ sym (parts (head_words c.args.self.now.policy c.args.self.now.world.bound) (object_words c.args.self.now.policy) c.args.self.now.world.objects (process_words c.args.self.now.policy) c.args.self.now.world.procs script_words)
 
 pub returns-clause-again : goal.returns-clause-again
-returns-clause-again c = λ h. ap read_text (returns-clause-text c) ∙ written_again c.args.self.now h
+returns-clause-again c = λ is short.
+    ap read_text (returns-clause-text c)
+    ∙ written_again c.args.self.now (record {
+      is = is;
+      lines = short;
+      policy = c.levels-names.ensures.policy;
+      objects = rw c.items.ensures at c.in_ok-put_objects.ensures.in_range;
+      procs = rw c.items-2.ensures at c.in_ok-put_processes.ensures.in_range;
+    })

@@ -1,0 +1,15 @@
+// The written form of a text.
+ghost use Rattle.std.specs.Prelude.{IfOk, IfErr};
+ghost use Rattle.world_text.specs.Reading.{read_text, RoundTrips, IsNotRead};
+
+use crate::{WorldError, WorldText};
+use std::alloc::Global;
+
+/// The world that a text gives, up to the line `script`, in the one form in which worlds are written.
+pub fn canonical_text(alloc: Global, text: &[u8]) -> Result<Vec<u8>, WorldError>
+    ensures same { IfOk result (λ written. RoundTrips (read_text text.now) (read_text written.items)) }
+    ensures none { IfErr result (IsNotRead (read_text text.now)) }
+{
+    let world = WorldText::read(alloc, text)?;
+    Ok(world.write()?)
+}
