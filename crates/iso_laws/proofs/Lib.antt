@@ -16,3 +16,6 @@ pub mod RowsTell
 pub mod Lineage
 pub mod Drops
 pub mod Growth
+pub mod DrawingLemmas
+pub mod RowsFair
+pub mod GoingOn
