@@ -1,18 +1,17 @@
 -- Numbers over changes: what is drawn stays drawn, and what is set was there or has a number that was drawn since.
-use Rattle.std.specs.Prelude.{◌≡◌, ⊤, ◌⊎◌, ℕ, ◌+◌, ◌≤◌, ◌<◌, List, [], ◌∷◌, ◌++◌, Option, Some, None, refl}
+use Rattle.std.specs.Prelude.{◌≡◌, ⊤, ◌⊎◌, ℕ, ◌≤◌, ◌<◌, List, [], ◌∷◌, ◌++◌, Some, None, refl}
 use Rattle.std.specs.List.{AllByRecursion}
 use Rattle.std.specs.declared.cmp.Ordering.{Ordering}
 use Rattle.std.specs.Cmp.{IsTotalOrder}
-use Rattle.std.proofs.Common.{arith, inl, inr, ap, sym, ◌∙◌}
+use Rattle.std.proofs.Common.{arith, inl, inr}
 use Rattle.fin_maps.specs.FinMap as map
 use Rattle.fin_maps.specs.FinMap.{FinMap, IsAntisymmetric}
 use Rattle.lab_lattice.specs.Label.{Label, label_cmp, label_cmp_total, label_cmp_exact}
 use Rattle.kern_model.specs.declared.numbers.Did.{Did}
 use Rattle.kern_model.specs.declared.numbers.Oid.{Oid}
 use Rattle.kern_model.specs.declared.numbers.Pid.{Pid}
-use Rattle.kern_model.specs.declared.objects.Object.{Object}
 use Rattle.kern_model.specs.Drawing.{NeverFalls, StayDrawn, IsDrawnBetween, NumbersGoOn, NothingComesBack}
-use Rattle.kern_model.specs.Keys.{Spot, oid_cmp, oid_cmp_total, oid_cmp_exact, pid_cmp_total, pid_cmp_exact, did_cmp_total, did_cmp_exact, spot_cmp_total, spot_cmp_exact}
+use Rattle.kern_model.specs.Keys.{Spot, oid_cmp_total, oid_cmp_exact, pid_cmp_total, pid_cmp_exact, did_cmp_total, did_cmp_exact, spot_cmp_total, spot_cmp_exact}
 use Rattle.kern_model.specs.State.{State, Process, Description, Change, SetObject, SetEntry, DropEntry, SetProcess, DropProcess, SetDescription, DropDescription, DrawObject, DrawProcess, DrawDescription, changed, changed_by, drawn, root}
 use Rattle.kern_model.specs.Valid.{IsThere, IsValid}
 use Rattle.kern_model.proofs.MapLemmas.{each-insert, each-remove, get-insert_same, get_or-found, never_some}
@@ -40,7 +39,7 @@ closed_valid s valid = record {
 }
 
 -- a number that is drawn next is at least the last one
-falls_nowhere : (old m : FinMap label_cmp ℕ) (l : Label) (n : ℕ) → NeverFalls old m → drawn m l ≤ n → NeverFalls old (map.insert m l n)
+pub falls_nowhere : (old m : FinMap label_cmp ℕ) (l : Label) (n : ℕ) → NeverFalls old m → drawn m l ≤ n → NeverFalls old (map.insert m l n)
 falls_nowhere old m l n stay up = each_set_at label_cmp_total label_cmp_exact (λ q x. drawn old q ≤ x) 0 m l n (omega (arith, stay l)) stay
 
 -- ---- changes that fit: from a state on, where these objects are there

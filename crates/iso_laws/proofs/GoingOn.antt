@@ -1,7 +1,6 @@
 -- What every step keeps, of each call: refusals are named, and numbers go on.
-use Rattle.std.specs.Prelude.{◌≡◌, ⊤, true, false, List, [], ◌∷◌, ◌++◌, Option, Some, None, refl}
-use Rattle.std.specs.List.{AllByRecursion}
-use Rattle.std.proofs.Common.{sym, ◌∙◌, ap, subst}
+use Rattle.std.specs.Prelude.{◌≡◌, ⊤, true, false, List, [], ◌∷◌, ◌++◌, Some, refl}
+use Rattle.std.proofs.Common.{sym, subst}
 use Rattle.fin_maps.specs.FinMap as map
 use Rattle.kern_model.specs.declared.numbers.Oid.{Oid}
 use Rattle.kern_model.specs.declared.numbers.Pid.{Pid}
@@ -13,12 +12,11 @@ use Rattle.kern_model.specs.declared.world.ScriptItem.{ScriptItem}
 use Rattle.kern_model.specs.declared.records.Rec.{Rec}
 use Rattle.kern_model.specs.Boot.{boot}
 use Rattle.kern_model.specs.Drawing.{StayDrawn, NumbersGoOn, NothingComesBack}
-use Rattle.kern_model.specs.Names.{name_of}
 use Rattle.kern_model.specs.Refusals.{is_denial, IsNamed}
 use Rattle.kern_model.specs.Row.{Row, Need, Soft, Refuse, Fail, Give, Asker, End, Stopped, Refused, Done, judge, verdict_of, is_denied, noted}
 use Rattle.kern_model.specs.Rules.{denial_of}
 use Rattle.kern_model.specs.Run.{state_after_run}
-use Rattle.kern_model.specs.State.{State, Process, Change, changed_by}
+use Rattle.kern_model.specs.State.{State, Process, Change}
 use Rattle.kern_model.specs.Step.{step, asker, reply_of, state_after}
 use Rattle.kern_model.specs.Table.{row}
 use Rattle.kern_model.specs.Valid.{IsThere, IsValid}
@@ -50,10 +48,10 @@ row_ends There s leads who p is c = ends_fair (λ cs. AllFit There s s cs) (aske
 
 -- ---- in every state
 -- any object will do
-abbrev Anything : Oid → Type 0
+abbrev pub Anything : Oid → Type 0
 Anything id = ⊤
 
-lead_anywhere : (s : State) → LeadsTo Anything s
+pub lead_anywhere : (s : State) → LeadsTo Anything s
 lead_anywhere s = record { root_there = tt; entries = λ spot id e. tt; procs = λ who p e. tt; descriptions = λ did d e. tt }
 
 -- what a check denies is EACCES or EPERM

@@ -15,7 +15,8 @@ pub mod CapsTold
 pub mod RowsTell
 pub mod Lineage
 pub mod Drops
-pub mod Growth
 pub mod DrawingLemmas
 pub mod RowsFair
 pub mod GoingOn
+pub mod StartLemmas
+pub mod Growth

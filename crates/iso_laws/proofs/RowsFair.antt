@@ -1,7 +1,7 @@
 -- The row of each call: what it refuses by is no denial, its own record is none of a start, and its changes fit.
-use Rattle.std.specs.Prelude.{◌≡◌, ⊤, ◌⊎◌, ℕ, ◌+◌, ◌≤◌, ◌<◌, ◌==◌, length, Bool, true, false, not, ◌&&◌, ◌||◌, List, [], ◌∷◌, ◌++◌, Option, Some, None, refl, cond, unwrap_or}
+use Rattle.std.specs.Prelude.{◌≡◌, ⊤, ℕ, ◌+◌, ◌≤◌, ◌==◌, length, Bool, true, false, not, ◌&&◌, ◌||◌, List, [], ◌∷◌, ◌++◌, Option, Some, None, refl, cond, unwrap_or}
 use Rattle.std.specs.List.{AllByRecursion, flat_map}
-use Rattle.std.proofs.Common.{arith, ap, sym, inl, inr}
+use Rattle.std.proofs.Common.{arith, ap, inl, inr}
 use Rattle.fin_maps.specs.FinMap as map
 use Rattle.fin_maps.specs.FinMap.{FinMap}
 use Rattle.fs_path.specs.Name.{Name}
@@ -37,14 +37,14 @@ use Rattle.kern_model.specs.ProcessRows.{survives, left_by, ending_of, take_ende
 use Rattle.kern_model.specs.Refusals.{is_denial}
 use Rattle.kern_model.specs.Rules.{same_label, mac_write, dac_write, held_order}
 use Rattle.kern_model.specs.Row.{Row, Need, Soft, Refuse, Fail, Give, need_if}
-use Rattle.kern_model.specs.State.{State, Process, Description, Change, SetProcess, DropDescription, changed, changed_by, drawn, look, object_at, next_object}
+use Rattle.kern_model.specs.State.{State, Process, Description, Change, SetProcess, DropDescription, changed_by, drawn, look, object_at, next_object}
 use Rattle.kern_model.specs.Table.{row}
 use Rattle.kern_model.specs.TreeRows.{make_row, give_way, move_row}
 use Rattle.kern_model.specs.Valid.{IsThere}
 use Rattle.kern_model.specs.Walk.{Found, Start, Entry, walk_from, walk, reach, start_of, last_place, dir_place, or_missing, to_object, to_new_name, to_entry, to_entry_of_object}
 use Rattle.kern_model.proofs.MapLemmas.{each-entries, get-insert_same}
-use Rattle.iso_laws.proofs.DrawingLemmas.{LeadsTo, Known, Fits, AllFit, fit-append, FitsAnywhere, fit_anywhere, drawn_since}
-use Rattle.iso_laws.proofs.Sight.{IsOpen, is_open}
+use Rattle.iso_laws.proofs.DrawingLemmas.{LeadsTo, Known, AllFit, fit-append, FitsAnywhere, fit_anywhere, drawn_since}
+use Rattle.iso_laws.proofs.Sight.{is_open}
 
 -- ---- what every row is
 -- a record that is none of a start
@@ -120,7 +120,7 @@ module _ (There : Oid → Type 0) (s : State) (leads : LeadsTo There s) (P : Lis
   fair_entry_of_object found k there h = fair_entry found _ there (λ dir name object there. fair_missing P object _ (λ id e. h dir name id (there id e)))
 
 -- ---- changes that go over a table
-all-append : {X : Type 0} (P : X → Type 0) (xs ys : List X) → AllByRecursion P xs → AllByRecursion P ys → AllByRecursion P (xs ++ ys)
+pub all-append : {X : Type 0} (P : X → Type 0) (xs ys : List X) → AllByRecursion P xs → AllByRecursion P ys → AllByRecursion P (xs ++ ys)
 all-append P [] ys h g = g
 all-append P (x ∷ xs) ys h g = (h.0, all-append P xs ys h.1 g)
 
