@@ -42,17 +42,21 @@ closed_valid s valid = record {
 pub falls_nowhere : (old m : FinMap label_cmp ℕ) (l : Label) (n : ℕ) → NeverFalls old m → drawn m l ≤ n → NeverFalls old (map.insert m l n)
 falls_nowhere old m l n stay up = each_set_at label_cmp_total label_cmp_exact (λ q x. drawn old q ≤ x) 0 m l n (omega (arith, stay l)) stay
 
--- ---- changes that fit: from a state on, where these objects are there
-module _ (There : Oid → Type 0) (s : State) where
+-- ---- changes that fit: from a state on, where these objects are there and these processes are born
+module _ (There : Oid → Type 0) (Born : Pid → Type 0) (s : State) where
   -- an object that was there, or is by now
   abbrev pub Known : State → Oid → Type 0
   Known t id = There id ⊎ IsThere t.objects id
+
+  -- a process that was there, or is born with a number that was drawn since
+  abbrev pub Lives : State → Pid → Type 0
+  Lives t who = IsThere s.procs who ⊎ IsDrawnBetween s.process_numbers t.process_numbers who.label who.n × Born who
 
   -- a change at a later state: what is set was there or has a number drawn since, and leads to an object that is known
   abbrev pub Fits : State → Change → Type 0
   Fits t (SetObject id o) = There id ⊎ IsDrawnBetween s.object_numbers t.object_numbers id.label id.n
   Fits t (SetEntry spot id) = Known t id
-  Fits t (SetProcess who p) = (IsThere s.procs who ⊎ IsDrawnBetween s.process_numbers t.process_numbers who.label who.n) × Known t p.cwd
+  Fits t (SetProcess who p) = Lives t who × Known t p.cwd
   Fits t (SetDescription did d) = (IsThere s.descriptions did ⊎ IsDrawnBetween s.description_numbers t.description_numbers did.label did.n) × Known t d.object
   Fits t (DrawObject l n) = drawn t.object_numbers l ≤ n
   Fits t (DrawProcess l n) = drawn t.process_numbers l ≤ n
@@ -140,6 +144,27 @@ module _ {K X : Type 0} {R : K → K → Ordering} (total : IsTotalOrder R) (exa
         | Some x ↦ λ e. let h = fresh k none (record { value = x; is = e }) in absurd (omega (arith, h.0, few))
       ] refl
 
+-- ---- who lives after changes that fit
+module _ (There : Oid → Type 0) (Born : Pid → Type 0) (s : State) where
+  -- each living process was there, or was born
+  abbrev pub AreBorn : State → Type 0
+  AreBorn t = (who : Pid) → IsThere t.procs who → IsThere s.procs who ⊎ Born who
+
+  was_or_born : (t : State) (who : Pid) → Lives There Born s t who → IsThere s.procs who ⊎ Born who
+  was_or_born t who (inl was) = inl was
+  was_or_born t who (inr born) = inr born.1
+
+  born_changed : (t : State) (c : Change) → Fits There Born s t c → AreBorn t → AreBorn (changed t c)
+  born_changed t (SetProcess who p) h born q there =
+      each-insert pid_cmp_total pid_cmp_exact (λ (k : Pid) (x : Process). IsThere s.procs k ⊎ Born k) t.procs (λ k x e. born k (record { value = x; is = e })) who p (was_or_born t who h.0) q there.value there.is
+  born_changed t (DropProcess who) h born q there =
+      each-remove pid_cmp_total pid_cmp_exact (λ (k : Pid) (x : Process). IsThere s.procs k ⊎ Born k) t.procs (λ k x e. born k (record { value = x; is = e })) who q there.value there.is
+  born_changed t c h born q there = born q there
+
+  pub born_all : (cs : List Change) (t : State) → AllFit There Born s t cs → AreBorn t → AreBorn (changed_by t cs)
+  born_all [] t h born = born
+  born_all (c ∷ cs) t h born = born_all cs (changed t c) h.1 (born_changed t c h.0 born)
+
 -- ---- numbers go on over changes that fit
 -- from a state to a later one: numbers go on, objects stay, and what leads to an object leads to one that is there
 pub record GoesOn (s t : State) : Type 0 where
@@ -147,60 +172,64 @@ pub record GoesOn (s t : State) : Type 0 where
   pub stay : (id : Oid) → IsThere s.objects id → IsThere t.objects id
   pub closed : IsClosed t
 
-module _ (s : State) where
+module _ (Born : Pid → Type 0) (s : State) where
   abbrev Fit : State → Change → Type 0
-  Fit t c = Fits (IsThere s.objects) s t c
+  Fit t c = Fits (IsThere s.objects) Born s t c
 
   -- a number drawn at a label, in a table that grows
   up : (m : FinMap label_cmp ℕ) (l : Label) (n : ℕ) → drawn m l ≤ n → NeverFalls m (map.insert m l n)
   up m l n h = falls_nowhere m m l n (λ q. omega arith) h
 
+  was_or_drawn : (t : State) (who : Pid) → Lives (IsThere s.objects) Born s t who → IsThere s.procs who ⊎ IsDrawnBetween s.process_numbers t.process_numbers who.label who.n
+  was_or_drawn t who (inl was) = inl was
+  was_or_drawn t who (inr born) = inr born.0
+
   -- one more change
   on_changed : (t : State) (c : Change) → Fit t c → NumbersGoOn s t → NumbersGoOn s (changed t c)
   on_changed t (SetObject id o) h on = record {
-    stay_drawn = stay_changed (IsThere s.objects) s t (SetObject id o) h on.stay_drawn;
+    stay_drawn = stay_changed (IsThere s.objects) Born s t (SetObject id o) h on.stay_drawn;
     objects = new-insert oid_cmp_total oid_cmp_exact (λ (q : Oid). q.label) (λ (q : Oid). q.n) s.objects t.objects s.object_numbers t.object_numbers id o h on.objects;
     procs = on.procs;
     descriptions = on.descriptions;
   }
   on_changed t (SetProcess who p) h on = record {
-    stay_drawn = stay_changed (IsThere s.objects) s t (SetProcess who p) h on.stay_drawn;
+    stay_drawn = stay_changed (IsThere s.objects) Born s t (SetProcess who p) h on.stay_drawn;
     objects = on.objects;
-    procs = new-insert pid_cmp_total pid_cmp_exact (λ (q : Pid). q.label) (λ (q : Pid). q.n) s.procs t.procs s.process_numbers t.process_numbers who p h.0 on.procs;
+    procs = new-insert pid_cmp_total pid_cmp_exact (λ (q : Pid). q.label) (λ (q : Pid). q.n) s.procs t.procs s.process_numbers t.process_numbers who p (was_or_drawn t who h.0) on.procs;
     descriptions = on.descriptions;
   }
   on_changed t (DropProcess who) h on = record {
-    stay_drawn = stay_changed (IsThere s.objects) s t (DropProcess who) h on.stay_drawn;
+    stay_drawn = stay_changed (IsThere s.objects) Born s t (DropProcess who) h on.stay_drawn;
     objects = on.objects;
     procs = new-remove pid_cmp_total pid_cmp_exact (λ (q : Pid). q.label) (λ (q : Pid). q.n) s.procs t.procs s.process_numbers t.process_numbers who on.procs;
     descriptions = on.descriptions;
   }
   on_changed t (SetDescription did d) h on = record {
-    stay_drawn = stay_changed (IsThere s.objects) s t (SetDescription did d) h on.stay_drawn;
+    stay_drawn = stay_changed (IsThere s.objects) Born s t (SetDescription did d) h on.stay_drawn;
     objects = on.objects;
     procs = on.procs;
     descriptions = new-insert did_cmp_total did_cmp_exact (λ (q : Did). q.label) (λ (q : Did). q.n) s.descriptions t.descriptions s.description_numbers t.description_numbers did d h.0 on.descriptions;
   }
   on_changed t (DropDescription did) h on = record {
-    stay_drawn = stay_changed (IsThere s.objects) s t (DropDescription did) h on.stay_drawn;
+    stay_drawn = stay_changed (IsThere s.objects) Born s t (DropDescription did) h on.stay_drawn;
     objects = on.objects;
     procs = on.procs;
     descriptions = new-remove did_cmp_total did_cmp_exact (λ (q : Did). q.label) (λ (q : Did). q.n) s.descriptions t.descriptions s.description_numbers t.description_numbers did on.descriptions;
   }
   on_changed t (DrawObject l n) h on = record {
-    stay_drawn = stay_changed (IsThere s.objects) s t (DrawObject l n) h on.stay_drawn;
+    stay_drawn = stay_changed (IsThere s.objects) Born s t (DrawObject l n) h on.stay_drawn;
     objects = new-drawn oid_cmp_total oid_cmp_exact (λ (q : Oid). q.label) (λ (q : Oid). q.n) s.objects t.objects s.object_numbers t.object_numbers _ (up t.object_numbers l n h) on.objects;
     procs = on.procs;
     descriptions = on.descriptions;
   }
   on_changed t (DrawProcess l n) h on = record {
-    stay_drawn = stay_changed (IsThere s.objects) s t (DrawProcess l n) h on.stay_drawn;
+    stay_drawn = stay_changed (IsThere s.objects) Born s t (DrawProcess l n) h on.stay_drawn;
     objects = on.objects;
     procs = new-drawn pid_cmp_total pid_cmp_exact (λ (q : Pid). q.label) (λ (q : Pid). q.n) s.procs t.procs s.process_numbers t.process_numbers _ (up t.process_numbers l n h) on.procs;
     descriptions = on.descriptions;
   }
   on_changed t (DrawDescription l n) h on = record {
-    stay_drawn = stay_changed (IsThere s.objects) s t (DrawDescription l n) h on.stay_drawn;
+    stay_drawn = stay_changed (IsThere s.objects) Born s t (DrawDescription l n) h on.stay_drawn;
     objects = on.objects;
     procs = on.procs;
     descriptions = new-drawn did_cmp_total did_cmp_exact (λ (q : Did). q.label) (λ (q : Did). q.n) s.descriptions t.descriptions s.description_numbers t.description_numbers _ (up t.description_numbers l n h) on.descriptions;
@@ -213,7 +242,7 @@ module _ (s : State) where
   }
 
   -- an object that is known is there
-  known_there : (t : State) → GoesOn s t → (id : Oid) → Known (IsThere s.objects) s t id → IsThere t.objects id
+  known_there : (t : State) → GoesOn s t → (id : Oid) → Known (IsThere s.objects) Born s t id → IsThere t.objects id
   known_there t goes id (inl was) = goes.stay id was
   known_there t goes id (inr is) = is
 
@@ -271,22 +300,22 @@ module _ (s : State) where
   closed_changed t c h goes = record { root_there = goes.closed.root_there; entries = goes.closed.entries; procs = goes.closed.procs; descriptions = goes.closed.descriptions }
 
   -- all of them
-  pub goes_all : (cs : List Change) (t : State) → AllFit (IsThere s.objects) s t cs → GoesOn s t → GoesOn s (changed_by t cs)
+  pub goes_all : (cs : List Change) (t : State) → AllFit (IsThere s.objects) Born s t cs → GoesOn s t → GoesOn s (changed_by t cs)
   goes_all [] t h goes = goes
   goes_all (c ∷ cs) t h goes =
       goes_all cs (changed t c) h.1
       (record { on = on_changed t c h.0 goes.on; stay = λ id was. stay_changed_object t c id (goes.stay id was); closed = closed_changed t c h.0 goes })
 
-  pub on_itself : NumbersGoOn s s
-  on_itself = record {
-    stay_drawn = stay_itself s;
-    objects = λ id none there. absurd (never_some _ there.value none there.is);
-    procs = λ who none there. absurd (never_some _ there.value none there.is);
-    descriptions = λ did none there. absurd (never_some _ there.value none there.is);
-  }
+pub on_itself : (s : State) → NumbersGoOn s s
+on_itself s = record {
+  stay_drawn = stay_itself s;
+  objects = λ id none there. absurd (never_some _ there.value none there.is);
+  procs = λ who none there. absurd (never_some _ there.value none there.is);
+  descriptions = λ did none there. absurd (never_some _ there.value none there.is);
+}
 
-  pub goes_itself : IsClosed s → GoesOn s s
-  goes_itself closed = record { on = on_itself; stay = λ id there. there; closed = closed }
+pub goes_itself : (s : State) → IsClosed s → GoesOn s s
+goes_itself s closed = record { on = on_itself s; stay = λ id there. there; closed = closed }
 
 -- over two spans
 never_falls_over : (a b c : FinMap label_cmp ℕ) → NeverFalls a b → NeverFalls b c → NeverFalls a c

@@ -1,5 +1,5 @@
 -- What every step keeps, of each call: refusals are named, and numbers go on.
-use Rattle.std.specs.Prelude.{◌≡◌, ⊤, true, false, List, [], ◌∷◌, ◌++◌, Some, refl}
+use Rattle.std.specs.Prelude.{◌≡◌, ⊤, true, false, List, [], ◌∷◌, ◌++◌, Some, refl, Option}
 use Rattle.std.proofs.Common.{sym, subst}
 use Rattle.fin_maps.specs.FinMap as map
 use Rattle.kern_model.specs.declared.numbers.Oid.{Oid}
@@ -10,6 +10,7 @@ use Rattle.kern_model.specs.declared.calls.Call.{Call}
 use Rattle.kern_model.specs.declared.world.World.{World}
 use Rattle.kern_model.specs.declared.world.ScriptItem.{ScriptItem}
 use Rattle.kern_model.specs.declared.records.Rec.{Rec}
+use Rattle.kern_model.specs.declared.records.Rec.TheVariants as rec
 use Rattle.kern_model.specs.Boot.{boot}
 use Rattle.kern_model.specs.Drawing.{StayDrawn, NumbersGoOn, NothingComesBack}
 use Rattle.kern_model.specs.Refusals.{is_denial, IsNamed}
@@ -25,15 +26,15 @@ use Rattle.iso_laws.proofs.Rows.{when}
 use Rattle.iso_laws.proofs.Steps.{by_process, judged_row}
 use Rattle.iso_laws.proofs.ValidBoot.{valid_booted}
 use Rattle.iso_laws.proofs.DrawingLemmas.{LeadsTo, IsClosed, AllFit, stay_all, stay_itself, closed_valid, GoesOn, goes_all, goes_itself, on_itself, on_over, nothing_back}
-use Rattle.iso_laws.proofs.RowsFair.{Fair, TellsNoStart, row_fair}
+use Rattle.iso_laws.proofs.RowsFair.{Fair, TellsOwn, row_fair}
 
 -- ---- the end of a row that is fair
-abbrev pub EndsFair : (List Change → Type 0) → End → Type 0
+abbrev pub EndsFair : (List Change → Option Rec → Type 0) → End → Type 0
 EndsFair P (Stopped name place) = ⊤
 EndsFair P (Refused e) = is_denial e ≡ false
-EndsFair P (Done cs answer own) = P cs × TellsNoStart own
+EndsFair P (Done cs answer own) = P cs own
 
-module _ (P : List Change → Type 0) (a : Asker) where
+module _ (P : List Change → Option Rec → Type 0) (a : Asker) where
   pub ends_fair : (used : List Rec) (r : Row) → Fair P r → EndsFair P (judge a used r).end
   unfolding judge
   ends_fair used (Need c r) h = when (λ j. EndsFair P j.end) (is_denied (verdict_of a c)) _ _ (λ _. tt) (λ _. ends_fair (noted a c (verdict_of a c) used) r h)
@@ -42,9 +43,12 @@ module _ (P : List Change → Type 0) (a : Asker) where
   ends_fair used (Fail e) h = h
   ends_fair used (Give cs answer own) h = h
 
--- how each call ends, in a state whose entries lead to these objects
-pub row_ends : (There : Oid → Type 0) (s : State) → LeadsTo There s → (who : Pid) (p : Process) → map.get s.procs who ≡ Some p → (c : Call) → EndsFair (λ cs. AllFit There s s cs) (judged_row s who c p).end
-row_ends There s leads who p is c = ends_fair (λ cs. AllFit There s s cs) (asker who p) [] (row s who p c) (row_fair There s leads who p is c)
+-- what is known of how a call of a process ends, in a state in which what leads to an object leads to one of these
+abbrev pub Fitting : (There : Oid → Type 0) (s : State) (who : Pid) → List Change → Option Rec → Type 0
+Fitting There s who cs own = AllFit There (λ q. own ≡ Some (rec.Fork who q)) s s cs × TellsOwn who own
+
+pub row_ends : (There : Oid → Type 0) (s : State) → LeadsTo There s → (who : Pid) (p : Process) → map.get s.procs who ≡ Some p → (c : Call) → EndsFair (Fitting There s who) (judged_row s who c p).end
+row_ends There s leads who p is c = ends_fair (Fitting There s who) (asker who p) [] (row s who p c) (row_fair There s leads who p is c)
 
 -- ---- in every state
 -- any object will do
@@ -59,7 +63,7 @@ denial_named : (name : CheckName) → is_denial (denial_of name) ≡ true
 denial_named check.MacRead = refl
 denial_named _ = refl
 
-reply_named : (P : List Change → Type 0) (e : End) → EndsFair P e → IsNamed (reply_of e)
+reply_named : (P : List Change → Option Rec → Type 0) (e : End) → EndsFair P e → IsNamed (reply_of e)
 reply_named P (Stopped name place) h = denial_named name
 reply_named P (Refused e) h = h
 reply_named P (Done cs answer own) h = tt
@@ -67,23 +71,23 @@ reply_named P (Done cs answer own) h = tt
 pub named_after : (s : State) (who : Pid) (c : Call) → IsNamed (step s who c).reply
 named_after s who c = by_process s who c (λ o. IsNamed o.reply) (λ _. refl) (λ p is. reply_named _ _ (row_ends Anything s (lead_anywhere s) who p is c))
 
-stay_at_end : (s : State) (e : End) → EndsFair (λ cs. AllFit Anything s s cs) e → StayDrawn s (state_after s e)
-stay_at_end s (Stopped name place) h = stay_itself s
-stay_at_end s (Refused e) h = stay_itself s
-stay_at_end s (Done cs answer own) h = stay_all Anything s cs s h.0 (stay_itself s)
+stay_at_end : (s : State) (who : Pid) (e : End) → EndsFair (Fitting Anything s who) e → StayDrawn s (state_after s e)
+stay_at_end s who (Stopped name place) h = stay_itself s
+stay_at_end s who (Refused e) h = stay_itself s
+stay_at_end s who (Done cs answer own) h = stay_all Anything _ s cs s h.0 (stay_itself s)
 
 -- numbers that were drawn stay drawn
 pub stay_after : (s : State) (who : Pid) (c : Call) → StayDrawn s (step s who c).state
-stay_after s who c = by_process s who c (λ o. StayDrawn s o.state) (λ _. stay_itself s) (λ p is. stay_at_end s _ (row_ends Anything s (lead_anywhere s) who p is c))
+stay_after s who c = by_process s who c (λ o. StayDrawn s o.state) (λ _. stay_itself s) (λ p is. stay_at_end s who _ (row_ends Anything s (lead_anywhere s) who p is c))
 
 -- ---- in a state in which what leads to an object leads to one that is there
-goes_at_end : (s : State) → IsClosed s → (e : End) → EndsFair (λ cs. AllFit (λ id. IsThere s.objects id) s s cs) e → GoesOn s (state_after s e)
-goes_at_end s closed (Stopped name place) h = goes_itself s closed
-goes_at_end s closed (Refused e) h = goes_itself s closed
-goes_at_end s closed (Done cs answer own) h = goes_all s cs s h.0 (goes_itself s closed)
+goes_at_end : (s : State) → IsClosed s → (who : Pid) (e : End) → EndsFair (Fitting (λ id. IsThere s.objects id) s who) e → GoesOn s (state_after s e)
+goes_at_end s closed who (Stopped name place) h = goes_itself s closed
+goes_at_end s closed who (Refused e) h = goes_itself s closed
+goes_at_end s closed who (Done cs answer own) h = goes_all _ s cs s h.0 (goes_itself s closed)
 
 pub goes_after : (s : State) (who : Pid) (c : Call) → IsClosed s → GoesOn s (step s who c).state
-goes_after s who c closed = by_process s who c (λ o. GoesOn s o.state) (λ _. goes_itself s closed) (λ p is. goes_at_end s closed _ (row_ends (λ id. IsThere s.objects id) s closed who p is c))
+goes_after s who c closed = by_process s who c (λ o. GoesOn s o.state) (λ _. goes_itself s closed) (λ p is. goes_at_end s closed who _ (row_ends (λ id. IsThere s.objects id) s closed who p is c))
 
 -- numbers go on
 pub on_after : (s : State) (who : Pid) (c : Call) → IsValid s → NumbersGoOn s (step s who c).state

@@ -1,9 +1,9 @@
 -- Permitted sets grow by exec alone, by the records.
-use Rattle.std.specs.Prelude.{◌≡◌, ◌⊎◌, Bool, true, false, ◌&&◌, ◌||◌, List, [], ◌∷◌, ◌++◌, refl, cond}
-use Rattle.std.proofs.Common.{sym, ◌∙◌, ap, subst, inl, inr, append_assoc}
+use Rattle.std.specs.Prelude.{◌≡◌, Bool, true, false, ◌&&◌, ◌||◌, List, [], ◌∷◌, ◌++◌, refl, cond}
+use Rattle.std.proofs.Common.{sym, ◌∙◌, ap, subst, append_assoc}
 use Rattle.std.specs.List.{flat_map}
 use Rattle.std.proofs.lemmas.Bool.{true≢false}
-use Rattle.cap_bits.specs.CapSet.{CapSet, has, has-no_caps, has-union_of, has-meet_of, within-has, meet_of}
+use Rattle.cap_bits.specs.CapSet.{CapSet, has, has-union_of, has-meet_of, within-has, meet_of}
 use Rattle.cap_bits.specs.declared.cap.Cap.{Cap}
 use Rattle.cap_bits.specs.declared.state.CapState.{CapState}
 use Rattle.cap_bits.specs.State.{no_flags}
@@ -16,12 +16,13 @@ use Rattle.kern_model.specs.declared.world.World.{World}
 use Rattle.kern_model.specs.declared.world.ScriptItem.{ScriptItem}
 use Rattle.kern_model.specs.Exec.{exec_caps, exec_permitted}
 use Rattle.kern_model.specs.Keys.{pid_cmp_exact, same_pid}
-use Rattle.kern_model.specs.Lineage.{told_behind, told, caps_of, all_recs, origin, ancestor, StartedWith, FromStart, FromExec, GrowsByExec}
+use Rattle.kern_model.specs.Lineage.{told_behind, told, caps_of, all_recs, origin, ancestor, StartedWith, FromExec, GrowsByExec}
 use Rattle.kern_model.specs.Boot.{boot, boot_recs, furnished}
 use Rattle.kern_model.specs.Run.{Played, run}
 use Rattle.kern_model.proofs.MapLemmas.{same_key}
 use Rattle.iso_laws.proofs.CapsTold.{told-append}
 use Rattle.iso_laws.proofs.Drops.{Drops, AllDrop, all_drop}
+use Rattle.iso_laws.proofs.SinceStart.{all_started}
 use Rattle.iso_laws.proofs.StartLemmas.{NoStarts, AreStarts, IsAmong, among, none_here, behind_start, start_once, started_once, run_no_start, start_told, starts_origin, ancestor-append}
 
 -- what a set of one of two states has, by a test whether two numbers are one
@@ -117,16 +118,9 @@ module _ (bound : CapSet) (first others : List Rec) (starts : AreStarts first) (
       (given_later q cap)
       (ap (λ (c : CapState). has c.p cap) (sym (told-append bound (λ _. no_flags) first others q)) ∙ h)
 
-  grows : GrowsByExec bound Recs
-  grows = record {
-    start_once = start_once first others starts none;
-    from = λ q cap.
-        behind_all bound cap (FromStart Recs q cap ⊎ FromExec bound Recs q cap) (λ _. no_flags) Recs q drops
-        (λ h. absurd (true≢false (sym h ∙ has-no_caps cap)))
-        (λ before after label caps e h. inl (record { caps = caps; started = record { before = before; after = after; label = label; split = e }; permitted = h }))
-        (λ before after id file new e h. inr (record { before = before; after = after; id = id; file = file; new = new; split = e; given = sym (has-exec_permitted (caps_of bound before (ancestor after q)) file bound cap) ∙ h }));
-    grown = grown_since;
-  }
-
 pub growth_is_told : (w : World) (items : List ScriptItem) → GrowsByExec w.bound (all_recs w items)
-growth_is_told w items = grows w.bound (boot_recs w) (flat_map (λ (p : Played). p.recs) (run (boot w) items)) (started_once w.procs (furnished w)) (run_no_start items (boot w)) (all_drop w items)
+growth_is_told w items =
+    let later : List Rec = flat_map (λ (p : Played). p.recs) (run (boot w) items) in
+    let starts : AreStarts (boot_recs w) = started_once w.procs (furnished w) in
+    let none : NoStarts later = run_no_start items (boot w) in
+    record { start_once = start_once (boot_recs w) later starts none; started = all_started w items; grown = grown_since w.bound (boot_recs w) later starts none (all_drop w items) }

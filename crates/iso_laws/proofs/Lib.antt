@@ -19,4 +19,5 @@ pub mod DrawingLemmas
 pub mod RowsFair
 pub mod GoingOn
 pub mod StartLemmas
+pub mod SinceStart
 pub mod Growth

@@ -1,4 +1,4 @@
--- The row of each call: what it refuses by is no denial, its own record is none of a start, and its changes fit.
+-- The row of each call: what it refuses by is no denial, its changes fit, and its own record is of the caller.
 use Rattle.std.specs.Prelude.{◌≡◌, ⊤, ℕ, ◌+◌, ◌≤◌, ◌==◌, length, Bool, true, false, not, ◌&&◌, ◌||◌, List, [], ◌∷◌, ◌++◌, Option, Some, None, refl, cond, unwrap_or}
 use Rattle.std.specs.List.{AllByRecursion, flat_map}
 use Rattle.std.proofs.Common.{arith, ap, inl, inr}
@@ -47,24 +47,28 @@ use Rattle.iso_laws.proofs.DrawingLemmas.{LeadsTo, Known, AllFit, fit-append, Fi
 use Rattle.iso_laws.proofs.Sight.{is_open}
 
 -- ---- what every row is
--- a record that is none of a start
-abbrev pub IsNoStart : Rec → Type 0
-IsNoStart (rec.Boot who label caps) = ⊥
-IsNoStart _ = ⊤
+-- a record that a call of this process may leave as its own: none of a start, and of the process itself where it tells of
+-- a child, of a program or of sets
+abbrev pub IsOwn : Pid → Rec → Type 0
+IsOwn who (rec.Boot q label caps) = ⊥
+IsOwn who (rec.Fork q child) = q ≡ who
+IsOwn who (rec.Exec q id file new) = q ≡ who
+IsOwn who (rec.CapSetProc q caps) = q ≡ who
+IsOwn who _ = ⊤
 
-abbrev pub TellsNoStart : Option Rec → Type 0
-TellsNoStart None = ⊤
-TellsNoStart (Some r) = IsNoStart r
+abbrev pub TellsOwn : Pid → Option Rec → Type 0
+TellsOwn who None = ⊤
+TellsOwn who (Some r) = IsOwn who r
 
--- what the row refuses by is no denial, and where it is done its changes meet something and its own record is none of a start
-abbrev pub Fair : (List Change → Type 0) → Row → Type 0
+-- what the row refuses by is no denial, and where it is done its changes and its own record meet something
+abbrev pub Fair : (List Change → Option Rec → Type 0) → Row → Type 0
 Fair P (Need c rest) = Fair P rest
 Fair P (Soft c granted weaker) = Fair P granted × Fair P weaker
 Fair P (Refuse e b rest) = (is_denial e ≡ false) × Fair P rest
 Fair P (Fail e) = is_denial e ≡ false
-Fair P (Give cs answer own) = P cs × TellsNoStart own
+Fair P (Give cs answer own) = P cs own
 
-module _ (P : List Change → Type 0) where
+module _ (P : List Change → Option Rec → Type 0) where
   fair_cond : (b : Bool) (x y : Row) → Fair P x → Fair P y → Fair P (cond b x y)
   fair_cond true x y f g = f
   fair_cond false x y f g = g
@@ -82,7 +86,7 @@ module _ (P : List Change → Type 0) where
   fair_missing (Some id) k h = h id refl
 
 -- ---- rows behind a walk, in a state whose entries lead to these objects
-module _ (There : Oid → Type 0) (s : State) (leads : LeadsTo There s) (P : List Change → Type 0) where
+module _ (There : Oid → Type 0) (s : State) (leads : LeadsTo There s) (P : List Change → Option Rec → Type 0) where
   -- a walk found an object of these, or an entry that leads to one if it is there
   abbrev AreThere : Found → Type 0
   AreThere (Start id) = There id
@@ -132,32 +136,32 @@ all_if : {X : Type 0} (P : X → Type 0) (b : Bool) (xs : List X) → AllByRecur
 all_if P true xs h = h
 all_if P false xs h = tt
 
-module _ (There : Oid → Type 0) (s : State) (leads : LeadsTo There s) where
+module _ (There : Oid → Type 0) (Born : Pid → Type 0) (s : State) (leads : LeadsTo There s) where
   abbrev Anywhere : List Change → Type 0
-  Anywhere cs = AllByRecursion (FitsAnywhere There s) cs
+  Anywhere cs = AllByRecursion (FitsAnywhere There Born s) cs
 
   fit_let_go : (goes : Descriptor → Bool) (e : Did × Description) → There e.1.object → Anywhere (let_go s goes e)
   fit_let_go goes e there =
-      let both : Anywhere (DropDescription e.0 ∷ cond (is_drained s goes e.1.object) (emptied s e.1.object ∷ []) []) = (λ t. tt, all_if (FitsAnywhere There s) (is_drained s goes e.1.object) (emptied s e.1.object ∷ []) (λ t. inl there, tt)) in
-      all_if (FitsAnywhere There s) (is_let_go s goes e.0) _ both
+      let both : Anywhere (DropDescription e.0 ∷ cond (is_drained s goes e.1.object) (emptied s e.1.object ∷ []) []) = (λ t. tt, all_if (FitsAnywhere There Born s) (is_drained s goes e.1.object) (emptied s e.1.object ∷ []) (λ t. inl there, tt)) in
+      all_if (FitsAnywhere There Born s) (is_let_go s goes e.0) _ both
 
   -- what goes with descriptors
   fit_closing : (goes : Descriptor → Bool) → Anywhere (closing s goes)
   unfolding closing
   fit_closing goes =
-      all_each (λ (e : Did × Description). There e.1.object) (FitsAnywhere There s) (let_go s goes) (fit_let_go goes) (map.entries s.descriptions)
+      all_each (λ (e : Did × Description). There e.1.object) (FitsAnywhere There Born s) (let_go s goes) (fit_let_go goes) (map.entries s.descriptions)
       (each-entries did_cmp_total did_cmp_exact (λ (k : Did) (d : Description). There d.object) s.descriptions leads.descriptions)
 
   fit_survives : (who : Pid) (p : Process) (how : Ending) (e : Pid × Process) → IsThere s.procs e.0 × There e.1.cwd → Anywhere (survives who p how e)
-  fit_survives who p how e known = all_if (FitsAnywhere There s) (not (same_pid e.0 who) && (is_pid who e.1.parent || is_pid e.0 p.parent)) (SetProcess e.0 (left_by who p how e.0 e.1) ∷ []) (λ t. (inl known.0, inl known.1), tt)
+  fit_survives who p how e known = all_if (FitsAnywhere There Born s) (not (same_pid e.0 who) && (is_pid who e.1.parent || is_pid e.0 p.parent)) (SetProcess e.0 (left_by who p how e.0 e.1) ∷ []) (λ t. (inl known.0, inl known.1), tt)
 
   -- what goes with a process
   fit_ending : (who : Pid) (p : Process) (how : Ending) → Anywhere (ending_of s who p how)
   unfolding ending_of
   fit_ending who p how = (
     λ t. tt,
-    all-append (FitsAnywhere There s) (closing s _) (flat_map (survives who p how) (map.entries s.procs)) (fit_closing _)
-        (all_each (λ (e : Pid × Process). IsThere s.procs e.0 × There e.1.cwd) (FitsAnywhere There s) (survives who p how) (fit_survives who p how) (map.entries s.procs)
+    all-append (FitsAnywhere There Born s) (closing s _) (flat_map (survives who p how) (map.entries s.procs)) (fit_closing _)
+        (all_each (λ (e : Pid × Process). IsThere s.procs e.0 × There e.1.cwd) (FitsAnywhere There Born s) (survives who p how) (fit_survives who p how) (map.entries s.procs)
         (each-entries pid_cmp_total pid_cmp_exact (λ (q : Pid) (x : Process). IsThere s.procs q × There x.cwd) s.procs (λ q x e. (record { value = x; is = e }, leads.procs q x e)))),
   )
 
@@ -181,8 +185,17 @@ module _ (m : FinMap label_cmp ℕ) (l : Label) where
 
 -- ---- the rows
 module _ (There : Oid → Type 0) (s : State) (leads : LeadsTo There s) (who : Pid) (p : Process) (is : map.get s.procs who ≡ Some p) where
-  abbrev Fit : List Change → Type 0
-  Fit cs = AllFit There s s cs
+  -- a child is born where the own record tells of it
+  abbrev pub Child : Option Rec → Pid → Type 0
+  Child own q = own ≡ Some (rec.Fork who q)
+
+  -- changes without a child
+  abbrev Fits_in : State → List Change → Type 0
+  Fits_in t cs = AllFit There (Child None) s t cs
+
+  -- changes and an own record
+  abbrev pub Fit : List Change → Option Rec → Type 0
+  Fit cs own = AllFit There (Child own) s s cs × TellsOwn who own
 
   abbrev IsFair : Row → Type 0
   IsFair r = Fair Fit r
@@ -191,7 +204,7 @@ module _ (There : Oid → Type 0) (s : State) (leads : LeadsTo There s) (who : P
   me = record { value = p; is = is }
 
   -- nothing changes
-  none : Fit [] × ⊤
+  none : Fit [] None
   none = (tt, tt)
 
   -- it stays where it is
@@ -216,20 +229,20 @@ module _ (There : Oid → Type 0) (s : State) (leads : LeadsTo There s) (who : P
   behind_fair fd k h = on_open fd _ (λ f is. h f.description.object Handle is.object)
 
   -- ---- open, and what is done through a descriptor
-  opening_fits : (t : State) (id : Oid) (flags : OpenFlags) → t.description_numbers ≡ s.description_numbers → Known There s t id → AllFit There s t (opening s who p id flags)
+  opening_fits : (t : State) (id : Oid) (flags : OpenFlags) → t.description_numbers ≡ s.description_numbers → Known There (Child None) s t id → Fits_in t (opening s who p id flags)
   opening_fits t id flags same known =
       let up : drawn t.description_numbers p.label ≤ drawn s.description_numbers p.label + 1 = omega (arith, ap (λ m. drawn m p.label) same) in
       let new : IsDrawnBetween s.description_numbers (map.insert t.description_numbers p.label (drawn s.description_numbers p.label + 1)) p.label (drawn s.description_numbers p.label + 1) = drawn_since s.description_numbers t.description_numbers p.label _ _ (omega arith) (omega arith) in
       (up, ((inr new, known), ((inl me, inl stays), tt)))
 
-  opens_fair : (id : Oid) (flags : OpenFlags) (before : List Change) → Fit before → (changed_by s before).description_numbers ≡ s.description_numbers → Known There s (changed_by s before) id → IsFair (opens s who p id flags before)
-  opens_fair id flags before h same known = (fit-append There s before (opening s who p id flags) s h (opening_fits (changed_by s before) id flags same known), tt)
+  opens_fair : (id : Oid) (flags : OpenFlags) (before : List Change) → Fits_in s before → (changed_by s before).description_numbers ≡ s.description_numbers → Known There (Child None) s (changed_by s before) id → IsFair (opens s who p id flags before)
+  opens_fair id flags before h same known = (fit-append There (Child None) s before (opening s who p id flags) s h (opening_fits (changed_by s before) id flags same known), tt)
 
   -- an object that is made is there
   made_there : (o : Object) → IsThere (map.insert s.objects (next_object s p.label) o) (next_object s p.label)
   made_there o = record { value = o; is = get-insert_same oid_cmp_total s.objects (next_object s p.label) o }
 
-  made_fits : (dir : Oid) (name : Name) (o : Object) → Fit (made s p dir name o)
+  made_fits : (dir : Oid) (name : Name) (o : Object) → Fits_in s (made s p dir name o)
   made_fits dir name o = (next_is_above s.object_numbers p.label, (inr (next_drawn s.object_numbers p.label), (inr (made_there o), tt)))
 
   emptying_fair : (flags : OpenFlags) (id : Oid) (place : Place) → There id → IsFair (open_emptying s who p flags id place)
@@ -252,13 +265,13 @@ module _ (There : Oid → Type 0) (s : State) (leads : LeadsTo There s) (who : P
       (refl, (refl, (refl, opens_fair (next_object s p.label) flags (made s p dir name o) (made_fits dir name o) refl (inr (made_there o)))))
   found_fair path flags mode (Entry dir name (Some id)) there = present_fair flags id (last_place (λ n. First n) path) (there id refl)
 
-  rewriting_fair : (f : Opened) → IsHeld f → (bytes : List ℕ) (k : List Change → Row) → ((changes : List Change) → Fit changes → IsFair (k changes)) → IsFair (rewriting s f bytes k)
+  rewriting_fair : (f : Opened) → IsHeld f → (bytes : List ℕ) (k : List Change → Row) → ((changes : List Change) → Fits_in s changes → IsFair (k changes)) → IsFair (rewriting s f bytes k)
   rewriting_fair f is bytes k h = fair_cond Fit (length bytes == 0) (k []) _ (h [] tt) (h _ (inl is.object, tt), h _ (inl is.object, tt))
 
   writing_fair : (f : Opened) → IsHeld f → (bytes : List ℕ) → IsFair (writing s f bytes)
   writing_fair f is bytes =
       let offset : ℕ = place_in (object_behind s f) f + length bytes in
-      (refl, (refl, rewriting_fair f is bytes (λ changes. Give (changes ++ moved f offset ∷ []) (answer.Number (length bytes)) None) (λ changes h. (fit-append There s changes (moved f offset ∷ []) s h ((inl is.description, inl is.object), tt), tt))))
+      (refl, (refl, rewriting_fair f is bytes (λ changes. Give (changes ++ moved f offset ∷ []) (answer.Number (length bytes)) None) (λ changes h. (fit-append There (Child None) s changes (moved f offset ∷ []) s h ((inl is.description, inl is.object), tt), tt))))
 
   -- ---- entries
   make_fair : (path : PathValue) (mode : ℕ) (kind : Body) → IsFair (make_row s who p path mode kind)
@@ -288,13 +301,13 @@ module _ (There : Oid → Type 0) (s : State) (leads : LeadsTo There s) (who : P
   take_fair [] = refl
   take_fair (e ∷ es) = (((inl me, inl stays), tt), tt)
 
-  ending_fits : (target : Pid) (t : Process) (how : Ending) → Fit (ending_of s target t how)
-  ending_fits target t how = fit_anywhere There s (ending_of s target t how) s (fit_ending There s leads target t how)
+  ending_fits : (own : Option Rec) (target : Pid) (t : Process) (how : Ending) → AllFit There (Child own) s s (ending_of s target t how)
+  ending_fits own target t how = fit_anywhere There (Child own) s (ending_of s target t how) s (fit_ending There (Child own) s leads target t how)
 
   signalled_fair : (target : Pid) (t : Process) (sig : Signal) → IsFair (signalled s target t sig)
   signalled_fair target t signal.Zero = none
-  signalled_fair target t signal.Term = (ending_fits target t ending.Term, tt)
-  signalled_fair target t signal.Kill = (ending_fits target t ending.Kill, tt)
+  signalled_fair target t signal.Term = (ending_fits _ target t ending.Term, tt)
+  signalled_fair target t signal.Kill = (ending_fits _ target t ending.Kill, tt)
 
   send_fair : (target : Pid) (sig : Signal) (t : Option Process) → IsFair (send s p target sig t)
   send_fair target sig None = refl
@@ -303,7 +316,7 @@ module _ (There : Oid → Type 0) (s : State) (leads : LeadsTo There s) (who : P
   -- each row is fair
   pub row_fair : (c : Call) → IsFair (row s who p c)
   row_fair (call.OpenPath path flags mode) = (refl, (refl, fair_walk There s leads Fit who p is (λ n. First n) path _ (found_fair path flags (unwrap_or mode 0))))
-  row_fair (call.Close fd) = on_open fd _ (λ f _. (((inl me, inl stays), fit_anywhere There s (closing s _) _ (fit_closing There s leads _)), tt))
+  row_fair (call.Close fd) = on_open fd _ (λ f _. (((inl me, inl stays), fit_anywhere There (Child _) s (closing s _) _ (fit_closing There (Child _) s leads _)), tt))
   row_fair (call.Read fd n) = on_open fd _ (λ f is. (refl, fair_need_if Fit _ _ _ (refl, fair_cond Fit (is_stream (object_behind s f).kind) _ _ ((inl is.object, tt), tt) (((inl is.description, inl is.object), tt), tt))))
   row_fair (call.Write fd bytes) = on_open fd _ (λ f is. (refl, fair_cond Fit (is_stream (object_behind s f).kind) _ _ (refl, (refl, ((inl is.object, tt), tt))) (writing_fair f is bytes)))
   row_fair (call.Lseek fd from offset) = on_open fd _ (λ f is. (refl, (refl, (((inl is.description, inl is.object), tt), tt))))
@@ -349,9 +362,9 @@ module _ (There : Oid → Type 0) (s : State) (leads : LeadsTo There s) (who : P
   row_fair (call.MacSetFile path new) = on_path_fair path (set_label s who p new) (set_label_fair new)
   row_fair (call.MacGetFd fd) = behind_fair fd (get_label s p) (λ id place _. none)
   row_fair (call.MacSetFd fd new) = behind_fair fd (set_label s who p new) (set_label_fair new)
-  row_fair call.Fork = (refl, ((next_is_above s.process_numbers p.label, ((inr (next_drawn s.process_numbers p.label), inl stays), tt)), tt))
-  row_fair (call.Exec path) = fair_reach There s leads Fit who p is (λ n. First n) path _ (λ id _. (((inl me, inl stays), tt), tt))
-  row_fair (call.Exit code) = (ending_fits who p (ending.Exit code), tt)
+  row_fair call.Fork = (refl, ((next_is_above s.process_numbers p.label, ((inr (next_drawn s.process_numbers p.label, refl), inl stays), tt)), refl))
+  row_fair (call.Exec path) = fair_reach There s leads Fit who p is (λ n. First n) path _ (λ id _. (((inl me, inl stays), tt), refl))
+  row_fair (call.Exit code) = (ending_fits _ who p (ending.Exit code), tt)
   row_fair call.Wait = (refl, take_fair p.ended)
   row_fair (call.Kill target sig) = send_fair target sig (map.get s.procs target)
   row_fair call.Getpid = none
@@ -360,7 +373,7 @@ module _ (There : Oid → Type 0) (s : State) (leads : LeadsTo There s) (who : P
   row_fair (call.Setuid user) = ((((inl me, inl stays), tt), tt), (((inl me, inl stays), tt), tt))
   row_fair (call.Setgid group) = ((((inl me, inl stays), tt), tt), (((inl me, inl stays), tt), tt))
   row_fair call.CapGetProc = none
-  row_fair (call.CapSetProc caps) = (((inl me, inl stays), tt), tt)
+  row_fair (call.CapSetProc caps) = (((inl me, inl stays), tt), refl)
   row_fair call.MacGetProc = none
   row_fair (call.MacSetProc new) = fair_need_if Fit _ _ _ (((inl me, inl stays), tt), tt)
   row_fair (call.AudWrite bytes) = none

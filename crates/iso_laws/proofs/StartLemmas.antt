@@ -28,16 +28,21 @@ use Rattle.kern_model.specs.Names.{name_of}
 use Rattle.kern_model.specs.Row.{Row, Asker, End, Stopped, Refused, Done, judge, exercise_with}
 use Rattle.kern_model.specs.Rules.{cap_of, denial_of}
 use Rattle.kern_model.specs.Run.{Played, run}
-use Rattle.kern_model.specs.State.{State, Process, Change, drawn, next_process}
+use Rattle.kern_model.specs.State.{State, Process, drawn, next_process}
 use Rattle.kern_model.specs.Step.{step, asker, own_of}
 use Rattle.kern_model.proofs.MapLemmas.{same_key, get_or-found, get-insert_same}
 use Rattle.iso_laws.proofs.Rows.{used_is}
 use Rattle.iso_laws.proofs.Steps.{by_process, judged_row}
 use Rattle.iso_laws.proofs.DrawingLemmas.{falls_nowhere}
-use Rattle.iso_laws.proofs.RowsFair.{IsNoStart, TellsNoStart, all-append}
-use Rattle.iso_laws.proofs.GoingOn.{EndsFair, row_ends, Anything, lead_anywhere}
+use Rattle.iso_laws.proofs.RowsFair.{IsOwn, TellsOwn, all-append}
+use Rattle.iso_laws.proofs.GoingOn.{EndsFair, Fitting, row_ends, Anything, lead_anywhere}
 
 -- ---- no call leaves a record of a start
+-- a record that is none of a start
+abbrev pub IsNoStart : Rec → Type 0
+IsNoStart (rec.Boot who label caps) = ⊥
+IsNoStart _ = ⊤
+
 abbrev pub NoStarts : List Rec → Type 0
 NoStarts recs = AllByRecursion IsNoStart recs
 
@@ -52,18 +57,22 @@ denied_no_start : (b : Bool) (who : Pid) (name : CallName) (check : CheckName) (
 denied_no_start true who name check place = (tt, tt)
 denied_no_start false who name check place = tt
 
-told_no_start : (own : Option Rec) → TellsNoStart own → NoStarts (option_to_list own)
-told_no_start None h = tt
-told_no_start (Some r) h = (h, tt)
+own_is_no_start : (who : Pid) (r : Rec) → IsOwn who r → IsNoStart r
+own_is_no_start who (rec.Boot q label caps) h = h
+own_is_no_start who r h = tt
 
-own_no_start : (P : List Change → Type 0) (who : Pid) (p : Process) (name : CallName) (e : End) → EndsFair P e → NoStarts (own_of who p name e)
-own_no_start P who p name (Stopped check place) h = denied_no_start p.audited who name check place
-own_no_start P who p name (Refused e) h = tt
-own_no_start P who p name (Done cs answer own) h = told_no_start own h.1
+told_no_start : (who : Pid) (own : Option Rec) → TellsOwn who own → NoStarts (option_to_list own)
+told_no_start who None h = tt
+told_no_start who (Some r) h = (own_is_no_start who r h, tt)
+
+own_no_start : (s : State) (who : Pid) (p : Process) (name : CallName) (e : End) → EndsFair (Fitting Anything s who) e → NoStarts (own_of who p name e)
+own_no_start s who p name (Stopped check place) h = denied_no_start p.audited who name check place
+own_no_start s who p name (Refused e) h = tt
+own_no_start s who p name (Done cs answer own) h = told_no_start who own h.1
 
 step_no_start : (s : State) (who : Pid) (c : Call) → NoStarts (step s who c).recs
 step_no_start s who c = by_process s who c (λ o. NoStarts o.recs) (λ _. tt) (λ p is.
-    all-append IsNoStart (judged_row s who c p).used _ (used_no_start (asker who p) _) (own_no_start _ who p (name_of c) _ (row_ends Anything s (lead_anywhere s) who p is c)))
+    all-append IsNoStart (judged_row s who c p).used _ (used_no_start (asker who p) _) (own_no_start s who p (name_of c) _ (row_ends Anything s (lead_anywhere s) who p is c)))
 
 pub run_no_start : (items : List ScriptItem) (s : State) → NoStarts (flat_map (λ (p : Played). p.recs) (run s items))
 run_no_start [] s = tt

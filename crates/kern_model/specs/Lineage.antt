@@ -1,5 +1,5 @@
 -- The capability sets that records tell of a process, and how capabilities come into them.
-use Rattle.std.specs.Prelude.{◌≡◌, ◌⊎◌, true, false, ◌&&◌, ◌||◌, List, [], ◌∷◌, ◌++◌, cond}
+use Rattle.std.specs.Prelude.{◌≡◌, true, false, ◌&&◌, ◌||◌, List, [], ◌∷◌, ◌++◌, cond}
 use Rattle.std.specs.List.{flat_map}
 use Rattle.cap_bits.specs.CapSet.{CapSet, has, is_within}
 use Rattle.cap_bits.specs.declared.cap.Cap.{Cap}
@@ -60,11 +60,10 @@ pub record StartedWith (recs : List Rec) (q : Pid) (caps : CapState) : Type 0 wh
   pub label : Label
   pub split : recs ≡ before ++ rec.Boot (ancestor after q) label caps ∷ after
 
--- the process that a process descends from started with a capability permitted
-pub record FromStart (recs : List Rec) (q : Pid) (cap : Cap) : Type 0 where
+-- the process that a process descends from started
+pub record HasStarted (recs : List Rec) (q : Pid) : Type 0 where
   pub caps : CapState
   pub started : StartedWith recs q caps
-  pub permitted : has caps.p cap ≡ true
 
 -- a program gave a capability to an ancestor of a process: the file permits it and the bound has it, or the file inherits it
 -- and so does the ancestor, by the records before that of the program
@@ -84,7 +83,7 @@ StartOnce recs = (before between after : List Rec) (who : Pid) (label label' : L
 -- permitted sets grow by exec alone
 pub record GrowsByExec (bound : CapSet) (recs : List Rec) : Type 0 where
   pub start_once : StartOnce recs
-  -- each capability that a process is permitted is from a start or from a program
-  pub from : (q : Pid) (cap : Cap) → has (caps_of bound recs q).p cap ≡ true → FromStart recs q cap ⊎ FromExec bound recs q cap
-  -- and it is from a program where the process that it descends from started without it
+  -- a process that is permitted something descends from one that started
+  pub started : (q : Pid) (cap : Cap) → has (caps_of bound recs q).p cap ≡ true → HasStarted recs q
+  -- and what that one was not permitted at its start is from a program
   pub grown : (q : Pid) (cap : Cap) (caps : CapState) → has (caps_of bound recs q).p cap ≡ true → StartedWith recs q caps → has caps.p cap ≡ false → FromExec bound recs q cap
