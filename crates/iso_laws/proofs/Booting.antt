@@ -16,8 +16,6 @@ use Rattle.kern_model.specs.Keys.{oid_cmp, pid_cmp, did_cmp}
 use Rattle.kern_model.specs.State.{State, Description, DrawObject, DrawProcess, SetObject, SetProcess, Change, changed, changed_by, drawn, look, next_object, next_process, root}
 use Rattle.kern_model.specs.Boot.{object_of, process_of, entry_for, boot_object, boot_process, boot_objects, boot_processes, nothing, furnished, boot}
 use Rattle.kern_model.specs.Isolation.{Kept}
-use Rattle.kern_model.specs.Valid.{IsValid}
-use Rattle.kern_model.specs.World.{IsWorld}
 use Rattle.kern_model.proofs.MapLemmas.{never_some}
 use Rattle.iso_laws.proofs.Part.{fixed_by}
 use Rattle.iso_laws.proofs.Changes.{kept_beside, kept_object, kept_process}

@@ -1,8 +1,9 @@
 -- Permitted sets grow by exec alone, by the records.
-use Rattle.std.specs.Prelude.{◌≡◌, ◌⊎◌, Bool, true, false, ◌&&◌, ◌||◌, List, [], ◌∷◌, ◌++◌, refl, cond}
-use Rattle.std.proofs.Common.{sym, ◌∙◌, ap, inl, inr}
+use Rattle.std.specs.Prelude.{◌≡◌, Bool, true, false, ◌&&◌, ◌||◌, List, [], ◌∷◌, ◌++◌, refl, cond}
+use Rattle.std.proofs.Common.{sym, ◌∙◌, ap, subst, append_assoc}
+use Rattle.std.specs.List.{flat_map}
 use Rattle.std.proofs.lemmas.Bool.{true≢false}
-use Rattle.cap_bits.specs.CapSet.{CapSet, has, has-no_caps, has-union_of, has-meet_of, within-has, meet_of}
+use Rattle.cap_bits.specs.CapSet.{CapSet, has, has-union_of, has-meet_of, within-has, meet_of}
 use Rattle.cap_bits.specs.declared.cap.Cap.{Cap}
 use Rattle.cap_bits.specs.declared.state.CapState.{CapState}
 use Rattle.cap_bits.specs.State.{no_flags}
@@ -15,9 +16,14 @@ use Rattle.kern_model.specs.declared.world.World.{World}
 use Rattle.kern_model.specs.declared.world.ScriptItem.{ScriptItem}
 use Rattle.kern_model.specs.Exec.{exec_caps, exec_permitted}
 use Rattle.kern_model.specs.Keys.{pid_cmp_exact, same_pid}
-use Rattle.kern_model.specs.Lineage.{told_behind, told, caps_of, all_recs, origin, ancestor, FromStart, FromExec, GrowsByExec}
+use Rattle.kern_model.specs.Lineage.{told_behind, told, caps_of, all_recs, origin, ancestor, StartedWith, FromExec, GrowsByExec}
+use Rattle.kern_model.specs.Boot.{boot, boot_recs, furnished}
+use Rattle.kern_model.specs.Run.{Played, run}
 use Rattle.kern_model.proofs.MapLemmas.{same_key}
+use Rattle.iso_laws.proofs.CapsTold.{told-append}
 use Rattle.iso_laws.proofs.Drops.{Drops, AllDrop, all_drop}
+use Rattle.iso_laws.proofs.SinceStart.{all_started}
+use Rattle.iso_laws.proofs.StartLemmas.{NoStarts, AreStarts, IsAmong, among, none_here, behind_start, start_once, started_once, run_no_start, start_told, starts_origin, ancestor-append}
 
 -- what a set of one of two states has, by a test whether two numbers are one
 by_one : (Q : Type 0) (q k : Pid) (cap : Cap) (new old : CapState) → (q ≡ k → has new.p cap ≡ true → Q) → (has old.p cap ≡ true → Q) → has (cond (same_pid q k) new old).p cap ≡ true → Q
@@ -65,9 +71,56 @@ has-exec_permitted : (old file : CapState) (bound : CapSet) (cap : Cap) → has 
 has-exec_permitted old file bound cap =
     has-union_of (meet_of file.p bound) (meet_of file.i old.i) cap ∙ (λ i. has-meet_of file.p bound cap i || has-meet_of file.i old.i cap i)
 
+drops_behind : (bound : CapSet) (f : Pid → CapState) (xs ys : List Rec) → AllDrop bound f (xs ++ ys) → AllDrop bound (told bound f xs) ys
+drops_behind bound f [] ys h = h
+drops_behind bound f (x ∷ xs) ys h = drops_behind bound (told_behind bound f x) xs ys h.1
+
+-- ---- records of which the first are starts of one process each, and no other is a start
+module _ (bound : CapSet) (first others : List Rec) (starts : AreStarts first) (none : NoStarts others) (drops : AllDrop bound (λ _. no_flags) (first ++ others)) where
+  abbrev Recs : List Rec
+  Recs = first ++ others
+
+  abbrev at_start : Pid → CapState
+  at_start q = caps_of bound first q
+
+  -- what the exec formula gives by a record behind the starts
+  given_later : (q : Pid) (cap : Cap) (before after : List Rec) (id : Oid) (file new : CapState) → others ≡ before ++ rec.Exec (ancestor after q) id file new ∷ after
+      → has (exec_caps (told bound at_start before (ancestor after q)) file bound).p cap ≡ true → FromExec bound Recs q cap
+  given_later q cap before after id file new e h =
+      let before_is : caps_of bound (first ++ before) (ancestor after q) ≡ told bound at_start before (ancestor after q) = told-append bound (λ _. no_flags) first before (ancestor after q) in
+      record {
+        before = first ++ before;
+        after = after;
+        id = id;
+        file = file;
+        new = new;
+        split = ap (λ xs. first ++ xs) e ∙ sym (append_assoc first before (rec.Exec (ancestor after q) id file new ∷ after));
+        given = ap (λ (c : CapState). has file.p cap && has bound cap || has file.i cap && has c.i cap) before_is
+            ∙ sym (has-exec_permitted (told bound at_start before (ancestor after q)) file bound cap) ∙ h;
+      }
+
+  -- what a process, or the one that it descends from, started with is what the starts tell of it
+  started_with : (q : Pid) (caps : CapState) → StartedWith Recs q caps → at_start (ancestor others q) ≡ caps
+  started_with q caps with =
+      let who : Pid = ancestor with.after q in
+      let is : IsAmong first others with.before (rec.Boot who with.label caps) with.after = among first others with.before who with.label caps with.after none with.split in
+      let starts' : AreStarts (with.before ++ rec.Boot who with.label caps ∷ is.rest) = subst AreStarts is.first_is starts in
+      let who_is : who ≡ ancestor others q =
+      ap (λ xs. ancestor xs q) is.after_is ∙ ancestor-append is.rest others q ∙ starts_origin who (ancestor others q) is.rest (behind_start with.before (rec.Boot who with.label caps) is.rest starts') in
+      ap at_start (sym who_is) ∙ ap (λ xs. caps_of bound xs who) is.first_is ∙ start_told bound (λ _. no_flags) with.before who with.label caps is.rest starts'
+
+  -- a capability that a process has, and the one that it descends from was not permitted at its start, is from a program
+  grown_since : (q : Pid) (cap : Cap) (caps : CapState) → has (caps_of bound Recs q).p cap ≡ true → StartedWith Recs q caps → has caps.p cap ≡ false → FromExec bound Recs q cap
+  grown_since q cap caps h with without =
+      behind_all bound cap (FromExec bound Recs q cap) at_start others q (drops_behind bound (λ _. no_flags) first others drops)
+      (λ had. absurd (true≢false (sym had ∙ ap (λ (c : CapState). has c.p cap) (started_with q caps with) ∙ without)))
+      (λ before after label caps' e. absurd (none_here before (rec.Boot (ancestor after q) label caps') after (subst NoStarts e none)))
+      (given_later q cap)
+      (ap (λ (c : CapState). has c.p cap) (sym (told-append bound (λ _. no_flags) first others q)) ∙ h)
+
 pub growth_is_told : (w : World) (items : List ScriptItem) → GrowsByExec w.bound (all_recs w items)
-growth_is_told w items q cap =
-    behind_all w.bound cap (FromStart (all_recs w items) q cap ⊎ FromExec w.bound (all_recs w items) q cap) (λ _. no_flags) (all_recs w items) q (all_drop w items)
-    (λ h. absurd (true≢false (sym h ∙ has-no_caps cap)))
-    (λ before after label caps e h. inl (record { before = before; after = after; label = label; caps = caps; split = e; permitted = h }))
-    (λ before after id file new e h. inr (record { before = before; after = after; id = id; file = file; new = new; split = e; given = sym (has-exec_permitted (caps_of w.bound before (ancestor after q)) file w.bound cap) ∙ h }))
+growth_is_told w items =
+    let later : List Rec = flat_map (λ (p : Played). p.recs) (run (boot w) items) in
+    let starts : AreStarts (boot_recs w) = started_once w.procs (furnished w) in
+    let none : NoStarts later = run_no_start items (boot w) in
+    record { start_once = start_once (boot_recs w) later starts none; started = all_started w items; grown = grown_since w.bound (boot_recs w) later starts none (all_drop w items) }

@@ -15,4 +15,9 @@ pub mod CapsTold
 pub mod RowsTell
 pub mod Lineage
 pub mod Drops
+pub mod DrawingLemmas
+pub mod RowsFair
+pub mod GoingOn
+pub mod StartLemmas
+pub mod SinceStart
 pub mod Growth

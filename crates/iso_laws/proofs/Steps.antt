@@ -24,11 +24,11 @@ use Rattle.iso_laws.proofs.Sight.{get_process}
 use Rattle.iso_laws.proofs.Calls.{Cases, low_row, row_meets, hidden_cases, kept_cases, valid_cases}
 
 module _ (s : State) (who : Pid) (c : Call) where
-  abbrev judged_row : Process → Judged
+  abbrev pub judged_row : Process → Judged
   judged_row p = judge (asker who p) [] (row s who p c)
 
   -- by the process, if there is one
-  by_process : (P : Outcome → Type 0) → (map.get s.procs who ≡ None → P (step_by s who c None)) → ((p : Process) → map.get s.procs who ≡ Some p → P (settled s who p (name_of c) (judged_row p))) → P (step s who c)
+  pub by_process : (P : Outcome → Type 0) → (map.get s.procs who ≡ None → P (step_by s who c None)) → ((p : Process) → map.get s.procs who ≡ Some p → P (settled s who p (name_of c) (judged_row p))) → P (step s who c)
   unfolding step
   by_process P f g =
       elim (map.get s.procs who) as (λ o. map.get s.procs who ≡ o → P (step_by s who c o)) [ None ↦ f | Some p ↦ g p ] refl

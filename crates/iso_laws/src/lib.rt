@@ -4,7 +4,7 @@
 //! `specs/LawCalls.antt`.
 #![tactic(auto)]
 
-ghost use Rattle.std.specs.Prelude.{◌≡◌, ℕ, true, false, List, Some, take};
+ghost use Rattle.std.specs.Prelude.{◌≡◌, ℕ, true, false, List, ◌++◌, Some, take};
 ghost use Rattle.fin_maps.specs.FinMap as map;
 ghost use Rattle.lab_lattice.specs.Label.{Label};
 ghost use Rattle.kern_model.specs.declared.numbers.Pid.{Pid};
@@ -19,6 +19,8 @@ ghost use Rattle.kern_model.specs.Run.{run, state_after_run};
 ghost use Rattle.kern_model.specs.Lineage.{caps_of, all_recs, OnlyDrops, GrowsByExec};
 ghost use Rattle.kern_model.specs.Isolation.{low, crossing, part, part_script, answers, alone, up_to, Kept};
 ghost use Rattle.kern_model.specs.Valid.{IsValid};
+ghost use Rattle.kern_model.specs.Refusals.{IsNamed};
+ghost use Rattle.kern_model.specs.Drawing.{StayDrawn, NumbersGoOn, NothingComesBack};
 ghost use Rattle.kern_model.specs.World.{IsWorld};
 ghost use Rattle.kern_model.specs.Fronts.{IsFront, Agree};
 ghost use Rattle.iso_laws.specs.LawCalls.{has_laws, have_laws};
@@ -89,4 +91,20 @@ pub fn told_drops()
 /// an ancestor at its start, or a program gave it to an ancestor. For every call.
 pub fn told_growth()
     ensures { (w : World) (items : List ScriptItem) → GrowsByExec w.bound (all_recs w items) }
+{}
+
+/// Refusals are named: a reply that a check denied holds EACCES or EPERM, and no other refusal holds one of them. For every
+/// call.
+pub fn refusals_are_named()
+    ensures { (s : State) (who : Pid) (c : Call) → IsNamed (step s who c).reply }
+{}
+
+/// Numbers that were drawn stay drawn, whatever the state. What is there after a step of a valid state, or after a part of a
+/// run, and was not there before has a number that was drawn in between. So what has a number that was drawn and is not there
+/// does not come back. For every call.
+pub fn numbers_go_on()
+    ensures drawn { (s : State) (who : Pid) (c : Call) → StayDrawn s (step s who c).state }
+    ensures step { (s : State) (who : Pid) (c : Call) → IsValid s → NumbersGoOn s (step s who c).state }
+    ensures run { (w : World) (items more : List ScriptItem) → IsWorld w → NumbersGoOn (state_after_run (boot w) items) (state_after_run (boot w) (items ++ more)) }
+    ensures gone { (w : World) (items more : List ScriptItem) → IsWorld w → NothingComesBack (state_after_run (boot w) items) (state_after_run (boot w) (items ++ more)) }
 {}

@@ -1,19 +1,33 @@
 -- What a step keeps.
-use Rattle.std.specs.Prelude.{◌≡◌, refl, true, [], Option, Some, None}
+use Rattle.std.specs.Prelude.{◌≡◌, refl, true, false, List, [], Option, Some, None, Result, Ok, Err, IfOk, OnOk}
+use Rattle.std.specs.Result.{is_err}
 use Rattle.fin_maps.specs.FinMap as map
 use Rattle.std.proofs.Common.{ap, sym, ◌∙◌, subst}
+use Rattle.std.proofs.Math.Bridge.{le_prop}
+use Rattle.std.proofs.Math.Logic.{∥∥₁_map, ∥∥₁_elim}
+use Rattle.std.proofs.lemmas.Bool.{true≢false}
+use Rattle.std.proofs.lemmas.Result.{IfOk-weaker}
 use Rattle.kern_model.specs.declared.calls.Call.{Call}
 use Rattle.kern_model.specs.declared.calls.CallName.{CallName}
 use Rattle.kern_model.specs.declared.numbers.Pid.{Pid}
 use Rattle.kern_model.specs.declared.records.Outcome as told
+use Rattle.kern_model.specs.declared.world.World.{World}
+use Rattle.kern_model.specs.declared.world.WorldObject.{WorldObject}
+use Rattle.kern_model.specs.declared.world.WorldProc.{WorldProc}
 use Rattle.kern_model.specs.Arguments.{is_call}
+use Rattle.kern_model.specs.Boot.{boot_objects, boot_processes, nothing}
+use Rattle.kern_model.specs.Drawing.{NumbersGoOn}
 use Rattle.kern_model.specs.Names.{name_of}
+use Rattle.kern_model.specs.Refusals.{IsNamed}
 use Rattle.kern_model.specs.Row.{Judged, End, Stopped, Refused, Done, judge}
 use Rattle.kern_model.specs.State.{State, Process}
 use Rattle.kern_model.specs.Step.{Outcome, IsPlayed, step, step_by, settled, asker, reply_of, state_after}
 use Rattle.kern_model.specs.Table.{row}
 use Rattle.kern_model.specs.Valid.{IsValid}
+use Rattle.iso_laws.proofs.GoingOn.{named_after, on_after}
+use Rattle.kern_model.specs.World.{IsWorld}
 use Rattle.iso_laws.proofs.Steps.{valid_after}
+use Rattle.iso_laws.proofs.ValidBoot.{valid_booted}
 use Rattle.kern_core.specs.Built.{is_built, built_laws}
 use Rattle.kern_core.specs.Kernel.{IsStopped}
 
@@ -36,6 +50,32 @@ unfolding step
 kept_played s t who c o is h = sym (ap (λ (u : Outcome). u.state) is) ∙ kept_by s who c (map.get s.procs who) (subst IsStopped (sym (ap (λ (u : Outcome). u.reply) is)) h)
 
 -- ---- a call that was played
--- leaves a valid state valid
-pub valid_played : (s t : State) (who : Pid) (c : Call) (o : told.Outcome) → is_built c ≡ true → is_call s.top c ≡ true → IsValid s → IsPlayed s who c o t → IsValid t
-valid_played s t who c o built arguments valid is = subst IsValid (ap (λ (u : Outcome). u.state) is) (valid_after s who c (built_laws c built) arguments valid)
+go_on_prop : (s t : State) → IsProp (NumbersGoOn s t)
+go_on_prop s t = hlevel le_prop
+
+module _ {E : Type 0} (s t : State) (who : Pid) (c : Call) (r : Result told.Outcome E) (is : IfOk r (λ o. IsPlayed s who c o t)) where
+  -- names what refused it
+  pub named_played : IfOk r (λ o. IsNamed o.reply)
+  named_played = IfOk-weaker r _ _ (λ o e. subst IsNamed (ap (λ (u : Outcome). u.reply) e) (named_after s who c)) is
+
+  -- leaves a valid state valid
+  pub valid_played : is_built c ≡ true → is_call s.top c ≡ true → ∥ IsValid s ∥₁ → OnOk r (∥ IsValid t ∥₁)
+  valid_played built arguments valid =
+      let after : IsValid s → IsValid (step s who c).state = valid_after s who c (built_laws c built) arguments in
+      IfOk-weaker r _ _ (λ o e. ∥∥₁_map valid (λ v. subst IsValid (ap (λ (u : Outcome). u.state) e) (after v))) is
+
+  -- lets numbers go on
+  pub go_on_played : ∥ IsValid s ∥₁ → OnOk r (NumbersGoOn s t)
+  go_on_played valid = IfOk-weaker r _ _ (λ o e. ∥∥₁_elim valid (go_on_prop s t) (λ v. subst (NumbersGoOn s) (ap (λ (u : Outcome). u.state) e) (on_after s who c v))) is
+
+-- what holds where a result is Ok, holds where it is no error
+pub where_no_error : {X E P : Type 0} (r : Result X E) → OnOk r P → is_err r ≡ false → P
+where_no_error (Ok x) h e = h
+where_no_error (Err x) h e = absurd (true≢false e)
+
+-- ---- the first state
+-- is valid, by the parts that make it
+pub valid_started : (w : World) → IsWorld w → (empty furnished started : State) (os : List WorldObject) (ps : List WorldProc) → empty ≡ nothing w.bound w.top → os ≡ w.objects → furnished ≡ boot_objects empty os → ps ≡ w.procs → started ≡ boot_processes furnished ps → IsValid started
+valid_started w h empty furnished started os ps none objects furnishes procs starts =
+    let booted = starts ∙ (λ i. boot_processes ((furnishes ∙ (λ j. boot_objects (none j) (objects j))) i) (procs i)) in
+    subst IsValid (sym booted) (valid_booted w h)

@@ -3,12 +3,14 @@ ghost use Rattle.std.specs.Prelude.{◌≡◌, true, false, IfOk, IsErr, IsOk, O
 ghost use Rattle.fin_maps.specs.FinMap as map;
 ghost use Rattle.kern_model.specs.Arguments.{is_call};
 ghost use Rattle.kern_model.specs.Boot.{boot, boot_recs};
+ghost use Rattle.kern_model.specs.Drawing.{NumbersGoOn};
+ghost use Rattle.kern_model.specs.Refusals.{IsNamed};
 ghost use Rattle.kern_model.specs.State.{Process};
 ghost use Rattle.kern_model.specs.Step.{IsPlayed};
 ghost use Rattle.kern_model.specs.Valid.{IsValid};
 ghost use Rattle.kern_model.specs.World.{IsWorld};
 ghost use Rattle.kern_core.specs.Built.{is_built};
-ghost use Rattle.kern_core.specs.Kernel.{state_of, has_failed, IsStopped, TakesNoMemory};
+ghost use Rattle.kern_core.specs.Tables.{held_by};
 
 use crate::tables::Tables;
 use cap_bits::CapState;
@@ -16,14 +18,18 @@ use kern_model::{Call, NoMemory, Outcome, Pid, PidList, RecList, World};
 use lab_lattice::Label;
 use std::alloc::Global;
 
-/// A kernel. Where memory runs out in a call it has failed for good: it plays no call any more.
+/// A kernel. Where memory runs out in a call it has failed for good: it plays no call any more. The state of a kernel that
+/// has not failed is valid.
 #[derive(Drop)]
 pub struct Kernel {
     tables: Tables,
     failed: bool,
+    ghost valid: { failed ≡ false → ∥ IsValid (held_by tables) ∥₁ },
 }
 
 impl Kernel {
+    ghost use Rattle.kern_core.specs.Kernel.{state_of, has_failed, IsStopped, TakesNoMemory};
+
     /// The kernel in the first state of a world, and a record for each process, in the order of the world's lines.
     #[tactic(auto, unfolding(crate::specs::Kernel::state_of, crate::specs::Kernel::has_failed))]
     pub fn boot(alloc: Global, world: &World) -> Result<(Kernel, RecList), NoMemory>
@@ -51,7 +57,9 @@ impl Kernel {
         requires built { is_built call.now ≡ true }
         ensures played { IfOk result (λ outcome. IsPlayed (state_of self.old) who.now call.now outcome (state_of self.new)) }
         ensures kept { IfOk result (λ outcome. IsStopped outcome.reply → state_of self.new ≡ state_of self.old) }
-        ensures valid { IsValid (state_of self.old) → OnOk result (IsValid (state_of self.new)) }
+        ensures valid { OnOk result (∥ IsValid (state_of self.new) ∥₁) }
+        ensures named { IfOk result (λ outcome. IsNamed outcome.reply) }
+        ensures numbers { OnOk result (NumbersGoOn (state_of self.old) (state_of self.new)) }
         ensures sound { OnOk result ((has_failed self.new ≡ false) × (has_failed self.old ≡ false)) }
         ensures failed { OnErr result (has_failed self.new ≡ true) }
         ensures for_good { has_failed self.old ≡ true → IsErr result }

@@ -25,6 +25,8 @@ pub mod Arguments
 pub mod Run
 pub mod Isolation
 pub mod Valid
+pub mod Refusals
+pub mod Drawing
 pub mod World
 pub mod Fronts
 pub mod Lineage

@@ -1,5 +1,5 @@
 -- The capability sets that records tell of a process, and how capabilities come into them.
-use Rattle.std.specs.Prelude.{◌≡◌, ◌⊎◌, true, ◌&&◌, ◌||◌, List, [], ◌∷◌, ◌++◌, cond}
+use Rattle.std.specs.Prelude.{◌≡◌, true, false, ◌&&◌, ◌||◌, List, [], ◌∷◌, ◌++◌, cond}
 use Rattle.std.specs.List.{flat_map}
 use Rattle.cap_bits.specs.CapSet.{CapSet, has, is_within}
 use Rattle.cap_bits.specs.declared.cap.Cap.{Cap}
@@ -53,14 +53,17 @@ abbrev pub ancestor : List Rec → Pid → Pid
 ancestor [] q = q
 ancestor (r ∷ rs) q = origin r (ancestor rs q)
 
--- an ancestor of a process started with a capability permitted
-pub record FromStart (recs : List Rec) (q : Pid) (cap : Cap) : Type 0 where
+-- the process that a process descends from started with these sets
+pub record StartedWith (recs : List Rec) (q : Pid) (caps : CapState) : Type 0 where
   pub before : List Rec
   pub after : List Rec
   pub label : Label
-  pub caps : CapState
   pub split : recs ≡ before ++ rec.Boot (ancestor after q) label caps ∷ after
-  pub permitted : has caps.p cap ≡ true
+
+-- the process that a process descends from started
+pub record HasStarted (recs : List Rec) (q : Pid) : Type 0 where
+  pub caps : CapState
+  pub started : StartedWith recs q caps
 
 -- a program gave a capability to an ancestor of a process: the file permits it and the bound has it, or the file inherits it
 -- and so does the ancestor, by the records before that of the program
@@ -73,6 +76,14 @@ pub record FromExec (bound : CapSet) (recs : List Rec) (q : Pid) (cap : Cap) : T
   pub split : recs ≡ before ++ rec.Exec (ancestor after q) id file new ∷ after
   pub given : (has file.p cap && has bound cap || has file.i cap && has (caps_of bound before (ancestor after q)).i cap) ≡ true
 
--- permitted sets grow by exec alone: each capability that a process is permitted is from a start or from a program
-abbrev pub GrowsByExec : CapSet → List Rec → Type 0
-GrowsByExec bound recs = (q : Pid) (cap : Cap) → has (caps_of bound recs q).p cap ≡ true → FromStart recs q cap ⊎ FromExec bound recs q cap
+-- no process starts twice
+abbrev pub StartOnce : List Rec → Type 0
+StartOnce recs = (before between after : List Rec) (who : Pid) (label label' : Label) (caps caps' : CapState) → recs ≡ before ++ rec.Boot who label caps ∷ (between ++ rec.Boot who label' caps' ∷ after) → ⊥
+
+-- permitted sets grow by exec alone
+pub record GrowsByExec (bound : CapSet) (recs : List Rec) : Type 0 where
+  pub start_once : StartOnce recs
+  -- a process that is permitted something descends from one that started
+  pub started : (q : Pid) (cap : Cap) → has (caps_of bound recs q).p cap ≡ true → HasStarted recs q
+  -- and what that one was not permitted at its start is from a program
+  pub grown : (q : Pid) (cap : Cap) (caps : CapState) → has (caps_of bound recs q).p cap ≡ true → StartedWith recs q caps → has caps.p cap ≡ false → FromExec bound recs q cap

@@ -7,12 +7,12 @@ use Rattle.kern_model.specs.declared.world.WorldProc.{WorldProc}
 use Rattle.kern_model.specs.Boot.{boot_objects, boot_processes}
 use Rattle.kern_model.specs.State.{State}
 use Rattle.kern_model.specs.Valid.{IsValid}
-use Rattle.iso_laws.proofs.ValidBoot.{valid_booted}
 use Rattle.kern_model.specs.World.{objects_at}
 use Rattle.kern_core.specs.Starts.{RoomForObjects, CanStart}
 use Rattle.kern_core.specs.Kernel.{state_of}
 use Rattle.kern_core.specs.Tables.{held_by}
 use Rattle.kern_core.proofs.BootLemmas.{all_room, all_can, objects_keep}
+use Rattle.kern_core.proofs.KernelLemmas.{valid_started}
 use Rattle.kern_core.proofs.kernel.Kernel.boot.Goals as goal
 
 pub boot_objects-requires : goal.boot_objects-requires
@@ -27,9 +27,15 @@ boot_processes-requires c =
     subst (λ (m : FinMap label_cmp ℕ). CanStart m c.items-2.result.now) (sym none_drawn)
     (subst (λ (ws : List WorldProc). CanStart map.empty ws) (sym c.items-2.ensures) (all_can c.args.world.now c.requires.world))
 
+pub invariant_of-kernel : goal.invariant_of-kernel
+invariant_of-kernel c = record {
+  valid = λ sound.
+      ∣ valid_started c.args.world.now c.requires.world (held_by c.empty-tables.result) (held_by c.boot_objects.new.self) (held_by c.boot_processes.new.self) c.items.result.now c.items-2.result.now
+      c.empty-tables.ensures c.items.ensures c.in_ok-boot_objects.ensures c.items-2.ensures c.in_ok-recs.ensures.state ∣₁;
+}
+
 pub returns-clause-valid : goal.returns-clause-valid
 unfolding state_of
 returns-clause-valid c =
-    let objects = c.in_ok-boot_objects.ensures ∙ (λ i. boot_objects (c.empty-tables.ensures i) (c.items.ensures i)) in
-    let booted = c.in_ok-recs.ensures.state ∙ (λ i. boot_processes (objects i) (c.items-2.ensures i)) in
-    subst IsValid (sym booted) (valid_booted c.args.world.now c.requires.world)
+    valid_started c.args.world.now c.requires.world (held_by c.empty-tables.result) (held_by c.boot_objects.new.self) (held_by c.boot_processes.new.self) c.items.result.now c.items-2.result.now
+    c.empty-tables.ensures c.items.ensures c.in_ok-boot_objects.ensures c.items-2.ensures c.in_ok-recs.ensures.state

@@ -1,8 +1,18 @@
+use Rattle.std.proofs.Common.{◌∙◌, sym}
 use Rattle.std.proofs.lemmas.Result.{IfOk-weaker}
 use Rattle.kern_core.specs.Kernel.{state_of}
 use Rattle.kern_core.specs.Tables.{held_by}
-use Rattle.kern_core.proofs.KernelLemmas.{kept_played, valid_played}
+use Rattle.kern_core.proofs.KernelLemmas.{kept_played, named_played, valid_played, go_on_played, where_no_error}
 use Rattle.kern_core.proofs.kernel.Kernel.call.Goals as goal
+
+pub invariant_of-self : goal.invariant_of-self
+unfolding state_of
+invariant_of-self c = record {
+  valid = λ sound.
+      where_no_error c.call-outcome.result
+      (valid_played (held_by c.args.self.now.tables) (held_by c.call-outcome.new.self) c.args.who.now c.args.call.now c.call-outcome.result c.call-outcome.ensures.played c.requires.built c.requires.arguments (c.args.self.now.valid c.if-self.false))
+      (sym c.is_err-self.ensures.value ∙ sound);
+}
 
 pub returns-clause-kept : goal.returns-clause-kept
 unfolding state_of
@@ -11,5 +21,13 @@ returns-clause-kept c =
 
 pub returns-clause-valid : goal.returns-clause-valid
 unfolding state_of
-returns-clause-valid c = λ valid.
-    IfOk-weaker c.call-outcome.result _ _ (λ o is. valid_played (held_by c.args.self.now.tables) (held_by c.call-outcome.new.self) c.args.who.now c.args.call.now o c.requires.built c.requires.arguments valid is) c.call-outcome.ensures.played
+returns-clause-valid c =
+    valid_played (held_by c.args.self.now.tables) (held_by c.call-outcome.new.self) c.args.who.now c.args.call.now c.call-outcome.result c.call-outcome.ensures.played c.requires.built c.requires.arguments (c.args.self.now.valid c.if-self.false)
+
+pub returns-clause-named : goal.returns-clause-named
+returns-clause-named c = named_played (held_by c.args.self.now.tables) (held_by c.call-outcome.new.self) c.args.who.now c.args.call.now c.call-outcome.result c.call-outcome.ensures.played
+
+pub returns-clause-numbers : goal.returns-clause-numbers
+unfolding state_of
+returns-clause-numbers c =
+    go_on_played (held_by c.args.self.now.tables) (held_by c.call-outcome.new.self) c.args.who.now c.args.call.now c.call-outcome.result c.call-outcome.ensures.played (c.args.self.now.valid c.if-self.false)

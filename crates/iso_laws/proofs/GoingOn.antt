@@ -1,0 +1,118 @@
+-- What every step keeps, of each call: refusals are named, and numbers go on.
+use Rattle.std.specs.Prelude.{◌≡◌, ⊤, true, false, List, [], ◌∷◌, ◌++◌, Some, refl, Option}
+use Rattle.std.proofs.Common.{sym, subst}
+use Rattle.fin_maps.specs.FinMap as map
+use Rattle.kern_model.specs.declared.numbers.Oid.{Oid}
+use Rattle.kern_model.specs.declared.numbers.Pid.{Pid}
+use Rattle.kern_model.specs.declared.checks.CheckName.{CheckName}
+use Rattle.kern_model.specs.declared.checks.CheckName.TheVariants as check
+use Rattle.kern_model.specs.declared.calls.Call.{Call}
+use Rattle.kern_model.specs.declared.world.World.{World}
+use Rattle.kern_model.specs.declared.world.ScriptItem.{ScriptItem}
+use Rattle.kern_model.specs.declared.records.Rec.{Rec}
+use Rattle.kern_model.specs.declared.records.Rec.TheVariants as rec
+use Rattle.kern_model.specs.Boot.{boot}
+use Rattle.kern_model.specs.Drawing.{StayDrawn, NumbersGoOn, NothingComesBack}
+use Rattle.kern_model.specs.Refusals.{is_denial, IsNamed}
+use Rattle.kern_model.specs.Row.{Row, Need, Soft, Refuse, Fail, Give, Asker, End, Stopped, Refused, Done, judge, verdict_of, is_denied, noted}
+use Rattle.kern_model.specs.Rules.{denial_of}
+use Rattle.kern_model.specs.Run.{state_after_run}
+use Rattle.kern_model.specs.State.{State, Process, Change}
+use Rattle.kern_model.specs.Step.{step, asker, reply_of, state_after}
+use Rattle.kern_model.specs.Table.{row}
+use Rattle.kern_model.specs.Valid.{IsThere, IsValid}
+use Rattle.kern_model.specs.World.{IsWorld}
+use Rattle.iso_laws.proofs.Rows.{when}
+use Rattle.iso_laws.proofs.Steps.{by_process, judged_row}
+use Rattle.iso_laws.proofs.ValidBoot.{valid_booted}
+use Rattle.iso_laws.proofs.DrawingLemmas.{LeadsTo, IsClosed, AllFit, stay_all, stay_itself, closed_valid, GoesOn, goes_all, goes_itself, on_itself, on_over, nothing_back}
+use Rattle.iso_laws.proofs.RowsFair.{Fair, TellsOwn, row_fair}
+
+-- ---- the end of a row that is fair
+abbrev pub EndsFair : (List Change → Option Rec → Type 0) → End → Type 0
+EndsFair P (Stopped name place) = ⊤
+EndsFair P (Refused e) = is_denial e ≡ false
+EndsFair P (Done cs answer own) = P cs own
+
+module _ (P : List Change → Option Rec → Type 0) (a : Asker) where
+  pub ends_fair : (used : List Rec) (r : Row) → Fair P r → EndsFair P (judge a used r).end
+  unfolding judge
+  ends_fair used (Need c r) h = when (λ j. EndsFair P j.end) (is_denied (verdict_of a c)) _ _ (λ _. tt) (λ _. ends_fair (noted a c (verdict_of a c) used) r h)
+  ends_fair used (Soft c r w) h = when (λ j. EndsFair P j.end) (is_denied (verdict_of a c)) _ _ (λ _. ends_fair used w h.1) (λ _. ends_fair (noted a c (verdict_of a c) used) r h.0)
+  ends_fair used (Refuse e b r) h = when (λ j. EndsFair P j.end) b _ _ (λ _. h.0) (λ _. ends_fair used r h.1)
+  ends_fair used (Fail e) h = h
+  ends_fair used (Give cs answer own) h = h
+
+-- what is known of how a call of a process ends, in a state in which what leads to an object leads to one of these
+abbrev pub Fitting : (There : Oid → Type 0) (s : State) (who : Pid) → List Change → Option Rec → Type 0
+Fitting There s who cs own = AllFit There (λ q. own ≡ Some (rec.Fork who q)) s s cs × TellsOwn who own
+
+pub row_ends : (There : Oid → Type 0) (s : State) → LeadsTo There s → (who : Pid) (p : Process) → map.get s.procs who ≡ Some p → (c : Call) → EndsFair (Fitting There s who) (judged_row s who c p).end
+row_ends There s leads who p is c = ends_fair (Fitting There s who) (asker who p) [] (row s who p c) (row_fair There s leads who p is c)
+
+-- ---- in every state
+-- any object will do
+abbrev pub Anything : Oid → Type 0
+Anything id = ⊤
+
+pub lead_anywhere : (s : State) → LeadsTo Anything s
+lead_anywhere s = record { root_there = tt; entries = λ spot id e. tt; procs = λ who p e. tt; descriptions = λ did d e. tt }
+
+-- what a check denies is EACCES or EPERM
+denial_named : (name : CheckName) → is_denial (denial_of name) ≡ true
+denial_named check.MacRead = refl
+denial_named _ = refl
+
+reply_named : (P : List Change → Option Rec → Type 0) (e : End) → EndsFair P e → IsNamed (reply_of e)
+reply_named P (Stopped name place) h = denial_named name
+reply_named P (Refused e) h = h
+reply_named P (Done cs answer own) h = tt
+
+pub named_after : (s : State) (who : Pid) (c : Call) → IsNamed (step s who c).reply
+named_after s who c = by_process s who c (λ o. IsNamed o.reply) (λ _. refl) (λ p is. reply_named _ _ (row_ends Anything s (lead_anywhere s) who p is c))
+
+stay_at_end : (s : State) (who : Pid) (e : End) → EndsFair (Fitting Anything s who) e → StayDrawn s (state_after s e)
+stay_at_end s who (Stopped name place) h = stay_itself s
+stay_at_end s who (Refused e) h = stay_itself s
+stay_at_end s who (Done cs answer own) h = stay_all Anything _ s cs s h.0 (stay_itself s)
+
+-- numbers that were drawn stay drawn
+pub stay_after : (s : State) (who : Pid) (c : Call) → StayDrawn s (step s who c).state
+stay_after s who c = by_process s who c (λ o. StayDrawn s o.state) (λ _. stay_itself s) (λ p is. stay_at_end s who _ (row_ends Anything s (lead_anywhere s) who p is c))
+
+-- ---- in a state in which what leads to an object leads to one that is there
+goes_at_end : (s : State) → IsClosed s → (who : Pid) (e : End) → EndsFair (Fitting (λ id. IsThere s.objects id) s who) e → GoesOn s (state_after s e)
+goes_at_end s closed who (Stopped name place) h = goes_itself s closed
+goes_at_end s closed who (Refused e) h = goes_itself s closed
+goes_at_end s closed who (Done cs answer own) h = goes_all _ s cs s h.0 (goes_itself s closed)
+
+pub goes_after : (s : State) (who : Pid) (c : Call) → IsClosed s → GoesOn s (step s who c).state
+goes_after s who c closed = by_process s who c (λ o. GoesOn s o.state) (λ _. goes_itself s closed) (λ p is. goes_at_end s closed who _ (row_ends (λ id. IsThere s.objects id) s closed who p is c))
+
+-- numbers go on
+pub on_after : (s : State) (who : Pid) (c : Call) → IsValid s → NumbersGoOn s (step s who c).state
+on_after s who c valid = (goes_after s who c (closed_valid s valid)).on
+
+-- ---- over runs
+pub closed_after_run : (items : List ScriptItem) (s : State) → IsClosed s → IsClosed (state_after_run s items)
+closed_after_run [] s closed = closed
+closed_after_run (i ∷ is) s closed = closed_after_run is (step s i.who i.call).state (goes_after s i.who i.call closed).closed
+
+on_after_run : (items : List ScriptItem) (s : State) → IsClosed s → NumbersGoOn s (state_after_run s items)
+on_after_run [] s closed = on_itself s
+on_after_run (i ∷ is) s closed =
+    let goes : GoesOn s (step s i.who i.call).state = goes_after s i.who i.call closed in
+    on_over s (step s i.who i.call).state (state_after_run (step s i.who i.call).state is) goes.on (on_after_run is (step s i.who i.call).state goes.closed)
+
+state_after_run-append : (s : State) (is js : List ScriptItem) → state_after_run s (is ++ js) ≡ state_after_run (state_after_run s is) js
+state_after_run-append s [] js = refl
+state_after_run-append s (i ∷ is) js = state_after_run-append (step s i.who i.call).state is js
+
+-- from each part of a run to a longer one
+pub on_over_run : (w : World) (items more : List ScriptItem) → IsWorld w → NumbersGoOn (state_after_run (boot w) items) (state_after_run (boot w) (items ++ more))
+on_over_run w items more is =
+    subst (NumbersGoOn (state_after_run (boot w) items)) (sym (state_after_run-append (boot w) items more))
+    (on_after_run more (state_after_run (boot w) items) (closed_after_run items (boot w) (closed_valid (boot w) (valid_booted w is))))
+
+pub nothing_back_over_run : (w : World) (items more : List ScriptItem) → IsWorld w → NothingComesBack (state_after_run (boot w) items) (state_after_run (boot w) (items ++ more))
+nothing_back_over_run w items more is = nothing_back (state_after_run (boot w) items) (state_after_run (boot w) (items ++ more)) (on_over_run w items more is)
