@@ -1,5 +1,5 @@
 -- A piece that is written in parts, and bytes that are read in parts.
-use Rattle.std.proofs.Common.{◌≡◌, ℕ, ◌-◌, ◌≤◌, List, ◌++◌, length, take, drop, sym, ◌∙◌, ap, append_assoc, arith}
+use Rattle.std.proofs.Common.{◌≡◌, ℕ, ◌-◌, ◌≤◌, List, ◌++◌, length, take, drop, sym, ◌∙◌, ap, append_assoc}
 use Rattle.std.proofs.lemmas.List.{take_rest, take-append-drop}
 use Rattle.std.specs.declared.option.Option.{Option}
 use Rattle.std.specs.Io.KnownBytes.{Appends, Consumes}
@@ -10,20 +10,20 @@ pub record Underway (piece rest : List ℕ) (old new : Option (List ℕ)) (befor
   pub part : List ℕ
   pub piece_is : piece ≡ part ++ rest
   pub wrote : Appends old new part
-  pub later : before ≤ now
+  pub still : now ≡ before
 
 pub underway_more : (piece rest : List ℕ) (a b c : Option (List ℕ)) (f f' f'' n : ℕ)
-    → Underway piece rest a b f f' → Appends b c (take n rest) → f' ≤ f'' → Underway piece (take (length rest - n) (drop n rest)) a c f f''
+    → Underway piece rest a b f f' → Appends b c (take n rest) → f'' ≡ f' → Underway piece (take (length rest - n) (drop n rest)) a c f f''
 underway_more piece rest a b c f f' f'' n u w l = record {
   part = u.part ++ take n rest;
   piece_is = u.piece_is ∙ ap (λ (r : List ℕ). u.part ++ r) (sym (take-append-drop n rest)) ∙ sym (append_assoc u.part (take n rest) (drop n rest))
       ∙ ap (λ (r : List ℕ). (u.part ++ take n rest) ++ r) (sym (take_rest rest n));
   wrote = Appends-trans a b c _ _ u.wrote w;
-  later = omega arith;
+  still = l ∙ u.still;
 }
 
 -- The bytes that are held are those that were taken.
 pub record Reading (bytes : List ℕ) (most : ℕ) (old new : Option (List ℕ)) (before now : ℕ) : Type 0 where
   pub took : Consumes old new bytes
   pub small : length bytes ≤ most
-  pub later : before ≤ now
+  pub still : now ≡ before

@@ -1,4 +1,4 @@
-pub mod Causes
+pub mod Faults
 pub mod Whole
 pub mod Memory
 pub mod Files

@@ -1,7 +1,7 @@
 -- What contracts see of the ends in memory, and what a call of each does.
 use Rattle.std.specs.Prelude.{◌≡◌, ℕ, ◌-◌, ◌==◌, ◌||◌, Bool, true, false, min, nat_le, List, ◌++◌, length, take, drop}
 use Rattle.std.specs.List.{list_any}
-use Rattle.io_ends.specs.Causes.{counted}
+use Rattle.io_ends.specs.Faults.{counted}
 
 -- The call of this number is among those that are to fail.
 abbrev pub is_listed : List ℕ → ℕ → Bool

@@ -1,9 +1,17 @@
 -- Bytes that are read to the end of a source, or to a limit and one byte more.
-use Rattle.std.specs.Prelude.{◌≡◌, ℕ, ◌+◌, ◌≤◌, false, List, ◌++◌, length, nat_lt, take, IfOk, Result}
+use Rattle.std.specs.Prelude.{◌≡◌, ℕ, ◌+◌, ◌≤◌, false, List, ◌++◌, length, nat_lt, take, IfOk, Result, Ok, Err}
 use Rattle.std.specs.declared.option.Option.{Option}
 use Rattle.std.specs.Io.KnownBytes.{Consumes, IsAtEnd}
+use Rattle.io_ends.specs.Faults.{counted}
 use Rattle.io_ends.specs.declared.whole.LineFault.{LineFault}
+use Rattle.io_ends.specs.declared.whole.LineFault.TheVariants.{Failed, NoMemory}
 use Rattle.io_ends.specs.declared.whole.Whole.{Whole}
+
+-- A read that failed was counted once, and nothing else was counted.
+abbrev pub CountsRead : {T : Type 0} → Result T LineFault → ℕ → ℕ → Type 0
+CountsRead (Ok answer) before now = now ≡ before
+CountsRead (Err Failed) before now = now ≡ counted before
+CountsRead (Err NoMemory) before now = now ≡ before
 
 -- The answer keeps the first `limit` of the bytes that were read, tells whether there were more of them, and where there were not the source was read to its end.
 pub record IsWhole (w : Whole) (got : List ℕ) (limit : ℕ) (now : Option (List ℕ)) : Type 0 where

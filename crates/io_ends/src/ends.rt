@@ -3,7 +3,7 @@ ghost use Rattle.std.specs.Prelude.{◌≡◌, ◌<◌, ◌≤◌, [], List, ℕ
 ghost use Rattle.std.specs.declared.option.Option.{Option};
 ghost use Rattle.std.specs.Io.{ReadsAtMost, WritesAtMost};
 ghost use Rattle.std.specs.Io.KnownBytes.{ReadConsumes, WriteAppends};
-ghost use Rattle.io_ends.specs.Causes.{HasCause, counted};
+ghost use Rattle.io_ends.specs.Faults.{CountsFault, counted};
 
 /// A read or a write failed, and its end has counted the fault.
 #[derive(Clone, Copy, Debug, PartialEq, Eq)]
@@ -22,7 +22,7 @@ pub trait Source {
     fn read(&mut self, buf: &mut [u8]) -> Result<usize, Failed>
         ensures bound { ReadsAtMost result buf.new }
         ensures bytes { ReadConsumes (left self.old) (left self.new) result buf.new }
-        ensures cause { HasCause (faults self.old) (faults self.new) result };
+        ensures counts { CountsFault (faults self.old) (faults self.new) result };
 }
 
 /// Where bytes go.
@@ -40,13 +40,12 @@ pub trait Sink {
         ensures some { IfOk result (λ n. 0 < length piece.now → 0 < n) }
         ensures empty { piece.now ≡ [] → result ≡ Ok 0 }
         ensures bytes { WriteAppends (held self.old) (held self.new) result piece.now }
-        ensures cause { HasCause (faults self.old) (faults self.new) result };
+        ensures counts { CountsFault (faults self.old) (faults self.new) result };
 }
 
 // Counts a fault.
 pub(crate) fn count_fault(faults: &mut u64) -> Failed
-    ensures counts { faults.new ≡ counted faults.old }
-    ensures later { faults.old ≤ faults.new }
+    ensures { faults.new ≡ counted faults.old }
 {
     *faults = faults.saturating_add(1);
     Failed

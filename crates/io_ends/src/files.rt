@@ -3,7 +3,7 @@
 ghost use Rattle.std.specs.Prelude.{◌≡◌, ◌<◌, ◌≤◌, [], None, Ok, length, is_ok, if◌then◌else◌, IfOk};
 ghost use Rattle.std.specs.Io.{ReadsAtMost, WritesAtMost};
 ghost use Rattle.std.specs.Io.KnownBytes.{ReadConsumes, WriteAppends};
-ghost use Rattle.io_ends.specs.Causes.{HasCause, counted};
+ghost use Rattle.io_ends.specs.Faults.{CountsFault, counted};
 
 use crate::ends::count_fault;
 use crate::{Failed, Sink, Source};
@@ -45,11 +45,10 @@ impl<R: Read> Source for FileSource<R> {
     fn read(&mut self, buf: &mut [u8]) -> Result<usize, Failed>
         ensures bound { ReadsAtMost result buf.new }
         ensures bytes { ReadConsumes None None result buf.new }
-        ensures cause { HasCause self.old.faults self.new.faults result }
+        ensures counts { CountsFault self.old.faults self.new.faults result }
 
-        // It hands on what its reader gives, and counts each read that failed.
+        // It hands on what its reader gives.
         ensures given { ReadConsumes self.old.told self.new.told result buf.new }
-        ensures faults { self.new.faults ≡ (if is_ok result then self.old.faults else counted self.old.faults) }
     {
         match self.reader.read(buf) {
             Ok(count) => Ok(count),
@@ -139,8 +138,7 @@ impl<R: Files + Print> Sink for FileSink<R> {
         ensures some { IfOk result (λ n. 0 < length piece.now → 0 < n) }
         ensures empty { piece.now ≡ [] → result ≡ Ok 0 }
         ensures bytes { WriteAppends None None result piece.now }
-        ensures cause { HasCause self.old self.new result }
-        ensures faults { self.new ≡ (if is_ok result then self.old else counted self.old) }
+        ensures counts { CountsFault self.old self.new result }
     {
         if piece.is_empty() {
             return Ok(0);

@@ -2,7 +2,7 @@
 ghost use Rattle.std.specs.Prelude.{◌≡◌, ◌<◌, ◌≤◌, ◌++◌, [], Some, Ok, drop, length, min, take, IfOk, MatchResult};
 ghost use Rattle.std.specs.Io.{ReadsAtMost, WritesAtMost};
 ghost use Rattle.std.specs.Io.KnownBytes.{ReadConsumes, WriteAppends};
-ghost use Rattle.io_ends.specs.Causes.{HasCause};
+ghost use Rattle.io_ends.specs.Faults.{CountsFault};
 ghost use Rattle.io_ends.specs.Memory.{ReadFails, ReadGives, WriteFails, WriteTakes};
 
 use crate::ends::count_fault;
@@ -65,7 +65,7 @@ impl Source for MemSource {
     fn read(&mut self, buf: &mut [u8]) -> Result<usize, Failed>
         ensures bound { ReadsAtMost result buf.new }
         ensures bytes { ReadConsumes (Some self.old.left) (Some self.new.left) result buf.new }
-        ensures cause { HasCause self.old.faults self.new.faults result }
+        ensures counts { CountsFault self.old.faults self.new.faults result }
 
         // Which calls fail, and how many bytes the others give.
         ensures exact { MatchResult result
@@ -138,7 +138,7 @@ impl Sink for MemSink {
         ensures some { IfOk result (λ n. 0 < length piece.now → 0 < n) }
         ensures empty { piece.now ≡ [] → result ≡ Ok 0 }
         ensures bytes { WriteAppends (Some self.old.held) (Some self.new.held) result piece.now }
-        ensures cause { HasCause self.old.faults self.new.faults result }
+        ensures counts { CountsFault self.old.faults self.new.faults result }
 
         // Which calls fail, how many bytes the others take, and that an empty piece is no call.
         ensures exact { 0 < length piece.now → MatchResult result

@@ -2,7 +2,7 @@
 ghost use Rattle.std.specs.Prelude.{◌≡◌, ◌<◌, [], Some, None, Ok, length, min, drop, IfOk};
 ghost use Rattle.std.specs.Io.{ReadsAtMost, WritesAtMost};
 ghost use Rattle.std.specs.Io.KnownBytes.{ReadConsumes, WriteAppends};
-ghost use Rattle.io_ends.specs.Causes.{HasCause};
+ghost use Rattle.io_ends.specs.Faults.{CountsFault};
 
 use crate::memory::copy_front;
 use crate::{Failed, Sink, Source};
@@ -42,7 +42,7 @@ impl Source for SureSource {
     fn read(&mut self, buf: &mut [u8]) -> Result<usize, Failed>
         ensures bound { ReadsAtMost result buf.new }
         ensures bytes { ReadConsumes (Some self.old) (Some self.new) result buf.new }
-        ensures cause { HasCause 0 0 result }
+        ensures counts { CountsFault 0 0 result }
 
         // It gives as many bytes as fit.
         ensures exact { result ≡ Ok (min (length buf.new) (length self.old)) }
@@ -77,7 +77,7 @@ impl Sink for SureSink {
         ensures some { IfOk result (λ n. 0 < length piece.now → 0 < n) }
         ensures empty { piece.now ≡ [] → result ≡ Ok 0 }
         ensures bytes { WriteAppends None None result piece.now }
-        ensures cause { HasCause 0 0 result }
+        ensures counts { CountsFault 0 0 result }
         ensures exact { result ≡ Ok (length piece.now) }
     {
         Ok(piece.len())

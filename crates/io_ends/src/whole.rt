@@ -1,8 +1,8 @@
 // A whole piece out, in as many writes as it takes, and whole bytes in.
 ghost use Rattle.std.specs.Prelude.{◌≡◌, ◌+◌, ◌<◌, ◌≤◌, false, length, nat_lt, take, MatchResult, OnOk, OnErr, IfErr};
 ghost use Rattle.std.specs.Io.KnownBytes.{Appends};
-ghost use Rattle.io_ends.specs.Causes.{HasCause, AppendsPart, Rose};
-ghost use Rattle.io_ends.specs.Whole.{Fills, FillFails, ReadsWhole};
+ghost use Rattle.io_ends.specs.Faults.{CountsFault, AppendsPart};
+ghost use Rattle.io_ends.specs.Whole.{CountsRead, Fills, FillFails, ReadsWhole};
 
 use crate::{ByteList, Failed, Sink, Source};
 use std::alloc::{AllocError, Global};
@@ -44,7 +44,7 @@ pub struct Whole {
 pub fn write_whole<K: Sink>(sink: &mut K, piece: &[u8]) -> Result<(), Failed>
     ensures ok { OnOk result (Appends (K.held sink.old) (K.held sink.new) piece.now) }
     ensures err { OnErr result (AppendsPart (K.held sink.old) (K.held sink.new) piece.now) }
-    ensures cause { HasCause (K.faults sink.old) (K.faults sink.new) result }
+    ensures counts { CountsFault (K.faults sink.old) (K.faults sink.new) result }
 {
     let mut rest = piece;
     while !rest.is_empty() {
@@ -60,8 +60,7 @@ fn fill<S: Source>(bytes: &mut ByteList, source: &mut S, most: usize) -> Result<
     ensures fills { MatchResult result
         (λ n. Fills n bytes.old bytes.new most (S.left source.old) (S.left source.new))
         (λ _. FillFails bytes.old most (S.left source.old) (S.left source.new)) }
-    ensures later { S.faults source.old ≤ S.faults source.new }
-    ensures cause { IfErr result (λ fault. fault ≡ LineFault.Failed → Rose (S.faults source.old) (S.faults source.new)) }
+    ensures counts { CountsRead result (S.faults source.old) (S.faults source.new) }
 {
     let mut chunk = [0u8; CHUNK];
     let room = (most - bytes.items().len()).min(CHUNK);
@@ -89,8 +88,7 @@ fn whole_of(mut bytes: ByteList, limit: usize) -> Whole
 pub fn read_whole<S: Source>(alloc: Global, source: &mut S, limit: u64) -> Result<Whole, LineFault>
     requires { limit ≤ 16777216 }
     ensures reads { ReadsWhole result limit (S.left source.old) (S.left source.new) }
-    ensures later { S.faults source.old ≤ S.faults source.new }
-    ensures cause { IfErr result (λ fault. fault ≡ LineFault.Failed → Rose (S.faults source.old) (S.faults source.new)) }
+    ensures counts { CountsRead result (S.faults source.old) (S.faults source.new) }
 {
     let limit = limit as usize;
     let mut bytes = ByteList::new(alloc);

@@ -1,54 +1,75 @@
 -- The clauses of the top call, from what a run did.
-use Rattle.std.specs.Prelude.{Result, MatchResult, Ok, Err, None, Some}
-use Rattle.std.proofs.Common.{◌≡◌, ℕ, ◌<◌, List, ◌++◌, length, refl, sym, ◌∙◌, ap, subst}
-use Rattle.std.proofs.lemmas.List.{append_cancel_left}
+use Rattle.std.specs.Prelude.{Result, IfOk, IfSome, Ok, Err, None, Some}
+use Rattle.std.proofs.Common.{◌≡◌, ℕ, List, ◌++◌, [], refl, sym, ◌∙◌, ap, subst, arith}
 use Rattle.std.specs.declared.option.Option.{Option}
 use Rattle.std.specs.Io.KnownBytes.{Appends, Consumes, IsAtEnd}
+use Rattle.std.proofs.KnownBytes.{Consumes-nil}
 use Rattle.lab_lattice.specs.Label.{Label}
-use Rattle.kern_model.specs.Boot.{boot}
 use Rattle.kern_model.specs.Fronts.{IsFront}
 use Rattle.kern_model.specs.Lineage.{OnlyDrops, GrowsByExec}
 use Rattle.iso_laws.proofs.Drops.{drops_are_told}
 use Rattle.iso_laws.proofs.Growth.{growth_is_told}
+use Rattle.labsys.specs.declared.command.Command.{Command}
+use Rattle.labsys.specs.declared.command.Command.TheVariants.{Play}
 use Rattle.labsys.specs.declared.status.Ending.{Ending}
 use Rattle.labsys.specs.declared.status.Ending.TheVariants.{Whole, Refused as IsRefused, TooMuch}
 use Rattle.labsys.specs.declared.status.Fault.{Fault}
 use Rattle.labsys.specs.declared.status.Fault.TheVariants.{Read, Write, Trail, NoMemory as Memory}
 use Rattle.labsys.specs.declared.status.Status.{Status}
 use Rattle.labsys.specs.declared.status.Status.TheVariants.{Done, Usage, Refused, ReadFault, WriteFault, TrailFault, NoMemory, TooLong}
-use Rattle.labsys.specs.Input.{Accepted, input_of}
-use Rattle.labsys.specs.Order.{Sent, out_of, trail_of, order_by, order_of, out_by, out_text, trail_text, turns_of, head_text, replies_of, records_of, trail_by, tail_text}
-use Rattle.labsys.specs.Playing.{Finishes, Plays, left_of}
-use Rattle.labsys.specs.Clauses.{status_of, ends_with, OnWhole, OnKnown, WhereTold, WhereAccepted, Covered, RepliesFirst, Printed, Dropped, Written, Isolated, IsolatedWhole, SameBelow, TwoInputs, TwoWhole}
+use Rattle.labsys.specs.Input.{Accepted, Script, input_of}
+use Rattle.labsys.specs.Session.{Session, session_of, bytes_of, replies_of, records_of, head_text, tail_text}
+use Rattle.labsys.specs.Order.{Sent, out_of, trail_of, session_order, order_by, order_of, IsInOrder}
+use Rattle.labsys.specs.Commands.{ends_with, due}
+use Rattle.labsys.specs.Counts.{Counts, CountsOnce, counts_after, counted_by}
+use Rattle.labsys.specs.Playing.{Sends, Finishes, Plays, left_of}
+use Rattle.labsys.specs.Clauses.{status_of, OnWhole, Reports, reports, Moved, WhereReported, WhereAccepted, TakesAtMost, Covered, RepliesFirst, Printed, Dropped, Written, Isolated, IsolatedWhole, SameBelow, TwoInputs, TwoWhole}
 use Rattle.labsys.proofs.Sending.{out_of-append, trail_of-append}
-use Rattle.labsys.proofs.Coverage.{order_out, order_trail, covered, replies_first, recorded}
+use Rattle.labsys.proofs.Coverage.{session_out, session_trail, covered, replies_first, recorded}
 use Rattle.labsys.proofs.AcceptedLemmas.{accepted_input}
-use Rattle.labsys.proofs.Printing.{text_told, trail_told, all_numbered}
+use Rattle.labsys.proofs.Printing.{out_reported, trail_reported, all_numbered}
 use Rattle.labsys.proofs.Isolating.{written, is_isolated, is_isolated_whole, two_agree, two_whole}
 
--- ---- the ends that tell
+-- ---- the ends that report
 
-text_left : (left : Option (List ℕ)) (taken text : List ℕ) → Consumes (Some text) left taken → text ≡ taken ++ left_of left
-text_left None taken text h = absurd h
-text_left (Some ys) taken text h = h
+-- where a source reports its bytes it does so after some were taken
+record Left (text taken : List ℕ) (now : Option (List ℕ)) : Type 0 where
+  rest : List ℕ
+  text_is : text ≡ taken ++ rest
+  left_is : now ≡ Some rest
 
-source_text : (left left' : Option (List ℕ)) (taken text : List ℕ) → left ≡ Some text → Consumes left left' taken → text ≡ taken ++ left_of left'
-source_text left left' taken text e h = text_left left' taken text (subst (λ z. Consumes z left' taken) e h)
+left_taken : (now : Option (List ℕ)) (text taken : List ℕ) → Consumes (Some text) now taken → Left text taken now
+left_taken None text taken h = absurd h
+left_taken (Some rest) text taken h = record { rest = rest; text_is = h; left_is = refl }
 
-told_bytes : (o o' : Option (List ℕ)) (bs before x : List ℕ) → o ≡ Some before → o' ≡ Some (before ++ x) → Appends o o' bs → x ≡ bs
-told_bytes o o' bs before x e e' h =
-    let both : before ++ x ≡ before ++ bs = subst (λ z. Appends (Some before) z bs) e' (subst (λ z. Appends z o' bs) e h) in
-    append_cancel_left before x bs both
+text_left : (left now : Option (List ℕ)) (taken text : List ℕ) → left ≡ Some text → Consumes left now taken → text ≡ taken ++ left_of now
+text_left left now taken text e h = let l = left_taken now text taken (subst (λ z. Consumes z now taken) e h) in l.text_is ∙ ap (λ z. taken ++ left_of z) (sym l.left_is)
 
-on_known : (s : Status) (P : Type 0) → P → OnKnown s P
-on_known Usage P p = tt
-on_known Done P p = p
-on_known Refused P p = p
-on_known ReadFault P p = p
-on_known WriteFault P p = p
-on_known TrailFault P p = p
-on_known NoMemory P p = p
-on_known TooLong P p = p
+held_after : (now : Option (List ℕ)) (before bs : List ℕ) → Appends (Some before) now bs → now ≡ Some (before ++ bs)
+held_after None before bs h = absurd h
+held_after (Some ys) before bs h = ap (λ (z : List ℕ). Some z) h
+
+-- what was sent was appended where the sinks report it
+moved : (l l' o o' t t' : Option (List ℕ)) (taken : List ℕ) → Consumes l l' taken → (sent : List Sent) → Sends o o' t t' sent
+    → (P : List ℕ → List ℕ → List ℕ → Type 0) (text before above : List ℕ) → l ≡ Some text → o ≡ Some before → t ≡ Some above → P text (out_of sent) (trail_of sent) → Moved text before above (reports l' o' t') P
+moved l l' o o' t t' taken took sent sends P text before above el eo et p =
+    let left = left_taken l' text taken (subst (λ z. Consumes z l' taken) el took) in
+    record {
+      taken = taken;
+      rest = left.rest;
+      out = out_of sent;
+      trail = trail_of sent;
+      text_is = left.text_is;
+      left_is = left.left_is;
+      out_is = held_after o' before (out_of sent) (subst (λ z. Appends z o' (out_of sent)) eo sends.to_out);
+      trail_is = held_after t' above (trail_of sent) (subst (λ z. Appends z t' (trail_of sent)) et sends.to_trail);
+      holds = p;
+    }
+
+reported_gives : (old now : Reports) (P Q : List ℕ → List ℕ → List ℕ → Type 0) → ((text out trail : List ℕ) → P text out trail → Q text out trail) → WhereReported old now P → WhereReported old now Q
+reported_gives old now P Q f w text before above el eo et =
+    let m = w text before above el eo et in
+    record { taken = m.taken; rest = m.rest; out = m.out; trail = m.trail; text_is = m.text_is; left_is = m.left_is; out_is = m.out_is; trail_is = m.trail_is; holds = f text m.out m.trail m.holds }
 
 whole_gives : (s : Status) (P Q : Type 0) → (P → Q) → OnWhole s P → OnWhole s Q
 whole_gives Done P Q f p = f p
@@ -69,108 +90,144 @@ on_whole (Err Write) P f = tt
 on_whole (Err Trail) P f = tt
 on_whole (Err Memory) P f = tt
 
+-- the one command
+on_command : (o : Option Command) (P : Command → Type 0) → P Play → IfSome o P
+on_command None P p = tt
+on_command (Some Play) P p = p
+
+-- ---- counts
+
+counts_by : (r : Result Ending Fault) (before now : Counts) → CountsOnce r before now → now ≡ counts_after (status_of r) before
+unfolding counted_by
+counts_by (Ok Whole) before now h = h
+counts_by (Ok (IsRefused n part why)) before now h = h
+counts_by (Ok TooMuch) before now h = h
+counts_by (Err Read) before now h = h
+counts_by (Err Write) before now h = h
+counts_by (Err Trail) before now h = h
+counts_by (Err Memory) before now h = h
+
+pub run_counts : (r : Result Ending Fault) (s : Status) (before now : Counts) → s ≡ status_of r → CountsOnce r before now → now ≡ counts_after s before
+run_counts r s before now is h = subst (λ z. now ≡ counts_after z before) (sym is) (counts_by r before now h)
+
+-- ---- without a command
+
+pub nothing_taken : (left : Option (List ℕ)) → TakesAtMost 16777217 left left
+nothing_taken left = record { taken = []; took = Consumes-nil left; few = omega arith }
+
 -- ---- an accepted world
 
 -- the order of an accepted input
-by_world : (text : List ℕ) (a : Accepted) (sent rest : List Sent) → (input_of text).accepted ≡ Some a → order_of (input_of text) ≡ sent ++ rest → order_by (Some a) (input_of text).script ≡ sent ++ rest
-by_world text a sent rest is e = ap (λ (w : Option Accepted). order_by w (input_of text).script) (sym is) ∙ e
+by_session : (text : List ℕ) (a : Accepted) (sent rest : List Sent) → (input_of text).accepted ≡ Some a → order_of (input_of text) ≡ sent ++ rest → session_order (session_of a (input_of text).script) ≡ sent ++ rest
+unfolding order_by
+by_session text a sent rest is e = ap (λ (w : Option Accepted). order_by w (input_of text).script) (sym is) ∙ e
 
--- the output of an accepted input
-out_is : (text : List ℕ) (a : Accepted) (sent rest : List Sent) → (input_of text).accepted ≡ Some a → order_of (input_of text) ≡ sent ++ rest
-    → replies_of (turns_of a (input_of text).script) ++ tail_text a.policy 0 (boot a.world) (input_of text).script ≡ out_of sent ++ out_of rest
-unfolding out_by
-out_is text a sent rest is e = sym (order_out (Some a) (input_of text).script) ∙ ap out_of (by_world text a sent rest is e) ∙ out_of-append sent rest
+module _ (s : Session) (sent rest : List Sent) (e : session_order s ≡ sent ++ rest) where
+  -- the output and the trail of a session
+  out_is : replies_of (bytes_of s) ++ tail_text s ≡ out_of sent ++ out_of rest
+  out_is = sym (session_out s) ∙ ap out_of e ∙ out_of-append sent rest
 
--- the trail of an accepted input
-trail_is : (text : List ℕ) (a : Accepted) (sent rest : List Sent) → (input_of text).accepted ≡ Some a → order_of (input_of text) ≡ sent ++ rest
-    → head_text a ++ records_of (turns_of a (input_of text).script) ≡ trail_of sent ++ trail_of rest
-unfolding trail_by
-trail_is text a sent rest is e = sym (order_trail (Some a) (input_of text).script) ∙ ap trail_of (by_world text a sent rest is e) ∙ trail_of-append sent rest
+  trail_is : head_text s ++ records_of (bytes_of s) ≡ trail_of sent ++ trail_of rest
+  trail_is = sym (session_trail s) ∙ ap trail_of e ∙ trail_of-append sent rest
 
-world_written : (text : List ℕ) (a : Accepted) (out : List ℕ) (sent rest : List Sent) → (input_of text).accepted ≡ Some a → order_of (input_of text) ≡ sent ++ rest → out ≡ out_of sent → Written (turns_of a (input_of text).script) out
-world_written text a out sent rest is e so = subst (Written (turns_of a (input_of text).script)) (sym so) (written (turns_of a (input_of text).script) _ (out_of sent) (out_of rest) (out_is text a sent rest is e))
+  session_written : Written (bytes_of s) (out_of sent)
+  session_written = written (bytes_of s) (tail_text s) (out_of sent) (out_of rest) out_is
+
+session_printed : (a : Accepted) (m : Script) (sent rest : List Sent) → session_order (session_of a m) ≡ sent ++ rest → Printed (session_of a m) (out_of sent) (trail_of sent)
+session_printed a m sent rest e = record {
+  by_records = record { rest = out_of rest; whole_is = sym (out_reported a m) ∙ out_is (session_of a m) sent rest e };
+  recorded = λ more. recorded (session_of a m) sent rest e more ∙ trail_reported (session_of a m);
+}
+
+session_dropped : (a : Accepted) (m : Script) (sent rest : List Sent) → session_order (session_of a m) ≡ sent ++ rest → Dropped (session_of a m) (trail_of sent)
+session_dropped a m sent rest e = record {
+  begins = record { rest = trail_of rest; whole_is = sym (trail_reported (session_of a m)) ∙ trail_is (session_of a m) sent rest e };
+  drops = subst (OnlyDrops a.world.bound) (sym (all_numbered a m)) (drops_are_told a.world m.items);
+  grows = subst (GrowsByExec a.world.bound) (sym (all_numbered a m)) (growth_is_told a.world m.items);
+}
 
 -- where the whole output stands all replies do
-all_written : (text : List ℕ) (a : Accepted) (out : List ℕ) → (input_of text).accepted ≡ Some a → out ≡ out_text (input_of text) → IsFront (replies_of (turns_of a (input_of text).script)) out
-unfolding out_by
-all_written text a out is so = record { rest = tail_text a.policy 0 (boot a.world) (input_of text).script; whole_is = so ∙ ap (λ (w : Option Accepted). out_by w (input_of text).script) is }
+all_written : (text : List ℕ) (a : Accepted) (out : List ℕ) → (input_of text).accepted ≡ Some a → out ≡ out_of (order_of (input_of text)) → IsFront (replies_of (bytes_of (session_of a (input_of text).script))) out
+unfolding order_by
+all_written text a out is so = record {
+  rest = tail_text (session_of a (input_of text).script);
+  whole_is = so ∙ ap (λ (w : Option Accepted). out_of (order_by w (input_of text).script)) is ∙ session_out (session_of a (input_of text).script);
+}
 
-module _ (r : Result Ending Fault) (s : Status) (l l' o o' t t' : Option (List ℕ)) (x : Plays r l l' o o' t t') where
-  -- what holds of all that was sent holds where the ends tell
-  where_told : (P : List ℕ → List ℕ → List ℕ → Type 0)
-      → ((text out trail : List ℕ) (sent rest : List Sent) → order_of (input_of text) ≡ sent ++ rest → out ≡ out_of sent → trail ≡ trail_of sent → P text out trail) → WhereTold l o o' t t' P
-  where_told P f text before out above trail el eo eo' et et' =
-      f text out trail x.front.sent x.front.rest
-      (ap (λ (z : List ℕ). order_of (input_of z)) (source_text l l' x.taken text el x.took) ∙ x.front.front)
-      (told_bytes o o' _ before out eo eo' x.front.sends.to_out)
-      (told_bytes t t' _ above trail et et' x.front.sends.to_trail)
+-- ---- a run
 
-  pub run_front : WhereTold l o o' t t' (λ text out trail. OnKnown s (IsFront out (out_text (input_of text)) × IsFront trail (trail_text (input_of text))))
-  run_front = where_told _ (λ text out trail sent rest e so st. on_known s _ (
-    record { rest = out_of rest; whole_is = sym (order_out _ _) ∙ ap out_of e ∙ out_of-append sent rest ∙ ap (λ (z : List ℕ). z ++ out_of rest) (sym so) },
-    record { rest = trail_of rest; whole_is = sym (order_trail _ _) ∙ ap trail_of e ∙ trail_of-append sent rest ∙ ap (λ (z : List ℕ). z ++ trail_of rest) (sym st) },
-  ))
+module _ (r : Result Ending Fault) (l l' o o' t t' : Option (List ℕ)) (x : Plays r l l' o o' t t') where
+  -- what holds of each prefix of the order holds where the ends report
+  where_sent : (P : List ℕ → List ℕ → List ℕ → Type 0) → ((text : List ℕ) (sent rest : List Sent) → order_of (input_of text) ≡ sent ++ rest → P text (out_of sent) (trail_of sent)) → WhereReported (reports l o t) (reports l' o' t') P
+  where_sent P f text before above el eo et =
+      moved l l' o o' t t' x.taken x.took x.prefix.sent x.prefix.sends P text before above el eo et
+      (f text x.prefix.sent x.prefix.rest (ap (λ (z : List ℕ). order_of (input_of z)) (text_left l l' x.taken text el x.took) ∙ x.prefix.prefix))
 
-  pub run_covered : WhereTold l o o' t t' (λ text out trail. OnKnown s (WhereAccepted (input_of text) (λ a. Covered a (input_of text).script out trail)))
-  run_covered = where_told _ (λ text out trail sent rest e so st. on_known s _ (λ a is.
-      subst (λ z. Covered a (input_of text).script z trail) (sym so) (subst (λ z. Covered a (input_of text).script (out_of sent) z) (sym st) (covered a (input_of text).script sent rest (by_world text a sent rest is e)))))
+  -- the same for what was played on an accepted world
+  where_played : (P : List ℕ → Accepted → Script → List ℕ → List ℕ → Type 0)
+      → ((text : List ℕ) (a : Accepted) (sent rest : List Sent) → (input_of text).accepted ≡ Some a → session_order (session_of a (input_of text).script) ≡ sent ++ rest → P text a (input_of text).script (out_of sent) (trail_of sent))
+      → WhereReported (reports l o t) (reports l' o' t') (λ text out trail. WhereAccepted text (λ a m. P text a m out trail))
+  where_played P f = where_sent _ (λ text sent rest e a is. f text a sent rest is (by_session text a sent rest is e))
 
-  pub run_replies_first : WhereTold l o o' t t' (λ text out trail. OnKnown s (WhereAccepted (input_of text) (λ a. RepliesFirst a (input_of text).script out trail)))
-  run_replies_first = where_told _ (λ text out trail sent rest e so st. on_known s _ (λ a is.
-      subst (λ z. RepliesFirst a (input_of text).script z trail) (sym so) (subst (λ z. RepliesFirst a (input_of text).script (out_of sent) z) (sym st) (replies_first a (input_of text).script sent rest (by_world text a sent rest is e)))))
+  pub run_order : (c : Option Command) → IfSome c (λ command. WhereReported (reports l o t) (reports l' o' t') (λ text out trail. IsInOrder (due command text).order out trail))
+  run_order c = on_command c _ (where_sent _ (λ text sent rest e. record { sent = sent; rest = rest; order_is = e; out_is = refl; trail_is = refl }))
 
-  pub run_printed : WhereTold l o o' t t' (λ text out trail. OnKnown s (WhereAccepted (input_of text) (λ a. Printed a (input_of text).script out trail)))
-  run_printed = where_told _ (λ text out trail sent rest e so st. on_known s _ (λ a is. record {
-    told = record {
-      rest = out_of rest;
-      whole_is = sym (text_told a (input_of text).script) ∙ sym (order_out (Some a) (input_of text).script) ∙ ap out_of (by_world text a sent rest is e) ∙ out_of-append sent rest ∙ ap (λ (z : List ℕ). z ++ out_of rest) (sym so);
-    };
-    recorded = λ more. st ∙ recorded a (input_of text).script sent rest (by_world text a sent rest is e) (subst (λ z. length (replies_of (turns_of a (input_of text).script)) < length z) so more) ∙ trail_told a (input_of text).script;
-  }))
+  pub run_covered : WhereReported (reports l o t) (reports l' o' t') (λ text out trail. WhereAccepted text (λ a m. Covered (session_of a m) out trail))
+  run_covered = where_played (λ text a m out trail. Covered (session_of a m) out trail) (λ text a sent rest is e. covered (session_of a (input_of text).script) sent rest e)
 
-  pub run_dropped : WhereTold l o o' t t' (λ text out trail. OnKnown s (WhereAccepted (input_of text) (λ a. Dropped a (input_of text).script trail)))
-  run_dropped = where_told _ (λ text out trail sent rest e so st. on_known s _ (λ a is. record {
-    begins = record {
-      rest = trail_of rest;
-      whole_is = sym (trail_told a (input_of text).script) ∙ trail_is text a sent rest is e ∙ ap (λ (z : List ℕ). z ++ trail_of rest) (sym st);
-    };
-    drops = subst (OnlyDrops a.world.bound) (sym (all_numbered a (input_of text).script)) (drops_are_told a.world (input_of text).script.items);
-    grows = subst (GrowsByExec a.world.bound) (sym (all_numbered a (input_of text).script)) (growth_is_told a.world (input_of text).script.items);
-  }))
+  pub run_replies_first : WhereReported (reports l o t) (reports l' o' t') (λ text out trail. WhereAccepted text (λ a m. RepliesFirst (session_of a m) out trail))
+  run_replies_first = where_played (λ text a m out trail. RepliesFirst (session_of a m) out trail) (λ text a sent rest is e. replies_first (session_of a (input_of text).script) sent rest e)
 
-  pub run_isolated : (k : Label) → WhereTold l o o' t t' (λ text out trail. OnKnown s (WhereAccepted (input_of text) (λ a. Isolated k a (input_of text).script out)))
-  run_isolated k = where_told _ (λ text out trail sent rest e so st. on_known s _ (λ a is.
-      is_isolated k a (input_of text).script (accepted_input text a is) out (world_written text a out sent rest is e so)))
+  pub run_printed : WhereReported (reports l o t) (reports l' o' t') (λ text out trail. WhereAccepted text (λ a m. Printed (session_of a m) out trail))
+  run_printed = where_played (λ text a m out trail. Printed (session_of a m) out trail) (λ text a sent rest is e. session_printed a (input_of text).script sent rest e)
 
-  pub run_two_inputs : (k : Label) (other : List ℕ) → WhereTold l o o' t t' (λ text out trail. OnKnown s (WhereAccepted (input_of text) (λ a. WhereAccepted (input_of other) (λ b.
-      SameBelow k a (input_of text).script b (input_of other).script → TwoInputs k a (input_of text).script b (input_of other).script out))))
-  run_two_inputs k other = where_told _ (λ text out trail sent rest e so st. on_known s _ (λ a is b is' same.
-      two_agree k a (input_of text).script (accepted_input text a is) b (input_of other).script (accepted_input other b is') same out (world_written text a out sent rest is e so)))
+  pub run_dropped : WhereReported (reports l o t) (reports l' o' t') (λ text out trail. WhereAccepted text (λ a m. Dropped (session_of a m) trail))
+  run_dropped = where_played (λ text a m out trail. Dropped (session_of a m) trail) (λ text a sent rest is e. session_dropped a (input_of text).script sent rest e)
+
+  pub run_isolated : (k : Label) → WhereReported (reports l o t) (reports l' o' t') (λ text out trail. WhereAccepted text (λ a m. Isolated k a m out))
+  run_isolated k = where_played (λ text a m out trail. Isolated k a m out) (λ text a sent rest is e.
+      is_isolated k a (input_of text).script (accepted_input text a is) (out_of sent) (session_written (session_of a (input_of text).script) sent rest e))
+
+  pub run_two_inputs : (k : Label) (other : List ℕ) → WhereReported (reports l o t) (reports l' o' t')
+      (λ text out trail. WhereAccepted text (λ a m. WhereAccepted other (λ b m'. SameBelow k a m b m' → TwoInputs k a m b m' out)))
+  run_two_inputs k other = where_played (λ text a m out trail. WhereAccepted other (λ b m'. SameBelow k a m b m' → TwoInputs k a m b m' out)) (λ text a sent rest is e b is' same.
+      two_agree k a (input_of text).script (accepted_input text a is) b (input_of other).script (accepted_input other b is') same (out_of sent) (session_written (session_of a (input_of text).script) sent rest e))
+
+  pub run_few : TakesAtMost 16777217 l l'
+  run_few = record { taken = x.taken; took = x.took; few = x.few }
+
+  -- ---- a whole run
 
   abbrev EndsSo : Result Ending Fault → Type 0
-  EndsSo q = MatchResult q
-      (λ e. Finishes o o' t t' (order_of (input_of (x.taken ++ left_of l'))) e (input_of (x.taken ++ left_of l')).script.ending × (e ≡ Whole → IsAtEnd l'))
-      (λ fault. fault ≡ Read → (o' ≡ o) × (t' ≡ t))
+  EndsSo q = IfOk q (λ e. Finishes o o' t t' (order_of (input_of (x.taken ++ left_of l'))) e (input_of (x.taken ++ left_of l')).script.ending × (e ≡ Whole → IsAtEnd l'))
 
-  pub run_whole : s ≡ status_of r → WhereTold l o o' t t' (λ text out trail. OnWhole s ((out ≡ out_text (input_of text)) × (trail ≡ trail_text (input_of text)) × (ends_with (input_of text).script.ending ≡ s)))
-  run_whole is text before out above trail el eo eo' et et' =
-      let text_is = source_text l l' x.taken text el x.took in
-      let P : Status → Type 0 = λ z. (out ≡ out_text (input_of text)) × (trail ≡ trail_text (input_of text)) × (ends_with (input_of text).script.ending ≡ z) in
-      subst (λ z. OnWhole z (P z)) (sym is) (on_whole r P (λ e ok.
-      let w = subst (λ q. EndsSo q) ok x.whole in (
-        told_bytes o o' _ before out eo eo' w.0.all.to_out ∙ ap (λ (z : List ℕ). out_of (order_of (input_of z))) (sym text_is) ∙ order_out _ _,
-        told_bytes t t' _ above trail et et' w.0.all.to_trail ∙ ap (λ (z : List ℕ). trail_of (order_of (input_of z))) (sym text_is) ∙ order_trail _ _,
-        ap ends_with (ap (λ (z : List ℕ). (input_of z).script.ending) text_is ∙ sym w.0.ends),
-      )))
+  run_all : (s : Status) → s ≡ status_of r → OnWhole s (WhereReported (reports l o t) (reports l' o' t') (λ text out trail. (out ≡ out_of (order_of (input_of text))) × (trail ≡ trail_of (order_of (input_of text)))))
+  run_all s is =
+      let P : Type 0 = WhereReported (reports l o t) (reports l' o' t') (λ text out trail. (out ≡ out_of (order_of (input_of text))) × (trail ≡ trail_of (order_of (input_of text)))) in
+      subst (λ z. OnWhole z P) (sym is) (on_whole r (λ _. P) (λ e ok text before above el eo et.
+      let w = subst (λ q. EndsSo q) ok x.whole in
+      let same = ap (λ (z : List ℕ). order_of (input_of z)) (sym (text_left l l' x.taken text el x.took)) in
+      moved l l' o o' t t' x.taken x.took (order_of (input_of (x.taken ++ left_of l'))) w.0.all _ text before above el eo et (ap out_of same, ap trail_of same)))
 
-  pub run_isolated_whole : s ≡ status_of r → (k : Label) → WhereTold l o o' t t' (λ text out trail. OnWhole s (WhereAccepted (input_of text) (λ a. IsolatedWhole k a (input_of text).script out)))
-  run_isolated_whole is k text before out above trail el eo eo' et et' =
-      whole_gives s _ _ (λ w a acc. is_isolated_whole k a (input_of text).script (accepted_input text a acc) out (all_written text a out acc w.0))
-      (run_whole is text before out above trail el eo eo' et et')
+  pub run_whole : (s : Status) → s ≡ status_of r → (c : Option Command)
+      → IfSome c (λ command. OnWhole s (WhereReported (reports l o t) (reports l' o' t') (λ text out trail. (out ≡ out_of (due command text).order) × (trail ≡ trail_of (due command text).order))))
+  run_whole s is c = on_command c _ (run_all s is)
 
-  pub run_two_whole : s ≡ status_of r → (k : Label) (other : List ℕ) → WhereTold l o o' t t' (λ text out trail. OnWhole s (WhereAccepted (input_of text) (λ a. WhereAccepted (input_of other) (λ b.
-      SameBelow k a (input_of text).script b (input_of other).script → TwoWhole k a (input_of text).script b (input_of other).script out))))
-  run_two_whole is k other text before out above trail el eo eo' et et' =
-      whole_gives s _ _ (λ w a acc b acc' same.
-      two_whole k a (input_of text).script (accepted_input text a acc) b (input_of other).script (accepted_input other b acc') same out (all_written text a out acc w.0))
-      (run_whole is text before out above trail el eo eo' et et')
+  ends_by : (s : Status) → s ≡ status_of r → OnWhole s ((text : List ℕ) → l ≡ Some text → s ≡ ends_with (input_of text).script.ending)
+  ends_by s is =
+      let P : Status → Type 0 = λ z. (text : List ℕ) → l ≡ Some text → z ≡ ends_with (input_of text).script.ending in
+      subst (λ z. OnWhole z (P z)) (sym is) (on_whole r P (λ e ok text el.
+      let w = subst (λ q. EndsSo q) ok x.whole in
+      ap ends_with (w.0.ends ∙ ap (λ (z : List ℕ). (input_of z).script.ending) (sym (text_left l l' x.taken text el x.took)))))
+
+  pub run_ending : (s : Status) → s ≡ status_of r → (c : Option Command) → IfSome c (λ command. OnWhole s ((text : List ℕ) → l ≡ Some text → s ≡ (due command text).status))
+  run_ending s is c = on_command c _ (ends_by s is)
+
+  pub run_isolated_whole : (s : Status) → s ≡ status_of r → (k : Label) → OnWhole s (WhereReported (reports l o t) (reports l' o' t') (λ text out trail. WhereAccepted text (λ a m. IsolatedWhole k a m out)))
+  run_isolated_whole s is k = whole_gives s _ _ (reported_gives (reports l o t) (reports l' o' t') _ _ (λ text out trail w a acc.
+      is_isolated_whole k a (input_of text).script (accepted_input text a acc) out (all_written text a out acc w.0))) (run_all s is)
+
+  pub run_two_whole : (s : Status) → s ≡ status_of r → (k : Label) (other : List ℕ) → OnWhole s (WhereReported (reports l o t) (reports l' o' t')
+      (λ text out trail. WhereAccepted text (λ a m. WhereAccepted other (λ b m'. SameBelow k a m b m' → TwoWhole k a m b m' out))))
+  run_two_whole s is k other = whole_gives s _ _ (reported_gives (reports l o t) (reports l' o' t') _ _ (λ text out trail w a acc b acc' same.
+      two_whole k a (input_of text).script (accepted_input text a acc) b (input_of other).script (accepted_input other b acc') same out (all_written text a out acc w.0))) (run_all s is)

@@ -1,17 +1,15 @@
--- A reply that stands has its records in front of it.
+-- A reply that stands has its records before it.
 use Rattle.std.proofs.Common.{◌≡◌, ℕ, ◌+◌, ◌≤◌, ◌<◌, List, [], ◌∷◌, ◌++◌, length, take, suc, zero, refl, sym, ◌∙◌, ap, subst, append_assoc, arith}
 use Rattle.std.proofs.lemmas.List.{append-nil, append_cancel_left, length-append}
-use Rattle.std.specs.Prelude.{Option, Some, None}
 use Rattle.std.specs.List.{flat_map, AllByRecursion}
-use Rattle.kern_model.specs.Boot.{boot}
 use Rattle.kern_model.specs.Fronts.{IsFront}
 use Rattle.fs_path.specs.Words.{line_text}
-use Rattle.kern_model.specs.Run.{Played, run}
+use Rattle.kern_model.specs.Run.{Played}
 use Rattle.lab_text.specs.Policy.{PolicyNames}
-use Rattle.labsys.specs.Input.{Accepted, Script}
 use Rattle.script_text.specs.Reply.{pid_text, outcome_words, reply_said}
-use Rattle.labsys.specs.Texts.{last_text, reply_text}
-use Rattle.labsys.specs.Order.{Sent, Turn, out_of, trail_of, to_out, to_trail, turns_from, told, replies_of, records_of, tail_text, order_in, head_text, order_by, turns_of, out_by, trail_by}
+use Rattle.labsys.specs.Texts.{reply_text}
+use Rattle.labsys.specs.Session.{Session, CallBytes, bytes_from, bytes_of, replies_of, records_of, head_text, tail_text}
+use Rattle.labsys.specs.Order.{Sent, out_of, trail_of, to_out, to_trail, call_order, session_order}
 use Rattle.labsys.proofs.Sending.{out_of-append, trail_of-append, out_of-to_out, out_of-to_trail, trail_of-to_out, trail_of-to_trail}
 
 -- a front of two lists is a front of the first, or all of it and a front of the second
@@ -30,12 +28,12 @@ split (x ∷ a) b (y ∷ front) rest e =
       | Past more front_is b_is ↦ Past more (ap (λ (z : List Sent). y ∷ z) front_is ∙ ap (λ q. q ∷ (a ++ more)) (sym h)) b_is
     ]
 
--- what stands in each sink behind records, and behind a reply
-out_behind : (r : List ℕ) (x : List Sent) → out_of (to_trail r ++ x) ≡ out_of x
-out_behind r x = out_of-append (to_trail r) x ∙ ap (λ (z : List ℕ). z ++ out_of x) (out_of-to_trail r)
+-- what stands in each sink after records, and after a reply
+out_after : (r : List ℕ) (x : List Sent) → out_of (to_trail r ++ x) ≡ out_of x
+out_after r x = out_of-append (to_trail r) x ∙ ap (λ (z : List ℕ). z ++ out_of x) (out_of-to_trail r)
 
-trail_behind : (r : List ℕ) (x : List Sent) → trail_of (to_trail r ++ x) ≡ r ++ trail_of x
-trail_behind r x = trail_of-append (to_trail r) x ∙ ap (λ (z : List ℕ). z ++ trail_of x) (trail_of-to_trail r)
+trail_after : (r : List ℕ) (x : List Sent) → trail_of (to_trail r ++ x) ≡ r ++ trail_of x
+trail_after r x = trail_of-append (to_trail r) x ∙ ap (λ (z : List ℕ). z ++ trail_of x) (trail_of-to_trail r)
 
 out_reply : (p : List ℕ) (x : List Sent) → out_of (to_out p ++ x) ≡ p ++ out_of x
 out_reply p x = out_of-append (to_out p) x ∙ ap (λ (z : List ℕ). z ++ out_of x) (out_of-to_out p)
@@ -45,35 +43,31 @@ trail_reply p x = trail_of-append (to_out p) x ∙ ap (λ (z : List ℕ). z ++ t
 
 -- ---- each sink alone
 
-turn_out : (t : Turn) (x : List Sent) → out_of (told t ++ x) ≡ t.reply ++ out_of x
-unfolding told
-turn_out t x = ap out_of (append_assoc (to_trail t.recs) (to_out t.reply) x) ∙ out_behind t.recs (to_out t.reply ++ x) ∙ out_reply t.reply x
+call_out : (t : CallBytes) (x : List Sent) → out_of (call_order t ++ x) ≡ t.reply ++ out_of x
+unfolding call_order
+call_out t x = ap out_of (append_assoc (to_trail t.recs) (to_out t.reply) x) ∙ out_after t.recs (to_out t.reply ++ x) ∙ out_reply t.reply x
 
-turn_trail : (t : Turn) (x : List Sent) → trail_of (told t ++ x) ≡ t.recs ++ trail_of x
-unfolding told
-turn_trail t x = ap trail_of (append_assoc (to_trail t.recs) (to_out t.reply) x) ∙ trail_behind t.recs (to_out t.reply ++ x) ∙ ap (λ (z : List ℕ). t.recs ++ z) (trail_reply t.reply x)
+call_trail : (t : CallBytes) (x : List Sent) → trail_of (call_order t ++ x) ≡ t.recs ++ trail_of x
+unfolding call_order
+call_trail t x = ap trail_of (append_assoc (to_trail t.recs) (to_out t.reply) x) ∙ trail_after t.recs (to_out t.reply ++ x) ∙ ap (λ (z : List ℕ). t.recs ++ z) (trail_reply t.reply x)
 
-turns_out : (ts : List Turn) (tail : List ℕ) → out_of (flat_map told ts ++ to_out tail) ≡ replies_of ts ++ tail
-turns_out [] tail = out_of-to_out tail
-turns_out (t ∷ ts) tail =
-    ap out_of (append_assoc (told t) (flat_map told ts) (to_out tail)) ∙ turn_out t (flat_map told ts ++ to_out tail) ∙ ap (λ (z : List ℕ). t.reply ++ z) (turns_out ts tail) ∙ sym (append_assoc t.reply (replies_of ts) tail)
+calls_out : (ts : List CallBytes) (tail : List ℕ) → out_of (flat_map call_order ts ++ to_out tail) ≡ replies_of ts ++ tail
+calls_out [] tail = out_of-to_out tail
+calls_out (t ∷ ts) tail =
+    ap out_of (append_assoc (call_order t) (flat_map call_order ts) (to_out tail)) ∙ call_out t (flat_map call_order ts ++ to_out tail) ∙ ap (λ (z : List ℕ). t.reply ++ z) (calls_out ts tail) ∙ sym (append_assoc t.reply (replies_of ts) tail)
 
-turns_trail : (ts : List Turn) (tail : List ℕ) → trail_of (flat_map told ts ++ to_out tail) ≡ records_of ts
-turns_trail [] tail = trail_of-to_out tail
-turns_trail (t ∷ ts) tail =
-    ap trail_of (append_assoc (told t) (flat_map told ts) (to_out tail)) ∙ turn_trail t (flat_map told ts ++ to_out tail) ∙ ap (λ (z : List ℕ). t.recs ++ z) (turns_trail ts tail)
+calls_trail : (ts : List CallBytes) (tail : List ℕ) → trail_of (flat_map call_order ts ++ to_out tail) ≡ records_of ts
+calls_trail [] tail = trail_of-to_out tail
+calls_trail (t ∷ ts) tail =
+    ap trail_of (append_assoc (call_order t) (flat_map call_order ts) (to_out tail)) ∙ call_trail t (flat_map call_order ts ++ to_out tail) ∙ ap (λ (z : List ℕ). t.recs ++ z) (calls_trail ts tail)
 
-pub order_out : (a : Option Accepted) (m : Script) → out_of (order_by a m) ≡ out_by a m
-unfolding order_by out_by order_in
-order_out None m = out_of-to_out (last_text 0 m.ending)
-order_out (Some a) m =
-    out_behind (head_text a) (flat_map told (turns_of a m) ++ to_out (tail_text a.policy 0 (boot a.world) m)) ∙ turns_out (turns_of a m) (tail_text a.policy 0 (boot a.world) m)
+pub session_out : (s : Session) → out_of (session_order s) ≡ replies_of (bytes_of s) ++ tail_text s
+unfolding session_order
+session_out s = out_after (head_text s) (flat_map call_order (bytes_of s) ++ to_out (tail_text s)) ∙ calls_out (bytes_of s) (tail_text s)
 
-pub order_trail : (a : Option Accepted) (m : Script) → trail_of (order_by a m) ≡ trail_by a m
-unfolding order_by trail_by order_in
-order_trail None m = trail_of-to_out (last_text 0 m.ending)
-order_trail (Some a) m =
-    trail_behind (head_text a) (flat_map told (turns_of a m) ++ to_out (tail_text a.policy 0 (boot a.world) m)) ∙ ap (λ (z : List ℕ). head_text a ++ z) (turns_trail (turns_of a m) (tail_text a.policy 0 (boot a.world) m))
+pub session_trail : (s : Session) → trail_of (session_order s) ≡ head_text s ++ records_of (bytes_of s)
+unfolding session_order
+session_trail s = trail_after (head_text s) (flat_map call_order (bytes_of s) ++ to_out (tail_text s)) ∙ ap (λ (z : List ℕ). head_text s ++ z) (calls_trail (bytes_of s) (tail_text s))
 
 -- ---- no reply line is empty
 
@@ -81,16 +75,16 @@ reply_pos : (policy : PolicyNames) (p : Played) → 0 < length (reply_text polic
 unfolding reply_text reply_said
 reply_pos policy p = omega (arith, length-append (line_text (pid_text policy p.who ∷ p.head ∷ outcome_words policy p.reply)) (10 ∷ []))
 
--- each turn has a reply
-abbrev AllReply : List Turn → Type 0
-AllReply ts = AllByRecursion (λ (t : Turn). 0 < length t.reply) ts
+-- each call has a reply
+abbrev AllReply : List CallBytes → Type 0
+AllReply ts = AllByRecursion (λ (t : CallBytes). 0 < length t.reply) ts
 
-all_reply : (policy : PolicyNames) (n : ℕ) (ps : List Played) → AllReply (turns_from policy n ps)
-unfolding turns_from
+all_reply : (policy : PolicyNames) (n : ℕ) (ps : List Played) → AllReply (bytes_from policy n ps)
+unfolding bytes_from
 all_reply policy n [] = tt
 all_reply policy n (p ∷ ps) = (reply_pos policy p, all_reply policy (n + 1) ps)
 
-replies_pos : (ts : List Turn) (m : ℕ) → AllReply ts → suc m ≤ length ts → 0 < length (replies_of (take (suc m) ts))
+replies_pos : (ts : List CallBytes) (m : ℕ) → AllReply ts → suc m ≤ length ts → 0 < length (replies_of (take (suc m) ts))
 replies_pos [] m all le = absurd (omega arith)
 replies_pos (t ∷ ts) m all le = let p = all.0 in omega (arith, length-append t.reply (replies_of (take m ts)))
 
@@ -113,149 +107,149 @@ some_out p x y e = let h = ap length (sym (out_of-to_out p) ∙ ap out_of e ∙ 
 none_trail : (p : List ℕ) (x y : List Sent) → to_out p ≡ x ++ y → length (trail_of x) ≡ 0
 none_trail p x y e = let h = ap length (sym (trail_of-to_out p) ∙ ap trail_of e ∙ trail_of-append x y) in omega (arith, h, length-append (trail_of x) (trail_of y))
 
--- nor behind any of it
-none_behind : (p : List ℕ) (x y : List Sent) → to_out p ≡ x ++ y → trail_of y ≡ []
-none_behind p x y e = empty_back (trail_of x) (trail_of y) (sym (sym (trail_of-to_out p) ∙ ap trail_of e ∙ trail_of-append x y))
+-- nor after any of it
+none_after : (p : List ℕ) (x y : List Sent) → to_out p ≡ x ++ y → trail_of y ≡ []
+none_after p x y e = empty_back (trail_of x) (trail_of y) (sym (sym (trail_of-to_out p) ∙ ap trail_of e ∙ trail_of-append x y))
 
 some_trail : (r : List ℕ) (x y : List Sent) → to_trail r ≡ x ++ y → length (trail_of x) ≤ length r
 some_trail r x y e = let h = ap length (sym (trail_of-to_trail r) ∙ ap trail_of e ∙ trail_of-append x y) in omega (arith, h, length-append (trail_of x) (trail_of y))
 
--- the first turn's records, its reply, and what is behind them
-turn_parts : (t : Turn) (ts : List Turn) (tail : List ℕ) → flat_map told (t ∷ ts) ++ to_out tail ≡ to_trail t.recs ++ (to_out t.reply ++ (flat_map told ts ++ to_out tail))
-unfolding told
-turn_parts t ts tail =
-    append_assoc (to_trail t.recs ++ to_out t.reply) (flat_map told ts) (to_out tail) ∙ append_assoc (to_trail t.recs) (to_out t.reply) (flat_map told ts ++ to_out tail)
+-- the first call's records, its reply, and what is after them
+call_parts : (t : CallBytes) (ts : List CallBytes) (tail : List ℕ) → flat_map call_order (t ∷ ts) ++ to_out tail ≡ to_trail t.recs ++ (to_out t.reply ++ (flat_map call_order ts ++ to_out tail))
+unfolding call_order
+call_parts t ts tail =
+    append_assoc (to_trail t.recs ++ to_out t.reply) (flat_map call_order ts) (to_out tail) ∙ append_assoc (to_trail t.recs) (to_out t.reply) (flat_map call_order ts ++ to_out tail)
 
-after_records : (t : Turn) (ts : List Turn) (behind x rest : List Sent) → AllReply ts
-    → (again : (z rest : List Sent) → behind ≡ z ++ rest → (m : ℕ) → suc m ≤ length ts → IsFront (replies_of (take (suc m) ts)) (out_of z) → IsFront (records_of (take (suc m) ts)) (trail_of z))
-    → to_out t.reply ++ behind ≡ x ++ rest
+after_records : (t : CallBytes) (ts : List CallBytes) (after x rest : List Sent) → AllReply ts
+    → (again : (z rest : List Sent) → after ≡ z ++ rest → (m : ℕ) → suc m ≤ length ts → IsFront (replies_of (take (suc m) ts)) (out_of z) → IsFront (records_of (take (suc m) ts)) (trail_of z))
+    → to_out t.reply ++ after ≡ x ++ rest
     → (sent : List Sent) → sent ≡ to_trail t.recs ++ x
     → (m : ℕ) → suc m ≤ length (t ∷ ts) → IsFront (replies_of (take (suc m) (t ∷ ts))) (out_of sent) → IsFront (records_of (take (suc m) (t ∷ ts))) (trail_of sent)
-after_records t ts behind x rest all again eq sent is zero le f = record {
+after_records t ts after x rest all again eq sent is zero le f = record {
   rest = trail_of x;
-  whole_is = ap trail_of is ∙ trail_behind t.recs x ∙ ap (λ (z : List ℕ). z ++ trail_of x) (sym (append-nil t.recs));
+  whole_is = ap trail_of is ∙ trail_after t.recs x ∙ ap (λ (z : List ℕ). z ++ trail_of x) (sym (append-nil t.recs));
 }
-after_records t ts behind x rest all again eq sent is (suc m) le f =
+after_records t ts after x rest all again eq sent is (suc m) le f =
     let r = t.recs in
     let p = t.reply in
     let reps = replies_of (take (suc m) ts) in
-    let out_x : out_of x ≡ (p ++ reps) ++ f.rest = sym (out_behind r x) ∙ ap out_of (sym is) ∙ f.whole_is in
+    let out_x : out_of x ≡ (p ++ reps) ++ f.rest = sym (out_after r x) ∙ ap out_of (sym is) ∙ f.whole_is in
     let fewer : suc m ≤ length ts = omega arith in
     let more = replies_pos ts m all fewer in
-    elim (split (to_out p) behind x rest eq) [
+    elim (split (to_out p) after x rest eq) [
       | Within y a_is ↦ absurd (omega (arith, some_out p x y a_is, ap length out_x, length-append (p ++ reps) f.rest, length-append p reps))
       | Past z front_is b_is ↦
           let out_z : out_of z ≡ reps ++ f.rest = append_cancel_left p (out_of z) (reps ++ f.rest) (sym (out_reply p z) ∙ ap out_of (sym front_is) ∙ out_x ∙ append_assoc p reps f.rest) in
           let next : IsFront (records_of (take (suc m) ts)) (trail_of z) = again z rest b_is m fewer (record { rest = f.rest; whole_is = out_z }) in
           record {
             rest = next.rest;
-            whole_is = ap trail_of is ∙ trail_behind r x ∙ ap (λ (q : List ℕ). r ++ q) (ap trail_of front_is ∙ trail_reply p z ∙ next.whole_is) ∙ sym (append_assoc r _ next.rest);
+            whole_is = ap trail_of is ∙ trail_after r x ∙ ap (λ (q : List ℕ). r ++ q) (ap trail_of front_is ∙ trail_reply p z ∙ next.whole_is) ∙ sym (append_assoc r _ next.rest);
           }
     ]
 
-covered_from : (ts : List Turn) (tail : List ℕ) (sent rest : List Sent) → AllReply ts → flat_map told ts ++ to_out tail ≡ sent ++ rest
+covered_from : (ts : List CallBytes) (tail : List ℕ) (sent rest : List Sent) → AllReply ts → flat_map call_order ts ++ to_out tail ≡ sent ++ rest
     → (m : ℕ) → suc m ≤ length ts → IsFront (replies_of (take (suc m) ts)) (out_of sent) → IsFront (records_of (take (suc m) ts)) (trail_of sent)
 covered_from [] tail sent rest all eq m le f = absurd (omega arith)
 covered_from (t ∷ ts) tail sent rest all eq m le f =
-    let behind = flat_map told ts ++ to_out tail in
+    let after = flat_map call_order ts ++ to_out tail in
     let pos = all.0 in
-    elim (split (to_trail t.recs) (to_out t.reply ++ behind) sent rest (sym (turn_parts t ts tail) ∙ eq)) [
+    elim (split (to_trail t.recs) (to_out t.reply ++ after) sent rest (sym (call_parts t ts tail) ∙ eq)) [
       | Within y a_is ↦ absurd (omega (arith, none_out t.recs sent y a_is, ap length f.whole_is, length-append (t.reply ++ replies_of (take m ts)) f.rest, length-append t.reply (replies_of (take m ts))))
-      | Past x front_is b_is ↦ after_records t ts behind x rest all.1 (λ z rest h m le f. covered_from ts tail z rest all.1 h m le f) b_is sent front_is m le f
+      | Past x front_is b_is ↦ after_records t ts after x rest all.1 (λ z rest h m le f. covered_from ts tail z rest all.1 h m le f) b_is sent front_is m le f
     ]
 
--- the same behind the head of the trail
-covered_behind : (head : List ℕ) (ts : List Turn) (tail : List ℕ) (sent rest : List Sent) → AllReply ts → to_trail head ++ (flat_map told ts ++ to_out tail) ≡ sent ++ rest
+-- the same after the head of the trail
+covered_after : (head : List ℕ) (ts : List CallBytes) (tail : List ℕ) (sent rest : List Sent) → AllReply ts → to_trail head ++ (flat_map call_order ts ++ to_out tail) ≡ sent ++ rest
     → (m : ℕ) → suc m ≤ length ts → IsFront (replies_of (take (suc m) ts)) (out_of sent) → IsFront (head ++ records_of (take (suc m) ts)) (trail_of sent)
-covered_behind head ts tail sent rest all e m le f =
+covered_after head ts tail sent rest all e m le f =
     let pos = replies_pos ts m all le in
-    elim (split (to_trail head) (flat_map told ts ++ to_out tail) sent rest e) [
+    elim (split (to_trail head) (flat_map call_order ts ++ to_out tail) sent rest e) [
       | Within y a_is ↦ absurd (omega (arith, none_out head sent y a_is, ap length f.whole_is, length-append (replies_of (take (suc m) ts)) f.rest))
       | Past x front_is b_is ↦
-          let h : IsFront (replies_of (take (suc m) ts)) (out_of x) = record { rest = f.rest; whole_is = sym (out_behind head x) ∙ ap out_of (sym front_is) ∙ f.whole_is } in
+          let h : IsFront (replies_of (take (suc m) ts)) (out_of x) = record { rest = f.rest; whole_is = sym (out_after head x) ∙ ap out_of (sym front_is) ∙ f.whole_is } in
           let r = covered_from ts tail x rest all b_is m le h in
-          record { rest = r.rest; whole_is = ap trail_of front_is ∙ trail_behind head x ∙ ap (λ (q : List ℕ). head ++ q) r.whole_is ∙ sym (append_assoc head _ r.rest) }
+          record { rest = r.rest; whole_is = ap trail_of front_is ∙ trail_after head x ∙ ap (λ (q : List ℕ). head ++ q) r.whole_is ∙ sym (append_assoc head _ r.rest) }
     ]
 
--- a reply line that stands has its call's records in front of it
-pub covered : (a : Accepted) (m : Script) (sent rest : List Sent) → order_by (Some a) m ≡ sent ++ rest → (k : ℕ) → k + 1 ≤ length (turns_of a m)
-    → IsFront (replies_of (take (k + 1) (turns_of a m))) (out_of sent) → IsFront (head_text a ++ records_of (take (k + 1) (turns_of a m))) (trail_of sent)
-unfolding order_by order_in
-covered a m sent rest e k le f =
+-- a reply line that stands has its call's records before it
+pub covered : (s : Session) (sent rest : List Sent) → session_order s ≡ sent ++ rest → (k : ℕ) → k + 1 ≤ length (bytes_of s)
+    → IsFront (replies_of (take (k + 1) (bytes_of s))) (out_of sent) → IsFront (head_text s ++ records_of (take (k + 1) (bytes_of s))) (trail_of sent)
+unfolding session_order
+covered s sent rest e k le f =
     let next : k + 1 ≡ suc k = omega arith in
-    let less : suc k ≤ length (turns_of a m) = omega arith in
-    let g : IsFront (replies_of (take (suc k) (turns_of a m))) (out_of sent) = subst (λ j. IsFront (replies_of (take j (turns_of a m))) (out_of sent)) next f in
-    subst (λ j. IsFront (head_text a ++ records_of (take j (turns_of a m))) (trail_of sent)) (sym next)
-    (covered_behind (head_text a) (turns_of a m) (tail_text a.policy 0 (boot a.world) m) sent rest (all_reply a.policy 1 (run (boot a.world) m.items)) e k less g)
+    let less : suc k ≤ length (bytes_of s) = omega arith in
+    let g : IsFront (replies_of (take (suc k) (bytes_of s))) (out_of sent) = subst (λ j. IsFront (replies_of (take j (bytes_of s))) (out_of sent)) next f in
+    subst (λ j. IsFront (head_text s ++ records_of (take j (bytes_of s))) (trail_of sent)) (sym next)
+    (covered_after (head_text s) (bytes_of s) (tail_text s) sent rest (all_reply s.policy 1 s.calls) e k less g)
 
-replies_from : (ts : List Turn) (tail : List ℕ) (sent rest : List Sent) → flat_map told ts ++ to_out tail ≡ sent ++ rest
+replies_from : (ts : List CallBytes) (tail : List ℕ) (sent rest : List Sent) → flat_map call_order ts ++ to_out tail ≡ sent ++ rest
     → (m : ℕ) → m ≤ length ts → length (records_of (take m ts)) < length (trail_of sent) → IsFront (replies_of (take m ts)) (out_of sent)
 replies_from ts tail sent rest eq zero le h = record { rest = out_of sent; whole_is = refl }
 replies_from [] tail sent rest eq (suc m) le h = absurd (omega arith)
 replies_from (t ∷ ts) tail sent rest eq (suc m) le h =
     let r = t.recs in
     let p = t.reply in
-    let behind = flat_map told ts ++ to_out tail in
+    let after = flat_map call_order ts ++ to_out tail in
     let recs = records_of (take m ts) in
     let all = length-append r recs in
     let fewer : m ≤ length ts = omega arith in
-    elim (split (to_trail r) (to_out p ++ behind) sent rest (sym (turn_parts t ts tail) ∙ eq)) [
+    elim (split (to_trail r) (to_out p ++ after) sent rest (sym (call_parts t ts tail) ∙ eq)) [
       | Within y a_is ↦ absurd (omega (arith, some_trail r sent y a_is))
       | Past x front_is b_is ↦
-          elim (split (to_out p) behind x rest b_is) [
-            | Within y a_is ↦ absurd (omega (arith, none_trail p x y a_is, ap length (ap trail_of front_is ∙ trail_behind r x), length-append r (trail_of x)))
+          elim (split (to_out p) after x rest b_is) [
+            | Within y a_is ↦ absurd (omega (arith, none_trail p x y a_is, ap length (ap trail_of front_is ∙ trail_after r x), length-append r (trail_of x)))
             | Past z x_is z_is ↦
-                let trail_is = ap length (ap trail_of front_is ∙ trail_behind r x ∙ ap (λ (q : List ℕ). r ++ q) (ap trail_of x_is ∙ trail_reply p z)) in
+                let trail_is = ap length (ap trail_of front_is ∙ trail_after r x ∙ ap (λ (q : List ℕ). r ++ q) (ap trail_of x_is ∙ trail_reply p z)) in
                 let more : length recs < length (trail_of z) = omega (arith, length-append r (trail_of z)) in
                 let next = replies_from ts tail z rest z_is m fewer more in
                 record {
                   rest = next.rest;
-                  whole_is = ap out_of front_is ∙ out_behind r x ∙ ap out_of x_is ∙ out_reply p z ∙ ap (λ (q : List ℕ). p ++ q) next.whole_is ∙ sym (append_assoc p (replies_of (take m ts)) next.rest);
+                  whole_is = ap out_of front_is ∙ out_after r x ∙ ap out_of x_is ∙ out_reply p z ∙ ap (λ (q : List ℕ). p ++ q) next.whole_is ∙ sym (append_assoc p (replies_of (take m ts)) next.rest);
                 }
           ]
     ]
 
-first_behind : (head : List ℕ) (ts : List Turn) (tail : List ℕ) (sent rest : List Sent) → to_trail head ++ (flat_map told ts ++ to_out tail) ≡ sent ++ rest
+first_after : (head : List ℕ) (ts : List CallBytes) (tail : List ℕ) (sent rest : List Sent) → to_trail head ++ (flat_map call_order ts ++ to_out tail) ≡ sent ++ rest
     → (m : ℕ) → m ≤ length ts → length (head ++ records_of (take m ts)) < length (trail_of sent) → IsFront (replies_of (take m ts)) (out_of sent)
-first_behind head ts tail sent rest e m le h =
+first_after head ts tail sent rest e m le h =
     let all = length-append head (records_of (take m ts)) in
-    elim (split (to_trail head) (flat_map told ts ++ to_out tail) sent rest e) [
+    elim (split (to_trail head) (flat_map call_order ts ++ to_out tail) sent rest e) [
       | Within y a_is ↦ absurd (omega (arith, some_trail head sent y a_is))
       | Past x front_is b_is ↦
-          let trail_is = ap length (ap trail_of front_is ∙ trail_behind head x) in
+          let trail_is = ap length (ap trail_of front_is ∙ trail_after head x) in
           let more : length (records_of (take m ts)) < length (trail_of x) = omega (arith, length-append head (trail_of x)) in
           let r = replies_from ts tail x rest b_is m le more in
-          record { rest = r.rest; whole_is = ap out_of front_is ∙ out_behind head x ∙ r.whole_is }
+          record { rest = r.rest; whole_is = ap out_of front_is ∙ out_after head x ∙ r.whole_is }
     ]
 
--- a record stands only behind the replies of the calls before
-pub replies_first : (a : Accepted) (m : Script) (sent rest : List Sent) → order_by (Some a) m ≡ sent ++ rest → (k : ℕ) → k ≤ length (turns_of a m)
-    → length (head_text a ++ records_of (take k (turns_of a m))) < length (trail_of sent) → IsFront (replies_of (take k (turns_of a m))) (out_of sent)
-unfolding order_by order_in
-replies_first a m sent rest e k le h = first_behind (head_text a) (turns_of a m) (tail_text a.policy 0 (boot a.world) m) sent rest e k le h
+-- a record stands only after the replies of the calls before
+pub replies_first : (s : Session) (sent rest : List Sent) → session_order s ≡ sent ++ rest → (k : ℕ) → k ≤ length (bytes_of s)
+    → length (head_text s ++ records_of (take k (bytes_of s))) < length (trail_of sent) → IsFront (replies_of (take k (bytes_of s))) (out_of sent)
+unfolding session_order
+replies_first s sent rest e k le h = first_after (head_text s) (bytes_of s) (tail_text s) sent rest e k le h
 
--- ---- behind the replies
+-- ---- after the replies
 
--- what goes on behind the replies in the output has all records in front of it
-pub recorded : (a : Accepted) (m : Script) (sent rest : List Sent) → order_by (Some a) m ≡ sent ++ rest
-    → length (replies_of (turns_of a m)) < length (out_of sent) → trail_of sent ≡ head_text a ++ records_of (turns_of a m)
-unfolding order_by order_in trail_by
-recorded a m sent rest e more =
-    let ts = turns_of a m in
-    let tail = tail_text a.policy 0 (boot a.world) m in
-    let turns = to_trail (head_text a) ++ flat_map told ts in
-    let parts : turns ++ to_out tail ≡ sent ++ rest = append_assoc (to_trail (head_text a)) (flat_map told ts) (to_out tail) ∙ e in
-    let out_turns = ap length (sym (out_of-append turns (to_out tail)) ∙ ap out_of (append_assoc (to_trail (head_text a)) (flat_map told ts) (to_out tail)) ∙ out_behind (head_text a) (flat_map told ts ++ to_out tail) ∙ turns_out ts tail) in
-    elim (split turns (to_out tail) sent rest parts) [
+-- what goes on after the replies in the output has all records before it
+pub recorded : (s : Session) (sent rest : List Sent) → session_order s ≡ sent ++ rest
+    → length (replies_of (bytes_of s)) < length (out_of sent) → trail_of sent ≡ head_text s ++ records_of (bytes_of s)
+unfolding session_order
+recorded s sent rest e more =
+    let cs = bytes_of s in
+    let tail = tail_text s in
+    let calls = to_trail (head_text s) ++ flat_map call_order cs in
+    let parts : calls ++ to_out tail ≡ sent ++ rest = append_assoc (to_trail (head_text s)) (flat_map call_order cs) (to_out tail) ∙ e in
+    let out_calls = ap length (sym (out_of-append calls (to_out tail)) ∙ ap out_of (append_assoc (to_trail (head_text s)) (flat_map call_order cs) (to_out tail)) ∙ out_after (head_text s) (flat_map call_order cs ++ to_out tail) ∙ calls_out cs tail) in
+    elim (split calls (to_out tail) sent rest parts) [
       | Within y a_is ↦ absurd (omega (
         arith,
-        out_turns,
+        out_calls,
         more,
         ap length (ap out_of a_is ∙ out_of-append sent y),
         length-append (out_of sent) (out_of y),
-        length-append (out_of turns) (out_of (to_out tail)),
+        length-append (out_of calls) (out_of (to_out tail)),
         ap length (out_of-to_out tail),
-        length-append (replies_of ts) tail,
+        length-append (replies_of cs) tail,
       ))
-      | Past z front_is b_is ↦ only_front (trail_of sent) (trail_of rest) _ (none_behind tail z rest b_is) (sym (trail_of-append sent rest) ∙ sym (ap trail_of e) ∙ order_trail (Some a) m)
+      | Past z front_is b_is ↦ only_front (trail_of sent) (trail_of rest) _ (none_after tail z rest b_is) (sym (trail_of-append sent rest) ∙ sym (ap trail_of e) ∙ session_trail s)
     ]

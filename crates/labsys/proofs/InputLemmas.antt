@@ -2,7 +2,7 @@
 use Rattle.std.proofs.Common.{◌≡◌, ℕ, ◌+◌, ◌≤◌, ◌<◌, true, false, cond, List, [], ◌∷◌, ◌++◌, length, take, refl, sym, ◌∙◌, ap, subst, arith}
 use Rattle.std.proofs.lemmas.List.{append-nil, length-append, length-take, take-append-le}
 use Rattle.std.proofs.lemmas.Bool.Decides.{nat_tests}
-use Rattle.std.specs.Prelude.{Result, IsErrAnd, IfOk, IfErr, Ok, Err, Option, None, Some, nat_lt}
+use Rattle.std.specs.Prelude.{Result, IsErrAnd, IfOk, Ok, Err, Option, None, Some, nat_lt}
 use Rattle.std.specs.Io.KnownBytes.{Appends, IsAtEnd}
 use Rattle.io_ends.specs.declared.whole.Whole.{Whole}
 use Rattle.io_ends.specs.Whole.{IsWhole}
@@ -13,7 +13,6 @@ use Rattle.labsys.specs.declared.status.Refusal.TheVariants as refusal
 use Rattle.labsys.specs.declared.status.Part.{Part}
 use Rattle.labsys.specs.declared.status.Part.TheVariants as part
 use Rattle.labsys.specs.declared.status.Fault.{Fault}
-use Rattle.labsys.specs.declared.status.Fault.TheVariants.{Read}
 use Rattle.lab_text.specs.Policy.{PolicyNames}
 use Rattle.world_text.specs.declared.world.WorldText.{WorldText}
 use Rattle.world_text.specs.declared.stage.Stage.{Stage}
@@ -31,7 +30,7 @@ use Rattle.script_text.specs.Line as script_lines
 use Rattle.labsys.specs.Input.{Input, Script, script, item_of, no_world, cut_off, after_line, script_from, has_fifo, of_world, input_by, read_input, input_of}
 use Rattle.labsys.specs.Texts.{last_text}
 use Rattle.labsys.specs.Order.{order_by, order_of}
-use Rattle.labsys.specs.Playing.{AppendsFront, Caused, SendsFront, Finishes, Takes, Plays, left_of}
+use Rattle.labsys.specs.Playing.{AppendsPrefix, SendsPrefix, Finishes, Takes, Plays, left_of}
 use Rattle.labsys.proofs.Sending.{sends_start, sends_reply, sends_out}
 
 -- ---- bytes
@@ -135,12 +134,8 @@ lines_not text = input_not (read_text text) (has_piece 1 at.Format (pieces 10 te
 
 -- ---- what a run leaves
 
--- an error that is no read fault
-no_read : (fault : Fault) (W T P : Type 0) → Caused fault ⊥ W T → fault ≡ Read → P
-no_read fault W T P cause is = absurd (subst (λ f. Caused f ⊥ W T) is cause)
-
 -- the last line alone, where no world was accepted
-pub without_world : (o o' t : Option (List ℕ)) (e : Ending) → AppendsFront o o' (last_text 0 e) → SendsFront o o' t t (order_of (no_world e))
+pub without_world : (o o' t : Option (List ℕ)) (e : Ending) → AppendsPrefix o o' (last_text 0 e) → SendsPrefix o o' t t (order_of (no_world e))
 unfolding order_by
 without_world o o' t e f = sends_reply o o' t (last_text 0 e) f
 
@@ -153,8 +148,8 @@ without_world_whole (Err fault) o o' t e h = tt
 pub whole_over : (r : Result Ending Fault) (o o' t t' : Option (List ℕ)) (i j : Input) → i ≡ j → IfOk r (λ e. Finishes o o' t t' (order_of i) e i.script.ending) → IfOk r (λ e. Finishes o o' t t' (order_of j) e j.script.ending)
 whole_over r o o' t t' i j is h = subst (λ k. IfOk r (λ e. Finishes o o' t t' (order_of k) e k.script.ending)) is h
 
-pub front_over : (o o' t t' : Option (List ℕ)) (i j : Input) → i ≡ j → SendsFront o o' t t' (order_of i) → SendsFront o o' t t' (order_of j)
-front_over o o' t t' i j is h = subst (λ k. SendsFront o o' t t' (order_of k)) is h
+pub prefix_over : (o o' t t' : Option (List ℕ)) (i j : Input) → i ≡ j → SendsPrefix o o' t t' (order_of i) → SendsPrefix o o' t t' (order_of j)
+prefix_over o o' t t' i j is h = subst (λ k. SendsPrefix o o' t t' (order_of k)) is h
 
 -- a source at which an input ended whole is at its end
 at_end : (w : Whole) (got text : List ℕ) (now : Option (List ℕ)) → IsWhole w got 16777216 now → (read_input w.more text).script.ending ≡ AllRead → IsAtEnd now
@@ -165,26 +160,26 @@ at_end w got text now is =
     ] refl
 
 -- a run that played what was taken
-pub plays_taken : (r : Result Ending Fault) (w : Whole) (left left' o o' t t' : Option (List ℕ)) (text : List ℕ) (W T : Type 0) → (takes : Takes (Ok w) left left') → text ≡ w.bytes
-    → SendsFront o o' t t' (order_of (read_input w.more text)) → IfOk r (λ e. Finishes o o' t t' (order_of (read_input w.more text)) e (read_input w.more text).script.ending) → IfErr r (λ fault. Caused fault ⊥ W T)
+pub plays_taken : (r : Result Ending Fault) (w : Whole) (left left' o o' t t' : Option (List ℕ)) (text : List ℕ) → (takes : Takes (Ok w) left left') → text ≡ w.bytes
+    → SendsPrefix o o' t t' (order_of (read_input w.more text)) → IfOk r (λ e. Finishes o o' t t' (order_of (read_input w.more text)) e (read_input w.more text).script.ending)
     → Plays r left left' o o' t t'
-plays_taken (Ok e) w left left' o o' t t' text W T takes kept front whole cause =
+plays_taken (Ok e) w left left' o o' t t' text takes kept prefix whole =
     let i = input_taken w takes.got left' text takes.shows kept in
     record {
       taken = takes.got;
       took = takes.took;
       few = takes.few;
-      front = front_over o o' t t' _ _ (sym i.input) front;
+      prefix = prefix_over o o' t t' _ _ (sym i.input) prefix;
       whole = (subst (λ k. Finishes o o' t t' (order_of k) e k.script.ending) (sym i.input) whole, λ all. at_end w takes.got text left' takes.shows (sym whole.ends ∙ all));
     }
-plays_taken (Err fault) w left left' o o' t t' text W T takes kept front whole cause =
+plays_taken (Err fault) w left left' o o' t t' text takes kept prefix whole =
     let i = input_taken w takes.got left' text takes.shows kept in
     record {
       taken = takes.got;
       took = takes.took;
       few = takes.few;
-      front = front_over o o' t t' _ _ (sym i.input) front;
-      whole = λ read. no_read fault W T ((o' ≡ o) × (t' ≡ t)) cause read;
+      prefix = prefix_over o o' t t' _ _ (sym i.input) prefix;
+      whole = tt;
     }
 
 -- nothing was played
@@ -194,6 +189,6 @@ plays_nothing (Err e) w fault left left' o t takes is = record {
   taken = takes.got;
   took = takes.took;
   few = takes.few;
-  front = sends_start o t (order_of (input_of (takes.got ++ left_of left')));
-  whole = λ _. (refl, refl);
+  prefix = sends_start o t (order_of (input_of (takes.got ++ left_of left')));
+  whole = tt;
 }

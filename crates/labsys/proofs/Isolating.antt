@@ -8,7 +8,7 @@ use Rattle.kern_model.specs.Isolation.{answers, alone, crossing, up_to}
 use Rattle.kern_model.specs.Fronts.{IsFront, Agree}
 use Rattle.iso_laws.proofs.Worlds.{isolated_front, isolated_whole, two_fronts, two_wholes}
 use Rattle.labsys.specs.Input.{Accepted, Script}
-use Rattle.labsys.specs.Order.{Turn, replies_of, turns_of}
+use Rattle.labsys.specs.Session.{CallBytes, session_of, bytes_of, replies_of}
 use Rattle.labsys.proofs.AcceptedLemmas.{IsPlayable}
 use Rattle.labsys.proofs.InputLemmas.{is_more, not_more}
 use Rattle.labsys.specs.Clauses.{Written, Isolated, IsolatedWhole, SameBelow, TwoInputs, TwoWhole, run_of}
@@ -16,19 +16,19 @@ use Rattle.labsys.specs.Clauses.{Written, Isolated, IsolatedWhole, SameBelow, Tw
 -- ---- written replies
 
 -- an output that is long enough begins with the first piece
-record Behind (a b out more : List ℕ) : Type 0 where
+record After (a b out more : List ℕ) : Type 0 where
   rest : List ℕ
   out_is : out ≡ a ++ rest
   b_is : b ≡ rest ++ more
 
-behind : (a b out more : List ℕ) → a ++ b ≡ out ++ more → length a ≤ length out → Behind a b out more
-behind [] b out more e le = record { rest = out; out_is = refl; b_is = e }
-behind (x ∷ a) b [] more e le = absurd (omega arith)
-behind (x ∷ a) b (y ∷ out) more e le =
+after : (a b out more : List ℕ) → a ++ b ≡ out ++ more → length a ≤ length out → After a b out more
+after [] b out more e le = record { rest = out; out_is = refl; b_is = e }
+after (x ∷ a) b [] more e le = absurd (omega arith)
+after (x ∷ a) b (y ∷ out) more e le =
     let h : x ≡ y = cc in
     let t : a ++ b ≡ out ++ more = cc in
     let less : length a ≤ length out = omega arith in
-    let r = behind a b out more t less in
+    let r = after a b out more t less in
     record {
       rest = r.rest;
       out_is = ap (λ (z : List ℕ). y ∷ z) r.out_is ∙ ap (λ q. q ∷ (a ++ r.rest)) (sym h);
@@ -36,7 +36,7 @@ behind (x ∷ a) b (y ∷ out) more e le =
     }
 
 -- no reply stands there whole
-none_written : (t : Turn) (ts : List Turn) (out : List ℕ) → length out < length t.reply → Written (t ∷ ts) out
+none_written : (t : CallBytes) (ts : List CallBytes) (out : List ℕ) → length out < length t.reply → Written (t ∷ ts) out
 none_written t ts out short = record {
   count = 0;
   few = omega arith;
@@ -44,8 +44,8 @@ none_written t ts out short = record {
   no_more = λ _. let len = ap length (append-nil t.reply) in omega arith;
 }
 
--- one more than behind the first reply
-one_more : (t : Turn) (ts : List Turn) (out rest : List ℕ) → out ≡ t.reply ++ rest → Written ts rest → Written (t ∷ ts) out
+-- one more than after the first reply
+one_more : (t : CallBytes) (ts : List CallBytes) (out rest : List ℕ) → out ≡ t.reply ++ rest → Written ts rest → Written (t ∷ ts) out
 one_more t ts out rest is w =
     let k : w.count + 1 ≡ suc w.count = omega arith in
     record {
@@ -64,14 +64,14 @@ one_more t ts out rest is w =
           (omega (arith, all, length-append t.reply rest, length-append t.reply (replies_of (take (suc w.count) ts))));
     }
 
--- of a front of replies and what is behind them some number is whole
-pub written : (ts : List Turn) (tail out more : List ℕ) → replies_of ts ++ tail ≡ out ++ more → Written ts out
+-- of a front of replies and what is after them some number is whole
+pub written : (ts : List CallBytes) (tail out more : List ℕ) → replies_of ts ++ tail ≡ out ++ more → Written ts out
 written [] tail out more e = record { count = 0; few = omega arith; begins = record { rest = out; whole_is = refl }; no_more = λ le. absurd (omega arith) }
 written (t ∷ ts) tail out more e =
     elim (nat_lt (length out) (length t.reply)) as (λ b. nat_lt (length out) (length t.reply) ≡ b → Written (t ∷ ts) out) [
       | true ↦ λ short. none_written t ts out (is_more _ _ short)
       | false ↦ λ long.
-          let h = behind t.reply (replies_of ts ++ tail) out more (sym (append_assoc t.reply (replies_of ts) tail) ∙ e) (not_more _ _ long) in
+          let h = after t.reply (replies_of ts ++ tail) out more (sym (append_assoc t.reply (replies_of ts) tail) ∙ e) (not_more _ _ long) in
           one_more t ts out h.rest h.out_is (written ts tail h.rest more h.b_is)
     ] refl
 
@@ -88,17 +88,17 @@ take_up_to l (suc m) (p ∷ ps) le =
     ] le
 
 module _ (l : Label) (a : Accepted) (script : Script) (is : IsPlayable a script) where
-  pub is_isolated : (out : List ℕ) → Written (turns_of a script) out → Isolated l a script out
+  pub is_isolated : (out : List ℕ) → Written (bytes_of (session_of a script)) out → Isolated l a script out
   is_isolated out w = record {
     written = w;
     told = λ m few before. subst (λ ps. IsFront (answers l ps) (alone l a.world script.items)) (sym (take_up_to l m (run_of a script) before)) (isolated_front l a.world script.items m is.world is.script.arguments is.script.laws);
   }
 
-  pub is_isolated_whole : (out : List ℕ) → IsFront (replies_of (turns_of a script)) out → IsolatedWhole l a script out
+  pub is_isolated_whole : (out : List ℕ) → IsFront (replies_of (bytes_of (session_of a script))) out → IsolatedWhole l a script out
   is_isolated_whole out w = record { written = w; told = λ none. isolated_whole l a.world script.items is.world is.script.arguments is.script.laws none }
 
   module _ (b : Accepted) (script' : Script) (is' : IsPlayable b script') (same : SameBelow l a script b script') where
-    pub two_agree : (out : List ℕ) → Written (turns_of a script) out → TwoInputs l a script b script' out
+    pub two_agree : (out : List ℕ) → Written (bytes_of (session_of a script)) out → TwoInputs l a script b script' out
     two_agree out w = record {
       written = w;
       agree = λ m n few before before'.
@@ -107,5 +107,5 @@ module _ (l : Label) (a : Accepted) (script : Script) (is : IsPlayable a script)
           (two_fronts l a.world b.world script.items script'.items same.world same.items m n is.world is'.world is.script.arguments is'.script.arguments is.script.laws is'.script.laws));
     }
 
-    pub two_whole : (out : List ℕ) → IsFront (replies_of (turns_of a script)) out → TwoWhole l a script b script' out
+    pub two_whole : (out : List ℕ) → IsFront (replies_of (bytes_of (session_of a script))) out → TwoWhole l a script b script' out
     two_whole out w = record { written = w; equal = λ none none'. two_wholes l a.world b.world script.items script'.items same.world same.items is.world is'.world is.script.arguments is'.script.arguments is.script.laws is'.script.laws none none' }

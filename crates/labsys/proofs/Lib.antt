@@ -1,5 +1,6 @@
 pub mod ReadLemmas
 pub mod Sending
+pub mod CountLemmas
 pub mod ScriptLemmas
 pub mod InputLemmas
 pub mod Coverage

@@ -1,5 +1,5 @@
 -- End lines by the records, and the records in the trail.
-use Rattle.std.proofs.Common.{◌≡◌, ℕ, ◌+◌, List, [], ◌∷◌, ◌++◌, length, map, refl, sym, ◌∙◌, ap, append_assoc, arith}
+use Rattle.std.proofs.Common.{◌≡◌, ℕ, ◌+◌, List, [], ◌∷◌, ◌++◌, length, map, refl, sym, ◌∙◌, ap, append_assoc}
 use Rattle.std.proofs.lemmas.Grind.{flat_map-append}
 use Rattle.std.proofs.lemmas.List.{map-append}
 use Rattle.std.specs.Prelude.{Some, None}
@@ -9,8 +9,7 @@ use Rattle.std.specs.Option.{option_map}
 use Rattle.aud_record.specs.Written.{rec_text, header_text}
 use Rattle.fin_maps.specs.FinMap as finite
 use Rattle.kern_model.specs.declared.records.Rec.{Rec}
-use Rattle.kern_model.specs.Boot.{boot, boot_recs}
-use Rattle.kern_model.specs.Run.{Played, run}
+use Rattle.kern_model.specs.Run.{Played}
 use Rattle.lab_text.specs.Policy.{PolicyNames}
 use Rattle.kern_model.specs.declared.numbers.Pid.{Pid}
 use Rattle.kern_model.specs.Lineage.{caps_of, all_recs}
@@ -18,8 +17,8 @@ use Rattle.kern_model.specs.State.{Process}
 use Rattle.iso_laws.proofs.Lineage.{caps_are_told}
 use Rattle.labsys.specs.Input.{Accepted, Script}
 use Rattle.labsys.specs.Texts.{end_text, ends_text, last_text}
-use Rattle.labsys.specs.Order.{out_by, tail_text, head_text, turns_from, turns_of, replies_of, records_of}
-use Rattle.labsys.specs.Clauses.{last_state, told_text, numbered_from, numbered_recs, recs_in, trail_with}
+use Rattle.labsys.specs.Session.{Session, session_of, bytes_from, bytes_of, replies_of, records_of, head_text, tail_text}
+use Rattle.labsys.specs.Clauses.{numbered_from, numbered_recs, recs_in, trail_with, out_with}
 
 -- ---- numbered records
 
@@ -42,57 +41,55 @@ lines_of_call : (policy : PolicyNames) (n : ℕ) (rs : List Rec) → lines polic
 lines_of_call policy n [] = refl
 lines_of_call policy n (r ∷ rs) = ap (λ (xs : List ℕ). rec_text policy n r ++ xs) (lines_of_call policy n rs)
 
-lines_from : (policy : PolicyNames) (n : ℕ) (ps : List Played) → lines policy (numbered_from n ps) ≡ records_of (turns_from policy n ps)
-unfolding turns_from
+lines_from : (policy : PolicyNames) (n : ℕ) (ps : List Played) → lines policy (numbered_from n ps) ≡ records_of (bytes_from policy n ps)
+unfolding bytes_from
 lines_from policy n [] = refl
 lines_from policy n (p ∷ ps) =
     flat_map-append (λ (r : ℕ × Rec). rec_text policy r.0 r.1) (map (λ (r : Rec). (n, r)) p.recs) (numbered_from (n + 1) ps)
     ∙ ap (λ (xs : List ℕ). xs ++ lines policy (numbered_from (n + 1) ps)) (lines_of_call policy n p.recs)
     ∙ ap (λ (xs : List ℕ). flat_map (rec_text policy n) p.recs ++ xs) (lines_from policy (n + 1) ps)
 
+-- the lines of all records stand in the trail
+pub trail_reported : (s : Session) → head_text s ++ records_of (bytes_of s) ≡ trail_with s (numbered_recs s)
+unfolding head_text
+trail_reported s =
+    let at_start : List (ℕ × Rec) = map (λ (r : Rec). (0, r)) s.boot_recs in
+    let at_calls : List (ℕ × Rec) = numbered_from 1 s.calls in
+    sym (
+    ap (λ (xs : List ℕ). header_text s.policy s.bound ++ xs) (
+    flat_map-append (λ (r : ℕ × Rec). rec_text s.policy r.0 r.1) at_start at_calls
+    ∙ ap (λ (xs : List ℕ). xs ++ lines s.policy at_calls) (lines_of_call s.policy 0 s.boot_recs)
+    ∙ ap (λ (xs : List ℕ). flat_map (rec_text s.policy 0) s.boot_recs ++ xs) (lines_from s.policy 1 s.calls))
+    ∙ sym (append_assoc (header_text s.policy s.bound) (flat_map (rec_text s.policy 0) s.boot_recs) (records_of (bytes_of s))))
+
 module _ (a : Accepted) (script : Script) where
-  abbrev from_start : List (ℕ × Rec)
-  from_start = map (λ (r : Rec). (0, r)) (boot_recs a.world)
+  abbrev s : Session
+  s = session_of a script
 
-  abbrev from_calls : List (ℕ × Rec)
-  from_calls = numbered_from 1 (run (boot a.world) script.items)
-
-  -- they are the records of the run
-  pub all_numbered : recs_in (numbered_recs a script) ≡ all_recs a.world script.items
+  -- the records are those of the run
+  pub all_numbered : recs_in (numbered_recs s) ≡ all_recs a.world script.items
   all_numbered =
-      map-append (λ (r : ℕ × Rec). r.1) from_start from_calls
-      ∙ ap (λ (xs : List Rec). xs ++ recs_in from_calls) (unnumbered 0 (boot_recs a.world))
-      ∙ ap (λ (xs : List Rec). boot_recs a.world ++ xs) (unnumbered_from 1 (run (boot a.world) script.items))
-
-  -- and their lines stand in the trail
-  pub trail_told : head_text a ++ records_of (turns_of a script) ≡ trail_with a (numbered_recs a script)
-  unfolding head_text
-  trail_told = sym (
-      ap (λ (xs : List ℕ). header_text a.policy a.world.bound ++ xs) (
-      flat_map-append (λ (r : ℕ × Rec). rec_text a.policy r.0 r.1) from_start from_calls
-      ∙ ap (λ (xs : List ℕ). xs ++ lines a.policy from_calls) (lines_of_call a.policy 0 (boot_recs a.world))
-      ∙ ap (λ (xs : List ℕ). flat_map (rec_text a.policy 0) (boot_recs a.world) ++ xs) (lines_from a.policy 1 (run (boot a.world) script.items)))
-      ∙ sym (append_assoc (header_text a.policy a.world.bound) (flat_map (rec_text a.policy 0) (boot_recs a.world)) (records_of (turns_of a script))))
+      map-append (λ (r : ℕ × Rec). r.1) (map (λ (r : Rec). (0, r)) s.boot_recs) (numbered_from 1 s.calls)
+      ∙ ap (λ (xs : List Rec). xs ++ recs_in (numbered_from 1 s.calls)) (unnumbered 0 s.boot_recs)
+      ∙ ap (λ (xs : List Rec). s.boot_recs ++ xs) (unnumbered_from 1 s.calls)
 
   -- an end line by what is found of the process
   abbrev line : Pid → Option Process → List ℕ
   line who found = end_text a.policy who (option_map (λ (p : Process). p.label) found) (option_map (λ (p : Process). p.caps) found)
 
-  abbrev told_line : Pid → Option Process → List ℕ
-  told_line who found = end_text a.policy who (option_map (λ (p : Process). p.label) found) (Some (caps_of a.world.bound (all_recs a.world script.items) who))
+  abbrev reported_line : Pid → Option Process → List ℕ
+  reported_line who found = end_text a.policy who (option_map (λ (p : Process). p.label) found) (Some (caps_of a.world.bound (all_recs a.world script.items) who))
 
-  same_line : (who : Pid) → line who (finite.get (last_state a script).procs who) ≡ told_line who (finite.get (last_state a script).procs who)
+  same_line : (who : Pid) → line who (finite.get s.last_state.procs who) ≡ reported_line who (finite.get s.last_state.procs who)
   same_line who =
-      elim (finite.get (last_state a script).procs who) as (λ found. finite.get (last_state a script).procs who ≡ found → line who found ≡ told_line who found) [
+      elim (finite.get s.last_state.procs who) as (λ found. finite.get s.last_state.procs who ≡ found → line who found ≡ reported_line who found) [
         | None ↦ λ _. refl
         | Some p ↦ λ is. ap (λ c. end_text a.policy who (Some p.label) (Some c)) (caps_are_told a.world script.items who p is)
       ] refl
 
-  -- the output is the one in which the records tell the capability sets
-  pub text_told : out_by (Some a) script ≡ told_text a script (recs_in (numbered_recs a script))
-  unfolding out_by tail_text ends_text
-  text_told =
-      let count : 0 + length script.items ≡ length script.items = omega arith in
-      (λ i. replies_of (turns_of a script) ++ (flat_map (λ who. same_line who i) (finite.keys (last_state a script).procs) ++ last_text (0 + length script.items) script.ending))
-      ∙ ap (λ k. replies_of (turns_of a script) ++ (flat_map (λ who. told_line who (finite.get (last_state a script).procs who)) (finite.keys (last_state a script).procs) ++ last_text k script.ending)) count
-      ∙ ap (told_text a script) (sym all_numbered)
+  -- the output is the one in which the records give the capability sets
+  pub out_reported : replies_of (bytes_of s) ++ tail_text s ≡ out_with s (recs_in (numbered_recs s))
+  unfolding tail_text ends_text
+  out_reported =
+      (λ i. replies_of (bytes_of s) ++ (flat_map (λ who. same_line who i) (finite.keys s.last_state.procs) ++ last_text (length s.calls) script.ending))
+      ∙ ap (out_with s) (sym all_numbered)

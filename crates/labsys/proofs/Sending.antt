@@ -6,8 +6,9 @@ use Rattle.std.specs.List.{flat_map}
 use Rattle.std.specs.declared.option.Option.{Option}
 use Rattle.std.specs.Io.KnownBytes.{Appends}
 use Rattle.std.proofs.KnownBytes.{Appends-nil, Appends-trans}
-use Rattle.labsys.specs.Order.{Sent, ToOut, ToTrail, out_of, trail_of, to_out, to_trail, Turn, told}
-use Rattle.labsys.specs.Playing.{AppendsFront, Sends, SendsFront}
+use Rattle.labsys.specs.Session.{CallBytes}
+use Rattle.labsys.specs.Order.{Sent, ToOut, ToTrail, out_of, trail_of, to_out, to_trail, call_order}
+use Rattle.labsys.specs.Playing.{AppendsPrefix, Sends, SendsPrefix}
 
 pub out_of-append : (a b : List Sent) → out_of (a ++ b) ≡ out_of a ++ out_of b
 unfolding out_of
@@ -73,106 +74,106 @@ sends_trail o t t' bs w = record {
   to_trail = subst (λ r. Appends t t' r) (sym (trail_of-to_trail bs)) w;
 }
 
--- a front of a piece behind what was sent
-pub appends_more : (a b c : Option (List ℕ)) (xs ys : List ℕ) → Appends a b xs → AppendsFront b c ys → AppendsFront a c (xs ++ ys)
+-- a prefix of a piece after what was sent
+pub appends_more : (a b c : Option (List ℕ)) (xs ys : List ℕ) → Appends a b xs → AppendsPrefix b c ys → AppendsPrefix a c (xs ++ ys)
 appends_more a b c xs ys w f = record {
   part = xs ++ f.part;
   rest = f.rest;
-  front = ap (λ (r : List ℕ). xs ++ r) f.front ∙ sym (append_assoc xs f.part f.rest);
+  prefix = ap (λ (r : List ℕ). xs ++ r) f.prefix ∙ sym (append_assoc xs f.part f.rest);
   wrote = Appends-trans a b c _ _ w f.wrote;
 }
 
--- what stands in front goes on
-pub appends_longer : (a b : Option (List ℕ)) (xs ys : List ℕ) → AppendsFront a b xs → AppendsFront a b (xs ++ ys)
+-- what stands first goes on
+pub appends_longer : (a b : Option (List ℕ)) (xs ys : List ℕ) → AppendsPrefix a b xs → AppendsPrefix a b (xs ++ ys)
 appends_longer a b xs ys f = record {
   part = f.part;
   rest = f.rest ++ ys;
-  front = ap (λ (r : List ℕ). r ++ ys) f.front ∙ append_assoc f.part f.rest ys;
+  prefix = ap (λ (r : List ℕ). r ++ ys) f.prefix ∙ append_assoc f.part f.rest ys;
   wrote = f.wrote;
 }
 
 -- the first pieces
-pub some_pieces : {X : Type 0} (f : X → List ℕ) (xs : List X) (i : ℕ) (a b : Option (List ℕ)) → Appends a b (flat_map f (take i xs)) → AppendsFront a b (flat_map f xs)
+pub some_pieces : {X : Type 0} (f : X → List ℕ) (xs : List X) (i : ℕ) (a b : Option (List ℕ)) → Appends a b (flat_map f (take i xs)) → AppendsPrefix a b (flat_map f xs)
 some_pieces f xs i a b w = record {
   part = flat_map f (take i xs);
   rest = flat_map f (drop i xs);
-  front = ap (flat_map f) (sym (take-append-drop i xs)) ∙ flat_map-append f (take i xs) (drop i xs);
+  prefix = ap (flat_map f) (sym (take-append-drop i xs)) ∙ flat_map-append f (take i xs) (drop i xs);
   wrote = w;
 }
 
--- the first pieces, and a front of the next
+-- the first pieces, and a prefix of the next
 pub cut_pieces : {X : Type 0} (f : X → List ℕ) (xs : List X) (i : ℕ) (x : X) (a b c : Option (List ℕ)) (bs : List ℕ) → i < length xs → bs ≡ f (get_or xs i x)
-    → Appends a b (flat_map f (take i xs)) → AppendsFront b c bs → AppendsFront a c (flat_map f xs)
+    → Appends a b (flat_map f (take i xs)) → AppendsPrefix b c bs → AppendsPrefix a c (flat_map f xs)
 cut_pieces {X = X} f xs i x a b c bs l e w h =
-    subst (λ r. AppendsFront a c r)
+    subst (λ r. AppendsPrefix a c r)
     (ap (λ (r : List ℕ). flat_map f (take i xs) ++ (r ++ flat_map f (drop (i + 1) xs))) e ∙ ap (λ (r : List X). flat_map f (take i xs) ++ flat_map f r) (sym (drop_more xs i x l)) ∙ sym (flat_map-append f (take i xs) (drop i xs)) ∙ ap (flat_map f) (take-append-drop i xs))
     (appends_more a b c _ _ w (appends_longer b c bs (flat_map f (drop (i + 1) xs)) h))
 
 -- nothing went out
-pub sends_start : (o t : Option (List ℕ)) (order : List Sent) → SendsFront o o t t order
-sends_start o t order = record { sent = []; rest = order; front = refl; sends = sends_nothing o t }
+pub sends_start : (o t : Option (List ℕ)) (order : List Sent) → SendsPrefix o o t t order
+sends_start o t order = record { sent = []; rest = order; prefix = refl; sends = sends_nothing o t }
 
--- a front of bytes for the trail went out, and nothing behind them
-pub sends_recs : (o t t' : Option (List ℕ)) (bs : List ℕ) (behind : List Sent) → AppendsFront t t' bs → SendsFront o o t t' (to_trail bs ++ behind)
-sends_recs o t t' bs behind f = record {
+-- a prefix of bytes for the trail went out, and nothing after them
+pub sends_recs : (o t t' : Option (List ℕ)) (bs : List ℕ) (after : List Sent) → AppendsPrefix t t' bs → SendsPrefix o o t t' (to_trail bs ++ after)
+sends_recs o t t' bs after f = record {
   sent = to_trail f.part;
-  rest = to_trail f.rest ++ behind;
-  front = ap (λ (r : List ℕ). to_trail r ++ behind) f.front ∙ ap (λ (r : List Sent). r ++ behind) (to_trail-append f.part f.rest) ∙ append_assoc (to_trail f.part) (to_trail f.rest) behind;
+  rest = to_trail f.rest ++ after;
+  prefix = ap (λ (r : List ℕ). to_trail r ++ after) f.prefix ∙ ap (λ (r : List Sent). r ++ after) (to_trail-append f.part f.rest) ∙ append_assoc (to_trail f.part) (to_trail f.rest) after;
   sends = sends_trail o t t' f.part f.wrote;
 }
 
--- all of them, and a front of what is behind them
-pub sends_behind : (o o' t t' t'' : Option (List ℕ)) (bs : List ℕ) (behind : List Sent) → Appends t t' bs → SendsFront o o' t' t'' behind → SendsFront o o' t t'' (to_trail bs ++ behind)
-sends_behind o o' t t' t'' bs behind w f = record {
+-- all of them, and a prefix of what is after them
+pub sends_after : (o o' t t' t'' : Option (List ℕ)) (bs : List ℕ) (after : List Sent) → Appends t t' bs → SendsPrefix o o' t' t'' after → SendsPrefix o o' t t'' (to_trail bs ++ after)
+sends_after o o' t t' t'' bs after w f = record {
   sent = to_trail bs ++ f.sent;
   rest = f.rest;
-  front = ap (λ (r : List Sent). to_trail bs ++ r) f.front ∙ sym (append_assoc (to_trail bs) f.sent f.rest);
+  prefix = ap (λ (r : List Sent). to_trail bs ++ r) f.prefix ∙ sym (append_assoc (to_trail bs) f.sent f.rest);
   sends = sends_more o o o' t t' t'' (to_trail bs) f.sent (sends_trail o t t' bs w) f.sends;
 }
 
-pub sends_reply : (o o' t : Option (List ℕ)) (bs : List ℕ) → AppendsFront o o' bs → SendsFront o o' t t (to_out bs)
+pub sends_reply : (o o' t : Option (List ℕ)) (bs : List ℕ) → AppendsPrefix o o' bs → SendsPrefix o o' t t (to_out bs)
 sends_reply o o' t bs f = record {
   sent = to_out f.part;
   rest = to_out f.rest;
-  front = ap to_out f.front ∙ to_out-append f.part f.rest;
+  prefix = ap to_out f.prefix ∙ to_out-append f.part f.rest;
   sends = sends_out o o' t f.part f.wrote;
 }
 
--- of a turn a front of the records went out
-pub turn_recs : (o t t' : Option (List ℕ)) (u : Turn) (recs : List ℕ) → recs ≡ u.recs → AppendsFront t t' recs → SendsFront o o t t' (told u)
-unfolding told
-turn_recs o t t' u recs e f = sends_recs o t t' u.recs (to_out u.reply) (subst (λ rs. AppendsFront t t' rs) e f)
+-- of a call a prefix of the records went out
+pub call_recs : (o t t' : Option (List ℕ)) (c : CallBytes) (recs : List ℕ) → recs ≡ c.recs → AppendsPrefix t t' recs → SendsPrefix o o t t' (call_order c)
+unfolding call_order
+call_recs o t t' c recs e f = sends_recs o t t' c.recs (to_out c.reply) (subst (λ rs. AppendsPrefix t t' rs) e f)
 
--- its records and a front of its reply
-pub turn_reply : (o o' t t' : Option (List ℕ)) (u : Turn) (recs reply : List ℕ) → recs ≡ u.recs → reply ≡ u.reply → Appends t t' recs → AppendsFront o o' reply → SendsFront o o' t t' (told u)
-unfolding told
-turn_reply o o' t t' u recs reply e r a f =
-    sends_behind o o' t t' t' u.recs (to_out u.reply) (subst (λ rs. Appends t t' rs) e a) (sends_reply o o' t' u.reply (subst (λ b. AppendsFront o o' b) r f))
+-- its records and a prefix of its reply
+pub call_reply : (o o' t t' : Option (List ℕ)) (c : CallBytes) (recs reply : List ℕ) → recs ≡ c.recs → reply ≡ c.reply → Appends t t' recs → AppendsPrefix o o' reply → SendsPrefix o o' t t' (call_order c)
+unfolding call_order
+call_reply o o' t t' c recs reply e r a f =
+    sends_after o o' t t' t' c.recs (to_out c.reply) (subst (λ rs. Appends t t' rs) e a) (sends_reply o o' t' c.reply (subst (λ b. AppendsPrefix o o' b) r f))
 
 -- all of it
-pub turn_all : (o o' t t' : Option (List ℕ)) (u : Turn) (recs reply : List ℕ) → recs ≡ u.recs → reply ≡ u.reply → Appends t t' recs → Appends o o' reply → Sends o o' t t' (told u)
-unfolding told
-turn_all o o' t t' u recs reply e r a f =
-    sends_more o o o' t t' t' (to_trail u.recs) (to_out u.reply) (sends_trail o t t' u.recs (subst (λ rs. Appends t t' rs) e a)) (sends_out o o' t' u.reply (subst (λ b. Appends o o' b) r f))
+pub call_all : (o o' t t' : Option (List ℕ)) (c : CallBytes) (recs reply : List ℕ) → recs ≡ c.recs → reply ≡ c.reply → Appends t t' recs → Appends o o' reply → Sends o o' t t' (call_order c)
+unfolding call_order
+call_all o o' t t' c recs reply e r a f =
+    sends_more o o o' t t' t' (to_trail c.recs) (to_out c.reply) (sends_trail o t t' c.recs (subst (λ rs. Appends t t' rs) e a)) (sends_out o o' t' c.reply (subst (λ b. Appends o o' b) r f))
 
--- one order in front of another
-pub sends_longer : (o o' t t' : Option (List ℕ)) (a b : List Sent) → SendsFront o o' t t' a → SendsFront o o' t t' (a ++ b)
+-- one order before another
+pub sends_longer : (o o' t t' : Option (List ℕ)) (a b : List Sent) → SendsPrefix o o' t t' a → SendsPrefix o o' t t' (a ++ b)
 sends_longer o o' t t' a b f = record {
   sent = f.sent;
   rest = f.rest ++ b;
-  front = ap (λ (x : List Sent). x ++ b) f.front ∙ append_assoc f.sent f.rest b;
+  prefix = ap (λ (x : List Sent). x ++ b) f.prefix ∙ append_assoc f.sent f.rest b;
   sends = f.sends;
 }
 
--- a front behind what went out
-pub sends_on : (o o' o'' t t' t'' : Option (List ℕ)) (a b : List Sent) → Sends o o' t t' a → SendsFront o' o'' t' t'' b → SendsFront o o'' t t'' (a ++ b)
+-- a prefix after what went out
+pub sends_on : (o o' o'' t t' t'' : Option (List ℕ)) (a b : List Sent) → Sends o o' t t' a → SendsPrefix o' o'' t' t'' b → SendsPrefix o o'' t t'' (a ++ b)
 sends_on o o' o'' t t' t'' a b s f = record {
   sent = a ++ f.sent;
   rest = f.rest;
-  front = ap (λ (x : List Sent). a ++ x) f.front ∙ sym (append_assoc a f.sent f.rest);
+  prefix = ap (λ (x : List Sent). a ++ x) f.prefix ∙ sym (append_assoc a f.sent f.rest);
   sends = sends_more o o' o'' t t' t'' a f.sent s f.sends;
 }
 
--- all of an order is a front of it
-pub sends_all : (o o' t t' : Option (List ℕ)) (a : List Sent) → Sends o o' t t' a → SendsFront o o' t t' a
-sends_all o o' t t' a s = record { sent = a; rest = []; front = sym (append-nil a); sends = s }
+-- all of an order is a prefix of it
+pub sends_all : (o o' t t' : Option (List ℕ)) (a : List Sent) → Sends o o' t t' a → SendsPrefix o o' t t' a
+sends_all o o' t t' a s = record { sent = a; rest = []; prefix = sym (append-nil a); sends = s }

@@ -1,7 +1,10 @@
 pub mod Input
-pub mod Reading
 pub mod Texts
+pub mod Session
 pub mod Order
+pub mod Commands
+pub mod Counts
+pub mod Reading
 pub mod Playing
 pub mod Clauses
 pub mod Exit

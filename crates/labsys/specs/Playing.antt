@@ -1,5 +1,6 @@
 -- What a run did at its ends.
-use Rattle.std.specs.Prelude.{◌≡◌, ℕ, ◌≤◌, List, [], ◌++◌, length, Result, MatchResult, IfOk, None, Some}
+use Rattle.std.specs.Prelude.{◌≡◌, ℕ, ◌+◌, ◌≤◌, List, [], ◌++◌, length, Result, IfOk, None, Some}
+use Rattle.std.specs.List.{flat_map}
 use Rattle.std.specs.declared.option.Option.{Option}
 use Rattle.std.specs.Io.KnownBytes.{Appends, Consumes, IsAtEnd}
 use Rattle.io_ends.specs.declared.whole.Whole.{Whole}
@@ -7,15 +8,27 @@ use Rattle.io_ends.specs.Whole.{IsWhole}
 use Rattle.labsys.specs.declared.status.Ending.{Ending}
 use Rattle.labsys.specs.declared.status.Ending.TheVariants.{Whole as AllRead}
 use Rattle.labsys.specs.declared.status.Fault.{Fault}
-use Rattle.labsys.specs.declared.status.Fault.TheVariants.{Read, Write, Trail, NoMemory}
-use Rattle.labsys.specs.Input.{input_of}
-use Rattle.labsys.specs.Order.{Sent, out_of, trail_of, order_of}
+use Rattle.kern_model.specs.State.{State}
+use Rattle.kern_model.specs.Run.{run, state_after_run}
+use Rattle.lab_text.specs.Policy.{PolicyNames}
+use Rattle.labsys.specs.Input.{Script, input_of}
+use Rattle.labsys.specs.Order.{Sent, out_of, trail_of, to_out, call_order, order_of}
+use Rattle.labsys.specs.Session.{bytes_from}
+use Rattle.labsys.specs.Texts.{ends_text, last_text}
 
--- a front of the bytes was appended
-pub record AppendsFront (old new : Option (List ℕ)) (bytes : List ℕ) : Type 0 where
+-- the end of the output of a script that is played from a state on, after so many calls
+unfoldable pub tail_from : PolicyNames → ℕ → State → Script → List ℕ
+tail_from policy count s script = ends_text policy (state_after_run s script.items) ++ last_text (count + length (run s script.items)) script.ending
+
+-- what goes out of a script that is played from a state on, after so many calls
+unfoldable pub order_in : PolicyNames → ℕ → State → Script → List Sent
+order_in policy count s script = flat_map call_order (bytes_from policy (count + 1) (run s script.items)) ++ to_out (tail_from policy count s script)
+
+-- a prefix of the bytes was appended
+pub record AppendsPrefix (old new : Option (List ℕ)) (bytes : List ℕ) : Type 0 where
   pub part : List ℕ
   pub rest : List ℕ
-  pub front : bytes ≡ part ++ rest
+  pub prefix : bytes ≡ part ++ rest
   pub wrote : Appends old new part
 
 -- these bytes went out, and each sink has its own
@@ -23,26 +36,19 @@ pub record Sends (out out' trail trail' : Option (List ℕ)) (sent : List Sent) 
   pub to_out : Appends out out' (out_of sent)
   pub to_trail : Appends trail trail' (trail_of sent)
 
--- a front of what was to go out did
-pub record SendsFront (out out' trail trail' : Option (List ℕ)) (order : List Sent) : Type 0 where
+-- a prefix of what was to go out did
+pub record SendsPrefix (out out' trail trail' : Option (List ℕ)) (order : List Sent) : Type 0 where
   pub sent : List Sent
   pub rest : List Sent
-  pub front : order ≡ sent ++ rest
+  pub prefix : order ≡ sent ++ rest
   pub sends : Sends out out' trail trail' sent
-
--- each fault has its cause
-abbrev pub Caused : Fault → (read write trail : Type 0) → Type 0
-Caused Read read write trail = read
-Caused Write read write trail = write
-Caused Trail read write trail = trail
-Caused NoMemory read write trail = Unit {0}
 
 -- all that was to go out did, and the input ended so
 pub record Finishes (out out' trail trail' : Option (List ℕ)) (order : List Sent) (ending is : Ending) : Type 0 where
   pub all : Sends out out' trail trail' order
   pub ends : ending ≡ is
 
--- what is left, where it is told
+-- what is left, where it is reported
 abbrev pub left_of : Option (List ℕ) → List ℕ
 left_of None = []
 left_of (Some bytes) = bytes
@@ -54,13 +60,10 @@ pub record Takes (result : Result Whole Fault) (left now : Option (List ℕ)) : 
   pub few : length got ≤ 16777217
   pub shows : IfOk result (λ w. IsWhole w got 16777216 now)
 
--- what a run took, and what went out: a front of the order of all the input's bytes
+-- what a run took, and what went out: a prefix of the order of all the input's bytes
 pub record Plays (result : Result Ending Fault) (left left' out out' trail trail' : Option (List ℕ)) : Type 0 where
   pub taken : List ℕ
   pub took : Consumes left left' taken
   pub few : length taken ≤ 16777217
-  pub front : SendsFront out out' trail trail' (order_of (input_of (taken ++ left_of left')))
-  pub whole : MatchResult result
-      (λ e. Finishes out out' trail trail' (order_of (input_of (taken ++ left_of left'))) e (input_of (taken ++ left_of left')).script.ending × (e ≡ AllRead → IsAtEnd left'))
-      -- where a read failed nothing went out
-      (λ fault. fault ≡ Read → (out' ≡ out) × (trail' ≡ trail))
+  pub prefix : SendsPrefix out out' trail trail' (order_of (input_of (taken ++ left_of left')))
+  pub whole : IfOk result (λ e. Finishes out out' trail trail' (order_of (input_of (taken ++ left_of left'))) e (input_of (taken ++ left_of left')).script.ending × (e ≡ AllRead → IsAtEnd left'))

@@ -1,12 +1,14 @@
 //! A simulated kernel: plays a script of system calls on a described world, and writes the reply to each call.
 #![tactic(auto)]
 
+mod command;
 mod playing;
 mod reading;
 mod running;
 mod status;
 mod texts;
 
+pub use command::Command;
 use io_ends::{FileSink, FileSource};
 pub use running::run;
 pub use status::{Ending, Fault, Part, Refusal, Status};
@@ -16,7 +18,7 @@ use std::io::{self, ErrorKind};
 use std::process::ExitCode;
 use std::rt::Env;
 
-// The words behind the program's own name.
+// The words after the program's own name.
 fn words_of<R: Env + Alloc<A = Global>>(rt: &R) -> io::Result<Vec<String>> {
     let mut words = Vec::new(rt.alloc());
     for word in env::args(rt)?.skip(1) {

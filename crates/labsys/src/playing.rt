@@ -1,8 +1,7 @@
 // An input that was read, from its first byte to the last line.
-ghost use Rattle.std.specs.Prelude.{◌≡◌, ◌≤◌, ◌+◌, ◌^◌, ◌++◌, true, OnOk, IfOk, IfErr, Some, length};
+ghost use Rattle.std.specs.Prelude.{◌≡◌, ℕ, ◌≤◌, ◌+◌, ◌^◌, ◌++◌, true, OnOk, IfOk, Some, length};
 ghost use Rattle.std.specs.List.{flat_map};
 ghost use Rattle.std.specs.Io.KnownBytes.{Appends};
-ghost use Rattle.io_ends.specs.Causes.{Rose};
 ghost use Rattle.kern_model.specs.Boot.{boot};
 ghost use Rattle.kern_model.specs.Run.{played};
 ghost use Rattle.kern_model.specs.Step.{step};
@@ -15,8 +14,10 @@ ghost use Rattle.aud_record.specs.Written.{rec_text as rec_line, header_text as 
 ghost use Rattle.fs_path.specs.Lines.{pieces};
 ghost use Rattle.labsys.specs.Input.{item_of, script_from, read_input};
 ghost use Rattle.labsys.specs.Texts.{end_text, label_in, caps_in, ends_text, last_text};
-ghost use Rattle.labsys.specs.Order.{turn_of, told, order_in, order_by, order_of};
-ghost use Rattle.labsys.specs.Playing.{AppendsFront, Sends, SendsFront, Caused, Finishes, Takes, Plays};
+ghost use Rattle.labsys.specs.Session.{call_bytes};
+ghost use Rattle.labsys.specs.Order.{call_order, order_by, order_of};
+ghost use Rattle.labsys.specs.Counts.{CountsOnce, counts};
+ghost use Rattle.labsys.specs.Playing.{AppendsPrefix, Sends, SendsPrefix, Finishes, Takes, Plays, order_in};
 
 use crate::reading::{Halt, Next, ReadWorld, next_item, read_world};
 use crate::texts::{end_line, last_line};
@@ -34,11 +35,11 @@ use std::alloc::Global;
 const LIMIT: u64 = 16_777_216;
 
 // A piece to the trail.
+#[tactic(auto, unfolding(crate::specs::Counts::counted_by))]
 fn note<T: Sink>(trail: &mut T, piece: &[u8]) -> Result<(), Fault>
     ensures ok { OnOk result (Appends (T.held trail.old) (T.held trail.new) piece.now) }
-    ensures front { AppendsFront (T.held trail.old) (T.held trail.new) piece.now }
-    ensures later { T.faults trail.old ≤ T.faults trail.new }
-    ensures cause { IfErr result (λ fault. Caused fault ⊥ ⊥ (Rose (T.faults trail.old) (T.faults trail.new))) }
+    ensures prefix { AppendsPrefix (T.held trail.old) (T.held trail.new) piece.now }
+    ensures counts { (s o : ℕ) → CountsOnce result (counts s o (T.faults trail.old)) (counts s o (T.faults trail.new)) }
 {
     match write_whole(trail, piece) {
         Ok(()) => Ok(()),
@@ -47,11 +48,11 @@ fn note<T: Sink>(trail: &mut T, piece: &[u8]) -> Result<(), Fault>
 }
 
 // A piece to the output.
+#[tactic(auto, unfolding(crate::specs::Counts::counted_by))]
 fn answer<K: Sink>(out: &mut K, piece: &[u8]) -> Result<(), Fault>
     ensures ok { OnOk result (Appends (K.held out.old) (K.held out.new) piece.now) }
-    ensures front { AppendsFront (K.held out.old) (K.held out.new) piece.now }
-    ensures later { K.faults out.old ≤ K.faults out.new }
-    ensures cause { IfErr result (λ fault. Caused fault ⊥ (Rose (K.faults out.old) (K.faults out.new)) ⊥) }
+    ensures prefix { AppendsPrefix (K.held out.old) (K.held out.new) piece.now }
+    ensures counts { (s t : ℕ) → CountsOnce result (counts s (K.faults out.old) t) (counts s (K.faults out.new) t) }
 {
     match write_whole(out, piece) {
         Ok(()) => Ok(()),
@@ -68,9 +69,8 @@ fn note_all<T: Sink>(
     trail: &mut T,
 ) -> Result<(), Fault>
     ensures ok { OnOk result (Appends (T.held trail.old) (T.held trail.new) (flat_map (rec_line policy.now call) recs.now)) }
-    ensures front { AppendsFront (T.held trail.old) (T.held trail.new) (flat_map (rec_line policy.now call) recs.now) }
-    ensures later { T.faults trail.old ≤ T.faults trail.new }
-    ensures cause { IfErr result (λ fault. Caused fault ⊥ ⊥ (Rose (T.faults trail.old) (T.faults trail.new))) }
+    ensures prefix { AppendsPrefix (T.held trail.old) (T.held trail.new) (flat_map (rec_line policy.now call) recs.now) }
+    ensures counts { (s o : ℕ) → CountsOnce result (counts s o (T.faults trail.old)) (counts s o (T.faults trail.new)) }
 {
     for rec in recs {
         let text = rec_text(alloc, policy, call, rec)?;
@@ -92,12 +92,10 @@ fn play_item<K: Sink, T: Sink>(
 ) -> Result<(), Fault>
     requires arguments { is_call (state_of kernel.old).top call ≡ true }
     requires built { is_built call ≡ true }
-    ensures ok { OnOk result (Sends (K.held out.old) (K.held out.new) (T.held trail.old) (T.held trail.new) (told (turn_of policy.now number (played (state_of kernel.old) (item_of who call))))) }
+    ensures ok { OnOk result (Sends (K.held out.old) (K.held out.new) (T.held trail.old) (T.held trail.new) (call_order (call_bytes policy.now number (played (state_of kernel.old) (item_of who call))))) }
     ensures state { OnOk result (state_of kernel.new ≡ (step (state_of kernel.old) who call).state) }
-    ensures front { SendsFront (K.held out.old) (K.held out.new) (T.held trail.old) (T.held trail.new) (told (turn_of policy.now number (played (state_of kernel.old) (item_of who call)))) }
-    ensures out_later { K.faults out.old ≤ K.faults out.new }
-    ensures trail_later { T.faults trail.old ≤ T.faults trail.new }
-    ensures cause { IfErr result (λ fault. Caused fault ⊥ (Rose (K.faults out.old) (K.faults out.new)) (Rose (T.faults trail.old) (T.faults trail.new))) }
+    ensures prefix { SendsPrefix (K.held out.old) (K.held out.new) (T.held trail.old) (T.held trail.new) (call_order (call_bytes policy.now number (played (state_of kernel.old) (item_of who call)))) }
+    ensures counts { (s : ℕ) → CountsOnce result (counts s (K.faults out.old) (T.faults trail.old)) (counts s (K.faults out.new) (T.faults trail.new)) }
 {
     let outcome = kernel.call(&who, &call)?;
     note_all(alloc, policy, number, outcome.recs.items(), trail)?;
@@ -114,9 +112,8 @@ fn tell_end<K: Sink>(
     out: &mut K,
 ) -> Result<(), Fault>
     ensures ok { OnOk result (Appends (K.held out.old) (K.held out.new) (end_text policy.now who.now (label_in (state_of kernel.now) who.now) (caps_in (state_of kernel.now) who.now))) }
-    ensures front { AppendsFront (K.held out.old) (K.held out.new) (end_text policy.now who.now (label_in (state_of kernel.now) who.now) (caps_in (state_of kernel.now) who.now)) }
-    ensures later { K.faults out.old ≤ K.faults out.new }
-    ensures cause { IfErr result (λ fault. Caused fault ⊥ (Rose (K.faults out.old) (K.faults out.new)) ⊥) }
+    ensures prefix { AppendsPrefix (K.held out.old) (K.held out.new) (end_text policy.now who.now (label_in (state_of kernel.now) who.now) (caps_in (state_of kernel.now) who.now)) }
+    ensures counts { (s t : ℕ) → CountsOnce result (counts s (K.faults out.old) t) (counts s (K.faults out.new) t) }
 {
     match (kernel.label_of(who), kernel.caps_of(who)) {
         (Some(label), Some(caps)) => {
@@ -136,9 +133,8 @@ fn tell_ends<K: Sink>(
     out: &mut K,
 ) -> Result<(), Fault>
     ensures ok { OnOk result (Appends (K.held out.old) (K.held out.new) (ends_text policy.now (state_of kernel.now))) }
-    ensures front { AppendsFront (K.held out.old) (K.held out.new) (ends_text policy.now (state_of kernel.now)) }
-    ensures later { K.faults out.old ≤ K.faults out.new }
-    ensures cause { IfErr result (λ fault. Caused fault ⊥ (Rose (K.faults out.old) (K.faults out.new)) ⊥) }
+    ensures prefix { AppendsPrefix (K.held out.old) (K.held out.new) (ends_text policy.now (state_of kernel.now)) }
+    ensures counts { (s t : ℕ) → CountsOnce result (counts s (K.faults out.old) t) (counts s (K.faults out.new) t) }
 {
     let numbers = kernel.live()?;
     for who in numbers.items() {
@@ -150,9 +146,8 @@ fn tell_ends<K: Sink>(
 // The last line.
 fn tell_last<K: Sink>(alloc: Global, count: u64, ending: Ending, out: &mut K) -> Result<(), Fault>
     ensures ok { OnOk result (Appends (K.held out.old) (K.held out.new) (last_text count ending)) }
-    ensures front { AppendsFront (K.held out.old) (K.held out.new) (last_text count ending) }
-    ensures later { K.faults out.old ≤ K.faults out.new }
-    ensures cause { IfErr result (λ fault. Caused fault ⊥ (Rose (K.faults out.old) (K.faults out.new)) ⊥) }
+    ensures prefix { AppendsPrefix (K.held out.old) (K.held out.new) (last_text count ending) }
+    ensures counts { (s t : ℕ) → CountsOnce result (counts s (K.faults out.old) t) (counts s (K.faults out.new) t) }
 {
     let text = last_line(alloc, count, ending)?;
     answer(out, &text)
@@ -168,9 +163,8 @@ fn finish<K: Sink>(
     out: &mut K,
 ) -> Result<(), Fault>
     ensures ok { OnOk result (Appends (K.held out.old) (K.held out.new) (ends_text policy.now (state_of kernel.now) ++ last_text count ending)) }
-    ensures front { AppendsFront (K.held out.old) (K.held out.new) (ends_text policy.now (state_of kernel.now) ++ last_text count ending) }
-    ensures later { K.faults out.old ≤ K.faults out.new }
-    ensures cause { IfErr result (λ fault. Caused fault ⊥ (Rose (K.faults out.old) (K.faults out.new)) ⊥) }
+    ensures prefix { AppendsPrefix (K.held out.old) (K.held out.new) (ends_text policy.now (state_of kernel.now) ++ last_text count ending) }
+    ensures counts { (s t : ℕ) → CountsOnce result (counts s (K.faults out.old) t) (counts s (K.faults out.new) t) }
 {
     tell_ends(alloc, kernel, policy, out)?;
     tell_last(alloc, count, ending, out)
@@ -190,24 +184,22 @@ fn play_script<K: Sink, T: Sink>(
     requires small { first + length script.now ≤ 2 ^ 60 }
     requires top { (state_of kernel.old).top ≡ top_of policy.now }
     ensures whole { IfOk result (λ e. Finishes (K.held out.old) (K.held out.new) (T.held trail.old) (T.held trail.new) (order_in policy.now 0 (state_of kernel.old) (script_from over policy.now first (pieces 10 script.now))) e (script_from over policy.now first (pieces 10 script.now)).ending) }
-    ensures front { SendsFront (K.held out.old) (K.held out.new) (T.held trail.old) (T.held trail.new) (order_in policy.now 0 (state_of kernel.old) (script_from over policy.now first (pieces 10 script.now))) }
-    ensures out_later { K.faults out.old ≤ K.faults out.new }
-    ensures trail_later { T.faults trail.old ≤ T.faults trail.new }
-    ensures cause { IfErr result (λ fault. Caused fault ⊥ (Rose (K.faults out.old) (K.faults out.new)) (Rose (T.faults trail.old) (T.faults trail.new))) }
+    ensures prefix { SendsPrefix (K.held out.old) (K.held out.new) (T.held trail.old) (T.held trail.new) (order_in policy.now 0 (state_of kernel.old) (script_from over policy.now first (pieces 10 script.now))) }
+    ensures counts { (s : ℕ) → CountsOnce result (counts s (K.faults out.old) (T.faults trail.old)) (counts s (K.faults out.new) (T.faults trail.new)) }
 {
     let mut rest = script;
     let mut number = first;
     let mut count = 0u64;
     loop {
         match next_item(alloc, policy, number, rest, over)? {
-            Next::Item(who, call, behind) => {
+            Next::Item(who, call, after) => {
                 play_item(alloc, kernel, policy, count + 1, who, call, out, trail)?;
-                rest = behind;
+                rest = after;
                 number += 1;
                 count += 1;
             }
-            Next::Blank(behind) => {
-                rest = behind;
+            Next::Blank(after) => {
+                rest = after;
                 number += 1;
             }
             Next::Ended(ending) => {
@@ -227,9 +219,8 @@ fn begin<T: Sink>(
     trail: &mut T,
 ) -> Result<(), Fault>
     ensures ok { OnOk result (Appends (T.held trail.old) (T.held trail.new) (head_lines policy.now bound.now ++ flat_map (rec_line policy.now 0) recs.now)) }
-    ensures front { AppendsFront (T.held trail.old) (T.held trail.new) (head_lines policy.now bound.now ++ flat_map (rec_line policy.now 0) recs.now) }
-    ensures later { T.faults trail.old ≤ T.faults trail.new }
-    ensures cause { IfErr result (λ fault. Caused fault ⊥ ⊥ (Rose (T.faults trail.old) (T.faults trail.new))) }
+    ensures prefix { AppendsPrefix (T.held trail.old) (T.held trail.new) (head_lines policy.now bound.now ++ flat_map (rec_line policy.now 0) recs.now) }
+    ensures counts { (s o : ℕ) → CountsOnce result (counts s o (T.faults trail.old)) (counts s o (T.faults trail.new)) }
 {
     let text = header_text(alloc, policy, bound)?;
     note(trail, &text)?;
@@ -249,11 +240,9 @@ fn play_world<K: Sink, T: Sink>(
     requires small { read.now.number + length read.now.script.now ≤ 2 ^ 60 }
     ensures whole { IfOk result (λ e. Finishes (K.held out.old) (K.held out.new) (T.held trail.old) (T.held trail.new)
         (order_by (Some read.now.read) (script_from over read.now.read.policy read.now.number (pieces 10 read.now.script.now))) e (script_from over read.now.read.policy read.now.number (pieces 10 read.now.script.now)).ending) }
-    ensures front { SendsFront (K.held out.old) (K.held out.new) (T.held trail.old) (T.held trail.new)
+    ensures prefix { SendsPrefix (K.held out.old) (K.held out.new) (T.held trail.old) (T.held trail.new)
         (order_by (Some read.now.read) (script_from over read.now.read.policy read.now.number (pieces 10 read.now.script.now))) }
-    ensures out_later { K.faults out.old ≤ K.faults out.new }
-    ensures trail_later { T.faults trail.old ≤ T.faults trail.new }
-    ensures cause { IfErr result (λ fault. Caused fault ⊥ (Rose (K.faults out.old) (K.faults out.new)) (Rose (T.faults trail.old) (T.faults trail.new))) }
+    ensures counts { (s : ℕ) → CountsOnce result (counts s (K.faults out.old) (T.faults trail.old)) (counts s (K.faults out.new) (T.faults trail.new)) }
 {
     let (mut kernel, recs) = Kernel::boot(alloc, &read.read.world)?;
     begin(
@@ -278,9 +267,8 @@ fn play_world<K: Sink, T: Sink>(
 // Without a world the last line is all that is written.
 fn end_without_world<K: Sink>(alloc: Global, ending: Ending, out: &mut K) -> Result<Ending, Fault>
     ensures ok { IfOk result (λ e. Appends (K.held out.old) (K.held out.new) (last_text 0 ending) × (e ≡ ending)) }
-    ensures front { AppendsFront (K.held out.old) (K.held out.new) (last_text 0 ending) }
-    ensures later { K.faults out.old ≤ K.faults out.new }
-    ensures cause { IfErr result (λ fault. Caused fault ⊥ (Rose (K.faults out.old) (K.faults out.new)) ⊥) }
+    ensures prefix { AppendsPrefix (K.held out.old) (K.held out.new) (last_text 0 ending) }
+    ensures counts { (s t : ℕ) → CountsOnce result (counts s (K.faults out.old) t) (counts s (K.faults out.new) t) }
 {
     tell_last(alloc, 0, ending, out)?;
     Ok(ending)
@@ -296,10 +284,8 @@ fn play_text<K: Sink, T: Sink>(
 ) -> Result<Ending, Fault>
     requires { length text.now ≤ 16777216 }
     ensures whole { IfOk result (λ e. Finishes (K.held out.old) (K.held out.new) (T.held trail.old) (T.held trail.new) (order_of (read_input over text.now)) e (read_input over text.now).script.ending) }
-    ensures front { SendsFront (K.held out.old) (K.held out.new) (T.held trail.old) (T.held trail.new) (order_of (read_input over text.now)) }
-    ensures out_later { K.faults out.old ≤ K.faults out.new }
-    ensures trail_later { T.faults trail.old ≤ T.faults trail.new }
-    ensures cause { IfErr result (λ fault. Caused fault ⊥ (Rose (K.faults out.old) (K.faults out.new)) (Rose (T.faults trail.old) (T.faults trail.new))) }
+    ensures prefix { SendsPrefix (K.held out.old) (K.held out.new) (T.held trail.old) (T.held trail.new) (order_of (read_input over text.now)) }
+    ensures counts { (s : ℕ) → CountsOnce result (counts s (K.faults out.old) (T.faults trail.old)) (counts s (K.faults out.new) (T.faults trail.new)) }
 {
     match read_world(alloc, text, over) {
         Ok(read) => play_world(alloc, &read, over, out, trail),
@@ -309,10 +295,10 @@ fn play_text<K: Sink, T: Sink>(
 }
 
 // Takes all that a source has, to one byte above the limit.
+#[tactic(auto, unfolding(crate::specs::Counts::counted_by))]
 fn take_all<S: Source>(alloc: Global, source: &mut S) -> Result<Whole, Fault>
     ensures takes { Takes result (S.left source.old) (S.left source.new) }
-    ensures later { S.faults source.old ≤ S.faults source.new }
-    ensures cause { IfErr result (λ fault. Caused fault (Rose (S.faults source.old) (S.faults source.new)) ⊥ ⊥) }
+    ensures counts { (o t : ℕ) → CountsOnce result (counts (S.faults source.old) o t) (counts (S.faults source.new) o t) }
 {
     match read_whole(alloc, source, LIMIT) {
         Ok(whole) => Ok(whole),
@@ -329,10 +315,7 @@ pub fn play<S: Source, K: Sink, T: Sink>(
     trail: &mut T,
 ) -> Result<Ending, Fault>
     ensures plays { Plays result (S.left source.old) (S.left source.new) (K.held out.old) (K.held out.new) (T.held trail.old) (T.held trail.new) }
-    ensures read_later { S.faults source.old ≤ S.faults source.new }
-    ensures out_later { K.faults out.old ≤ K.faults out.new }
-    ensures trail_later { T.faults trail.old ≤ T.faults trail.new }
-    ensures cause { IfErr result (λ fault. Caused fault (Rose (S.faults source.old) (S.faults source.new)) (Rose (K.faults out.old) (K.faults out.new)) (Rose (T.faults trail.old) (T.faults trail.new))) }
+    ensures counts { CountsOnce result (counts (S.faults source.old) (K.faults out.old) (T.faults trail.old)) (counts (S.faults source.new) (K.faults out.new) (T.faults trail.new)) }
 {
     let whole = take_all(alloc, source)?;
     play_text(alloc, whole.bytes.items(), whole.more, out, trail)

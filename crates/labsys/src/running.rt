@@ -1,19 +1,20 @@
 // The top call.
-ghost use Rattle.std.specs.Prelude.{◌≡◌, ◌≤◌, ◌+◌, ◌↔◌, IsTrue, List, ℕ, length, Some};
+ghost use Rattle.std.specs.Prelude.{◌≡◌, ◌↔◌, None, Some, List, ℕ, IfSome};
 ghost use Rattle.std.specs.Io.KnownBytes.{IsAtEnd};
-ghost use Rattle.io_ends.specs.Causes.{Rose};
 ghost use Rattle.lab_lattice.specs.Label.{Label};
-ghost use Rattle.kern_model.specs.Fronts.{IsFront};
-ghost use Rattle.labsys.specs.Input.{input_of};
-ghost use Rattle.labsys.specs.Order.{out_text, trail_text};
-ghost use Rattle.labsys.specs.Clauses.{status_of, ends_with, OnWhole, OnKnown, HasCauses, WhereTold, WhereAccepted, Covered, RepliesFirst, Printed, Dropped, Isolated, IsolatedWhole, SameBelow, TwoInputs, TwoWhole, ArePlayWords, IsFileWord, IsComplete};
+ghost use Rattle.labsys.specs.Session.{session_of};
+ghost use Rattle.labsys.specs.Order.{out_of, trail_of, IsInOrder};
+ghost use Rattle.labsys.specs.Commands.{LeavesAlone, command_of, due};
+ghost use Rattle.labsys.specs.Counts.{counts, counts_after};
+ghost use Rattle.labsys.specs.Clauses.{status_of, OnWhole, TakesAtMost, WhereReported, reports, WhereAccepted, Covered, RepliesFirst, Printed, Dropped, Isolated, IsolatedWhole, SameBelow, TwoInputs, TwoWhole};
 
+use crate::command::command_of;
 use crate::playing::play;
-use crate::{Ending, Fault, Status};
+use crate::{Command, Ending, Fault, Status};
 use io_ends::{Sink, Source};
 use std::alloc::Global;
 
-fn status_from(played: Result<Ending, Fault>) -> Status
+fn status_of(played: Result<Ending, Fault>) -> Status
     ensures { result ≡ status_of played }
 {
     match played {
@@ -27,23 +28,6 @@ fn status_from(played: Result<Ending, Fault>) -> Status
     }
 }
 
-// Whether bytes can name a file: there is one, and the first is no `-`.
-fn is_file_word(word: &[u8]) -> bool
-    ensures { IsTrue result ↔ IsFileWord word.now }
-{
-    word.first().is_some_and(|first| *first != b'-')
-}
-
-// Whether the words are `play FILE`.
-fn are_play_words(words: &[String]) -> bool
-    ensures { IsTrue result ↔ ArePlayWords words.now }
-{
-    match words {
-        [command, file] => command.as_str() == "play" && is_file_word(file.as_bytes()),
-        _ => false,
-    }
-}
-
 /// Runs the command that the words name. `play FILE` plays the world and the script that the source holds: it writes
 /// the reply to each call to the output, and before it the records of the call to the trail. The file isn't looked
 /// at: `trail` stands for it.
@@ -54,57 +38,56 @@ pub fn run<S: Source, K: Sink, T: Sink>(
     out: &mut K,
     trail: &mut T,
 ) -> Status
-    ensures words { (result ≡ Status.Usage) ↔ ¬ ArePlayWords words.now }
-    // Where the words are no command nothing is read or written.
-    ensures usage { result ≡ Status.Usage → (source.new ≡ source.old) × (out.new ≡ out.old) × (trail.new ≡ trail.old) }
+    // Status 1 comes exactly where the words name no command.
+    ensures words { (result ≡ Status.Usage) ↔ (command_of words.now ≡ None) }
+    // Without a command nothing is read or written.
+    ensures left_alone { LeavesAlone (command_of words.now) (source.new ≡ source.old) (out.new ≡ out.old) (trail.new ≡ trail.old) }
+    // The first fault ends the run: one is counted with status 3, 4 or 5, by the end that it tells, and none with another.
+    ensures counts { counts (S.faults source.new) (K.faults out.new) (T.faults trail.new) ≡ counts_after result (counts (S.faults source.old) (K.faults out.old) (T.faults trail.old)) }
 
-    // With status 0, 2 or 7 the whole output and the whole trail were appended, and the input ends so.
-    ensures whole { WhereTold (S.left source.old) (K.held out.old) (K.held out.new) (T.held trail.old) (T.held trail.new)
-        (λ text o t. OnWhole result ((o ≡ out_text (input_of text)) × (t ≡ trail_text (input_of text)) × (ends_with (input_of text).script.ending ≡ result))) }
-    // At every exit a front of each was.
-    ensures front { WhereTold (S.left source.old) (K.held out.old) (K.held out.new) (T.held trail.old) (T.held trail.new)
-        (λ text o t. OnKnown result (IsFront o (out_text (input_of text)) × IsFront t (trail_text (input_of text)))) }
-    // After a read fault nothing was.
-    ensures read_fault { result ≡ Status.ReadFault → (K.held out.new ≡ K.held out.old) × (T.held trail.new ≡ T.held trail.old) }
+    // At every exit both sinks have got what a prefix of the one order gives.
+    ensures order { IfSome (command_of words.now) (λ command. WhereReported (reports (S.left source.old) (K.held out.old) (T.held trail.old)) (reports (S.left source.new) (K.held out.new) (T.held trail.new))
+        (λ text o t. IsInOrder (due command text).order o t)) }
+    // With status 0, 2 or 7 they have got all of it.
+    ensures whole { IfSome (command_of words.now) (λ command. OnWhole result (WhereReported (reports (S.left source.old) (K.held out.old) (T.held trail.old)) (reports (S.left source.new) (K.held out.new) (T.held trail.new))
+        (λ text o t. (o ≡ out_of (due command text).order) × (t ≡ trail_of (due command text).order)))) }
+    // Which of these three it is depends on the source's bytes alone.
+    ensures ending { IfSome (command_of words.now) (λ command. OnWhole result ((text : List ℕ) → S.left source.old ≡ Some text → result ≡ (due command text).status)) }
 
-    // Each reply that was written has its records in the trail, behind its head.
-    ensures covered { WhereTold (S.left source.old) (K.held out.old) (K.held out.new) (T.held trail.old) (T.held trail.new)
-        (λ text o t. OnKnown result (WhereAccepted (input_of text) (λ a. Covered a (input_of text).script o t))) }
-    // A byte of a call's record stands only behind the replies to all calls before it.
-    ensures replies_first { WhereTold (S.left source.old) (K.held out.old) (K.held out.new) (T.held trail.old) (T.held trail.new)
-        (λ text o t. OnKnown result (WhereAccepted (input_of text) (λ a. RepliesFirst a (input_of text).script o t))) }
+    // Each reply that was written has its records in the trail, after the head of the trail.
+    ensures covered { command_of words.now ≡ Some Command.Play → WhereReported (reports (S.left source.old) (K.held out.old) (T.held trail.old)) (reports (S.left source.new) (K.held out.new) (T.held trail.new))
+        (λ text o t. WhereAccepted text (λ a script. Covered (session_of a script) o t)) }
+    // A byte of a call's record stands only after the replies to all calls before it.
+    ensures replies_first { command_of words.now ≡ Some Command.Play → WhereReported (reports (S.left source.old) (K.held out.old) (T.held trail.old)) (reports (S.left source.new) (K.held out.new) (T.held trail.new))
+        (λ text o t. WhereAccepted text (λ a script. RepliesFirst (session_of a script) o t)) }
 
     // Up to the first record that crosses a label, the replies below it are those of the part below it alone.
-    ensures isolated { (l : Label) → WhereTold (S.left source.old) (K.held out.old) (K.held out.new) (T.held trail.old) (T.held trail.new)
-        (λ text o t. OnKnown result (WhereAccepted (input_of text) (λ a. Isolated l a (input_of text).script o))) }
-    ensures isolated_whole { (l : Label) → WhereTold (S.left source.old) (K.held out.old) (K.held out.new) (T.held trail.old) (T.held trail.new)
-        (λ text o t. OnWhole result (WhereAccepted (input_of text) (λ a. IsolatedWhole l a (input_of text).script o))) }
-    // Inputs that look the same from below get the same replies there.
-    ensures two_inputs { (l : Label) (other : List ℕ) → WhereTold (S.left source.old) (K.held out.old) (K.held out.new) (T.held trail.old) (T.held trail.new)
-        (λ text o t. OnKnown result (WhereAccepted (input_of text) (λ a. WhereAccepted (input_of other) (λ b.
-        SameBelow l a (input_of text).script b (input_of other).script → TwoInputs l a (input_of text).script b (input_of other).script o)))) }
-    ensures two_whole { (l : Label) (other : List ℕ) → WhereTold (S.left source.old) (K.held out.old) (K.held out.new) (T.held trail.old) (T.held trail.new)
-        (λ text o t. OnWhole result (WhereAccepted (input_of text) (λ a. WhereAccepted (input_of other) (λ b.
-        SameBelow l a (input_of text).script b (input_of other).script → TwoWhole l a (input_of text).script b (input_of other).script o)))) }
+    ensures isolated { (l : Label) → command_of words.now ≡ Some Command.Play → WhereReported (reports (S.left source.old) (K.held out.old) (T.held trail.old)) (reports (S.left source.new) (K.held out.new) (T.held trail.new))
+        (λ text o t. WhereAccepted text (λ a script. Isolated l a script o)) }
+    // In a whole run that no record crosses they are all of them.
+    ensures isolated_whole { (l : Label) → command_of words.now ≡ Some Command.Play → OnWhole result (WhereReported (reports (S.left source.old) (K.held out.old) (T.held trail.old)) (reports (S.left source.new) (K.held out.new) (T.held trail.new))
+        (λ text o t. WhereAccepted text (λ a script. IsolatedWhole l a script o))) }
+    // Inputs that look the same from below get the same replies there, each up to its first crossing.
+    ensures two_inputs { (l : Label) (other : List ℕ) → command_of words.now ≡ Some Command.Play → WhereReported (reports (S.left source.old) (K.held out.old) (T.held trail.old)) (reports (S.left source.new) (K.held out.new) (T.held trail.new))
+        (λ text o t. WhereAccepted text (λ a script. WhereAccepted other (λ b script'. SameBelow l a script b script' → TwoInputs l a script b script' o))) }
+    // In whole runs that no record crosses they are equal.
+    ensures two_whole { (l : Label) (other : List ℕ) → command_of words.now ≡ Some Command.Play → OnWhole result (WhereReported (reports (S.left source.old) (K.held out.old) (T.held trail.old)) (reports (S.left source.new) (K.held out.new) (T.held trail.new))
+        (λ text o t. WhereAccepted text (λ a script. WhereAccepted other (λ b script'. SameBelow l a script b script' → TwoWhole l a script b script' o)))) }
 
-    // Each end line has the capability sets that the records tell, all of which are in the trail then.
-    ensures printed { WhereTold (S.left source.old) (K.held out.old) (K.held out.new) (T.held trail.old) (T.held trail.new)
-        (λ text o t. OnKnown result (WhereAccepted (input_of text) (λ a. Printed a (input_of text).script o t))) }
+    // Each end line has the capability sets that the records give, all of which are in the trail then.
+    ensures printed { command_of words.now ≡ Some Command.Play → WhereReported (reports (S.left source.old) (K.held out.old) (T.held trail.old)) (reports (S.left source.new) (K.held out.new) (T.held trail.new))
+        (λ text o t. WhereAccepted text (λ a script. Printed (session_of a script) o t)) }
     // The trail is of records in which permitted sets grow by exec alone.
-    ensures dropped { WhereTold (S.left source.old) (K.held out.old) (K.held out.new) (T.held trail.old) (T.held trail.new)
-        (λ text o t. OnKnown result (WhereAccepted (input_of text) (λ a. Dropped a (input_of text).script t))) }
+    ensures dropped { command_of words.now ≡ Some Command.Play → WhereReported (reports (S.left source.old) (K.held out.old) (T.held trail.old)) (reports (S.left source.new) (K.held out.new) (T.held trail.new))
+        (λ text o t. WhereAccepted text (λ a script. Dropped (session_of a script) t)) }
 
-    ensures to_the_end { result ≡ Status.Done → IsAtEnd (S.left source.new) }
-    ensures few { (text rest : List ℕ) → S.left source.old ≡ Some text → S.left source.new ≡ Some rest → length text ≤ length rest + 16777217 }
-
-    ensures causes { HasCauses result (Rose (S.faults source.old) (S.faults source.new)) (Rose (K.faults out.old) (K.faults out.new)) (Rose (T.faults trail.old) (T.faults trail.new)) }
-    // With no fault counted the run is not cut short but for want of memory.
-    ensures complete { ¬ Rose (S.faults source.old) (S.faults source.new) → ¬ Rose (K.faults out.old) (K.faults out.new) → ¬ Rose (T.faults trail.old) (T.faults trail.new) → IsComplete result }
-    ensures later { (S.faults source.old ≤ S.faults source.new) × (K.faults out.old ≤ K.faults out.new) × (T.faults trail.old ≤ T.faults trail.new) }
+    // The input is read to its end where it was accepted whole.
+    ensures to_the_end { command_of words.now ≡ Some Command.Play → result ≡ Status.Done → IsAtEnd (S.left source.new) }
+    // No more of it is read than the limit and one byte.
+    ensures few { TakesAtMost 16777217 (S.left source.old) (S.left source.new) }
 {
-    if !are_play_words(words) {
-        return Status::Usage;
+    match command_of(words) {
+        Some(Command::Play) => status_of(play(alloc, source, out, trail)),
+        None => Status::Usage,
     }
-    let played = play(alloc, source, out, trail);
-    status_from(played)
 }

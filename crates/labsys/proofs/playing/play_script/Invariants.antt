@@ -3,7 +3,7 @@ use Rattle.fs_path.specs.Lines.{pieces}
 use Rattle.lab_text.specs.Policy.{top_of}
 use Rattle.labsys.specs.Input.{script_from}
 use Rattle.kern_core.specs.Kernel.{state_of}
-use Rattle.labsys.specs.Order.{order_in}
+use Rattle.labsys.specs.Playing.{order_in}
 use Rattle.labsys.proofs.ScriptLemmas.{Underway}
 use Rattle.labsys.proofs.playing.play_script.Given as goal
 
@@ -15,8 +15,8 @@ invariant-loop-who g l = record {
   top : (state_of l.kernel).top ≡ top_of l.policy;
   few : l.number + length l.rest ≤ 2 ^ 60;
   counted : l.count ≤ l.number;
-  out_later : g.K.Sink.faults l.initial.out ≤ g.K.Sink.faults l.out;
-  trail_later : g.T.Sink.faults l.initial.trail ≤ g.T.Sink.faults l.trail;
+  out_still : g.K.Sink.faults l.out ≡ g.K.Sink.faults l.initial.out;
+  trail_still : g.T.Sink.faults l.trail ≡ g.T.Sink.faults l.initial.trail;
 }
 
 abbrev pub decreases-loop-who : goal.decreases-loop-who

@@ -1,4 +1,4 @@
-use Rattle.std.proofs.Common.{◌≤◌, take}
+use Rattle.std.proofs.Common.{◌≡◌, take}
 use Rattle.std.specs.List.{flat_map}
 use Rattle.std.specs.Io.KnownBytes.{Appends}
 use Rattle.kern_model.specs.declared.numbers.Pid.{Pid}
@@ -8,6 +8,6 @@ use Rattle.labsys.proofs.playing.tell_ends.Given as goal
 
 abbrev pub invariant-loop-who : goal.invariant-loop-who
 invariant-loop-who g l = record {
-  told : Appends (g.K.Sink.held l.initial.out) (g.K.Sink.held l.out) (flat_map (λ (who : Pid). end_text l.policy who (label_in (state_of l.kernel) who) (caps_in (state_of l.kernel) who)) (take l.who-index l.who-items));
-  later : g.K.Sink.faults l.initial.out ≤ g.K.Sink.faults l.out;
+  written : Appends (g.K.Sink.held l.initial.out) (g.K.Sink.held l.out) (flat_map (λ (who : Pid). end_text l.policy who (label_in (state_of l.kernel) who) (caps_in (state_of l.kernel) who)) (take l.who-index l.who-items));
+  still : g.K.Sink.faults l.out ≡ g.K.Sink.faults l.initial.out;
 }
