@@ -169,7 +169,7 @@ fine text h =
     record { short = ltb-false _ _ short.0; none = short.1 }
 
 -- each name of the path is one
-pub path_names : (text : List ℕ) → path_fault text ≡ None → list_all is_name (path_said text).names ≡ true
+path_names : (text : List ℕ) → path_fault text ≡ None → list_all is_name (path_said text).names ≡ true
 unfolding path_said components_of
 path_names text h = all_names 0 0 (slice_split is_slash text) (no_slash_in_pieces text) (fine text h).none
 

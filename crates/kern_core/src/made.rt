@@ -29,7 +29,7 @@ fn bytes_from(alloc: Global, body: &Body) -> Result<ByteList, NoMemory>
     ensures { IfOk result (λ bytes. bytes ≡ bytes_of body.now) }
 {
     match body {
-        Body::File(bytes) => ByteList::from_slice(alloc, bytes.items()),
+        Body::File(bytes) => bytes.copy(),
         Body::Dir | Body::Fifo | Body::Pipe => Ok(ByteList::new(alloc)),
     }
 }

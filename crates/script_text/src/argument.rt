@@ -114,10 +114,10 @@ pub fn permissions(word: &LineWord) -> Result<Mode, LineError>
 
 /// Bytes.
 #[tactic(auto, unfolding(crate::specs::Argument::bytes))]
-pub fn bytes(alloc: Global, word: &LineWord) -> Result<ByteList, LineError>
+pub fn bytes(word: &LineWord) -> Result<ByteList, LineError>
     ensures { Answers (argument.bytes word.now.bytes) result }
 {
-    ByteList::from_slice(alloc, word.bytes.items()).map_err(LineError::NoMemory)
+    word.bytes.copy().map_err(LineError::NoMemory)
 }
 
 fn signed(word: &[u8]) -> Option<i64>

@@ -63,7 +63,7 @@ fn call_of_one(
         CallName::Setgid => number(word).map(Call::Setgid),
         CallName::CapSetProc => caps(word).map(Call::CapSetProc),
         CallName::MacSetProc => label(policy, word).map(Call::MacSetProc),
-        CallName::AudWrite => bytes(alloc, word).map(Call::AudWrite),
+        CallName::AudWrite => bytes(word).map(Call::AudWrite),
         CallName::AudSwitch => switch(word).map(Call::AudSwitch),
         _ => Err(LineError::Syntax),
     }
@@ -99,7 +99,7 @@ fn call_of_two(
             |path, flags| Call::OpenPath(path, flags, None),
         ),
         CallName::Read => two(number(first), up_to(65_536, second), Call::Read),
-        CallName::Write => two(number(first), bytes(alloc, second), Call::Write),
+        CallName::Write => two(number(first), bytes(second), Call::Write),
         CallName::Mkfifo => two(path(alloc, first), mode(second), Call::Mkfifo),
         CallName::Mkdir => two(path(alloc, first), mode(second), Call::Mkdir),
         CallName::Link => two(path(alloc, first), path(alloc, second), Call::Link),

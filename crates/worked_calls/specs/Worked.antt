@@ -9,7 +9,6 @@ use Rattle.cap_bits.specs.Cap.{cap_cmp}
 use Rattle.cap_bits.specs.CapSet.{all_of_caps}
 use Rattle.cap_bits.specs.CapSet as caps
 use Rattle.cap_bits.specs.State.{no_flags}
-use Rattle.fs_path.specs.Name.{is_name}
 use Rattle.fs_path.specs.Path.{PathValue}
 use Rattle.lab_lattice.specs.Label.{Label, label_at}
 use Rattle.kern_model.specs.declared.calls.Answer.{Answer}
