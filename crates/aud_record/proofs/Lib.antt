@@ -2,3 +2,11 @@ pub mod FitLemmas
 pub mod LineLemmas
 pub mod SpelledLemmas
 pub mod NameLemmas
+pub mod Again
+pub mod FieldLaws
+pub mod FormLaws
+pub mod KindLaws
+pub mod ListedLaws
+pub mod Numbers
+pub mod Quoted
+pub mod WordLaws

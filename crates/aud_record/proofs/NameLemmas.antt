@@ -9,8 +9,8 @@ use Rattle.cap_bits.specs.declared.cap.Cap.{Cap}
 use Rattle.cap_bits.specs.declared.cap.Cap.TheVariants as cap
 use Rattle.lab_text.specs.Names.{same_bytes}
 use Rattle.kern_model.specs.Named.{named, named_is}
-use Rattle.aud_record.specs.ListedLaws.{cap_again}
-use Rattle.aud_record.specs.Numbers.{same_itself, same_is, none_from}
+use Rattle.aud_record.proofs.ListedLaws.{cap_again}
+use Rattle.aud_record.proofs.Numbers.{same_itself, same_is, none_from}
 
 lower_name : (c : Cap) → str_to_ascii_lowercase (cap_name c) ≡ cap_name c
 lower_name cap.Chown = refl

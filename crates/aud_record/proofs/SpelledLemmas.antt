@@ -10,7 +10,7 @@ use Rattle.std.proofs.lemmas.Fmt.{parse-decimal}
 use Rattle.std.proofs.lemmas.Result.{OkIff-at_ok}
 use Rattle.lab_text.specs.Names.{same_bytes}
 use Rattle.aud_record.specs.Spelled.{number_spelled}
-use Rattle.aud_record.specs.Numbers.{same_itself, same_is, number_again, no_number, number_below}
+use Rattle.aud_record.proofs.Numbers.{same_itself, same_is, number_again, no_number, number_below}
 
 -- what is not parsed is no number
 pub unparsed : {E : Type 0} (word digits : List ℕ) (r : Result ℕ E) (e : E) → digits ≡ word → ParsesUnsigned 64 10 digits r → r ≡ Err e → None ≡ number_spelled (2 ^ 64) word

@@ -5,11 +5,3 @@ pub mod Words
 pub mod Spelled
 pub mod Forms
 pub mod Said
-pub mod Numbers
-pub mod ListedLaws
-pub mod WordLaws
-pub mod Quoted
-pub mod FieldLaws
-pub mod FormLaws
-pub mod KindLaws
-pub mod Again

@@ -1,6 +1,6 @@
 -- Sets of capabilities, and the words in which clauses and definitions speak of them.
 use Rattle.std.specs.Prelude.{◌≡◌, Bool, true, false, not, ◌&&◌, ◌||◌, ◌==◌, refl}
-use Rattle.fin_maps.specs.FinSet as set
+use Rattle.std.specs.FinSet as set
 use Rattle.std.specs.Bool.{Decides}
 use Rattle.std.specs.Cmp.{IsEquivalence, both_ways, decided, unsigned_tied, unsigned_Decides}
 use Rattle.std.specs.List.{list_any}

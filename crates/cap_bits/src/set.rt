@@ -17,7 +17,7 @@ pub struct CapSet {
 
 impl Model for CapSet {
     ghost use Rattle.std.specs.Prelude.{◌<◌, ◌^◌};
-    ghost use Rattle.fin_maps.specs.FinSet as set;
+    ghost use Rattle.std.specs.FinSet as set;
     ghost use Rattle.cap_bits.specs.Cap.{cap_cmp, cap_code};
     ghost use Rattle.cap_bits.specs.Word.{caps_of_word, word_of_caps, word_back};
 

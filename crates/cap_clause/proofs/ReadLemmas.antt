@@ -13,7 +13,7 @@ use Rattle.cap_bits.specs.declared.state.CapState.{CapState}
 use Rattle.cap_clause.specs.Clauses.{is_blank, operator_of, is_operator, flag_of, is_flag, clauses_of, first_fault, first_fault_or, unless_fault, list_said, needs_flag, operated, first_operator, clause_fault, with_clause}
 use Rattle.cap_clause.specs.Reading.{actions_said, front_said, clause_said}
 use Rattle.cap_clause.specs.Said.{caps_fault, caps_meant, caps_said}
-use Rattle.cap_clause.specs.Steps.{Stops, front_passes, behind_stops, said_rest, said_no_flag, said_next, clauses_blank, clauses_next, clause_unnamed, clause_unknown, clause_listed, clause_for_all, no_fault_in, fault_in, clauses_said}
+use Rattle.cap_clause.proofs.Steps.{Stops, front_passes, behind_stops, said_rest, said_no_flag, said_next, clauses_blank, clauses_next, clause_unnamed, clause_unknown, clause_listed, clause_for_all, no_fault_in, fault_in, clauses_said}
 use Rattle.cap_clause.specs.declared.action.Operator.{Operator}
 use Rattle.cap_clause.specs.declared.action.Operator.TheVariants.{Assign, Raise, Lower}
 use Rattle.cap_clause.specs.declared.error.CapTextError.{CapTextError}

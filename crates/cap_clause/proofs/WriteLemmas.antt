@@ -15,8 +15,8 @@ use Rattle.cap_bits.specs.declared.cap.Cap.TheVariants.{Chown, DacExecute, DacRe
 use Rattle.cap_bits.specs.declared.state.CapState.{CapState}
 use Rattle.cap_bits.specs.declared.state.Flag.TheVariants.{Effective, Inheritable, Permitted}
 use Rattle.cap_clause.specs.Clauses.{are_some, all_flags}
-use Rattle.cap_clause.specs.Groups.{flags_same, has-group_of}
-use Rattle.cap_clause.specs.WrittenAgain.{clause_some}
+use Rattle.cap_clause.proofs.Groups.{flags_same, has-group_of}
+use Rattle.cap_clause.proofs.WrittenAgain.{clause_some}
 use Rattle.cap_clause.specs.Written.{caps_of, same_flags, group_of, is_first, firsts_of, group_text, clauses_text, caps_text}
 
 -- ---- pieces

@@ -1,7 +1,7 @@
 -- The canonical texts of states and of sets.
 use Rattle.std.specs.Prelude.{ℕ, ◌&&◌, not, nat_lt, Bool, cond, List, [], ◌∷◌, ◌++◌, map, codes}
 use Rattle.std.specs.Bool.{beq}
-use Rattle.fin_maps.specs.FinSet as set
+use Rattle.std.specs.FinSet as set
 use Rattle.std.specs.List.{filter, join_with_byte, list_all, list_any}
 use Rattle.cap_bits.specs.Cap.{cap_name, cap_number, all_caps}
 use Rattle.cap_bits.specs.CapSet.{CapSet, has, no_caps, all_of_caps, same_sets}

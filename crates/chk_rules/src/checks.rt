@@ -21,7 +21,7 @@ pub struct Checks {
 }
 
 impl Model for Checks {
-    ghost use Rattle.fin_maps.specs.FinSet as set;
+    ghost use Rattle.std.specs.FinSet as set;
     ghost use Rattle.std.specs.Coded.{codes};
     ghost use Rattle.cap_bits.specs.Cap.{cap_cmp, cap_code};
     ghost use Rattle.lab_lattice.specs.Label.{label_code};

@@ -3,3 +3,8 @@ pub mod LineLemmas
 pub mod PathLemmas
 pub mod ValueLemmas
 pub mod WordLemmas
+pub mod Again
+pub mod PathLaws
+pub mod ValueRanges
+pub mod WordSizes
+pub mod WordSteps

@@ -3,7 +3,7 @@ use Rattle.std.proofs.Common.{◌≡◌, ℕ, List, [], ◌∷◌, ◌++◌, get
 use Rattle.std.specs.Option.{option_map}
 use Rattle.fs_path.specs.declared.words.LineWord.{LineWord}
 use Rattle.fs_path.specs.Words.{first_item, onto_front, items_of, first_word, past_spaces, words_by, words_of}
-use Rattle.fs_path.specs.WordSteps.{items_next, words_are, words_first}
+use Rattle.fs_path.proofs.WordSteps.{items_next, words_are, words_first}
 
 -- what is read behind bytes
 abbrev pub behind_bytes : List ℕ → Option (List ℕ × List ℕ) → Option (List ℕ × List ℕ)

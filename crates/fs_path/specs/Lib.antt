@@ -2,11 +2,6 @@ pub mod Options
 pub mod Name
 pub mod Path
 pub mod PathText
-pub mod PathLaws
 pub mod Values
 pub mod Lines
 pub mod Words
-pub mod WordSteps
-pub mod WordSizes
-pub mod ValueRanges
-pub mod Again

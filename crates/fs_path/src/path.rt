@@ -111,7 +111,7 @@ fn component_fault(count: usize, at: usize, bytes: &[u8]) -> Option<PathError>
 }
 
 // Puts a component that begins at `at` behind the names before it, if it counts.
-#[tactic(auto, using(crate::specs::PathLaws::is_name_without_fault))]
+#[tactic(auto, using(crate::proofs::PathLaws::is_name_without_fault))]
 fn take_component(
     alloc: Global,
     names: &mut NameList,
@@ -135,7 +135,7 @@ fn take_component(
 }
 
 // The names of a text's components.
-#[tactic(auto, using(crate::specs::PathLaws::written_pieces, crate::specs::PathLaws::no_slash_before), unfolding(crate::specs::PathText::components_of))]
+#[tactic(auto, using(crate::proofs::PathLaws::written_pieces, crate::proofs::PathLaws::no_slash_before), unfolding(crate::specs::PathText::components_of))]
 fn read_names(alloc: Global, text: &[u8]) -> Result<NameList, PathError>
     requires { length text.now ≤ 1023 }
     ensures names { IfOk result (λ names. names ≡ names_of (components_of text.now)) }
@@ -157,7 +157,7 @@ fn read_names(alloc: Global, text: &[u8]) -> Result<NameList, PathError>
 impl Path {
     /// The path that a text stands for: names with slashes between them. Empty components and components `.` are left
     /// out, and it is absolute where it begins with `/`.
-    #[tactic(auto, using(std::proofs::lemmas::Bool::Decides::nat_tests, crate::specs::PathLaws::path_form), unfolding(crate::specs::PathText::path_fault, crate::specs::PathText::path_said))]
+    #[tactic(auto, using(std::proofs::lemmas::Bool::Decides::nat_tests, crate::proofs::PathLaws::path_form), unfolding(crate::specs::PathText::path_fault, crate::specs::PathText::path_said))]
     pub fn read(alloc: Global, text: &[u8]) -> Result<Path, PathError>
         ensures path { IfOk result (λ path. (path ≡ path_said text.now) × (path_fault text.now ≡ None)) }
         ensures none { IfErr result (IsNoPath text.now) }

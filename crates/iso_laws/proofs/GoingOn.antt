@@ -1,7 +1,7 @@
 -- What every step keeps, of each call: refusals are named, and numbers go on.
 use Rattle.std.specs.Prelude.{◌≡◌, ⊤, true, false, List, [], ◌∷◌, ◌++◌, Some, refl, Option}
 use Rattle.std.proofs.Common.{sym, subst}
-use Rattle.fin_maps.specs.FinMap as map
+use Rattle.std.specs.FinMap as map
 use Rattle.kern_model.specs.declared.numbers.Oid.{Oid}
 use Rattle.kern_model.specs.declared.numbers.Pid.{Pid}
 use Rattle.kern_model.specs.declared.checks.CheckName.{CheckName}

@@ -5,7 +5,7 @@ use Rattle.std.specs.Cmp.{unsigned_Decides}
 use Rattle.std.specs.Cmp.Lexicographic.{pointwise_decides}
 use Rattle.std.proofs.Common.{sym, ◌∙◌, ap, subst}
 use Rattle.std.proofs.lemmas.List.Folds.{find-append}
-use Rattle.fin_maps.specs.FinMap as map
+use Rattle.std.specs.FinMap as map
 use Rattle.fs_path.specs.Name.{Name}
 use Rattle.kern_model.specs.declared.numbers.Oid.{Oid}
 use Rattle.kern_model.specs.declared.world.WorldObject.{WorldObject}

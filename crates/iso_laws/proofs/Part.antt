@@ -1,7 +1,7 @@
 -- The part of a state by numbers alone. Where numbers and labels agree it is the part, and each change goes through it.
 use Rattle.std.specs.Prelude.{◌≡◌, ℕ, Bool, true, false, List, [], ◌∷◌, ◌++◌, Some, None, refl, cond, map}
 use Rattle.std.specs.List.{AllByRecursion}
-use Rattle.fin_maps.specs.FinMap as map
+use Rattle.std.specs.FinMap as map
 use Rattle.std.proofs.Common.{sym, ◌∙◌, ap}
 use Rattle.lab_lattice.specs.Label.{Label, label_cmp_total, label_cmp_exact}
 use Rattle.kern_model.specs.declared.numbers.Pid.{Pid}

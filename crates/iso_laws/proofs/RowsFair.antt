@@ -2,8 +2,8 @@
 use Rattle.std.specs.Prelude.{◌≡◌, ⊤, ℕ, ◌+◌, ◌≤◌, ◌==◌, length, Bool, true, false, not, ◌&&◌, ◌||◌, List, [], ◌∷◌, ◌++◌, Option, Some, None, refl, cond, unwrap_or}
 use Rattle.std.specs.List.{AllByRecursion, flat_map}
 use Rattle.std.proofs.Common.{arith, ap, inl, inr}
-use Rattle.fin_maps.specs.FinMap as map
-use Rattle.fin_maps.specs.FinMap.{FinMap}
+use Rattle.std.specs.FinMap as map
+use Rattle.std.specs.FinMap.{FinMap}
 use Rattle.fs_path.specs.Name.{Name}
 use Rattle.fs_path.specs.Path.{PathValue}
 use Rattle.lab_lattice.specs.Label.{Label, label_cmp}

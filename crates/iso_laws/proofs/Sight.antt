@@ -4,7 +4,7 @@ use Rattle.std.specs.Option.{option_map, option_and_then}
 use Rattle.std.specs.List.{list_any}
 use Rattle.std.proofs.Common.{sym, ◌∙◌, ap, subst}
 use Rattle.std.proofs.lemmas.Bool.{and_parts}
-use Rattle.fin_maps.specs.FinMap as map
+use Rattle.std.specs.FinMap as map
 use Rattle.cap_bits.specs.declared.cap.Cap.{Cap}
 use Rattle.cap_bits.specs.declared.cap.Cap.TheVariants as cap
 use Rattle.fs_path.specs.Name.{Name}

@@ -8,8 +8,8 @@ use Rattle.std.proofs.lemmas.Bool.{and_parts}
 use Rattle.std.proofs.lemmas.Cmp.{tied_itself}
 use Rattle.std.proofs.lemmas.List.{append-nil, append_assoc}
 use Rattle.std.proofs.lemmas.List.Folds.{list_all-append}
-use Rattle.fin_maps.specs.FinMap as map
-use Rattle.fin_maps.specs.FinMap.{FinMap, get-empty}
+use Rattle.std.specs.FinMap as map
+use Rattle.std.specs.FinMap.{FinMap, get-empty}
 use Rattle.cap_bits.specs.CapSet.{CapSet}
 use Rattle.fs_path.specs.Name.{Name, is_name}
 use Rattle.lab_lattice.specs.Label.{Label, bottom, dominates, label_cmp}

@@ -3,8 +3,8 @@ use Rattle.std.specs.Prelude.{◌≡◌, ℕ, ◌+◌, ◌≤◌, true, cond, Li
 use Rattle.std.proofs.Common.{◌∙◌, ap, arith}
 use Rattle.std.proofs.lemmas.Bool.{and_from}
 use Rattle.std.proofs.lemmas.List.Sums.{sum_by_push}
-use Rattle.fin_maps.specs.FinMap as map
-use Rattle.fin_maps.specs.FinMap.{FinMap}
+use Rattle.std.specs.FinMap as map
+use Rattle.std.specs.FinMap.{FinMap}
 use Rattle.lab_lattice.specs.Label.{Label, dominates, dominates_itself, label_cmp, label_cmp_total, label_cmp_exact}
 use Rattle.kern_model.specs.Rules.{same_label}
 use Rattle.kern_model.specs.State.{drawn}

@@ -5,7 +5,7 @@
 #![tactic(auto)]
 
 ghost use Rattle.std.specs.Prelude.{◌≡◌, ℕ, true, false, List, ◌++◌, Some, take};
-ghost use Rattle.fin_maps.specs.FinMap as map;
+ghost use Rattle.std.specs.FinMap as map;
 ghost use Rattle.lab_lattice.specs.Label.{Label};
 ghost use Rattle.kern_model.specs.declared.numbers.Pid.{Pid};
 ghost use Rattle.kern_model.specs.declared.calls.Call.{Call};

@@ -1,7 +1,7 @@
 -- Calls that were played, or stopped.
 use Rattle.std.specs.Prelude.{◌≡◌, [], ◌∷◌, Option, Some}
-use Rattle.fin_maps.specs.FinMap as map
-use Rattle.fin_maps.specs.FinMap.{FinMap}
+use Rattle.std.specs.FinMap as map
+use Rattle.std.specs.FinMap.{FinMap}
 use Rattle.std.proofs.Common.{ap, sym, ◌∙◌, subst}
 use Rattle.kern_model.specs.declared.calls.Answer.{Answer}
 use Rattle.kern_model.specs.declared.checks.Check.{Check}

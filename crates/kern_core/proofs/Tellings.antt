@@ -1,7 +1,7 @@
 -- What was played or stopped is the step of the table.
 use Rattle.std.specs.Prelude.{◌≡◌, [], Option, Some, None, refl, Result, Ok, Err}
 use Rattle.std.specs.Result.{IfOk, IfErr}
-use Rattle.fin_maps.specs.FinMap as map
+use Rattle.std.specs.FinMap as map
 use Rattle.std.proofs.Common.{ap, sym, ◌∙◌, subst}
 use Rattle.std.proofs.lemmas.List.{append-nil}
 use Rattle.kern_model.specs.declared.calls.Answer.{Answer}

@@ -1,6 +1,6 @@
 -- The state of a kernel.
 use Rattle.std.specs.Prelude.{◌≡◌, ◌⊎◌, Bool, None}
-use Rattle.fin_maps.specs.FinMap as map
+use Rattle.std.specs.FinMap as map
 use Rattle.kern_model.specs.declared.calls.Call.{Call}
 use Rattle.kern_model.specs.declared.calls.Call.TheVariants as call
 use Rattle.kern_model.specs.declared.calls.Reply.{Reply}

@@ -1,5 +1,5 @@
 -- The state that is held, and what checks read of an object.
-use Rattle.fin_maps.specs.FinMap as map
+use Rattle.std.specs.FinMap as map
 use Rattle.kern_model.specs.declared.numbers.Oid.{Oid}
 use Rattle.kern_model.specs.State.{State, object_at}
 use Rattle.kern_core.specs.declared.tables.Tables.{Tables}

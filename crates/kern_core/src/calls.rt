@@ -1,6 +1,6 @@
 // Bodies of calls.
 ghost use Rattle.std.specs.Prelude.{◌≡◌, true, IfOk, IfErr, IsOk, IsSome};
-ghost use Rattle.fin_maps.specs.FinMap as map;
+ghost use Rattle.std.specs.FinMap as map;
 ghost use Rattle.kern_model.specs.declared.calls.Answer.TheVariants as answer;
 ghost use Rattle.kern_model.specs.State.{Process};
 ghost use Rattle.kern_model.specs.AttrRows.{get_label, on_path};

@@ -1,6 +1,6 @@
 // The kernel.
 ghost use Rattle.std.specs.Prelude.{◌≡◌, true, false, IfOk, IsErr, IsOk, OnErr, OnOk, option_map};
-ghost use Rattle.fin_maps.specs.FinMap as map;
+ghost use Rattle.std.specs.FinMap as map;
 ghost use Rattle.kern_model.specs.Arguments.{is_call};
 ghost use Rattle.kern_model.specs.Boot.{boot, boot_recs};
 ghost use Rattle.kern_model.specs.Drawing.{NumbersGoOn};

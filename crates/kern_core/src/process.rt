@@ -1,6 +1,6 @@
 // Living processes.
 ghost use Rattle.std.specs.Prelude.{◌≡◌, true, false, [], None, OnOk, OnErr};
-ghost use Rattle.fin_maps.specs.FinMap as map;
+ghost use Rattle.std.specs.FinMap as map;
 ghost use Rattle.kern_model.specs.State.{root};
 ghost use Rattle.kern_model.specs.Rules.{may_become};
 
@@ -23,8 +23,8 @@ pub struct Proc {
 impl Model for Proc {
     ghost use Rattle.std.specs.Prelude.{ℕ, [], None};
     ghost use Rattle.std.specs.Ordering.{nat_cmp};
-    ghost use Rattle.fin_maps.specs.FinMap as map;
-    ghost use Rattle.fin_maps.specs.FinSet as set;
+    ghost use Rattle.std.specs.FinMap as map;
+    ghost use Rattle.std.specs.FinSet as set;
     ghost use Rattle.std.specs.Coded.{codes, coded_ℕ};
     ghost use Rattle.cap_bits.specs.Cap.{cap_cmp, cap_code};
     ghost use Rattle.lab_lattice.specs.Label.{label_code};

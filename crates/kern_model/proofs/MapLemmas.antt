@@ -6,8 +6,8 @@ use Rattle.std.specs.Ordering.{eq_by_cmp, is_eq, is_lt}
 use Rattle.std.specs.Option.{option_and_then, option_map}
 use Rattle.std.specs.List.{AllByRecursion}
 use Rattle.std.specs.Cmp.{IsTotalOrder}
-use Rattle.fin_maps.specs.FinMap as map
-use Rattle.fin_maps.specs.FinMap.{FinMap, IsAntisymmetric, find, is_sorted, get-from_entries, get-entries, entries_sorted, same_map, get-insert, get-remove}
+use Rattle.std.specs.FinMap as map
+use Rattle.std.specs.FinMap.{FinMap, IsAntisymmetric, find, is_sorted, get-from_entries, get-entries, entries_sorted, same_map, get-insert, get-remove}
 use Rattle.std.specs.FinMap.Entries.{below_all}
 use Rattle.std.proofs.Common.{sym, ◌∙◌, ap, subst, arith, T}
 use Rattle.std.proofs.lemmas.Cmp.{tied_itself}

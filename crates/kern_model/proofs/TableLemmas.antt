@@ -8,7 +8,7 @@ use Rattle.std.specs.BTreeMap.{is_at}
 use Rattle.std.specs.List.{AllByRecursion}
 use Rattle.std.specs.List.Sorted.{IsStrictlySortedBy}
 use Rattle.std.specs.Map.{lookup, keys_of}
-use Rattle.fin_maps.specs.FinMap.{FinMap, IsAntisymmetric, find, get, insert, from_entries, get-from_entries, get-insert, same_map, is_sorted, entries, from_sorted, entries-from_sorted, get-from_sorted}
+use Rattle.std.specs.FinMap.{FinMap, IsAntisymmetric, find, get, insert, from_entries, get-from_entries, get-insert, same_map, is_sorted, entries, from_sorted, entries-from_sorted, get-from_sorted}
 use Rattle.std.specs.FinMap.Entries.{below_all}
 use Rattle.std.proofs.Common.{ap, sym, ◌∙◌, subst, T}
 use Rattle.kern_model.specs.Maps.{get_or}

@@ -1,6 +1,6 @@
 -- The first state of a world: numbers are drawn per label in the order of its lines.
 use Rattle.std.specs.Prelude.{ℕ, ◌+◌, List, [], ◌∷◌, None, unwrap_or, true}
-use Rattle.fin_maps.specs.FinMap as map
+use Rattle.std.specs.FinMap as map
 use Rattle.cap_bits.specs.CapSet.{CapSet}
 use Rattle.fs_path.specs.Name.{Name}
 use Rattle.lab_lattice.specs.Label.{Label}

@@ -3,8 +3,8 @@ use Rattle.std.specs.Prelude.{ℕ, ◌+◌, ◌==◌, ◌&&◌, not, Bool, cond,
 use Rattle.std.specs.List.{flat_map, list_any}
 use Rattle.std.specs.Option.{option_and_then, option_map}
 use Rattle.std.specs.Ordering.{nat_cmp}
-use Rattle.fin_maps.specs.FinMap as table
-use Rattle.fin_maps.specs.FinMap.{FinMap}
+use Rattle.std.specs.FinMap as table
+use Rattle.std.specs.FinMap.{FinMap}
 use Rattle.kern_model.specs.declared.numbers.Pid.{Pid}
 use Rattle.kern_model.specs.declared.numbers.Oid.{Oid}
 use Rattle.kern_model.specs.declared.numbers.Did.{Did}

@@ -1,7 +1,7 @@
 -- How numbers go on from a state to a later one.
 use Rattle.std.specs.Prelude.{◌≡◌, ℕ, ◌≤◌, ◌<◌, None}
-use Rattle.fin_maps.specs.FinMap as map
-use Rattle.fin_maps.specs.FinMap.{FinMap}
+use Rattle.std.specs.FinMap as map
+use Rattle.std.specs.FinMap.{FinMap}
 use Rattle.lab_lattice.specs.Label.{Label, label_cmp}
 use Rattle.kern_model.specs.declared.numbers.Did.{Did}
 use Rattle.kern_model.specs.declared.numbers.Oid.{Oid}

@@ -1,8 +1,8 @@
 -- Finite maps: with a default, the part of one, and tests on entries.
 use Rattle.std.specs.Prelude.{ℕ, List, [], ◌∷◌, Bool, Option, Some, None, cond, count_by}
 use Rattle.std.specs.declared.cmp.Ordering.{Ordering}
-use Rattle.fin_maps.specs.FinMap as map
-use Rattle.fin_maps.specs.FinMap.{FinMap}
+use Rattle.std.specs.FinMap as map
+use Rattle.std.specs.FinMap.{FinMap}
 use Rattle.std.specs.List.{list_any}
 
 -- what a table holds at a key, or the default

@@ -1,7 +1,7 @@
 -- The rows of the calls on processes: their numbers, children and ends, their ids, capability sets and labels.
 use Rattle.std.specs.Prelude.{ℕ, ◌+◌, ◌&&◌, ◌||◌, ◌==◌, not, nat_le, Bool, cond, List, [], ◌∷◌, ◌++◌, length, Option, None, Some}
 use Rattle.std.specs.List.{flat_map}
-use Rattle.fin_maps.specs.FinMap as map
+use Rattle.std.specs.FinMap as map
 use Rattle.cap_bits.specs.declared.state.CapState.{CapState}
 use Rattle.fs_path.specs.Path.{PathValue}
 use Rattle.lab_lattice.specs.Label.{Label}

@@ -1,19 +1,18 @@
 -- The label of this profile: what definitions and proofs above may know of it. `pair_covers` and `pair_cmp` can't be unfolded
--- above but by `label_at`, so that what is built on this file holds for whatever a label is made of.
-use Rattle.std.specs.Prelude.{◌≡◌, ℕ, Bool, true, List, refl}
+-- above, so what is built on this file holds for whatever a label is made of.
+use Rattle.std.specs.Prelude.{◌≡◌, ℕ, Bool, true, refl}
 use Rattle.std.specs.declared.cmp.Ordering.{Ordering}
 use Rattle.std.specs.Ordering.{nat_cmp}
 use Rattle.std.specs.Coded.{Coded, code_by, coded×, coded_ℕ}
 use Rattle.std.specs.Cmp.{IsTotalOrder, nat_cmp_total}
-use Rattle.fin_maps.specs.FinSet as set
-use Rattle.fin_maps.specs.FinMap.{IsAntisymmetric, nat_cmp-IsAntisymmetric}
+use Rattle.std.specs.FinMap.{IsAntisymmetric, nat_cmp-IsAntisymmetric}
 use Rattle.std.proofs.Common.{sym, ◌∙◌, arith}
 use Rattle.std.proofs.lemmas.Bool.{true≢false}
 use Rattle.std.proofs.lemmas.Bool.Decides.{nat_tests}
 use Rattle.lab_lattice.specs.declared.pair.Pair.{Pair}
 use Rattle.lab_lattice.specs.Level.{level_covers, level_itself, level_through, level_both}
-use Rattle.lab_lattice.specs.Cats.{CatSet, cats_code, no_cats, cats_cover, cats_cmp, cats_cmp_total, cats_cmp_exact, cats_number, has-no_cats, has-cover, cover_itself, cover_through, cover_both}
-use Rattle.lab_lattice.specs.Pair.{pair_covers, pair_cmp, open_pair, pair_parts, pair_itself, pair_through, pair_both, pair_cmp_total, pair_cmp_exact}
+use Rattle.lab_lattice.specs.Cats.{CatSet, cats_code, no_cats, cats_cover, cats_cmp, cats_cmp_total, cats_cmp_exact, has-no_cats, has-cover, cover_itself, cover_through, cover_both}
+use Rattle.lab_lattice.specs.Pair.{pair_covers, pair_cmp, pair_parts, pair_itself, pair_through, pair_both, pair_cmp_total, pair_cmp_exact}
 
 -- a label is a level, a number from 0, and a set of categories
 abbrev pub Label : Type 0
@@ -56,8 +55,3 @@ lowest_level n = grind (arith, nat_tests)
 pub dominates_bottom : (x : Label) → dominates x bottom ≡ true
 unfolding bottom
 dominates_bottom x = pair_parts level_covers cats_cover x bottom (lowest_level x.first) (has-cover x.second no_cats (λ q h. absurd (true≢false (sym h ∙ has-no_cats q))))
-
--- the label of a level and categories, by their numbers. Whoever unfolds this word computes with labels, and so sees into them
-unfoldable pub label_at : ℕ → List ℕ → Label
-unfolding open_pair bottom cats_cmp cats_number set.empty set.insert set.contains set.items set.is_subset
-label_at level cats = open_pair level (set.from_list cats)

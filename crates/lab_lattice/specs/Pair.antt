@@ -4,7 +4,7 @@ use Rattle.std.specs.declared.cmp.Ordering.{Ordering}
 use Rattle.std.specs.declared.cmp.Ordering.TheVariants.{Equal}
 use Rattle.std.specs.Ordering.{ordering_then, eq_by_cmp, as_partial_cmp, is_eq}
 use Rattle.std.specs.Cmp.{IsTotalOrder, IsPartialOrder, Equal-is, on_total, then_total, both_tied, tied_then, first_so, second_so, po}
-use Rattle.fin_maps.specs.FinMap.{IsAntisymmetric}
+use Rattle.std.specs.FinMap.{IsAntisymmetric}
 use Rattle.std.proofs.Common.{ap, ◌∙◌}
 use Rattle.lab_lattice.specs.declared.pair.Pair.{Pair}
 
@@ -28,11 +28,6 @@ module _ {A B : Type 0} where
   pub pair_cmp-parts : (f : A → A → Ordering) (g : B → B → Ordering) (x y : Pair A B) → pair_cmp f g x y ≡ ordering_then (f x.first y.first) (g x.second y.second)
   unfolding pair_cmp
   pair_cmp-parts f g x y = refl
-
-  -- a pair of two parts. Whoever unfolds this word sees into the dominance and the order of pairs too
-  unfoldable pub open_pair : A → B → Pair A B
-  unfolding pair_covers pair_cmp
-  open_pair x y = record { first = x; second = y }
 
   module _ (f : A → A → Bool) (g : B → B → Bool) where
     -- what is above both parts is above the pair

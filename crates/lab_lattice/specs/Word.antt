@@ -1,9 +1,9 @@
 -- A set of categories as the bits of a number below 2 ^ 64.
 use Rattle.std.specs.Prelude.{◌≡◌, ℕ, zero, suc, ◌+◌, ◌^◌, ◌<◌, false, ◌&&◌, ◌||◌, ◌==◌, nat_eq, nat_le, nat_lt, List}
-use Rattle.fin_maps.specs.FinSet as set
+use Rattle.std.specs.FinSet as set
 use Rattle.std.specs.Int.{bit_at}
 use Rattle.std.specs.List.{range_with_len, list_any}
-use Rattle.fin_maps.specs.FinMap.{nat_cmp-IsAntisymmetric}
+use Rattle.std.specs.FinMap.{nat_cmp-IsAntisymmetric}
 use Rattle.std.proofs.Common.{ap, sym, ◌∙◌, arith, inl, inr}
 use Rattle.std.proofs.lemmas.Bool.{cases_lt, lt-ltb, and_right}
 use Rattle.std.proofs.lemmas.Bool.Decides.{nat_tests}

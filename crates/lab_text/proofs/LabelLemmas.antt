@@ -1,7 +1,7 @@
 -- What a text says once it is cut, and how a label's text grows.
 use Rattle.std.proofs.Common.{◌≡◌, ℕ, ◌+◌, ◌≤◌, Bool, true, false, cond, List, ◌++◌, length, drop, Option, Some, None, refl, ap, sym, ◌∙◌}
 use Rattle.std.specs.Prelude.{option_and_then}
-use Rattle.fin_maps.specs.FinSet as set
+use Rattle.std.specs.FinSet as set
 use Rattle.std.specs.List.{list_any, before_first, after_first, position_or_len}
 use Rattle.std.specs.Option.{option_map}
 use Rattle.std.proofs.lemmas.Bool.{ltb-false}
@@ -12,8 +12,8 @@ use Rattle.lab_text.specs.Names.{Names, same_bytes, place_of}
 use Rattle.lab_text.specs.Policy.{PolicyNames}
 use Rattle.lab_text.specs.Text.{is_colon, LabelWords, parts_of, label_words, is_label_text, places_of, label_of, label_said, first_unknown, unknown_in, SaysNone, names_in, behind_mark}
 use Rattle.lab_text.specs.Scan.{names_behind, behind_first}
-use Rattle.lab_text.specs.Made.{any_before_end, position_found, position_missing}
-use Rattle.lab_text.specs.Said.{labelled, words_of}
+use Rattle.lab_text.proofs.Made.{any_before_end, position_found, position_missing}
+use Rattle.lab_text.proofs.Said.{labelled, words_of}
 use Rattle.lab_text.specs.declared.text.LabelError.{LabelError}
 use Rattle.lab_text.specs.declared.text.LabelError.TheVariants as error
 

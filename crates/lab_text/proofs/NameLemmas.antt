@@ -1,7 +1,7 @@
 -- What the names in a text come to, one after another.
 use Rattle.std.proofs.Common.{◌≡◌, ℕ, ◌+◌, ◌-◌, Bool, true, false, ◌==◌, ◌||◌, nat_eq, cond, List, [], ◌∷◌, length, take, drop, Option, Some, None, refl, ap, sym, ◌∙◌, arith}
 use Rattle.std.specs.Prelude.{option_and_then, position}
-use Rattle.fin_maps.specs.FinSet as set
+use Rattle.std.specs.FinSet as set
 use Rattle.std.specs.List.{list_any, before_first, after_first, slice_split, position_or_len, onto_first}
 use Rattle.std.specs.Option.{option_map}
 use Rattle.std.proofs.lemmas.Bool.{ltb-true, ltb-false, or_parts}
@@ -14,7 +14,7 @@ use Rattle.lab_lattice.specs.Cats.{CatSet, has_cat, no_cats, one_cat, cats_join,
 use Rattle.lab_text.specs.Names.{Names, same_bytes, place_of}
 use Rattle.lab_text.specs.Text.{is_comma, places_of, first_unknown}
 use Rattle.lab_text.specs.Scan.{names_behind, behind_first}
-use Rattle.lab_text.specs.Made.{any_before_end, position_found, position_missing}
+use Rattle.lab_text.proofs.Made.{any_before_end, position_found, position_missing}
 
 -- ---- cuts
 

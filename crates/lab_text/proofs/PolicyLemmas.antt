@@ -1,14 +1,14 @@
 -- The levels and categories of a policy, as numbers and sets.
 use Rattle.std.proofs.Common.{◌≡◌, ℕ, ◌+◌, ◌-◌, ◌≤◌, ◌<◌, false, ◌==◌, ◌||◌, nat_lt, List, length, Option, Some, None, ap, sym, ◌∙◌, arith}
 use Rattle.std.specs.Prelude.{◌↔◌, IsSome, IfSome}
-use Rattle.fin_maps.specs.FinSet as set
+use Rattle.std.specs.FinSet as set
 use Rattle.std.specs.List.{range_with_len}
 use Rattle.std.proofs.lemmas.Bool.Decides.{nat_tests}
 use Rattle.lab_lattice.specs.Cats.{CatSet, has_cat, no_cats, one_cat, cats_join, has-no_cats, has-one_cat, has-cats_join, same_cats}
 use Rattle.lab_text.specs.Names.{same_bytes, place_of}
 use Rattle.lab_text.specs.Policy.{PolicyNames, MakePolicy, top_of}
-use Rattle.lab_text.specs.Made.{made, position_found}
-use Rattle.lab_text.specs.Said.{has-first_cats}
+use Rattle.lab_text.proofs.Made.{made, position_found}
+use Rattle.lab_text.proofs.Said.{has-first_cats}
 
 -- ---- places fit
 

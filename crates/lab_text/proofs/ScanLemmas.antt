@@ -10,7 +10,7 @@ use Rattle.std.proofs.lemmas.Bool.Decides.{nat_tests}
 use Rattle.lab_text.specs.declared.scan.Scan.{Scan}
 use Rattle.lab_text.specs.Names.{Names, is_letter, is_name_part, is_label_name}
 use Rattle.lab_text.specs.Text.{is_colon, is_comma, LabelWords, parts_of, label_words, is_label_text, CanGoOn, Breaks}
-use Rattle.lab_text.specs.Said.{parts_colon, parts_more}
+use Rattle.lab_text.proofs.Said.{parts_colon, parts_more}
 use Rattle.lab_text.specs.Scan.{mark_of, step}
 
 abbrev pub scan_at : Bool → ℕ → Scan

@@ -2,6 +2,4 @@ pub mod Names
 pub mod Policy
 pub mod Text
 pub mod Scan
-pub mod Made
-pub mod Said
 pub mod Numbered

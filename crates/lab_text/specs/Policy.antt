@@ -1,6 +1,6 @@
 -- A policy: the names that a world gives to levels and categories.
 use Rattle.std.specs.Prelude.{◌≡◌, ◌-◌, Bool, not, ◌&&◌, ◌||◌, ◌==◌, nat_lt, cond, length, Option, None, Some}
-use Rattle.fin_maps.specs.FinSet as set
+use Rattle.std.specs.FinSet as set
 use Rattle.std.specs.List.{list_all, range_with_len}
 use Rattle.lab_lattice.specs.Label.{Label, dominates}
 use Rattle.lab_text.specs.Names.{Names, is_label_name, are_distinct}

@@ -1,7 +1,7 @@
 -- The text of a label: `level`, or `level:category,category`.
 use Rattle.std.specs.Prelude.{◌≡◌, ℕ, ◌+◌, ◌≤◌, ◌<◌, Bool, true, false, ◌&&◌, ◌==◌, cond, List, [], ◌∷◌, ◌++◌, length, take, get_or, Option, None, Some, option_and_then, is_some}
 use Rattle.std.specs.Option.{option_map}
-use Rattle.fin_maps.specs.FinSet as set
+use Rattle.std.specs.FinSet as set
 use Rattle.std.specs.List.{list_all, list_any, before_first, after_first, slice_split}
 use Rattle.lab_lattice.specs.Cats.{CatSet, has_cat}
 use Rattle.lab_lattice.specs.Label.{Label}

@@ -1,6 +1,6 @@
 // The names that a world gives to levels and categories.
 ghost use Rattle.std.specs.Prelude.{◌≡◌, ◌-◌, ◌≤◌, length, MatchResult, IfOk, IfErr};
-ghost use Rattle.fin_maps.specs.FinSet as set;
+ghost use Rattle.std.specs.FinSet as set;
 ghost use Rattle.std.specs.List.{list_any, list_all, range_with_len};
 ghost use Rattle.std.specs.Option.{option_map};
 ghost use Rattle.lab_lattice.specs.Cats.{one_cat};

@@ -1,6 +1,6 @@
 // The texts of labels.
 ghost use Rattle.std.specs.Prelude.{◌≡◌, ◌+◌, ◌≤◌, ◌<◌, ◌^◌, ◌==◌, true, length, position, get_or, [], IfOk, IfErr, Some, None};
-ghost use Rattle.fin_maps.specs.FinSet as set;
+ghost use Rattle.std.specs.FinSet as set;
 ghost use Rattle.std.specs.List.{before_first};
 ghost use Rattle.std.specs.Option.{option_copied, option_map};
 ghost use Rattle.lab_text.specs.Policy.{is_valid};

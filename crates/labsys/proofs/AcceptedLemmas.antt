@@ -14,9 +14,9 @@ use Rattle.script_text.specs.declared.line.Line.{Line}
 use Rattle.script_text.specs.declared.line.Line.TheVariants as line
 use Rattle.script_text.specs.declared.fault.LineError.{LineError}
 use Rattle.script_text.specs.Line.{line_said}
-use Rattle.script_text.specs.LineLaws.{said_played}
+use Rattle.script_text.proofs.LineLaws.{said_played}
 use Rattle.world_text.specs.declared.world.WorldText.{WorldText}
-use Rattle.world_text.specs.Accepted.{accepted_world, accepted_top}
+use Rattle.world_text.proofs.Accepted.{accepted_world, accepted_top}
 use Rattle.world_text.specs.Reading.{Reading, Accepted, Refused as Stopped, Ended, read_text}
 use Rattle.labsys.specs.declared.status.Ending.TheVariants.{Refused}
 use Rattle.labsys.specs.declared.status.Part.TheVariants as part

@@ -7,7 +7,7 @@ use Rattle.std.specs.declared.option.Option.{Option}
 use Rattle.std.specs.List.{flat_map}
 use Rattle.std.specs.Option.{option_map}
 use Rattle.aud_record.specs.Written.{rec_text, header_text}
-use Rattle.fin_maps.specs.FinMap as finite
+use Rattle.std.specs.FinMap as finite
 use Rattle.kern_model.specs.declared.records.Rec.{Rec}
 use Rattle.kern_model.specs.Run.{Played}
 use Rattle.lab_text.specs.Policy.{PolicyNames}

@@ -15,7 +15,7 @@ use Rattle.script_text.specs.declared.fault.LineError.{LineError}
 use Rattle.script_text.specs.declared.fault.LineError.TheVariants as error
 use Rattle.script_text.specs.Line.{line_said}
 use Rattle.world_text.specs.declared.world.WorldText.{WorldText}
-use Rattle.world_text.specs.Accepted.{accepted_world, accepted_top}
+use Rattle.world_text.proofs.Accepted.{accepted_world, accepted_top}
 use Rattle.world_text.specs.declared.reading.Front.TheVariants as front
 use Rattle.world_text.specs.Reading.{Reading, Accepted, Refused as Stopped, Ended, read_text, IsFront}
 use Rattle.labsys.specs.declared.status.Ending.{Ending}

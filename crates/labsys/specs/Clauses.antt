@@ -2,7 +2,7 @@
 use Rattle.std.specs.Prelude.{◌≡◌, ℕ, ◌+◌, ◌≤◌, ◌<◌, List, [], ◌∷◌, ◌++◌, length, map, take, Result, Ok, Err, Option, Some}
 use Rattle.std.specs.List.{flat_map}
 use Rattle.std.specs.Io.KnownBytes.{Consumes}
-use Rattle.fin_maps.specs.FinMap as finite
+use Rattle.std.specs.FinMap as finite
 use Rattle.lab_lattice.specs.Label.{Label}
 use Rattle.aud_record.specs.Written.{rec_text, header_text}
 use Rattle.kern_model.specs.declared.records.Rec.{Rec}

@@ -20,7 +20,7 @@ pub struct Creds {
 
 impl Model for Creds {
     ghost use Rattle.std.specs.Prelude.{◌≡◌, true};
-    ghost use Rattle.fin_maps.specs.FinSet as set;
+    ghost use Rattle.std.specs.FinSet as set;
     ghost use Rattle.std.specs.Coded.{codes};
     ghost use Rattle.cap_bits.specs.Cap.{cap_cmp, cap_code};
     ghost use Rattle.cap_bits.specs.CapSet.{is_within};

@@ -8,7 +8,7 @@ use Rattle.script_text.specs.declared.line.Line.{Line}
 use Rattle.script_text.specs.declared.line.Line.TheVariants as line
 use Rattle.script_text.specs.declared.fault.LineError.TheVariants as error
 use Rattle.script_text.specs.Line.{MayBePlayed, item_said, line_said, words_said}
-use Rattle.script_text.specs.LineLaws.{said_played}
+use Rattle.script_text.proofs.LineLaws.{said_played}
 use Rattle.script_text.specs.Reading.{Reading, Answers}
 
 -- a line that is not too long says what its words say

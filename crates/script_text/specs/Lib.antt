@@ -3,4 +3,3 @@ pub mod Argument
 pub mod Calls
 pub mod Line
 pub mod Reply
-pub mod LineLaws

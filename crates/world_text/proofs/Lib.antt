@@ -4,3 +4,8 @@ pub mod PlacingLemmas
 pub mod LineLemmas
 pub mod WordLemmas
 pub mod ReadingLemmas
+pub mod Accepted
+pub mod WrittenAgain
+pub mod WrittenForms
+pub mod WrittenValues
+pub mod WrittenWords

@@ -6,8 +6,3 @@ pub mod Lines
 pub mod Written
 pub mod CanBeRead
 pub mod Reading
-pub mod Accepted
-pub mod WrittenForms
-pub mod WrittenWords
-pub mod WrittenValues
-pub mod WrittenAgain

@@ -133,7 +133,7 @@ impl Model for Draft {
     ghost use Rattle.world_text.specs.Tree.{Tree};
     ghost use Rattle.world_text.specs.Standing.{IsIndexed};
     ghost use Rattle.std.specs.Coded.{codes};
-    ghost use Rattle.fin_maps.specs.FinSet as set;
+    ghost use Rattle.std.specs.FinSet as set;
     ghost use Rattle.cap_bits.specs.Cap.{cap_cmp, cap_code};
     ghost use Rattle.lab_lattice.specs.Label.{label_code};
 

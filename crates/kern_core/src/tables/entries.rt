@@ -1,6 +1,6 @@
 // Where the names in directories lead.
 ghost use Rattle.std.specs.Prelude.{◌≡◌, OnOk};
-ghost use Rattle.fin_maps.specs.FinMap as map;
+ghost use Rattle.std.specs.FinMap as map;
 
 use kern_model::{Name, NoMemory, Oid};
 use std::alloc::Global;
@@ -17,7 +17,7 @@ pub struct Entries {
 }
 
 impl Model for Entries {
-    ghost use Rattle.fin_maps.specs.FinMap as map;
+    ghost use Rattle.std.specs.FinMap as map;
     ghost use Rattle.std.specs.Coded.{codes};
     ghost use Rattle.lab_lattice.specs.Label.{label_code};
     ghost use Rattle.kern_model.specs.Keys.{spot_cmp};

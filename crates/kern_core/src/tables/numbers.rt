@@ -1,6 +1,6 @@
 // The last number drawn of each label.
 ghost use Rattle.std.specs.Prelude.{◌≡◌, OnOk};
-ghost use Rattle.fin_maps.specs.FinMap as map;
+ghost use Rattle.std.specs.FinMap as map;
 ghost use Rattle.kern_model.specs.State.{drawn};
 
 use kern_model::NoMemory;
@@ -17,7 +17,7 @@ pub struct Numbers {
 
 impl Model for Numbers {
     ghost use Rattle.std.specs.Prelude.{ℕ};
-    ghost use Rattle.fin_maps.specs.FinMap as map;
+    ghost use Rattle.std.specs.FinMap as map;
     ghost use Rattle.std.specs.Coded.{codes};
     ghost use Rattle.lab_lattice.specs.Label.{label_cmp, label_code};
 

@@ -1,6 +1,6 @@
 // Objects by their numbers.
 ghost use Rattle.std.specs.Prelude.{◌≡◌, OnOk, option_copied};
-ghost use Rattle.fin_maps.specs.FinMap as map;
+ghost use Rattle.std.specs.FinMap as map;
 
 use kern_model::{NoMemory, Object, Oid};
 use std::alloc::Global;
@@ -14,8 +14,8 @@ pub struct Objects {
 }
 
 impl Model for Objects {
-    ghost use Rattle.fin_maps.specs.FinMap as map;
-    ghost use Rattle.fin_maps.specs.FinSet as set;
+    ghost use Rattle.std.specs.FinMap as map;
+    ghost use Rattle.std.specs.FinSet as set;
     ghost use Rattle.cap_bits.specs.Cap.{cap_cmp, cap_code};
     ghost use Rattle.std.specs.Coded.{codes};
     ghost use Rattle.lab_lattice.specs.Label.{label_code};

@@ -1,6 +1,6 @@
 // Living processes by their numbers.
 ghost use Rattle.std.specs.Prelude.{◌≡◌, true, false, IfOk, IfSome, OnOk, OnErr, option_copied, option_map};
-ghost use Rattle.fin_maps.specs.FinMap as map;
+ghost use Rattle.std.specs.FinMap as map;
 ghost use Rattle.kern_model.specs.State.{Process};
 
 use crate::process::Proc;
@@ -20,8 +20,8 @@ pub struct Procs {
 impl Model for Procs {
     ghost use Rattle.std.specs.Prelude.{ℕ};
     ghost use Rattle.std.specs.Ordering.{nat_cmp};
-    ghost use Rattle.fin_maps.specs.FinMap as map;
-    ghost use Rattle.fin_maps.specs.FinSet as set;
+    ghost use Rattle.std.specs.FinMap as map;
+    ghost use Rattle.std.specs.FinSet as set;
     ghost use Rattle.std.specs.Coded.{codes, coded_ℕ};
     ghost use Rattle.cap_bits.specs.Cap.{cap_cmp, cap_code};
     ghost use Rattle.lab_lattice.specs.Label.{label_code};

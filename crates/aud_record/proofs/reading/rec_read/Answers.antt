@@ -1,7 +1,7 @@
 use Rattle.std.proofs.Common.{◌≡◌, ℕ, List, true, Result, Ok, Err, take, ap, subst, ◌∙◌}
 use Rattle.std.specs.Prelude.{IfOk}
 use Rattle.lab_text.specs.Policy.{PolicyNames}
-use Rattle.aud_record.specs.Again.{rec_again, rec_is}
+use Rattle.aud_record.proofs.Again.{rec_again, rec_is}
 use Rattle.aud_record.specs.Fits.{has_valid_labels}
 use Rattle.aud_record.proofs.FitLemmas.{fits_from, labels_from}
 use Rattle.aud_record.specs.Said.{rec_said, Answers}

@@ -3,7 +3,7 @@ use Rattle.std.specs.Str.{IsUtf8}
 use Rattle.std.specs.Fmt.{decimal}
 use Rattle.std.proofs.lemmas.Fmt.{IsAscii-decimal}
 use Rattle.std.proofs.lemmas.Str.{IsUtf8-from_ascii}
-use Rattle.aud_record.specs.Numbers.{no_number}
+use Rattle.aud_record.proofs.Numbers.{no_number}
 use Rattle.aud_record.proofs.SpelledLemmas.{unparsed, parsed}
 use Rattle.aud_record.proofs.spelled.u64_spelled.Goals as goal
 

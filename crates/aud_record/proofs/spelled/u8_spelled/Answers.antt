@@ -1,5 +1,5 @@
 use Rattle.std.proofs.Common.{None, ◌^◌, sym, ◌∙◌, arith}
-use Rattle.aud_record.specs.Numbers.{number_below}
+use Rattle.aud_record.proofs.Numbers.{number_below}
 use Rattle.aud_record.proofs.SpelledLemmas.{fitted}
 use Rattle.aud_record.proofs.spelled.u8_spelled.Goals as goal
 

@@ -3,7 +3,7 @@ use Rattle.std.specs.declared.alloc.AllocError.{AllocError}
 use Rattle.std.specs.Prelude.{IfOk, OnOk}
 use Rattle.lab_text.specs.Policy.{PolicyNames, MakePolicy}
 use Rattle.kern_model.specs.declared.records.Rec.{Rec}
-use Rattle.aud_record.specs.Again.{rec_again}
+use Rattle.aud_record.proofs.Again.{rec_again}
 use Rattle.aud_record.specs.Fits.{has_valid_labels, IsInRange}
 use Rattle.aud_record.specs.Said.{rec_said}
 use Rattle.aud_record.specs.Written.{rec_text}

@@ -1,7 +1,7 @@
 use Rattle.std.proofs.Common.{sym, ◌∙◌, ap, arith, subst, Ok, ◌+◌, length}
 use Rattle.cap_clause.specs.Clauses.{is_flag}
 use Rattle.cap_clause.specs.Reading.{actions_said}
-use Rattle.cap_clause.specs.Steps.{said_none}
+use Rattle.cap_clause.proofs.Steps.{said_none}
 use Rattle.cap_clause.proofs.ReadLemmas.{IsAction, IsFront, front_of, no_flag, last_action, more_actions}
 use Rattle.cap_clause.proofs.action.read_actions.Goals as goal
 use Rattle.cap_clause.proofs.action.read_actions.Goals.{After-split_at}

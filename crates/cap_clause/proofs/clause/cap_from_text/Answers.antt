@@ -4,7 +4,7 @@ use Rattle.std.specs.List.{prefix_len}
 use Rattle.std.proofs.lemmas.Result.{err_from_is_err_and}
 use Rattle.std.proofs.lemmas.List.{length-drop}
 use Rattle.cap_clause.specs.Clauses.{is_blank, clauses_of}
-use Rattle.cap_clause.specs.Steps.{Stops, behind_stops, clauses_said, clause_taken, clause_refused}
+use Rattle.cap_clause.proofs.Steps.{Stops, behind_stops, clauses_said, clause_taken, clause_refused}
 use Rattle.cap_clause.proofs.ReadLemmas.{IsFront, front_of, no_clause, first_clause, next_clause, no_more}
 use Rattle.cap_clause.proofs.clause.cap_from_text.Goals as goal
 use Rattle.cap_clause.proofs.clause.cap_from_text.Goals.{After-split_at}

@@ -1,7 +1,7 @@
 use Rattle.std.proofs.Common.{◌≡◌, ◌-◌, ◌≤◌, length}
 use Rattle.cap_clause.specs.Clauses.{is_blank, clauses_of}
 use Rattle.cap_clause.specs.Said.{caps_said}
-use Rattle.cap_clause.specs.Steps.{Stops, clauses_said}
+use Rattle.cap_clause.proofs.Steps.{Stops, clauses_said}
 use Rattle.cap_clause.proofs.clause.cap_from_text.Given as goal
 
 abbrev pub invariant-loop-left : goal.invariant-loop-left

@@ -3,7 +3,7 @@ use Rattle.std.specs.Prelude.{◌==◌}
 use Rattle.std.specs.List.{join_with_byte}
 use Rattle.cap_clause.specs.Said.{caps_said}
 use Rattle.cap_clause.specs.Written.{group_text, firsts_of, caps_text}
-use Rattle.cap_clause.specs.WrittenAgain.{caps_again}
+use Rattle.cap_clause.proofs.WrittenAgain.{caps_again}
 use Rattle.cap_clause.proofs.WriteLemmas.{none_written, some_written}
 use Rattle.cap_clause.proofs.written.cap_to_text.Goals as goal
 use Rattle.cap_clause.proofs.written.cap_to_text.Goals.{Joined-is_empty, then-is_empty+in_ok-push, else-is_empty}

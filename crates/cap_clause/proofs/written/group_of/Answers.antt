@@ -2,7 +2,7 @@ use Rattle.std.proofs.Common.{Bool, true, false, ◌≡◌, refl, ap, ◌∙◌,
 use Rattle.std.specs.Prelude.{◌&&◌}
 use Rattle.std.specs.Bool.{beq}
 use Rattle.cap_bits.specs.CapSet.{has, has-meet_of, same_caps}
-use Rattle.cap_clause.specs.Groups.{has-group_of}
+use Rattle.cap_clause.proofs.Groups.{has-group_of}
 use Rattle.cap_clause.specs.Written.{same_flags, group_of}
 use Rattle.cap_clause.proofs.written.group_of.Goals as goal
 

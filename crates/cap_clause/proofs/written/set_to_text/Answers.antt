@@ -1,7 +1,7 @@
 use Rattle.std.proofs.Common.{◌++◌, ◌∙◌, ap, List, ℕ}
 use Rattle.cap_clause.specs.Said.{set_said}
 use Rattle.cap_clause.specs.Written.{set_text}
-use Rattle.cap_clause.specs.WrittenAgain.{set_again}
+use Rattle.cap_clause.proofs.WrittenAgain.{set_again}
 use Rattle.cap_clause.proofs.written.set_to_text.Goals as goal
 
 pub returns-clause-again : goal.returns-clause-again

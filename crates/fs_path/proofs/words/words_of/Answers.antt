@@ -1,6 +1,6 @@
 use Rattle.std.proofs.Common.{◌∙◌, arith, ap, length}
 use Rattle.fs_path.proofs.WordLemmas.{words_init, words_step}
-use Rattle.fs_path.specs.WordSteps.{word_shorter, past_shorter}
+use Rattle.fs_path.proofs.WordSteps.{word_shorter, past_shorter}
 use Rattle.fs_path.proofs.words.words_of.Goals as goal
 
 pub loop-left-init : goal.loop-left-init

@@ -1,7 +1,7 @@
 use Rattle.std.proofs.Common.{◌≡◌, ◌-◌, ℕ, length, ap, subst, arith, Option}
 use Rattle.std.specs.Prelude.{IfSome}
 use Rattle.lab_text.specs.Names.{Names}
-use Rattle.lab_text.specs.Made.{made}
+use Rattle.lab_text.proofs.Made.{made}
 use Rattle.lab_text.proofs.PolicyLemmas.{is_top}
 use Rattle.lab_text.proofs.policy.top.Goals as goal
 

@@ -2,7 +2,7 @@ use Rattle.std.proofs.Common.{sym, ◌∙◌, arith}
 use Rattle.std.specs.Option.{option_copied}
 use Rattle.std.proofs.lemmas.Result.{err_from_is_err_and}
 use Rattle.lab_text.specs.declared.text.LabelError.TheVariants as error
-use Rattle.lab_text.specs.Said.{says_none, said_valid}
+use Rattle.lab_text.proofs.Said.{says_none, said_valid}
 use Rattle.lab_text.proofs.LabelLemmas.{IsRead, read_said, level_unknown, cat_unknown}
 use Rattle.lab_text.proofs.text.mac_from_text.Goals as goal
 use Rattle.lab_text.proofs.text.mac_from_text.Goals.{After-cut}

@@ -1,8 +1,8 @@
 use Rattle.std.proofs.Common.{◌++◌, length, ap, ◌∙◌, arith}
 use Rattle.lab_text.specs.Names.{Names}
 use Rattle.lab_text.specs.Text.{names_in, behind_mark, label_text, label_said}
-use Rattle.lab_text.specs.Made.{made}
-use Rattle.lab_text.specs.Said.{text_said}
+use Rattle.lab_text.proofs.Made.{made}
+use Rattle.lab_text.proofs.Said.{text_said}
 use Rattle.lab_text.proofs.LabelLemmas.{all_written}
 use Rattle.lab_text.proofs.text.mac_to_text.Goals as goal
 

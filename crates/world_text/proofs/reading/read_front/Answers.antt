@@ -1,5 +1,5 @@
 use Rattle.std.proofs.Common.{◌+◌, ◌≤◌, length, refl, sym, subst, arith}
-use Rattle.world_text.specs.Accepted.{accepted_world, accepted_top}
+use Rattle.world_text.proofs.Accepted.{accepted_world, accepted_top}
 use Rattle.world_text.specs.Reading.{Reading, IsFront, read_text}
 use Rattle.world_text.specs.declared.reading.Front.TheVariants as front
 use Rattle.world_text.proofs.ReadingLemmas.{read_on, read_refused, read_world, read_end}

@@ -4,7 +4,7 @@ use Rattle.std.proofs.lemmas.Grind.{flat_map-append}
 use Rattle.std.proofs.lemmas.List.Folds.{flat_map-map}
 use Rattle.fs_path.specs.declared.words.LineWord.{LineWord}
 use Rattle.world_text.specs.Reading.{read_text}
-use Rattle.world_text.specs.WrittenAgain.{written_again}
+use Rattle.world_text.proofs.WrittenAgain.{written_again}
 use Rattle.world_text.specs.Written.{line_of, head_words, object_words, process_words, script_words, written}
 use Rattle.world_text.proofs.world.WorldText.write.Goals as goal
 

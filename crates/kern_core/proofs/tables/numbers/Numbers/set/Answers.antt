@@ -1,5 +1,5 @@
 use Rattle.std.proofs.Common.{ap, ◌∙◌}
-use Rattle.fin_maps.specs.FinMap as map
+use Rattle.std.specs.FinMap as map
 use Rattle.lab_lattice.specs.Label.{label_cmp_total, label_cmp_exact}
 use Rattle.kern_model.proofs.TableLemmas.{one_set}
 use Rattle.kern_core.proofs.tables.numbers.Numbers.set.Goals as goal

@@ -1,2 +1,0 @@
-pub mod FinMap
-pub mod FinSet

@@ -1,0 +1,289 @@
+-- What is read of a line may be played: its labels lie below top, and its numbers, modes and flags are in their ranges.
+use Rattle.std.specs.Prelude.{◌≡◌, ℕ, ◌/◌, ◌%◌, ◌==◌, ◌||◌, nat_le, nat_lt, Bool, true, false, not, cond, List, [], ◌∷◌, length, drop, codes, Option, None, Some, Ok, Err, ℤ, pos, neg_ℤ, unsigned_abs, refl}
+use Rattle.std.proofs.Common.{sym, ◌∙◌, ap, subst, arith}
+use Rattle.std.specs.Bool.{beq}
+use Rattle.std.specs.List.{starts_with}
+use Rattle.std.specs.Option.{ok_or, option_and_then, option_map}
+use Rattle.std.proofs.lemmas.Bool.{and_parts, and_from, le-leb}
+use Rattle.std.proofs.lemmas.Bool.Decides.{nat_tests}
+use Rattle.std.proofs.lemmas.Int.{ints}
+use Rattle.fs_path.specs.Lines.{cut}
+use Rattle.fs_path.specs.Options.{keep_if}
+use Rattle.fs_path.specs.Values.{mode_of, number_of, numeral, worth}
+use Rattle.fs_path.specs.Words.{is_blank, words_of}
+use Rattle.fs_path.specs.declared.words.LineWord.{LineWord}
+use Rattle.kern_model.specs.Arguments.{are_flags, is_call, is_number}
+use Rattle.kern_model.specs.Kinds.{is_mode, is_permission}
+use Rattle.kern_model.specs.declared.calls.Call.{Call}
+use Rattle.kern_model.specs.declared.calls.Call.TheVariants as call
+use Rattle.kern_model.specs.declared.calls.CallName.{CallName}
+use Rattle.kern_model.specs.declared.calls.CallName.TheVariants as name
+use Rattle.kern_model.specs.declared.calls.OpenFlags.{OpenFlags}
+use Rattle.kern_model.specs.declared.numbers.Pid.{Pid}
+use Rattle.lab_lattice.specs.Label.{Label, dominates}
+use Rattle.lab_text.specs.Policy.{PolicyNames, top_of}
+use Rattle.lab_text.proofs.Said.{said_valid}
+use Rattle.lab_text.specs.Text.{label_said}
+use Rattle.script_text.specs.Argument.{process, pid_by, label as a_label, tag as a_tag, pid as a_pid, up_to as a_number_up_to, mode as a_mode, permissions as a_permission, offset as an_offset, signed, flags as some_flags, flags_in, is_in_order, numbered}
+use Rattle.kern_model.specs.Named.{call_named}
+use Rattle.script_text.specs.Calls.{call_said, none_said, one_said, two_said, three_said}
+use Rattle.script_text.specs.Line.{MayBePlayed, bytes_in, item_by, item_said, line_said, words_said}
+use Rattle.script_text.specs.Reading.{Reading, both, made}
+use Rattle.script_text.specs.declared.line.Line.{Line}
+use Rattle.script_text.specs.declared.line.Line.TheVariants as line
+use Rattle.script_text.specs.declared.fault.LineError.{LineError}
+use Rattle.script_text.specs.declared.fault.LineError.TheVariants as error
+
+-- ---- values that are there
+
+kept : {X : Type 0} (b : Bool) (x y : X) → keep_if b x ≡ Some y → (b ≡ true) × (x ≡ y)
+kept true x y h = (refl, cc)
+kept false x y h = absurd (cc)
+
+there : {X : Type 0} (o : Option X) (e : LineError) (x : X) → ok_or o e ≡ Ok x → o ≡ Some x
+there None e x h = absurd (cc)
+there (Some y) e x h = cc
+
+both_are : {A B : Type 0} (a : Reading A) (b : Reading B) (p : A × B) → both a b ≡ Ok p → (a ≡ Ok p.0) × (b ≡ Ok p.1)
+unfolding both
+both_are (Ok x) (Ok y) p h = let e : (x, y) ≡ p = cc in (ap (λ (q : _ × _). Ok q.0) e, ap (λ (q : _ × _). Ok q.1) e)
+both_are (Ok x) (Err f) p h = absurd (cc)
+both_are (Err e) (Ok y) p h = absurd (cc)
+both_are (Err e) (Err f) p h = absurd (cc)
+
+from_made : {A B : Type 0} (P : B → Type 0) (make : A → B) (a : Reading A) (b : B) → made make a ≡ Ok b → ((x : A) → a ≡ Ok x → P (make x)) → P b
+unfolding made
+from_made P make (Ok x) b h p = let e : make x ≡ b = cc in subst P e (p x refl)
+from_made P make (Err e) b h p = absurd (cc)
+
+-- ---- arguments
+
+numeral_within : (base most low high : ℕ) (w : List ℕ) (n : ℕ) → numeral base most low high w ≡ Some n → (nat_le low n ≡ true) × (nat_le n high ≡ true)
+unfolding numeral
+numeral_within base most low high w n h =
+    let is = kept _ (worth base 0 w) n h in
+    let upper = and_parts _ (nat_le (worth base 0 w) high) is.0 in
+    let lower = and_parts _ (nat_le low (worth base 0 w)) upper.0 in
+    (ap (nat_le low) (sym is.1) ∙ lower.1, ap (λ v. nat_le v high) (sym is.1) ∙ upper.1)
+
+mode_fine : (w : List ℕ) (m : ℕ) → a_mode w ≡ Ok m → is_mode m ≡ true
+unfolding a_mode
+mode_fine w m h = by_numeral (numeral 8 4 0 4095 w) (λ n e. (numeral_within 8 4 0 4095 w n e).1) (there (mode_of w) _ m h)
+  where
+    by_numeral : (o : Option ℕ) → ((n : ℕ) → o ≡ Some n → nat_le n 4095 ≡ true) → option_and_then (λ mode. keep_if ((mode / 512) % 2 == 0) mode) o ≡ Some m → is_mode m ≡ true
+    by_numeral None within h = absurd (cc)
+    by_numeral (Some n) within h =
+        let is = kept ((n / 512) % 2 == 0) n m h in
+        let small : nat_lt n 4096 ≡ true = below (within n refl) in
+        ap is_mode (sym is.1) ∙ and_from (nat_lt n 4096) ((n / 512) % 2 == 0) small is.0
+      where
+        below : nat_le n 4095 ≡ true → nat_lt n 4096 ≡ true
+        below le = grind (arith, nat_tests)
+
+permission_fine : (w : List ℕ) (m : ℕ) → a_permission w ≡ Ok m → is_permission m ≡ true
+unfolding a_permission
+permission_fine w m h = below (numeral_within 8 4 0 511 w m (there (numeral 8 4 0 511 w) _ m h)).1
+  where
+    below : nat_le m 511 ≡ true → nat_lt m 512 ≡ true
+    below le = grind (arith, nat_tests)
+
+number_fine : (high : ℕ) (w : List ℕ) (n : ℕ) → a_number_up_to high w ≡ Ok n → nat_le n high ≡ true
+unfolding a_number_up_to
+number_fine high w n h = (numeral_within 10 10 0 high w n (there (numeral 10 10 0 high w) _ n h)).1
+
+same_size : (n : ℕ) → unsigned_abs (neg_ℤ (pos n)) ≡ n
+same_size n = omega (arith, ints)
+
+offset_fine : (w : List ℕ) (z : ℤ) → an_offset w ≡ Ok z → nat_le (unsigned_abs z) 4294967295 ≡ true
+unfolding an_offset
+offset_fine w z h = by_sign (starts_with ◌==◌ w (codes "-")) (there (signed w) _ z h)
+  where
+    sized : (f : ℕ → ℤ) → ((n : ℕ) → unsigned_abs (f n) ≡ n) → (o : Option ℕ) → ((n : ℕ) → o ≡ Some n → nat_le n 4294967295 ≡ true) → option_map f o ≡ Some z → nat_le (unsigned_abs z) 4294967295 ≡ true
+    sized f size None within h = absurd (cc)
+    sized f size (Some n) within h = let e : f n ≡ z = cc in ap (λ k. nat_le k 4294967295) (ap unsigned_abs (sym e) ∙ size n) ∙ within n refl
+
+    small : (word : List ℕ) (n : ℕ) → number_of word ≡ Some n → nat_le n 4294967295 ≡ true
+    small word n e = (numeral_within 10 10 0 4294967295 word n e).1
+
+    by_sign : (v : Bool) → cond v (option_map (λ n. neg_ℤ (pos n)) (number_of (drop 1 w))) (option_map (λ n. pos n) (number_of w)) ≡ Some z → nat_le (unsigned_abs z) 4294967295 ≡ true
+    by_sign true h = sized (λ n. neg_ℤ (pos n)) same_size (number_of (drop 1 w)) (small (drop 1 w)) h
+    by_sign false h = sized (λ n. pos n) (λ n. refl) (number_of w) (small w) h
+
+-- flags that go together, with `c` or without it
+record AreFlags (makes : Bool) (f : OpenFlags) : Type 0 where
+  fit : are_flags f ≡ true
+  as_asked : beq f.c makes ≡ true
+
+flags_fine : (makes : Bool) (w : List ℕ) (f : OpenFlags) → some_flags makes w ≡ Ok f → AreFlags makes f
+unfolding some_flags
+flags_fine makes w f h =
+    let is = kept _ (flags_in w) f (there _ _ f h) in
+    let last = and_parts _ (beq (flags_in w).c makes) is.0 in
+    let first = and_parts (is_in_order w) (are_flags (flags_in w)) last.0 in
+    record { fit = ap are_flags (sym is.1) ∙ first.1; as_asked = ap (λ (g : OpenFlags). beq g.c makes) (sym is.1) ∙ last.1 }
+
+without_mode : (f : OpenFlags) → AreFlags false f → not f.c ≡ true
+without_mode f is = by_flag f.c is.as_asked
+  where
+    by_flag : (c : Bool) → beq c false ≡ true → not c ≡ true
+    by_flag true e = absurd (cc)
+    by_flag false e = refl
+
+with_mode : (f : OpenFlags) → AreFlags true f → f.c ≡ true
+with_mode f is = by_flag f.c is.as_asked
+  where
+    by_flag : (c : Bool) → beq c true ≡ true → c ≡ true
+    by_flag true e = refl
+    by_flag false e = absurd (cc)
+
+module _ (policy : PolicyNames) where
+  label_fine : (w : List ℕ) (l : Label) → a_label policy w ≡ Ok l → dominates (top_of policy) l ≡ true
+  unfolding a_label
+  label_fine w l h = said_valid policy w l (there (label_said policy w) _ l h)
+
+  process_fine : (parts : List ℕ × List ℕ) (who : Pid) → process policy parts ≡ Some who → is_number (top_of policy) who ≡ true
+  process_fine parts who h = by_parts (numeral 10 10 1 4095 parts.0) (label_said policy parts.1) (numeral_within 10 10 1 4095 parts.0) (said_valid policy parts.1) h
+    where
+      by_parts : (o : Option ℕ) (l : Option Label) → ((n : ℕ) → o ≡ Some n → (nat_le 1 n ≡ true) × (nat_le n 4095 ≡ true)) → ((x : Label) → l ≡ Some x → dominates (top_of policy) x ≡ true)
+          → option_and_then (λ n. option_map (λ at. record { label = at; n = n }) l) o ≡ Some who → is_number (top_of policy) who ≡ true
+      by_parts None l within below h = absurd (cc)
+      by_parts (Some n) None within below h = absurd (cc)
+      by_parts (Some n) (Some x) within below h =
+          let is : record { label = x; n = n } ≡ who = cc in
+          ap (is_number (top_of policy)) (sym is) ∙ and_from _ _ (and_from _ _ (within n refl).0 (within n refl).1) (below x refl)
+
+  tag_fine : (w : List ℕ) (who : Pid) → a_tag policy w ≡ Ok who → is_number (top_of policy) who ≡ true
+  unfolding a_tag
+  tag_fine w who h = by_cut (cut 64 w) (there _ _ who h)
+    where
+      by_cut : (o : Option (List ℕ × List ℕ)) → option_and_then (process policy) o ≡ Some who → is_number (top_of policy) who ≡ true
+      by_cut None h = absurd (cc)
+      by_cut (Some parts) h = process_fine parts who h
+
+  pid_fine : (w : List ℕ) (who : Pid) → a_pid policy w ≡ Ok who → is_number (top_of policy) who ≡ true
+  unfolding a_pid
+  pid_fine w who h = by_cut (numbered w) h
+    where
+      by_cut : (o : Option (List ℕ × List ℕ)) → pid_by policy o ≡ Ok who → is_number (top_of policy) who ≡ true
+      by_cut None h = absurd (cc)
+      by_cut (Some parts) h = process_fine parts who (there (process policy parts) _ who h)
+
+  -- ---- calls
+
+  -- a call that may be made
+  abbrev MayBeMade : Call → Type 0
+  MayBeMade c = is_call (top_of policy) c ≡ true
+
+  from_two : {A B : Type 0} (make : A → B → Call) (a : Reading A) (b : Reading B) (c : Call) → made (λ args. make args.0 args.1) (both a b) ≡ Ok c
+      → ((x : A) (y : B) → a ≡ Ok x → b ≡ Ok y → MayBeMade (make x y)) → MayBeMade c
+  from_two make a b c h p = from_made MayBeMade (λ args. make args.0 args.1) (both a b) c h (λ args e. let is = both_are a b args e in p args.0 args.1 is.0 is.1)
+
+  from_three : {A B C : Type 0} (make : A → B → C → Call) (a : Reading A) (b : Reading B) (c : Reading C) (out : Call) → made (λ args. make args.0 args.1.0 args.1.1) (both a (both b c)) ≡ Ok out
+      → ((x : A) (y : B) (z : C) → a ≡ Ok x → b ≡ Ok y → c ≡ Ok z → MayBeMade (make x y z)) → MayBeMade out
+  from_three make a b c out h p = from_made MayBeMade (λ args. make args.0 args.1.0 args.1.1) (both a (both b c)) out h (λ args e.
+      let is = both_are a (both b c) args e in
+      let others = both_are b c args.1 is.1 in
+      p args.0 args.1.0 args.1.1 is.0 others.0 others.1)
+
+  none_fine : (n : CallName) (c : Call) → none_said n ≡ Ok c → MayBeMade c
+  unfolding none_said is_call
+  none_fine name.Pipe c h = let e : call.Pipe ≡ c = cc in subst MayBeMade e refl
+  none_fine name.Fork c h = let e : call.Fork ≡ c = cc in subst MayBeMade e refl
+  none_fine name.Wait c h = let e : call.Wait ≡ c = cc in subst MayBeMade e refl
+  none_fine name.Getpid c h = let e : call.Getpid ≡ c = cc in subst MayBeMade e refl
+  none_fine name.Getppid c h = let e : call.Getppid ≡ c = cc in subst MayBeMade e refl
+  none_fine name.Getids c h = let e : call.Getids ≡ c = cc in subst MayBeMade e refl
+  none_fine name.CapGetProc c h = let e : call.CapGetProc ≡ c = cc in subst MayBeMade e refl
+  none_fine name.MacGetProc c h = let e : call.MacGetProc ≡ c = cc in subst MayBeMade e refl
+  none_fine _ c h = absurd (cc)
+
+  one_fine : (n : CallName) (w : List ℕ) (c : Call) → one_said policy n w ≡ Ok c → MayBeMade c
+  unfolding one_said is_call
+  one_fine name.Close w c h = from_made MayBeMade call.Close _ c h (λ fd _. refl)
+  one_fine name.Dup w c h = from_made MayBeMade call.Dup _ c h (λ fd _. refl)
+  one_fine name.Fstat w c h = from_made MayBeMade call.Fstat _ c h (λ fd _. refl)
+  one_fine name.Rmdir w c h = from_made MayBeMade call.Rmdir _ c h (λ path _. refl)
+  one_fine name.Unlink w c h = from_made MayBeMade call.Unlink _ c h (λ path _. refl)
+  one_fine name.Readdir w c h = from_made MayBeMade call.Readdir _ c h (λ path _. refl)
+  one_fine name.Stat w c h = from_made MayBeMade call.Stat _ c h (λ path _. refl)
+  one_fine name.Chdir w c h = from_made MayBeMade call.Chdir _ c h (λ path _. refl)
+  one_fine name.Umask w c h = from_made MayBeMade call.Umask _ c h (permission_fine w)
+  one_fine name.CapGetFile w c h = from_made MayBeMade call.CapGetFile _ c h (λ path _. refl)
+  one_fine name.CapGetFd w c h = from_made MayBeMade call.CapGetFd _ c h (λ fd _. refl)
+  one_fine name.MacGetFile w c h = from_made MayBeMade call.MacGetFile _ c h (λ path _. refl)
+  one_fine name.MacGetFd w c h = from_made MayBeMade call.MacGetFd _ c h (λ fd _. refl)
+  one_fine name.Exec w c h = from_made MayBeMade call.Exec _ c h (λ path _. refl)
+  one_fine name.Exit w c h = from_made MayBeMade call.Exit _ c h (λ code _. refl)
+  one_fine name.Setuid w c h = from_made MayBeMade call.Setuid _ c h (λ user _. refl)
+  one_fine name.Setgid w c h = from_made MayBeMade call.Setgid _ c h (λ group _. refl)
+  one_fine name.CapSetProc w c h = from_made MayBeMade call.CapSetProc _ c h (λ caps _. refl)
+  one_fine name.MacSetProc w c h = from_made MayBeMade call.MacSetProc _ c h (label_fine w)
+  one_fine name.AudWrite w c h = from_made MayBeMade call.AudWrite _ c h (λ bytes _. refl)
+  one_fine name.AudSwitch w c h = from_made MayBeMade call.AudSwitch _ c h (λ on _. refl)
+  one_fine _ w c h = absurd (cc)
+
+  two_fine : (n : CallName) (v w : List ℕ) (c : Call) → two_said policy n v w ≡ Ok c → MayBeMade c
+  unfolding two_said is_call
+  two_fine name.OpenPath v w c h = from_two (λ path flags. call.OpenPath path flags None) _ _ c h (λ path flags _ f. let is = flags_fine false w flags f in and_from _ _ is.fit (without_mode flags is))
+  two_fine name.Read v w c h = from_two call.Read _ _ c h (λ fd n _ n_is. number_fine 65536 w n n_is)
+  two_fine name.Write v w c h = from_two call.Write _ _ c h (λ fd bytes _ _. refl)
+  two_fine name.Mkfifo v w c h = from_two call.Mkfifo _ _ c h (λ path mode _ m. mode_fine w mode m)
+  two_fine name.Mkdir v w c h = from_two call.Mkdir _ _ c h (λ path mode _ m. mode_fine w mode m)
+  two_fine name.Link v w c h = from_two call.Link _ _ c h (λ path to _ _. refl)
+  two_fine name.Rename v w c h = from_two call.Rename _ _ c h (λ path to _ _. refl)
+  two_fine name.Chmod v w c h = from_two call.Chmod _ _ c h (λ path mode _ m. mode_fine w mode m)
+  two_fine name.CapSetFile v w c h = from_two call.CapSetFile _ _ c h (λ path caps _ _. refl)
+  two_fine name.CapSetFd v w c h = from_two call.CapSetFd _ _ c h (λ fd caps _ _. refl)
+  two_fine name.MacSetFile v w c h = from_two call.MacSetFile _ _ c h (λ path label _ l. label_fine w label l)
+  two_fine name.MacSetFd v w c h = from_two call.MacSetFd _ _ c h (λ fd label _ l. label_fine w label l)
+  two_fine name.Kill v w c h = from_two call.Kill _ _ c h (λ target signal t _. pid_fine v target t)
+  two_fine _ v w c h = absurd (cc)
+
+  three_fine : (n : CallName) (u v w : List ℕ) (c : Call) → three_said n u v w ≡ Ok c → MayBeMade c
+  unfolding three_said is_call
+  three_fine name.OpenPath u v w c h = from_three (λ path flags mode. call.OpenPath path flags (Some mode)) _ _ _ c h (λ path flags mode _ f m. let is = flags_fine true v flags f in and_from _ _ is.fit (and_from _ _ (with_mode flags is) (mode_fine w mode m)))
+  three_fine name.Lseek u v w c h = from_three call.Lseek _ _ _ c h (λ fd from offset _ _ o. offset_fine w offset o)
+  three_fine name.Chown u v w c h = from_three call.Chown _ _ _ c h (λ path user group _ _ _. refl)
+  three_fine _ u v w c h = absurd (cc)
+
+  call_fine : (n : CallName) (ws : List (List ℕ)) (c : Call) → call_said policy n ws ≡ Ok c → MayBeMade c
+  call_fine n [] c h = none_fine n c h
+  call_fine n (w ∷ []) c h = one_fine n w c h
+  call_fine n (v ∷ w ∷ []) c h = two_fine n v w c h
+  call_fine n (u ∷ v ∷ w ∷ []) c h = three_fine n u v w c h
+  call_fine n (u ∷ v ∷ w ∷ x ∷ ws) c h = absurd (cc)
+
+  -- ---- lines
+
+  item_fine : (ws : List LineWord) (l : Line) → item_said policy ws ≡ Ok l → MayBePlayed (top_of policy) l
+  unfolding item_said
+  item_fine [] l h = absurd (cc)
+  item_fine (tag ∷ []) l h = absurd (cc)
+  item_fine (tag ∷ call ∷ ws) l h = by_quotes (tag.quoted || call.quoted) h
+    where
+      by_name : (o : Option CallName) → item_by policy tag.bytes (bytes_in ws) o ≡ Ok l → MayBePlayed (top_of policy) l
+      by_name None h = absurd (cc)
+      by_name (Some n) h = from_made (MayBePlayed (top_of policy)) (λ item. line.One item.0 item.1) _ l h (λ item e.
+          let is = both_are _ _ item e in
+          (tag_fine tag.bytes item.0 is.0, call_fine n (bytes_in ws) item.1 is.1))
+
+      by_quotes : (v : Bool) → cond v (Err error.Syntax) (item_by policy tag.bytes (bytes_in ws) (call_named call.bytes)) ≡ Ok l → MayBePlayed (top_of policy) l
+      by_quotes true h = absurd (cc)
+      by_quotes false h = by_name (call_named call.bytes) h
+
+  -- what a line says may be played
+  pub said_played : (text : List ℕ) (l : Line) → line_said policy text ≡ Ok l → MayBePlayed (top_of policy) l
+  unfolding line_said
+  said_played text l h = by_length (nat_lt 2048 (length text)) h
+    where
+      by_words : (o : Option (List LineWord)) → words_said policy o ≡ Ok l → MayBePlayed (top_of policy) l
+      by_words None h = absurd (cc)
+      by_words (Some ws) h = item_fine ws l h
+
+      by_blank : (v : Bool) → cond v (Ok line.Blank) (words_said policy (words_of text)) ≡ Ok l → MayBePlayed (top_of policy) l
+      by_blank true h = let e : line.Blank ≡ l = cc in subst (MayBePlayed (top_of policy)) e tt
+      by_blank false h = by_words (words_of text) h
+
+      by_length : (v : Bool) → cond v (Err error.TooLong) (cond (is_blank text) (Ok line.Blank) (words_said policy (words_of text))) ≡ Ok l → MayBePlayed (top_of policy) l
+      by_length true h = absurd (cc)
+      by_length false h = by_blank (is_blank text) h

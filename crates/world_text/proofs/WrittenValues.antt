@@ -1,0 +1,274 @@
+-- Paths, labels and capabilities that are written are read again.
+use Rattle.std.specs.Prelude.{◌≡◌, ℕ, ◌+◌, ◌≤◌, ◌<◌, ◌==◌, ◌&&◌, not, nat_le, nat_lt, Bool, true, false, cond, List, [], ◌∷◌, ◌++◌, length, Option, None, Some, is_none, is_some, codes, position, map, refl}
+use Rattle.std.proofs.Common.{ap, sym, ◌∙◌, subst, append-nil, arith}
+use Rattle.std.specs.Cmp.{unsigned_Decides}
+use Rattle.std.specs.Cmp.Lexicographic.{pointwise_decides}
+use Rattle.std.specs.List.{All, filter, flat_map, list_all, list_any, position_or_len, slice_split, starts_with}
+use Rattle.std.specs.Option.{option_and_then, option_map, option_or}
+use Rattle.std.proofs.lemmas.Bool.{and_parts, and_from, and_left, and_right, or_from, not-true, leb-true, ltb-true, lt-ltb, le-ltb, lt-leb, ne_eqb, cond-true, cond-false}
+use Rattle.std.proofs.lemmas.Bool.Decides.{nat_tests}
+use Rattle.std.proofs.lemmas.List.Elements.{All-nil, All-cons}
+use Rattle.std.proofs.lemmas.List.Folds.{list_all-append}
+use Rattle.std.proofs.lemmas.List.Splits.{slice_split_none, slice_split_at}
+use Rattle.std.proofs.lemmas.List.Sums.{sum_by-cons}
+use Rattle.std.proofs.lemmas.List.{length-append}
+use Rattle.cap_bits.specs.declared.cap.Cap.{Cap}
+use Rattle.cap_bits.specs.declared.state.CapState.{CapState}
+use Rattle.cap_bits.specs.Cap.{all_caps}
+use Rattle.cap_bits.specs.CapSet.{CapSet, is_within, has-no_caps}
+use Rattle.cap_bits.specs.State.{no_flags}
+use Rattle.cap_clause.specs.Written.{firsts_of, is_first, group_text, clauses_text, caps_text, set_text}
+use Rattle.cap_clause.proofs.WrittenAgain.{caps_again, caps_text_exact, set_again, caps_text_plain, set_text_bare, set_text_some}
+use Rattle.fs_path.specs.declared.path.PathError.{PathError}
+use Rattle.fs_path.specs.declared.path.PathError.TheVariants as error
+use Rattle.fs_path.proofs.Again.{word_spelling}
+use Rattle.fs_path.specs.Name.{Name, is_name, is_name_byte, is_dots}
+use Rattle.fs_path.specs.Options.{keep_if, then}
+use Rattle.fs_path.specs.Path.{PathValue, HasForm, written_len}
+use Rattle.fs_path.specs.PathText.{is_slash, is_empty_or_dot, starts_badly, Component, placed, counts, names_of, component_fault, first_fault, components_of, path_fault, path_said}
+use Rattle.fs_path.specs.Words.{is_plain, is_bare, is_bare_text, has_spelling, with_quotes_if_needed}
+use Rattle.lab_lattice.specs.Label.{Label}
+use Rattle.lab_text.proofs.Made.{any_before_end}
+use Rattle.lab_text.specs.Names.{Names, same_bytes, is_letter, is_name_part, is_label_name}
+use Rattle.lab_text.specs.Policy.{PolicyNames, MakePolicy, is_valid}
+use Rattle.lab_text.proofs.Said.{text_names, text_said}
+use Rattle.lab_text.specs.Text.{LabelWords, label_words, is_label_text, label_of, label_said, behind_mark, label_text}
+use Rattle.world_text.specs.Stage.{known_of, path_of, label_form, caps_of, may_start, proc_caps_of, set_of}
+use Rattle.world_text.specs.Written.{quoted, path_text}
+use Rattle.world_text.specs.CanBeRead.{are_bytes}
+use Rattle.world_text.proofs.WrittenForms.{IsSpelledPath}
+
+-- ---- names
+
+-- what a name has
+record NameParts (n : Name) : Type 0 where
+  some : 1 ≤ length n
+  short : length n ≤ 63
+  bytes : list_all is_name_byte n ≡ true
+  no_dots : is_dots n ≡ false
+
+name_parts : (n : Name) → is_name n ≡ true → NameParts n
+unfolding is_name
+name_parts n h =
+    let three = and_parts _ (not (is_dots n)) h in
+    let two = and_parts _ (list_all is_name_byte n) three.0 in
+    let one = and_parts (nat_le 1 (length n)) (nat_le (length n) 63) two.0 in
+    record { some = leb-true 1 (length n) one.0; short = leb-true (length n) 63 one.1; bytes = two.1; no_dots = not-true (is_dots n) three.1 }
+
+no_slashes : (n : List ℕ) → list_all is_name_byte n ≡ true → All (λ b. is_slash b ≡ false) n
+no_slashes [] h = All-nil (λ b. is_slash b ≡ false)
+no_slashes (b ∷ bs) h =
+    let parts = and_parts (is_name_byte b) (list_all is_name_byte bs) h in
+    All-cons (λ b. is_slash b ≡ false) b bs (not-true (is_slash b) (and_parts (not (b == 0)) (not (b == 47)) parts.0).1) (no_slashes bs parts.1)
+
+-- a name counts as a component
+name_counts : (n : Name) → is_name n ≡ true → is_empty_or_dot n ≡ false
+name_counts n h = let parts = name_parts n h in by_bytes n parts.some parts.no_dots
+  where
+    by_bytes : (n : List ℕ) → 1 ≤ length n → is_dots n ≡ false → is_empty_or_dot n ≡ false
+    by_bytes [] some no_dots = absurd (omega arith)
+    by_bytes (a ∷ []) some no_dots = ap (λ v. v && true) no_dots
+    by_bytes (a ∷ b ∷ bs) some no_dots = elim (a == 46) as (λ v. (v && false) ≡ false) [ true ↦ refl | false ↦ refl ]
+
+-- ---- paths
+
+-- names, each behind a slash
+abbrev behind_slashes : List Name → List ℕ
+behind_slashes names = flat_map (λ (name : Name). 47 ∷ name) names
+
+split_again : (n : Name) (ns : List Name) → list_all is_name (n ∷ ns) ≡ true → slice_split is_slash (n ++ behind_slashes ns) ≡ n ∷ ns
+split_again n [] h =
+    let parts = and_parts (is_name n) true h in
+    ap (slice_split is_slash) (append-nil n) ∙ slice_split_none is_slash n (no_slashes n (name_parts n parts.0).bytes)
+split_again n (m ∷ ms) h =
+    let parts = and_parts (is_name n) (list_all is_name (m ∷ ms)) h in
+    slice_split_at is_slash n 47 (m ++ behind_slashes ms) (no_slashes n (name_parts n parts.0).bytes) refl ∙ ap (λ (ns : List Name). n ∷ ns) (split_again m ms parts.1)
+
+-- each name counts
+kept_all : (at : ℕ) (ns : List Name) → list_all is_name ns ≡ true → filter counts (placed at ns) ≡ placed at ns
+kept_all at [] h = refl
+kept_all at (n ∷ ns) h =
+    let parts = and_parts (is_name n) (list_all is_name ns) h in
+    let counted : counts (record { at = at; bytes = n }) ≡ true = ap not (name_counts n parts.0) in
+    cond-true _ _ _ counted ∙ ap (λ (cs : List Component). record { at = at; bytes = n } ∷ cs) (kept_all (at + length n + 1) ns parts.1)
+
+names_placed : (at : ℕ) (ns : List Name) → names_of (placed at ns) ≡ ns
+names_placed at [] = refl
+names_placed at (n ∷ ns) = ap (λ (ms : List Name). n ∷ ms) (names_placed (at + length n + 1) ns)
+
+components_again : (names : List Name) → list_all is_name names ≡ true → components_of (path_text names) ≡ placed 1 names
+unfolding components_of
+components_again [] h = refl
+components_again (n ∷ ns) h = ap (λ (ps : List (List ℕ)). filter counts (placed 1 ps)) (split_again n ns h) ∙ kept_all 1 (n ∷ ns) h
+
+no_zero : (a : ℕ) → is_name_byte a ≡ true → (0 == a && true) ≡ false
+no_zero a h = grind (arith, nat_tests)
+
+no_zeros : (n : List ℕ) → list_all is_name_byte n ≡ true → list_any (λ b. b == 0) n ≡ false
+no_zeros [] h = refl
+no_zeros (b ∷ bs) h =
+    let parts = and_parts (is_name_byte b) (list_all is_name_byte bs) h in
+    or_from (b == 0) (list_any (λ b. b == 0) bs) (not-true (b == 0) (and_parts (not (b == 0)) (not (b == 47)) parts.0).0) (no_zeros bs parts.1)
+
+and_true : (v : Bool) → (v && true) ≡ v
+and_true true = refl
+and_true false = refl
+
+starts_well : (n : List ℕ) → 1 ≤ length n → list_all is_name_byte n ≡ true → is_dots n ≡ false → starts_badly n ≡ false
+starts_well [] some bytes no_dots = absurd (omega arith)
+starts_well (a ∷ []) some bytes no_dots = or_from _ _ (and_right (a == 46) false refl) (no_zero a (and_parts (is_name_byte a) true bytes).0)
+starts_well (a ∷ b ∷ []) some bytes no_dots = or_from _ _ (ap (λ v. a == 46 && v) (and_true (b == 46)) ∙ no_dots) (no_zero a (and_parts (is_name_byte a) (list_all is_name_byte (b ∷ [])) bytes).0)
+starts_well (a ∷ b ∷ c ∷ cs) some bytes no_dots =
+    or_from _ _ (and_right (a == 46) (b == 46 && false) (and_right (b == 46) false refl)) (no_zero a (and_parts (is_name_byte a) (list_all is_name_byte (b ∷ c ∷ cs)) bytes).0)
+
+name_fine : (count at : ℕ) (n : Name) → is_name n ≡ true → count < 32 → component_fault count (record { at = at; bytes = n }) ≡ None
+unfolding component_fault
+name_fine count at n h few =
+    let parts = name_parts n h in
+    let place : position (λ b. b == 0) n ≡ None = ap (λ v. cond v (Some (position_or_len (λ b. b == 0) n)) None) (sym (any_before_end (λ b. b == 0) n) ∙ no_zeros n parts.bytes) in
+    cond-false _ _ _ (le-ltb 63 (length n) parts.short) ∙ cond-false _ _ _ (starts_well n parts.some parts.bytes parts.no_dots) ∙ cond-false _ _ _ (lt-leb 32 count few)
+    ∙ ap (option_map (λ i. error.BadByte (at + i))) place
+
+-- names as components are without fault
+names_fine : (count at : ℕ) (ns : List Name) → list_all is_name ns ≡ true → count + length ns ≤ 32 → first_fault count (placed at ns) ≡ None
+names_fine count at [] h few = refl
+names_fine count at (n ∷ ns) h few =
+    let parts = and_parts (is_name n) (list_all is_name ns) h in
+    ap (λ (o : Option PathError). option_or o (first_fault (count + 1) (placed (at + length n + 1) ns))) (name_fine count at n parts.0 (omega arith)) ∙ names_fine (count + 1) (at + length n + 1) ns parts.1 (omega arith)
+
+text_length : (ns : List Name) → length (behind_slashes ns) ≡ written_len ns
+text_length [] = refl
+text_length (n ∷ ns) =
+    let one = length-append n (behind_slashes ns) in
+    let more = sum_by-cons (λ (name : Name). length name + 1) n ns in
+    let rest = text_length ns in
+    omega arith
+
+path_length : (names : List Name) → HasForm true names → (1 ≤ length (path_text names)) × (length (path_text names) ≤ 1023)
+path_length [] form = (omega arith, omega arith)
+path_length (n ∷ ns) form =
+    let text = text_length (n ∷ ns) in
+    let short = form.short in
+    (omega arith, omega arith)
+
+path_fine : (names : List Name) → HasForm true names → list_all is_name names ≡ true → path_fault (path_text names) ≡ None
+unfolding path_fault
+path_fine names form h =
+    let size = path_length names form in
+    let some : (length (path_text names) == 0) ≡ false = ne_eqb (length (path_text names)) 0 (λ e. omega arith) in
+    cond-false _ _ _ some ∙ cond-false _ _ _ (le-ltb 1023 (length (path_text names)) size.1) ∙ ap (first_fault 0) (components_again names h) ∙ names_fine 0 1 names h (omega (arith, form.few))
+
+starts_absolute : (names : List Name) → starts_with ◌==◌ (path_text names) (47 ∷ []) ≡ true
+starts_absolute [] = refl
+starts_absolute (n ∷ ns) = refl
+
+path_is : (names : List Name) → list_all is_name names ≡ true → path_said (path_text names) ≡ record { absolute = true; names = names }
+unfolding path_said
+path_is names h =
+    let said = ap names_of (components_again names h) ∙ names_placed 1 names in
+    λ i. record { absolute = starts_absolute names i; names = said i }
+
+-- a path's text says that path
+pub path_again : (p : PathValue) → IsSpelledPath p → path_of (path_text p.names) ≡ Some p
+path_again p h =
+    let form : HasForm true p.names = subst (λ v. HasForm v p.names) h.absolute h.form in
+    let said = path_is p.names h.form.named in
+    let same : p ≡ record { absolute = true; names = p.names } = ap (λ v. record { absolute = v; names = p.names }) h.absolute in
+    cond-true _ _ _ (and_from _ _ (ap is_none (path_fine p.names form h.form.named)) (ap (λ (q : PathValue). q.absolute) said)) ∙ ap Some (said ∙ sym same)
+
+-- a path's text can be written
+pub path_spelling : (p : PathValue) → IsSpelledPath p → has_spelling (with_quotes_if_needed (path_text p.names)) ≡ true
+path_spelling p h = word_spelling (path_text p.names) h.bytes
+
+-- ---- labels
+
+part_bare : (b : ℕ) → is_name_part b ≡ true → is_bare b ≡ true
+part_bare b h = grind (arith, nat_tests)
+
+letter_part : (b : ℕ) → is_letter b ≡ true → is_name_part b ≡ true
+letter_part b h = grind (arith, nat_tests)
+
+parts_bare : (n : List ℕ) → list_all is_name_part n ≡ true → list_all is_bare n ≡ true
+parts_bare [] h = refl
+parts_bare (b ∷ bs) h = let parts = and_parts (is_name_part b) (list_all is_name_part bs) h in and_from (is_bare b) (list_all is_bare bs) (part_bare b parts.0) (parts_bare bs parts.1)
+
+-- the name of a level or a category stands bare
+pub label_name_bare : (n : List ℕ) → is_label_name n ≡ true → is_bare_text n ≡ true
+label_name_bare [] h = absurd (cc)
+label_name_bare (b ∷ bs) h =
+    let parts = and_parts (is_letter b && nat_le (length bs) 30) (list_all is_name_part bs) h in
+    let letter = (and_parts (is_letter b) (nat_le (length bs) 30) parts.0).0 in
+    and_from _ _ (lt-ltb 0 (length (b ∷ bs)) (omega arith)) (and_from _ _ (part_bare b (letter_part b letter)) (parts_bare bs parts.1))
+
+marked_bare : (mark : ℕ) (ns : Names) → is_bare mark ≡ true → list_all is_label_name ns ≡ true → list_all is_bare (behind_mark mark ns) ≡ true
+marked_bare mark [] bare h = refl
+marked_bare mark (n ∷ ns) bare h =
+    let parts = and_parts (is_label_name n) (list_all is_label_name ns) h in
+    let name = (and_parts (nat_lt 0 (length n)) (list_all is_bare n) (label_name_bare n parts.0)).1 in
+    and_from (is_bare mark) _ bare (list_all-append is_bare n (behind_mark 44 ns) ∙ and_from _ _ name (marked_bare 44 ns refl parts.1))
+
+names_bare : (n : List ℕ) (ns : Names) → is_label_name n ≡ true → list_all is_label_name ns ≡ true → is_bare_text (n ++ behind_mark 58 ns) ≡ true
+names_bare n ns name names =
+    let parts = and_parts (nat_lt 0 (length n)) (list_all is_bare n) (label_name_bare n name) in
+    let some = ltb-true 0 (length n) parts.0 in
+    let size = length-append n (behind_mark 58 ns) in
+    and_from _ _ (lt-ltb 0 (length (n ++ behind_mark 58 ns)) (omega arith)) (list_all-append is_bare n (behind_mark 58 ns) ∙ and_from _ _ parts.1 (marked_bare 58 ns refl names))
+
+-- the text of a valid label stands bare
+pub label_bare : (p : PolicyNames) (label : Label) → MakePolicy p → is_valid p label ≡ true → is_bare_text (label_text p label) ≡ true
+label_bare p label h valid =
+    let names = text_names p label h valid in
+    ap is_bare_text names.text_is ∙ names_bare names.level names.cats names.level_name names.cat_names
+
+said_form : (p : PolicyNames) (text : List ℕ) (label : Label) → label_said p text ≡ Some label → is_label_text text ≡ true
+unfolding label_said
+said_form p text label h = by_words (label_words text) h
+  where
+    by_words : (o : Option LabelWords) → option_and_then (label_of p) o ≡ Some label → is_some o ≡ true
+    by_words None h = absurd (cc)
+    by_words (Some w) h = refl
+
+-- the text of a valid label has the form of one
+pub label_again : (p : PolicyNames) (label : Label) → MakePolicy p → is_valid p label ≡ true → label_form (label_text p label) ≡ Some (label_text p label)
+label_again p label h valid = cond-true _ _ _ (said_form p (label_text p label) label (text_said p label h valid))
+
+-- ---- capabilities
+
+-- the text of a state says that state
+pub caps_known : (caps : CapState) → caps_of (caps_text caps) ≡ Some (Some caps)
+caps_known caps = ap known_of (caps_again caps)
+
+-- and it is one that a process may have, where what is effective is permitted
+pub proc_caps_known : (caps : CapState) → is_within caps.e caps.p ≡ true → proc_caps_of (caps_text caps) ≡ Some (Some caps)
+proc_caps_known caps within = ap (λ (o : Option (Option CapState)). then o (λ known. keep_if (may_start known) known)) (caps_known caps) ∙ ap (λ b. keep_if b (Some caps)) within
+
+no_flag_first : (cap : Cap) → is_first no_flags cap ≡ false
+unfolding is_first
+no_flag_first cap = and_left _ _ (or_from _ _ (has-no_caps cap) (or_from _ _ (has-no_caps cap) (or_from _ _ (has-no_caps cap) refl)))
+
+no_flags_text : caps_text no_flags ≡ codes "="
+unfolding caps_text firsts_of
+no_flags_text = ap (λ (test : Cap → Bool). clauses_text (map (group_text no_flags) (filter test all_caps))) (λ i cap. no_flag_first cap i)
+
+-- the state whose text is `=` has no flag
+pub none_known : (caps : CapState) → same_bytes (caps_text caps) (codes "=") ≡ true → caps ≡ no_flags
+none_known caps e = caps_text_exact caps no_flags ((pointwise_decides unsigned_Decides (caps_text caps) (codes "=")).0 e ∙ sym no_flags_text)
+
+plain_byte : (b : ℕ) → is_plain b ≡ true → nat_lt b 256 ≡ true
+plain_byte b h = grind (arith, nat_tests)
+
+plain_bytes : (bytes : List ℕ) → list_all is_plain bytes ≡ true → are_bytes bytes ≡ true
+plain_bytes [] h = refl
+plain_bytes (b ∷ bs) h = let parts = and_parts (is_plain b) (list_all is_plain bs) h in and_from (nat_lt b 256) (are_bytes bs) (plain_byte b parts.0) (plain_bytes bs parts.1)
+
+-- the text of a state can be written between quotes
+pub caps_spelling : (caps : CapState) → has_spelling (quoted (caps_text caps)) ≡ true
+caps_spelling caps = plain_bytes (caps_text caps) (caps_text_plain caps)
+
+-- the text of a bound says that bound
+pub bound_known : (bound : CapSet) → set_of (set_text bound) ≡ Some (Some bound)
+bound_known bound = ap known_of (set_again bound)
+
+-- it stands bare
+pub bound_bare : (bound : CapSet) → is_bare_text (set_text bound) ≡ true
+bound_bare bound = and_from _ _ (lt-ltb 0 (length (set_text bound)) (set_text_some bound)) (set_text_bare bound)
