@@ -15,10 +15,10 @@ use Rattle.cap_bits.specs.Cap.{cap_name}
 use Rattle.cap_bits.specs.declared.cap.Cap.{Cap}
 use Rattle.cap_bits.specs.declared.cap.Cap.TheVariants as cap
 use Rattle.cap_bits.specs.declared.state.CapState.{CapState}
-use Rattle.cap_clause.specs.Said.{caps_said}
+use Rattle.cap_clause.specs.Parsed.{parse_caps}
 use Rattle.cap_clause.specs.Written.{caps_text}
-use Rattle.cap_clause.proofs.WrittenAgain.{caps_again, caps_text_plain}
-use Rattle.fs_path.proofs.Again.{decimal_bare}
+use Rattle.cap_clause.proofs.WrittenRoundTrip.{caps_round_trip, caps_text_plain}
+use Rattle.fs_path.proofs.RoundTrip.{decimal_bare}
 use Rattle.fs_path.specs.Lines.{cut}
 use Rattle.fs_path.specs.Options.{keep_if}
 use Rattle.fs_path.specs.Words.{is_bare, is_plain, is_bare_text, quoted_text}
@@ -26,8 +26,8 @@ use Rattle.lab_lattice.specs.Label.{Label}
 use Rattle.lab_text.specs.Names.{Names, same_bytes, is_letter, is_name_part, is_label_name}
 use Rattle.lab_text.specs.Numbered.{numbered_text}
 use Rattle.lab_text.specs.Policy.{PolicyNames, MakePolicy, is_valid}
-use Rattle.lab_text.proofs.Said.{text_said, text_names}
-use Rattle.lab_text.specs.Text.{label_text, label_said, label_words, behind_mark}
+use Rattle.lab_text.proofs.Parsed.{parse_text, text_names}
+use Rattle.lab_text.specs.Text.{label_text, parse_label, label_words, past_mark}
 use Rattle.kern_model.specs.Names.{word_of, check_word, errno_word, place_text}
 use Rattle.kern_model.specs.declared.calls.CallName.{CallName}
 use Rattle.kern_model.specs.declared.calls.CallName.TheVariants as name
@@ -41,15 +41,15 @@ use Rattle.kern_model.specs.declared.checks.Thing.{Thing}
 use Rattle.kern_model.specs.declared.checks.Thing.TheVariants as thing
 use Rattle.kern_model.specs.declared.numbers.Oid.{Oid}
 use Rattle.kern_model.specs.declared.numbers.Pid.{Pid}
-use Rattle.kern_model.specs.Named.{named, named_is, call_again, check_again, errno_again}
+use Rattle.kern_model.specs.Named.{named, named_is, call_round_trip, check_round_trip, errno_round_trip}
 use Rattle.aud_record.specs.Events.{event_word}
 use Rattle.aud_record.specs.Fits.{numbered_fits, pid_fits, oid_fits, thing_fits, new_label_fits, place_fits, are_bytes}
-use Rattle.aud_record.specs.Forms.{Choice, first_of, other_of, OnOrOff, ExitOrKill, TermOrKill, Field, Number, Either, Kind, Capability, Check, Error, Call, Process, Object, Mark, NewMark, Caps, Bytes, About, Where, Of, spelled}
-use Rattle.aud_record.proofs.ListedLaws.{event_again, cap_again}
-use Rattle.aud_record.proofs.Numbers.{same_itself, same_is, kept_is, number_is, number_again}
+use Rattle.aud_record.specs.Forms.{Choice, first_of, other_of, OnOrOff, ExitOrKill, TermOrKill, Field, Number, Either, Kind, Capability, Check, Error, Call, Process, Object, Mark, NewMark, Caps, Bytes, About, Where, Of, canonical}
+use Rattle.aud_record.proofs.ListedLaws.{event_round_trip, cap_round_trip}
+use Rattle.aud_record.proofs.Numbers.{same_itself, same_is, kept_is, number_is, number_round_trip}
 use Rattle.aud_record.proofs.Quoted.{unquoted_bytes, quoted_unquoted, plain_small}
-use Rattle.aud_record.specs.Spelled.{number_spelled, label_spelled, numbered_spelled, pid_spelled, oid_spelled, behind_front, thing_spelled, new_label_spelled, step_spelled, place_spelled, unquoted, bytes_spelled, caps_spelled, choice_spelled}
-use Rattle.aud_record.proofs.WordLaws.{lacks, lacks-append, cut_again, cut_is, IsWord}
+use Rattle.aud_record.specs.Canonical.{canonical_number, canonical_label, canonical_numbered, canonical_pid, canonical_oid, after_prefix, canonical_thing, canonical_new_label, canonical_step, canonical_place, unquoted, canonical_bytes, canonical_caps, canonical_choice}
+use Rattle.aud_record.proofs.WordLaws.{lacks, lacks-append, cut_round_trip, cut_is, IsWord}
 use Rattle.aud_record.specs.Written.{pid_text, oid_text, caps_word, thing_text, new_label_text}
 use Rattle.aud_record.specs.declared.event.Event.{Event}
 use Rattle.aud_record.specs.declared.event.Event.TheVariants as event
@@ -93,46 +93,46 @@ pub record Spells (word text : List ℕ) (fits : Bool) : Type 0 where
 
 -- ---- labels
 
-label_is : (p : PolicyNames) (word : List ℕ) (label : Label) → label_spelled p word ≡ Some label → Spells word (label_text p label) (is_valid p label)
-unfolding label_spelled
+label_is : (p : PolicyNames) (word : List ℕ) (label : Label) → canonical_label p word ≡ Some label → Spells word (label_text p label) (is_valid p label)
+unfolding canonical_label
 label_is p word label h =
-    option_and_then_some (λ label. keep_if (is_valid p label && same_bytes (label_text p label) word) label) (label_said p word) label h (λ l said kept.
+    option_and_then_some (λ label. keep_if (is_valid p label && same_bytes (label_text p label) word) label) (parse_label p word) label h (λ l parsed kept.
     let is = kept_is (is_valid p l && same_bytes (label_text p l) word) l label kept in
     let parts = and_parts (is_valid p l) (same_bytes (label_text p l) word) is.0 in
     subst (λ x. Spells word (label_text p x) (is_valid p x)) is.1 (record { text_is = sym (same_is (label_text p l) word parts.1); fit = parts.0 }))
 
-label_again : (p : PolicyNames) (label : Label) → MakePolicy p → is_valid p label ≡ true → label_spelled p (label_text p label) ≡ Some label
-unfolding label_spelled
-label_again p label h valid =
-    ap (option_and_then (λ l. keep_if (is_valid p l && same_bytes (label_text p l) (label_text p label)) l)) (text_said p label h valid)
+label_round_trip : (p : PolicyNames) (label : Label) → MakePolicy p → is_valid p label ≡ true → canonical_label p (label_text p label) ≡ Some label
+unfolding canonical_label
+label_round_trip p label h valid =
+    ap (option_and_then (λ l. keep_if (is_valid p l && same_bytes (label_text p l) (label_text p label)) l)) (parse_text p label h valid)
     ∙ ap (λ t. keep_if t label) (and_from (is_valid p label) (same_bytes (label_text p label) (label_text p label)) valid (same_itself (label_text p label)))
 
 -- `-` is no label
-dash_said : (p : PolicyNames) → label_said p (codes "-") ≡ None
-unfolding label_said label_words
-dash_said p = refl
+parse_dash : (p : PolicyNames) → parse_label p (codes "-") ≡ None
+unfolding parse_label label_words
+parse_dash p = refl
 
 no_dash : (p : PolicyNames) (label : Label) → MakePolicy p → is_valid p label ≡ true → same_bytes (label_text p label) (codes "-") ≡ false
 no_dash p label h valid =
-    false_from_ne_true _ (λ same. let none : label_said p (label_text p label) ≡ None = ap (label_said p) (same_is (label_text p label) (codes "-") same) ∙ dash_said p in let some = text_said p label h valid in cc)
+    false_from_ne_true _ (λ same. let none : parse_label p (label_text p label) ≡ None = ap (parse_label p) (same_is (label_text p label) (codes "-") same) ∙ parse_dash p in let some = parse_text p label h valid in cc)
 
-new_label_is : (p : PolicyNames) (word : List ℕ) (o : Option Label) → new_label_spelled p word ≡ Some o → Spells word (new_label_text p o) (new_label_fits p o)
-unfolding new_label_spelled
+new_label_is : (p : PolicyNames) (word : List ℕ) (o : Option Label) → canonical_new_label p word ≡ Some o → Spells word (new_label_text p o) (new_label_fits p o)
+unfolding canonical_new_label
 new_label_is p word o h = by_dash (same_bytes word (codes "-")) refl h
   where
-    by_label : (said : Option Label) → label_spelled p word ≡ said → option_map (λ label. Some label) said ≡ Some o → Spells word (new_label_text p o) (new_label_fits p o)
-    by_label None said h = absurd (cc)
-    by_label (Some label) said h = subst (λ x. Spells word (new_label_text p x) (new_label_fits p x)) (same_Some (Some label) o h) (label_is p word label said)
+    by_label : (parsed : Option Label) → canonical_label p word ≡ parsed → option_map (λ label. Some label) parsed ≡ Some o → Spells word (new_label_text p o) (new_label_fits p o)
+    by_label None parsed h = absurd (cc)
+    by_label (Some label) parsed h = subst (λ x. Spells word (new_label_text p x) (new_label_fits p x)) (same_Some (Some label) o h) (label_is p word label parsed)
 
-    by_dash : (v : Bool) → same_bytes word (codes "-") ≡ v → cond v (Some None) (option_map (λ label. Some label) (label_spelled p word)) ≡ Some o → Spells word (new_label_text p o) (new_label_fits p o)
+    by_dash : (v : Bool) → same_bytes word (codes "-") ≡ v → cond v (Some None) (option_map (λ label. Some label) (canonical_label p word)) ≡ Some o → Spells word (new_label_text p o) (new_label_fits p o)
     by_dash true same h = subst (λ x. Spells word (new_label_text p x) (new_label_fits p x)) (same_Some None o h) (record { text_is = same_is word (codes "-") same; fit = refl })
-    by_dash false other h = by_label (label_spelled p word) refl h
+    by_dash false other h = by_label (canonical_label p word) refl h
 
-new_label_again : (p : PolicyNames) (o : Option Label) → MakePolicy p → new_label_fits p o ≡ true → new_label_spelled p (new_label_text p o) ≡ Some o
-unfolding new_label_spelled
-new_label_again p None h fits = refl
-new_label_again p (Some label) h fits =
-    cond-false (same_bytes (label_text p label) (codes "-")) (Some None) (option_map (λ label. Some label) (label_spelled p (label_text p label))) (no_dash p label h fits) ∙ ap (option_map (λ label. Some label)) (label_again p label h fits)
+new_label_round_trip : (p : PolicyNames) (o : Option Label) → MakePolicy p → new_label_fits p o ≡ true → canonical_new_label p (new_label_text p o) ≡ Some o
+unfolding canonical_new_label
+new_label_round_trip p None h fits = refl
+new_label_round_trip p (Some label) h fits =
+    cond-false (same_bytes (label_text p label) (codes "-")) (Some None) (option_map (λ label. Some label) (canonical_label p (label_text p label))) (no_dash p label h fits) ∙ ap (option_map (λ label. Some label)) (label_round_trip p label h fits)
 
 -- ---- numbers at labels
 
@@ -144,133 +144,133 @@ digits_lack at n high = decimal_by_steps (λ n ds. lacks at ds ≡ true) (λ n s
     digit : (d : ℕ) → d < 10 → not (48 + d == at) ≡ true
     digit d small = not_from_false (48 + d == at) (ne_eqb (48 + d) at (λ e. omega arith))
 
-numbered_is : (p : PolicyNames) (word : List ℕ) (n : ℕ) (label : Label) → numbered_spelled p word ≡ Some (n, label) → Spells word (numbered_text p n label) (numbered_fits p n label)
-unfolding numbered_spelled numbered_text
+numbered_is : (p : PolicyNames) (word : List ℕ) (n : ℕ) (label : Label) → canonical_numbered p word ≡ Some (n, label) → Spells word (numbered_text p n label) (numbered_fits p n label)
+unfolding canonical_numbered numbered_text
 numbered_is p word n label h = by_cut (cut 64 word) refl h
   where
-    by_label : (front rest : List ℕ) (m : ℕ) (o : Option Label) → cut 64 word ≡ Some (front, rest) → number_spelled (2 ^ 16) front ≡ Some m → label_spelled p rest ≡ o → option_map {U = ℕ × Label} (λ l. (m, l)) o ≡ Some (n, label)
+    by_label : (prefix rest : List ℕ) (m : ℕ) (o : Option Label) → cut 64 word ≡ Some (prefix, rest) → canonical_number (2 ^ 16) prefix ≡ Some m → canonical_label p rest ≡ o → option_map {U = ℕ × Label} (λ l. (m, l)) o ≡ Some (n, label)
         → Spells word (decimal n ++ 64 ∷ label_text p label) (numbered_fits p n label)
-    by_label front rest m None parted number said h = absurd (cc)
-    by_label front rest m (Some l) parted number said h =
+    by_label prefix rest m None parted number parsed h = absurd (cc)
+    by_label prefix rest m (Some l) parted number parsed h =
         let parts = some_pair_parts m n l label h in
-        let first = number_is (2 ^ 16) m front number in
-        let second = label_is p rest l said in
+        let first = number_is (2 ^ 16) m prefix number in
+        let second = label_is p rest l parsed in
         record {
-          text_is = cut_is 64 word front rest parted ∙ (λ i. first.text i ++ 64 ∷ second.text_is i) ∙ (λ i. decimal (parts.0 i) ++ 64 ∷ label_text p (parts.1 i));
+          text_is = cut_is 64 word prefix rest parted ∙ (λ i. first.text i ++ 64 ∷ second.text_is i) ∙ (λ i. decimal (parts.0 i) ++ 64 ∷ label_text p (parts.1 i));
           fit = sym (λ i. numbered_fits p (parts.0 i) (parts.1 i)) ∙ and_from (nat_lt m (2 ^ 16)) (is_valid p l) (lt-ltb m (2 ^ 16) first.small) second.fit;
         }
 
-    by_number : (front rest : List ℕ) (o : Option ℕ) → cut 64 word ≡ Some (front, rest) → number_spelled (2 ^ 16) front ≡ o → option_and_then {U = ℕ × Label} (λ n. option_map (λ label. (n, label)) (label_spelled p rest)) o ≡ Some (n, label)
+    by_number : (prefix rest : List ℕ) (o : Option ℕ) → cut 64 word ≡ Some (prefix, rest) → canonical_number (2 ^ 16) prefix ≡ o → option_and_then {U = ℕ × Label} (λ n. option_map (λ label. (n, label)) (canonical_label p rest)) o ≡ Some (n, label)
         → Spells word (decimal n ++ 64 ∷ label_text p label) (numbered_fits p n label)
-    by_number front rest None parted number h = absurd (cc)
-    by_number front rest (Some m) parted number h = by_label front rest m (label_spelled p rest) parted number refl h
+    by_number prefix rest None parted number h = absurd (cc)
+    by_number prefix rest (Some m) parted number h = by_label prefix rest m (canonical_label p rest) parted number refl h
 
     by_cut : (o : Option (List ℕ × List ℕ)) → cut 64 word ≡ o
-        → option_and_then {U = ℕ × Label} (λ (parts : List ℕ × List ℕ). option_and_then (λ n. option_map (λ label. (n, label)) (label_spelled p parts.1)) (number_spelled (2 ^ 16) parts.0)) o ≡ Some (n, label)
+        → option_and_then {U = ℕ × Label} (λ (parts : List ℕ × List ℕ). option_and_then (λ n. option_map (λ label. (n, label)) (canonical_label p parts.1)) (canonical_number (2 ^ 16) parts.0)) o ≡ Some (n, label)
         → Spells word (decimal n ++ 64 ∷ label_text p label) (numbered_fits p n label)
     by_cut None parted h = absurd (cc)
-    by_cut (Some (front, rest)) parted h = by_number front rest (number_spelled (2 ^ 16) front) parted refl h
+    by_cut (Some (prefix, rest)) parted h = by_number prefix rest (canonical_number (2 ^ 16) prefix) parted refl h
 
-numbered_again : (p : PolicyNames) (n : ℕ) (label : Label) → MakePolicy p → numbered_fits p n label ≡ true → numbered_spelled p (numbered_text p n label) ≡ Some (n, label)
-unfolding numbered_spelled numbered_text
-numbered_again p n label h fits =
+numbered_round_trip : (p : PolicyNames) (n : ℕ) (label : Label) → MakePolicy p → numbered_fits p n label ≡ true → canonical_numbered p (numbered_text p n label) ≡ Some (n, label)
+unfolding canonical_numbered numbered_text
+numbered_round_trip p n label h fits =
     let parts = and_parts (nat_lt n (2 ^ 16)) (is_valid p label) fits in
     let small = ltb-true n (2 ^ 16) parts.0 in
-    ap (option_and_then {U = ℕ × Label} (λ (parts : List ℕ × List ℕ). option_and_then (λ n. option_map (λ label. (n, label)) (label_spelled p parts.1)) (number_spelled (2 ^ 16) parts.0)))
-    (cut_again 64 (decimal n) (label_text p label) (digits_lack 64 n (omega arith) (omega arith)))
-    ∙ ap (option_and_then {U = ℕ × Label} (λ n. option_map (λ label. (n, label)) (label_spelled p (label_text p label)))) (number_again (2 ^ 16) n small (omega arith))
-    ∙ ap (option_map {U = ℕ × Label} (λ label. (n, label))) (label_again p label h parts.1)
+    ap (option_and_then {U = ℕ × Label} (λ (parts : List ℕ × List ℕ). option_and_then (λ n. option_map (λ label. (n, label)) (canonical_label p parts.1)) (canonical_number (2 ^ 16) parts.0)))
+    (cut_round_trip 64 (decimal n) (label_text p label) (digits_lack 64 n (omega arith) (omega arith)))
+    ∙ ap (option_and_then {U = ℕ × Label} (λ n. option_map (λ label. (n, label)) (canonical_label p (label_text p label)))) (number_round_trip (2 ^ 16) n small (omega arith))
+    ∙ ap (option_map {U = ℕ × Label} (λ label. (n, label))) (label_round_trip p label h parts.1)
 
-pid_is : (p : PolicyNames) (word : List ℕ) (pid : Pid) → pid_spelled p word ≡ Some pid → Spells word (pid_text p pid) (pid_fits p pid)
-pid_is p word pid h = by_number (numbered_spelled p word) refl h
+pid_is : (p : PolicyNames) (word : List ℕ) (pid : Pid) → canonical_pid p word ≡ Some pid → Spells word (pid_text p pid) (pid_fits p pid)
+pid_is p word pid h = by_number (canonical_numbered p word) refl h
   where
-    by_number : (o : Option (ℕ × Label)) → numbered_spelled p word ≡ o → option_map (λ (x : ℕ × Label). record { label = x.1; n = x.0 }) o ≡ Some pid → Spells word (pid_text p pid) (pid_fits p pid)
-    by_number None said h = absurd (cc)
-    by_number (Some (n, label)) said h = subst (λ (x : Pid). Spells word (pid_text p x) (pid_fits p x)) (same_Some (record { label = label; n = n }) pid h) (numbered_is p word n label said)
+    by_number : (o : Option (ℕ × Label)) → canonical_numbered p word ≡ o → option_map (λ (x : ℕ × Label). record { label = x.1; n = x.0 }) o ≡ Some pid → Spells word (pid_text p pid) (pid_fits p pid)
+    by_number None parsed h = absurd (cc)
+    by_number (Some (n, label)) parsed h = subst (λ (x : Pid). Spells word (pid_text p x) (pid_fits p x)) (same_Some (record { label = label; n = n }) pid h) (numbered_is p word n label parsed)
 
-pid_again : (p : PolicyNames) (pid : Pid) → MakePolicy p → pid_fits p pid ≡ true → pid_spelled p (pid_text p pid) ≡ Some pid
-pid_again p pid h fits = ap (option_map (λ (x : ℕ × Label). record { label = x.1; n = x.0 })) (numbered_again p pid.n pid.label h fits)
+pid_round_trip : (p : PolicyNames) (pid : Pid) → MakePolicy p → pid_fits p pid ≡ true → canonical_pid p (pid_text p pid) ≡ Some pid
+pid_round_trip p pid h fits = ap (option_map (λ (x : ℕ × Label). record { label = x.1; n = x.0 })) (numbered_round_trip p pid.n pid.label h fits)
 
-oid_is : (p : PolicyNames) (word : List ℕ) (oid : Oid) → oid_spelled p word ≡ Some oid → Spells word (oid_text p oid) (oid_fits p oid)
-oid_is p word oid h = by_number (numbered_spelled p word) refl h
+oid_is : (p : PolicyNames) (word : List ℕ) (oid : Oid) → canonical_oid p word ≡ Some oid → Spells word (oid_text p oid) (oid_fits p oid)
+oid_is p word oid h = by_number (canonical_numbered p word) refl h
   where
-    by_number : (o : Option (ℕ × Label)) → numbered_spelled p word ≡ o → option_map (λ (x : ℕ × Label). record { label = x.1; n = x.0 }) o ≡ Some oid → Spells word (oid_text p oid) (oid_fits p oid)
-    by_number None said h = absurd (cc)
-    by_number (Some (n, label)) said h = subst (λ (x : Oid). Spells word (oid_text p x) (oid_fits p x)) (same_Some (record { label = label; n = n }) oid h) (numbered_is p word n label said)
+    by_number : (o : Option (ℕ × Label)) → canonical_numbered p word ≡ o → option_map (λ (x : ℕ × Label). record { label = x.1; n = x.0 }) o ≡ Some oid → Spells word (oid_text p oid) (oid_fits p oid)
+    by_number None parsed h = absurd (cc)
+    by_number (Some (n, label)) parsed h = subst (λ (x : Oid). Spells word (oid_text p x) (oid_fits p x)) (same_Some (record { label = label; n = n }) oid h) (numbered_is p word n label parsed)
 
-oid_again : (p : PolicyNames) (oid : Oid) → MakePolicy p → oid_fits p oid ≡ true → oid_spelled p (oid_text p oid) ≡ Some oid
-oid_again p oid h fits = ap (option_map (λ (x : ℕ × Label). record { label = x.1; n = x.0 })) (numbered_again p oid.n oid.label h fits)
+oid_round_trip : (p : PolicyNames) (oid : Oid) → MakePolicy p → oid_fits p oid ≡ true → canonical_oid p (oid_text p oid) ≡ Some oid
+oid_round_trip p oid h fits = ap (option_map (λ (x : ℕ × Label). record { label = x.1; n = x.0 })) (numbered_round_trip p oid.n oid.label h fits)
 
 -- ---- what a check is about
 
-front_is : (front word rest : List ℕ) → behind_front front word ≡ Some rest → word ≡ front ++ rest
-front_is [] word rest h = same_Some word rest h
-front_is (f ∷ fs) [] rest h = absurd (cc)
-front_is (f ∷ fs) (b ∷ bs) rest h = by_test (f == b) refl h (λ h. front_is fs bs rest h)
+prefix_is : (prefix word rest : List ℕ) → after_prefix prefix word ≡ Some rest → word ≡ prefix ++ rest
+prefix_is [] word rest h = same_Some word rest h
+prefix_is (f ∷ fs) [] rest h = absurd (cc)
+prefix_is (f ∷ fs) (b ∷ bs) rest h = by_test (f == b) refl h (λ h. prefix_is fs bs rest h)
   where
-    by_test : (v : Bool) → (f == b) ≡ v → cond v (behind_front fs bs) None ≡ Some rest → (behind_front fs bs ≡ Some rest → bs ≡ fs ++ rest) → b ∷ bs ≡ f ∷ fs ++ rest
+    by_test : (v : Bool) → (f == b) ≡ v → cond v (after_prefix fs bs) None ≡ Some rest → (after_prefix fs bs ≡ Some rest → bs ≡ fs ++ rest) → b ∷ bs ≡ f ∷ fs ++ rest
     by_test true e h more = λ i. sym (eqb-true f b e) i ∷ more h i
     by_test false e h more = absurd (cc)
 
-object_is : (p : PolicyNames) (word : List ℕ) (t : Thing) → option_and_then (λ w. option_map thing.Object (oid_spelled p w)) (behind_front (codes "obj:") word) ≡ Some t → Spells word (thing_text p t) (thing_fits p t)
-object_is p word t h = option_and_then_some (λ w. option_map thing.Object (oid_spelled p w)) (behind_front (codes "obj:") word) t h (λ rest behind some. by_oid rest (oid_spelled p rest) behind refl some)
+object_is : (p : PolicyNames) (word : List ℕ) (t : Thing) → option_and_then (λ w. option_map thing.Object (canonical_oid p w)) (after_prefix (codes "obj:") word) ≡ Some t → Spells word (thing_text p t) (thing_fits p t)
+object_is p word t h = option_and_then_some (λ w. option_map thing.Object (canonical_oid p w)) (after_prefix (codes "obj:") word) t h (λ rest after some. by_oid rest (canonical_oid p rest) after refl some)
   where
-    by_oid : (rest : List ℕ) (o : Option Oid) → behind_front (codes "obj:") word ≡ Some rest → oid_spelled p rest ≡ o → option_map thing.Object o ≡ Some t → Spells word (thing_text p t) (thing_fits p t)
-    by_oid rest None behind said h = absurd (cc)
-    by_oid rest (Some oid) behind said h =
-        let is = oid_is p rest oid said in
-        subst (λ x. Spells word (thing_text p x) (thing_fits p x)) (same_Some (thing.Object oid) t h) (record { text_is = front_is (codes "obj:") word rest behind ∙ ap (λ w. codes "obj:" ++ w) is.text_is; fit = is.fit })
+    by_oid : (rest : List ℕ) (o : Option Oid) → after_prefix (codes "obj:") word ≡ Some rest → canonical_oid p rest ≡ o → option_map thing.Object o ≡ Some t → Spells word (thing_text p t) (thing_fits p t)
+    by_oid rest None after parsed h = absurd (cc)
+    by_oid rest (Some oid) after parsed h =
+        let is = oid_is p rest oid parsed in
+        subst (λ x. Spells word (thing_text p x) (thing_fits p x)) (same_Some (thing.Object oid) t h) (record { text_is = prefix_is (codes "obj:") word rest after ∙ ap (λ w. codes "obj:" ++ w) is.text_is; fit = is.fit })
 
-process_is : (p : PolicyNames) (word : List ℕ) (t : Thing) → option_and_then (λ w. option_map thing.Process (pid_spelled p w)) (behind_front (codes "proc:") word) ≡ Some t → Spells word (thing_text p t) (thing_fits p t)
-process_is p word t h = option_and_then_some (λ w. option_map thing.Process (pid_spelled p w)) (behind_front (codes "proc:") word) t h (λ rest behind some. by_pid rest (pid_spelled p rest) behind refl some)
+process_is : (p : PolicyNames) (word : List ℕ) (t : Thing) → option_and_then (λ w. option_map thing.Process (canonical_pid p w)) (after_prefix (codes "proc:") word) ≡ Some t → Spells word (thing_text p t) (thing_fits p t)
+process_is p word t h = option_and_then_some (λ w. option_map thing.Process (canonical_pid p w)) (after_prefix (codes "proc:") word) t h (λ rest after some. by_pid rest (canonical_pid p rest) after refl some)
   where
-    by_pid : (rest : List ℕ) (o : Option Pid) → behind_front (codes "proc:") word ≡ Some rest → pid_spelled p rest ≡ o → option_map thing.Process o ≡ Some t → Spells word (thing_text p t) (thing_fits p t)
-    by_pid rest None behind said h = absurd (cc)
-    by_pid rest (Some pid) behind said h =
-        let is = pid_is p rest pid said in
-        subst (λ x. Spells word (thing_text p x) (thing_fits p x)) (same_Some (thing.Process pid) t h) (record { text_is = front_is (codes "proc:") word rest behind ∙ ap (λ w. codes "proc:" ++ w) is.text_is; fit = is.fit })
+    by_pid : (rest : List ℕ) (o : Option Pid) → after_prefix (codes "proc:") word ≡ Some rest → canonical_pid p rest ≡ o → option_map thing.Process o ≡ Some t → Spells word (thing_text p t) (thing_fits p t)
+    by_pid rest None after parsed h = absurd (cc)
+    by_pid rest (Some pid) after parsed h =
+        let is = pid_is p rest pid parsed in
+        subst (λ x. Spells word (thing_text p x) (thing_fits p x)) (same_Some (thing.Process pid) t h) (record { text_is = prefix_is (codes "proc:") word rest after ∙ ap (λ w. codes "proc:" ++ w) is.text_is; fit = is.fit })
 
-thing_is : (p : PolicyNames) (word : List ℕ) (t : Thing) → thing_spelled p word ≡ Some t → Spells word (thing_text p t) (thing_fits p t)
-unfolding thing_spelled
-thing_is p word t h = by_object (option_and_then (λ w. option_map thing.Object (oid_spelled p w)) (behind_front (codes "obj:") word)) refl h
+thing_is : (p : PolicyNames) (word : List ℕ) (t : Thing) → canonical_thing p word ≡ Some t → Spells word (thing_text p t) (thing_fits p t)
+unfolding canonical_thing
+thing_is p word t h = by_object (option_and_then (λ w. option_map thing.Object (canonical_oid p w)) (after_prefix (codes "obj:") word)) refl h
   where
-    by_object : (o : Option Thing) → option_and_then (λ w. option_map thing.Object (oid_spelled p w)) (behind_front (codes "obj:") word) ≡ o
-        → option_or o (option_and_then (λ w. option_map thing.Process (pid_spelled p w)) (behind_front (codes "proc:") word)) ≡ Some t → Spells word (thing_text p t) (thing_fits p t)
+    by_object : (o : Option Thing) → option_and_then (λ w. option_map thing.Object (canonical_oid p w)) (after_prefix (codes "obj:") word) ≡ o
+        → option_or o (option_and_then (λ w. option_map thing.Process (canonical_pid p w)) (after_prefix (codes "proc:") word)) ≡ Some t → Spells word (thing_text p t) (thing_fits p t)
     by_object None none h = process_is p word t h
     by_object (Some x) some h = object_is p word t (some ∙ h)
 
-thing_again : (p : PolicyNames) (t : Thing) → MakePolicy p → thing_fits p t ≡ true → thing_spelled p (thing_text p t) ≡ Some t
-unfolding thing_spelled
-thing_again p (thing.Object oid) h fits = ap (λ (o : Option Oid). option_or (option_map thing.Object o) None) (oid_again p oid h fits)
-thing_again p (thing.Process pid) h fits = ap (option_map thing.Process) (pid_again p pid h fits)
+thing_round_trip : (p : PolicyNames) (t : Thing) → MakePolicy p → thing_fits p t ≡ true → canonical_thing p (thing_text p t) ≡ Some t
+unfolding canonical_thing
+thing_round_trip p (thing.Object oid) h fits = ap (λ (o : Option Oid). option_or (option_map thing.Object o) None) (oid_round_trip p oid h fits)
+thing_round_trip p (thing.Process pid) h fits = ap (option_map thing.Process) (pid_round_trip p pid h fits)
 
 -- ---- places
 
-step_is : (word : List ℕ) (x : Place) → step_spelled word ≡ Some x → Spells word (place_text x) (place_fits x)
+step_is : (word : List ℕ) (x : Place) → canonical_step word ≡ Some x → Spells word (place_text x) (place_fits x)
 step_is [] x h = absurd (cc)
 step_is (b ∷ bs) x h = by_first (b == 112) refl h
   where
-    by_number : (letter : ℕ) (made : ℕ → Place) (o : Option ℕ) → b ≡ letter → ((n : ℕ) → place_text (made n) ≡ letter ∷ decimal n) → ((n : ℕ) → place_fits (made n) ≡ nat_lt n (2 ^ 8)) → number_spelled (2 ^ 8) bs ≡ o → option_map made o ≡ Some x
+    by_number : (letter : ℕ) (made : ℕ → Place) (o : Option ℕ) → b ≡ letter → ((n : ℕ) → place_text (made n) ≡ letter ∷ decimal n) → ((n : ℕ) → place_fits (made n) ≡ nat_lt n (2 ^ 8)) → canonical_number (2 ^ 8) bs ≡ o → option_map made o ≡ Some x
         → Spells (b ∷ bs) (place_text x) (place_fits x)
-    by_number letter made None is text fits said h = absurd (cc)
-    by_number letter made (Some n) is text fits said h =
-        let number = number_is (2 ^ 8) n bs said in
+    by_number letter made None is text fits parsed h = absurd (cc)
+    by_number letter made (Some n) is text fits parsed h =
+        let number = number_is (2 ^ 8) n bs parsed in
         subst (λ y. Spells (b ∷ bs) (place_text y) (place_fits y)) (same_Some (made n) x h) (record { text_is = (λ i. is i ∷ number.text i) ∙ sym (text n); fit = fits n ∙ lt-ltb n (2 ^ 8) number.small })
 
-    by_second : (v : Bool) → (b == 113) ≡ v → cond v (option_map place.Second (number_spelled (2 ^ 8) bs)) None ≡ Some x → Spells (b ∷ bs) (place_text x) (place_fits x)
-    by_second true e h = by_number 113 place.Second (number_spelled (2 ^ 8) bs) (eqb-true b 113 e) (λ n. refl) (λ n. refl) refl h
+    by_second : (v : Bool) → (b == 113) ≡ v → cond v (option_map place.Second (canonical_number (2 ^ 8) bs)) None ≡ Some x → Spells (b ∷ bs) (place_text x) (place_fits x)
+    by_second true e h = by_number 113 place.Second (canonical_number (2 ^ 8) bs) (eqb-true b 113 e) (λ n. refl) (λ n. refl) refl h
     by_second false e h = absurd (cc)
 
-    by_first : (v : Bool) → (b == 112) ≡ v → cond v (option_map place.First (number_spelled (2 ^ 8) bs)) (cond (b == 113) (option_map place.Second (number_spelled (2 ^ 8) bs)) None) ≡ Some x
+    by_first : (v : Bool) → (b == 112) ≡ v → cond v (option_map place.First (canonical_number (2 ^ 8) bs)) (cond (b == 113) (option_map place.Second (canonical_number (2 ^ 8) bs)) None) ≡ Some x
         → Spells (b ∷ bs) (place_text x) (place_fits x)
-    by_first true e h = by_number 112 place.First (number_spelled (2 ^ 8) bs) (eqb-true b 112 e) (λ n. refl) (λ n. refl) refl h
+    by_first true e h = by_number 112 place.First (canonical_number (2 ^ 8) bs) (eqb-true b 112 e) (λ n. refl) (λ n. refl) refl h
     by_first false e h = by_second (b == 113) refl h
 
-place_is : (word : List ℕ) (x : Place) → place_spelled word ≡ Some x → Spells word (place_text x) (place_fits x)
-unfolding place_spelled
-place_is word x h = by_word (codes "fd") place.Handle (cond (same_bytes word (codes "pid")) (Some place.Target) (cond (same_bytes word (codes "self")) (Some place.Caller) (step_spelled word))) (same_bytes word (codes "fd")) refl refl refl
-    (by_word (codes "pid") place.Target (cond (same_bytes word (codes "self")) (Some place.Caller) (step_spelled word)) (same_bytes word (codes "pid")) refl refl refl
-    (by_word (codes "self") place.Caller (step_spelled word) (same_bytes word (codes "self")) refl refl refl (step_is word x))) h
+place_is : (word : List ℕ) (x : Place) → canonical_place word ≡ Some x → Spells word (place_text x) (place_fits x)
+unfolding canonical_place
+place_is word x h = by_word (codes "fd") place.Handle (cond (same_bytes word (codes "pid")) (Some place.Target) (cond (same_bytes word (codes "self")) (Some place.Caller) (canonical_step word))) (same_bytes word (codes "fd")) refl refl refl
+    (by_word (codes "pid") place.Target (cond (same_bytes word (codes "self")) (Some place.Caller) (canonical_step word)) (same_bytes word (codes "pid")) refl refl refl
+    (by_word (codes "self") place.Caller (canonical_step word) (same_bytes word (codes "self")) refl refl refl (step_is word x))) h
   where
     by_word : (text : List ℕ) (y : Place) (o : Option Place) (v : Bool) → same_bytes word text ≡ v → place_text y ≡ text → place_fits y ≡ true → (o ≡ Some x → Spells word (place_text x) (place_fits x)) → cond v (Some y) o ≡ Some x
         → Spells word (place_text x) (place_fits x)
@@ -283,51 +283,51 @@ no_word n small = false_from_ne_true _ (λ same.
     let digits : decimal n ≡ codes "id" = cc in
     true≢false (sym (digits_lack 105 n (omega arith) small) ∙ ap (lacks 105) digits))
 
-place_again : (x : Place) → place_fits x ≡ true → place_spelled (place_text x) ≡ Some x
-unfolding place_spelled
-place_again (place.First n) fits =
+place_round_trip : (x : Place) → place_fits x ≡ true → canonical_place (place_text x) ≡ Some x
+unfolding canonical_place
+place_round_trip (place.First n) fits =
     let small = ltb-true n (2 ^ 8) fits in
-    cond-false (same_bytes (112 ∷ decimal n) (codes "pid")) (Some place.Target) (option_map place.First (number_spelled (2 ^ 8) (decimal n))) (no_word n (omega arith)) ∙ ap (option_map place.First) (number_again (2 ^ 8) n small (omega arith))
-place_again (place.Second n) fits = let small = ltb-true n (2 ^ 8) fits in ap (option_map place.Second) (number_again (2 ^ 8) n small (omega arith))
-place_again place.Handle fits = refl
-place_again place.Target fits = refl
-place_again place.Caller fits = refl
+    cond-false (same_bytes (112 ∷ decimal n) (codes "pid")) (Some place.Target) (option_map place.First (canonical_number (2 ^ 8) (decimal n))) (no_word n (omega arith)) ∙ ap (option_map place.First) (number_round_trip (2 ^ 8) n small (omega arith))
+place_round_trip (place.Second n) fits = let small = ltb-true n (2 ^ 8) fits in ap (option_map place.Second) (number_round_trip (2 ^ 8) n small (omega arith))
+place_round_trip place.Handle fits = refl
+place_round_trip place.Target fits = refl
+place_round_trip place.Caller fits = refl
 
 -- ---- between quotes
 
-bytes_is : (word bytes : List ℕ) → bytes_spelled word ≡ Some bytes → Spells word (quoted_text bytes) (are_bytes bytes)
-unfolding bytes_spelled
+bytes_is : (word bytes : List ℕ) → canonical_bytes word ≡ Some bytes → Spells word (quoted_text bytes) (are_bytes bytes)
+unfolding canonical_bytes
 bytes_is word bytes h =
-    option_and_then_some (λ bytes. keep_if (same_bytes (quoted_text bytes) word) bytes) (unquoted word) bytes h (λ said some kept.
-    let is = kept_is (same_bytes (quoted_text said) word) said bytes kept in
-    subst (λ x. Spells word (quoted_text x) (are_bytes x)) is.1 (record { text_is = sym (same_is (quoted_text said) word is.0); fit = unquoted_bytes word said some }))
+    option_and_then_some (λ bytes. keep_if (same_bytes (quoted_text bytes) word) bytes) (unquoted word) bytes h (λ parsed some kept.
+    let is = kept_is (same_bytes (quoted_text parsed) word) parsed bytes kept in
+    subst (λ x. Spells word (quoted_text x) (are_bytes x)) is.1 (record { text_is = sym (same_is (quoted_text parsed) word is.0); fit = unquoted_bytes word parsed some }))
 
-bytes_again : (bytes : List ℕ) → are_bytes bytes ≡ true → bytes_spelled (quoted_text bytes) ≡ Some bytes
-unfolding bytes_spelled
-bytes_again bytes fits =
+bytes_round_trip : (bytes : List ℕ) → are_bytes bytes ≡ true → canonical_bytes (quoted_text bytes) ≡ Some bytes
+unfolding canonical_bytes
+bytes_round_trip bytes fits =
     ap (option_and_then (λ b. keep_if (same_bytes (quoted_text b) (quoted_text bytes)) b)) (quoted_unquoted bytes fits) ∙ ap (λ t. keep_if t bytes) (same_itself (quoted_text bytes))
 
-caps_is : (word : List ℕ) (caps : CapState) → caps_spelled word ≡ Some caps → Spells word (caps_word caps) true
-unfolding caps_spelled
+caps_is : (word : List ℕ) (caps : CapState) → canonical_caps word ≡ Some caps → Spells word (caps_word caps) true
+unfolding canonical_caps
 caps_is word caps h =
-    option_and_then_some (λ caps. keep_if (same_bytes (caps_word caps) word) caps) (option_and_then (λ bytes. result_ok (caps_said bytes)) (unquoted word)) caps h (λ said some kept.
-    let is = kept_is (same_bytes (caps_word said) word) said caps kept in
-    subst (λ x. Spells word (caps_word x) true) is.1 (record { text_is = sym (same_is (caps_word said) word is.0); fit = refl }))
+    option_and_then_some (λ caps. keep_if (same_bytes (caps_word caps) word) caps) (option_and_then (λ bytes. result_ok (parse_caps bytes)) (unquoted word)) caps h (λ parsed some kept.
+    let is = kept_is (same_bytes (caps_word parsed) word) parsed caps kept in
+    subst (λ x. Spells word (caps_word x) true) is.1 (record { text_is = sym (same_is (caps_word parsed) word is.0); fit = refl }))
 
 plain_bytes : (text : List ℕ) → list_all is_plain text ≡ true → are_bytes text ≡ true
 plain_bytes [] plain = refl
 plain_bytes (b ∷ bs) plain = let parts = and_parts (is_plain b) (list_all is_plain bs) plain in and_from (nat_lt b 256) (are_bytes bs) (lt-ltb b 256 (plain_small b parts.0)) (plain_bytes bs parts.1)
 
-caps_read : (caps : CapState) → caps_spelled (caps_word caps) ≡ Some caps
-unfolding caps_spelled
+caps_read : (caps : CapState) → canonical_caps (caps_word caps) ≡ Some caps
+unfolding canonical_caps
 caps_read caps =
-    ap (λ (o : Option (List ℕ)). option_and_then (λ x. keep_if (same_bytes (caps_word x) (caps_word caps)) x) (option_and_then (λ bytes. result_ok (caps_said bytes)) o)) (quoted_unquoted (caps_text caps) (plain_bytes (caps_text caps) (caps_text_plain caps)))
-    ∙ ap (λ r. option_and_then (λ x. keep_if (same_bytes (caps_word x) (caps_word caps)) x) (result_ok r)) (caps_again caps) ∙ ap (λ t. keep_if t caps) (same_itself (caps_word caps))
+    ap (λ (o : Option (List ℕ)). option_and_then (λ x. keep_if (same_bytes (caps_word x) (caps_word caps)) x) (option_and_then (λ bytes. result_ok (parse_caps bytes)) o)) (quoted_unquoted (caps_text caps) (plain_bytes (caps_text caps) (caps_text_plain caps)))
+    ∙ ap (λ r. option_and_then (λ x. keep_if (same_bytes (caps_word x) (caps_word caps)) x) (result_ok r)) (caps_round_trip caps) ∙ ap (λ t. keep_if t caps) (same_itself (caps_word caps))
 
 -- ---- one of two words
 
-choice_is : (word first other : List ℕ) (b : Bool) → choice_spelled first other word ≡ Some b → Spells word (cond b first other) true
-unfolding choice_spelled
+choice_is : (word first other : List ℕ) (b : Bool) → canonical_choice first other word ≡ Some b → Spells word (cond b first other) true
+unfolding canonical_choice
 choice_is word first other b h = by_first (same_bytes word first) refl h
   where
     by_other : (v : Bool) → same_bytes word other ≡ v → cond v (Some false) None ≡ Some b → Spells word (cond b first other) true
@@ -338,14 +338,14 @@ choice_is word first other b h = by_first (same_bytes word first) refl h
     by_first true same h = subst (λ x. Spells word (cond x first other) true) (same_Some true b h) (record { text_is = same_is word first same; fit = refl })
     by_first false none h = by_other (same_bytes word other) refl h
 
-choice_again : (c : Choice) (b : Bool) → choice_spelled (first_of c) (other_of c) (cond b (first_of c) (other_of c)) ≡ Some b
-unfolding choice_spelled
-choice_again OnOrOff true = refl
-choice_again OnOrOff false = refl
-choice_again ExitOrKill true = refl
-choice_again ExitOrKill false = refl
-choice_again TermOrKill true = refl
-choice_again TermOrKill false = refl
+choice_round_trip : (c : Choice) (b : Bool) → canonical_choice (first_of c) (other_of c) (cond b (first_of c) (other_of c)) ≡ Some b
+unfolding canonical_choice
+choice_round_trip OnOrOff true = refl
+choice_round_trip OnOrOff false = refl
+choice_round_trip ExitOrKill true = refl
+choice_round_trip ExitOrKill false = refl
+choice_round_trip TermOrKill true = refl
+choice_round_trip TermOrKill false = refl
 
 -- ---- all fields
 
@@ -353,22 +353,22 @@ listed_is : {X : Type 0} (word_of : X → List ℕ) (values : List X) (word : Li
 listed_is word_of values word x h = record { text_is = named_is word_of values word x h; fit = refl }
 
 -- what a word stands for has that word, and fits
-pub spelled_is : (p : PolicyNames) (f : Field) (word : List ℕ) (v : Of f) → spelled p f word ≡ Some v → Spells word (field_text p f v) (field_fits p f v)
-spelled_is p (Number bound) word n h = let is = number_is bound n word h in record { text_is = is.text; fit = lt-ltb n bound is.small }
-spelled_is p (Either choice) word b h = choice_is word (first_of choice) (other_of choice) b h
-spelled_is p Kind word event h = listed_is event_word _ word event h
-spelled_is p Capability word cap h = listed_is cap_name _ word cap h
-spelled_is p Check word check h = listed_is check_word _ word check h
-spelled_is p Error word errno h = listed_is errno_word _ word errno h
-spelled_is p Call word call h = listed_is word_of _ word call h
-spelled_is p Process word pid h = pid_is p word pid h
-spelled_is p Object word oid h = oid_is p word oid h
-spelled_is p Mark word label h = label_is p word label h
-spelled_is p NewMark word label h = new_label_is p word label h
-spelled_is p Caps word caps h = caps_is word caps h
-spelled_is p Bytes word bytes h = bytes_is word bytes h
-spelled_is p About word thing h = thing_is p word thing h
-spelled_is p Where word place h = place_is word place h
+pub canonical_is : (p : PolicyNames) (f : Field) (word : List ℕ) (v : Of f) → canonical p f word ≡ Some v → Spells word (field_text p f v) (field_fits p f v)
+canonical_is p (Number bound) word n h = let is = number_is bound n word h in record { text_is = is.text; fit = lt-ltb n bound is.small }
+canonical_is p (Either choice) word b h = choice_is word (first_of choice) (other_of choice) b h
+canonical_is p Kind word event h = listed_is event_word _ word event h
+canonical_is p Capability word cap h = listed_is cap_name _ word cap h
+canonical_is p Check word check h = listed_is check_word _ word check h
+canonical_is p Error word errno h = listed_is errno_word _ word errno h
+canonical_is p Call word call h = listed_is word_of _ word call h
+canonical_is p Process word pid h = pid_is p word pid h
+canonical_is p Object word oid h = oid_is p word oid h
+canonical_is p Mark word label h = label_is p word label h
+canonical_is p NewMark word label h = new_label_is p word label h
+canonical_is p Caps word caps h = caps_is word caps h
+canonical_is p Bytes word bytes h = bytes_is word bytes h
+canonical_is p About word thing h = thing_is p word thing h
+canonical_is p Where word place h = place_is word place h
 
 -- a bound that digits keep within 64 bits
 abbrev pub is_wide : Field → Bool
@@ -376,22 +376,22 @@ is_wide (Number bound) = nat_le bound (2 ^ 64)
 is_wide _ = true
 
 -- the word of a value that fits stands for it
-pub spelled_again : (p : PolicyNames) (f : Field) (v : Of f) → MakePolicy p → is_wide f ≡ true → field_fits p f v ≡ true → spelled p f (field_text p f v) ≡ Some v
-spelled_again p (Number bound) n h wide fits = let small = ltb-true n bound fits in let le = leb-true bound (2 ^ 64) wide in number_again bound n small (omega arith)
-spelled_again p (Either choice) b h wide fits = choice_again choice b
-spelled_again p Kind event h wide fits = event_again event
-spelled_again p Capability cap h wide fits = cap_again cap
-spelled_again p Check check h wide fits = check_again check
-spelled_again p Error errno h wide fits = errno_again errno
-spelled_again p Call call h wide fits = call_again call
-spelled_again p Process pid h wide fits = pid_again p pid h fits
-spelled_again p Object oid h wide fits = oid_again p oid h fits
-spelled_again p Mark label h wide fits = label_again p label h fits
-spelled_again p NewMark label h wide fits = new_label_again p label h fits
-spelled_again p Caps caps h wide fits = caps_read caps
-spelled_again p Bytes bytes h wide fits = bytes_again bytes fits
-spelled_again p About thing h wide fits = thing_again p thing h fits
-spelled_again p Where place h wide fits = place_again place fits
+pub canonical_round_trip : (p : PolicyNames) (f : Field) (v : Of f) → MakePolicy p → is_wide f ≡ true → field_fits p f v ≡ true → canonical p f (field_text p f v) ≡ Some v
+canonical_round_trip p (Number bound) n h wide fits = let small = ltb-true n bound fits in let le = leb-true bound (2 ^ 64) wide in number_round_trip bound n small (omega arith)
+canonical_round_trip p (Either choice) b h wide fits = choice_round_trip choice b
+canonical_round_trip p Kind event h wide fits = event_round_trip event
+canonical_round_trip p Capability cap h wide fits = cap_round_trip cap
+canonical_round_trip p Check check h wide fits = check_round_trip check
+canonical_round_trip p Error errno h wide fits = errno_round_trip errno
+canonical_round_trip p Call call h wide fits = call_round_trip call
+canonical_round_trip p Process pid h wide fits = pid_round_trip p pid h fits
+canonical_round_trip p Object oid h wide fits = oid_round_trip p oid h fits
+canonical_round_trip p Mark label h wide fits = label_round_trip p label h fits
+canonical_round_trip p NewMark label h wide fits = new_label_round_trip p label h fits
+canonical_round_trip p Caps caps h wide fits = caps_read caps
+canonical_round_trip p Bytes bytes h wide fits = bytes_round_trip bytes fits
+canonical_round_trip p About thing h wide fits = thing_round_trip p thing h fits
+canonical_round_trip p Where place h wide fits = place_round_trip place fits
 
 -- ---- where words end
 
@@ -405,8 +405,8 @@ bare_with a b first second =
 all_bare : (w : List ℕ) → is_bare_text w ≡ true → list_all is_bare w ≡ true
 all_bare w bare = (and_parts (nat_lt 0 (length w)) (list_all is_bare w) bare).1
 
-bare_front : (b : ℕ) (w : List ℕ) → is_bare b ≡ true → list_all is_bare w ≡ true → is_bare_text (b ∷ w) ≡ true
-bare_front b w first rest = and_from (nat_lt 0 (length (b ∷ w))) (list_all is_bare (b ∷ w)) (lt-ltb 0 (length (b ∷ w)) (omega arith)) (and_from (is_bare b) (list_all is_bare w) first rest)
+bare_begins : (b : ℕ) (w : List ℕ) → is_bare b ≡ true → list_all is_bare w ≡ true → is_bare_text (b ∷ w) ≡ true
+bare_begins b w first rest = and_from (nat_lt 0 (length (b ∷ w))) (list_all is_bare (b ∷ w)) (lt-ltb 0 (length (b ∷ w)) (omega arith)) (and_from (is_bare b) (list_all is_bare w) first rest)
 
 part_bare : (b : ℕ) → is_name_part b ≡ true → is_bare b ≡ true
 part_bare b h = grind (arith, nat_tests)
@@ -422,19 +422,19 @@ name_bare : (n : List ℕ) → is_label_name n ≡ true → is_bare_text n ≡ t
 name_bare [] h = absurd (cc)
 name_bare (b ∷ bs) h =
     let parts = and_parts (is_letter b && nat_le (length bs) 30) (list_all is_name_part bs) h in
-    bare_front b bs (letter_bare b (and_parts (is_letter b) (nat_le (length bs) 30) parts.0).0) (parts_bare bs parts.1)
+    bare_begins b bs (letter_bare b (and_parts (is_letter b) (nat_le (length bs) 30) parts.0).0) (parts_bare bs parts.1)
 
-marked_bare : (mark : ℕ) (ns : Names) → is_bare mark ≡ true → list_all is_label_name ns ≡ true → list_all is_bare (behind_mark mark ns) ≡ true
+marked_bare : (mark : ℕ) (ns : Names) → is_bare mark ≡ true → list_all is_label_name ns ≡ true → list_all is_bare (past_mark mark ns) ≡ true
 marked_bare mark [] bare h = refl
 marked_bare mark (n ∷ ns) bare h =
     let parts = and_parts (is_label_name n) (list_all is_label_name ns) h in
-    and_from (is_bare mark) (list_all is_bare (n ++ behind_mark 44 ns)) bare
-    (list_all-append is_bare n (behind_mark 44 ns) ∙ and_from (list_all is_bare n) (list_all is_bare (behind_mark 44 ns)) (all_bare n (name_bare n parts.0)) (marked_bare 44 ns refl parts.1))
+    and_from (is_bare mark) (list_all is_bare (n ++ past_mark 44 ns)) bare
+    (list_all-append is_bare n (past_mark 44 ns) ∙ and_from (list_all is_bare n) (list_all is_bare (past_mark 44 ns)) (all_bare n (name_bare n parts.0)) (marked_bare 44 ns refl parts.1))
 
 label_bare : (p : PolicyNames) (label : Label) → MakePolicy p → is_valid p label ≡ true → is_bare_text (label_text p label) ≡ true
 label_bare p label h valid =
     let names = text_names p label h valid in
-    ap is_bare_text names.text_is ∙ bare_with names.level (behind_mark 58 names.cats) (name_bare names.level names.level_name) (marked_bare 58 names.cats refl names.cat_names)
+    ap is_bare_text names.text_is ∙ bare_with names.level (past_mark 58 names.cats) (name_bare names.level names.level_name) (marked_bare 58 names.cats refl names.cat_names)
 
 numbered_bare : (p : PolicyNames) (n : ℕ) (label : Label) → MakePolicy p → numbered_fits p n label ≡ true → is_bare_text (numbered_text p n label) ≡ true
 unfolding numbered_text
@@ -452,8 +452,8 @@ new_label_bare p None h fits = refl
 new_label_bare p (Some label) h fits = label_bare p label h fits
 
 place_bare : (x : Place) → place_fits x ≡ true → is_bare_text (place_text x) ≡ true
-place_bare (place.First n) fits = let small = ltb-true n (2 ^ 8) fits in bare_front 112 (decimal n) refl (all_bare (decimal n) (decimal_bare n (omega arith)))
-place_bare (place.Second n) fits = let small = ltb-true n (2 ^ 8) fits in bare_front 113 (decimal n) refl (all_bare (decimal n) (decimal_bare n (omega arith)))
+place_bare (place.First n) fits = let small = ltb-true n (2 ^ 8) fits in bare_begins 112 (decimal n) refl (all_bare (decimal n) (decimal_bare n (omega arith)))
+place_bare (place.Second n) fits = let small = ltb-true n (2 ^ 8) fits in bare_begins 113 (decimal n) refl (all_bare (decimal n) (decimal_bare n (omega arith)))
 place_bare _ fits = refl
 
 event_bare : (e : Event) → is_bare_text (event_word e) ≡ true

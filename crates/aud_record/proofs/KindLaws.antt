@@ -1,6 +1,6 @@
 -- The forms of all kinds of records.
 use Rattle.std.specs.Prelude.{◌≡◌, Bool, true, false, refl}
-use Rattle.fs_path.specs.Words.{behind_spaces}
+use Rattle.fs_path.specs.Words.{after_spaces}
 use Rattle.lab_text.specs.Policy.{PolicyNames}
 use Rattle.kern_model.specs.declared.calls.Ending.TheVariants as ending
 use Rattle.kern_model.specs.declared.numbers.Pid.{Pid}
@@ -36,7 +36,7 @@ form_wide event.Note who = (refl, λ bytes. tt)
 pub record IsOfKind (p : PolicyNames) (e : Event) (who : Pid) (vs : Values (form_of e who)) : Type 0 where
   pub kind : event_of (made (form_of e who) vs) ≡ e
   pub about : who_of (made (form_of e who) vs) ≡ who
-  pub text : behind_spaces (words_in p (form_of e who) vs) ≡ behind_spaces (rest_words p (made (form_of e who) vs))
+  pub text : after_spaces (words_in p (form_of e who) vs) ≡ after_spaces (rest_words p (made (form_of e who) vs))
   pub fit : all_hold (rest_tests p (made (form_of e who) vs)) ≡ values_fit p (form_of e who) vs
 
 pub of_kind : (p : PolicyNames) (e : Event) (who : Pid) (vs : Values (form_of e who)) → IsOfKind p e who vs

@@ -1,8 +1,8 @@
 pub mod FitLemmas
 pub mod LineLemmas
-pub mod SpelledLemmas
+pub mod CanonicalLemmas
 pub mod NameLemmas
-pub mod Again
+pub mod RoundTrip
 pub mod FieldLaws
 pub mod FormLaws
 pub mod KindLaws

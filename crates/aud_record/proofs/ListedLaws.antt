@@ -8,12 +8,12 @@ use Rattle.aud_record.specs.Events.{event_word, all_events}
 use Rattle.aud_record.specs.declared.event.Event.{Event}
 use Rattle.aud_record.specs.declared.event.Event.TheVariants as event
 
-pub event_again : (e : Event) → named event_word all_events (event_word e) ≡ Some e
+pub event_round_trip : (e : Event) → named event_word all_events (event_word e) ≡ Some e
 unfolding named
-event_again event.Boot = refl
-event_again _ = refl
+event_round_trip event.Boot = refl
+event_round_trip _ = refl
 
-pub cap_again : (c : Cap) → named cap_name all_caps (cap_name c) ≡ Some c
+pub cap_round_trip : (c : Cap) → named cap_name all_caps (cap_name c) ≡ Some c
 unfolding named
-cap_again cap.Chown = refl
-cap_again _ = refl
+cap_round_trip cap.Chown = refl
+cap_round_trip _ = refl

@@ -9,7 +9,7 @@ use Rattle.cap_bits.specs.declared.cap.Cap.{Cap}
 use Rattle.cap_bits.specs.declared.cap.Cap.TheVariants as cap
 use Rattle.lab_text.specs.Names.{same_bytes}
 use Rattle.kern_model.specs.Named.{named, named_is}
-use Rattle.aud_record.proofs.ListedLaws.{cap_again}
+use Rattle.aud_record.proofs.ListedLaws.{cap_round_trip}
 use Rattle.aud_record.proofs.Numbers.{same_itself, same_is, none_from}
 
 lower_name : (c : Cap) → str_to_ascii_lowercase (cap_name c) ≡ cap_name c
@@ -24,9 +24,9 @@ pub no_cap : (word : List ℕ) → cap_named word ≡ None → named cap_name al
 no_cap word none = none_from (named cap_name all_caps word) (λ c h. let some = in_any_case word c h in cc)
 
 pub one_cap : (word : List ℕ) (c : Cap) (t : Bool) → cap_named word ≡ Some c → t ≡ same_bytes word (cap_name c) → then_some t c ≡ named cap_name all_caps word
-one_cap word c true some told = sym (ap (named cap_name all_caps) (same_is word (cap_name c) (sym told)) ∙ cap_again c)
-one_cap word c false some told =
+one_cap word c true some reported = sym (ap (named cap_name all_caps) (same_is word (cap_name c) (sym reported)) ∙ cap_round_trip c)
+one_cap word c false some reported =
     sym (none_from (named cap_name all_caps word) (λ d h.
     let other = in_any_case word d h in
     let equal : d ≡ c = cc in
-    both_ways (same_bytes word (cap_name c)) (sym told) (ap (λ n. same_bytes word n) (ap cap_name (sym equal) ∙ sym (named_is cap_name all_caps word d h)) ∙ same_itself word)))
+    both_ways (same_bytes word (cap_name c)) (sym reported) (ap (λ n. same_bytes word n) (ap cap_name (sym equal) ∙ sym (named_is cap_name all_caps word d h)) ∙ same_itself word)))

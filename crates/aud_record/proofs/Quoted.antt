@@ -5,13 +5,13 @@ use Rattle.std.specs.List.{prefix_len, take_while}
 use Rattle.std.specs.Option.{option_and_then, option_map}
 use Rattle.std.proofs.lemmas.Bool.{and_parts, and_from, cond_both, eqb-true, leb-true, lt-ltb, or_cases}
 use Rattle.std.proofs.lemmas.List.{append-nil}
-use Rattle.fs_path.proofs.Again.{line_again}
-use Rattle.fs_path.specs.Words.{is_plain, is_bare, is_apart, hex_value, hex_pair, escaped, first_item, onto_front, items_within, items_of, quoted_word, begun_word, apart, first_word, past_spaces, words_by, words_of, quoted_text, has_spelling}
+use Rattle.fs_path.proofs.RoundTrip.{line_round_trip}
+use Rattle.fs_path.specs.Words.{is_plain, is_bare, is_apart, hex_value, hex_pair, escaped, first_item, onto_piece, items_within, items_of, quoted_word, begun_word, apart, first_word, past_spaces, words_by, words_of, quoted_text, has_spelling}
 use Rattle.fs_path.proofs.WordSteps.{words_are}
 use Rattle.fs_path.specs.declared.words.LineWord.{LineWord}
 use Rattle.aud_record.proofs.Numbers.{kept_is}
 use Rattle.aud_record.specs.Fits.{are_bytes}
-use Rattle.aud_record.specs.Spelled.{only_quoted, unquoted}
+use Rattle.aud_record.specs.Canonical.{only_quoted, unquoted}
 
 -- ---- what is read is bytes
 
@@ -69,14 +69,14 @@ AreBytes (Some p) = are_bytes p.0 ≡ true
 items_bytes : (n : ℕ) (text : List ℕ) → AreBytes (items_within n text)
 items_bytes zero text = tt
 items_bytes (suc n) [] = tt
-items_bytes (suc n) (b ∷ bs) = cond_both (b == 34) (Some ([], bs)) (option_and_then (λ (p : ℕ × List ℕ). onto_front p.0 (items_within n p.1)) (first_item (b ∷ bs))) AreBytes
+items_bytes (suc n) (b ∷ bs) = cond_both (b == 34) (Some ([], bs)) (option_and_then (λ (p : ℕ × List ℕ). onto_piece p.0 (items_within n p.1)) (first_item (b ∷ bs))) AreBytes
     (λ _. refl) (λ _. by_item (first_item (b ∷ bs)) (item_byte (b ∷ bs)) (λ t. items_bytes n t))
   where
-    onto_bytes : (x : ℕ) (o : Option (List ℕ × List ℕ)) → x < 256 → AreBytes o → AreBytes (onto_front x o)
+    onto_bytes : (x : ℕ) (o : Option (List ℕ × List ℕ)) → x < 256 → AreBytes o → AreBytes (onto_piece x o)
     onto_bytes x None small rest = tt
     onto_bytes x (Some p) small rest = and_from (nat_lt x 256) (are_bytes p.0) (lt-ltb x 256 small) rest
 
-    by_item : (o : Option (ℕ × List ℕ)) → IsByte o → ((t : List ℕ) → AreBytes (items_within n t)) → AreBytes (option_and_then (λ (p : ℕ × List ℕ). onto_front p.0 (items_within n p.1)) o)
+    by_item : (o : Option (ℕ × List ℕ)) → IsByte o → ((t : List ℕ) → AreBytes (items_within n t)) → AreBytes (option_and_then (λ (p : ℕ × List ℕ). onto_piece p.0 (items_within n p.1)) o)
     by_item None small more = tt
     by_item (Some p) small more = onto_bytes p.0 (items_within n p.1) small (more p.1)
 
@@ -141,4 +141,4 @@ pub quoted_unquoted : (bytes : List ℕ) → are_bytes bytes ≡ true → unquot
 unfolding unquoted
 quoted_unquoted bytes all =
     let word : LineWord = record { quoted = true; bytes = bytes } in
-    ap (option_and_then only_quoted) (ap words_of (sym (append-nil (quoted_text bytes))) ∙ line_again (word ∷ []) (and_from (has_spelling word) true all refl))
+    ap (option_and_then only_quoted) (ap words_of (sym (append-nil (quoted_text bytes))) ∙ line_round_trip (word ∷ []) (and_from (has_spelling word) true all refl))

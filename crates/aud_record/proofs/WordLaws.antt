@@ -7,8 +7,8 @@ use Rattle.std.proofs.lemmas.Option.{some_pair_parts}
 use Rattle.std.proofs.lemmas.List.{length-append, take_at, drop_at}
 use Rattle.std.proofs.lemmas.List.Folds.{list_all-append}
 use Rattle.fs_path.specs.Lines.{cut}
-use Rattle.fs_path.specs.Words.{is_space, is_plain, is_bare, is_bare_text, is_apart, hex_digit, item_text, quoted_text, onto_front}
-use Rattle.aud_record.specs.Words.{quoted_len, word_len, first_word, behind_word}
+use Rattle.fs_path.specs.Words.{is_space, is_plain, is_bare, is_bare_text, is_apart, hex_digit, item_text, quoted_text, onto_piece}
+use Rattle.aud_record.specs.Words.{quoted_len, word_len, first_word, after_word}
 
 -- ---- cuts
 
@@ -20,28 +20,28 @@ pub lacks-append : (at : ℕ) (a b : List ℕ) → lacks at a ≡ true → lacks
 lacks-append at a b first second = list_all-append (λ b. not (b == at)) a b ∙ and_from (lacks at a) (lacks at b) first second
 
 -- a text is cut at the first such byte
-pub cut_again : (at : ℕ) (front rest : List ℕ) → lacks at front ≡ true → cut at (front ++ at ∷ rest) ≡ Some (front, rest)
+pub cut_round_trip : (at : ℕ) (prefix rest : List ℕ) → lacks at prefix ≡ true → cut at (prefix ++ at ∷ rest) ≡ Some (prefix, rest)
 unfolding cut
-cut_again at [] rest none = ap (λ v. cond v (Some ([], rest)) (onto_front at (cut at rest))) (same at)
+cut_round_trip at [] rest none = ap (λ v. cond v (Some ([], rest)) (onto_piece at (cut at rest))) (same at)
   where
     same : (n : ℕ) → (n == n) ≡ true
     same n = eq-eqb n n refl
-cut_again at (b ∷ bs) rest none =
+cut_round_trip at (b ∷ bs) rest none =
     let parts = and_parts (not (b == at)) (lacks at bs) none in
-    ap (λ v. cond v (Some ([], bs ++ at ∷ rest)) (onto_front b (cut at (bs ++ at ∷ rest)))) (not-true (b == at) parts.0) ∙ ap (onto_front b) (cut_again at bs rest parts.1)
+    ap (λ v. cond v (Some ([], bs ++ at ∷ rest)) (onto_piece b (cut at (bs ++ at ∷ rest)))) (not-true (b == at) parts.0) ∙ ap (onto_piece b) (cut_round_trip at bs rest parts.1)
 
 -- what a cut parts
-pub cut_is : (at : ℕ) (text front rest : List ℕ) → cut at text ≡ Some (front, rest) → text ≡ front ++ at ∷ rest
+pub cut_is : (at : ℕ) (text prefix rest : List ℕ) → cut at text ≡ Some (prefix, rest) → text ≡ prefix ++ at ∷ rest
 unfolding cut
-cut_is at [] front rest h = absurd (cc)
-cut_is at (b ∷ bs) front rest h = by_test (b == at) refl (λ f r e. cut_is at bs f r e) h
+cut_is at [] prefix rest h = absurd (cc)
+cut_is at (b ∷ bs) prefix rest h = by_test (b == at) refl (λ f r e. cut_is at bs f r e) h
   where
-    by_rest : (o : Option (List ℕ × List ℕ)) → ((f r : List ℕ) → o ≡ Some (f, r) → bs ≡ f ++ at ∷ r) → onto_front b o ≡ Some (front, rest) → b ∷ bs ≡ front ++ at ∷ rest
+    by_rest : (o : Option (List ℕ × List ℕ)) → ((f r : List ℕ) → o ≡ Some (f, r) → bs ≡ f ++ at ∷ r) → onto_piece b o ≡ Some (prefix, rest) → b ∷ bs ≡ prefix ++ at ∷ rest
     by_rest None more h = absurd (cc)
-    by_rest (Some (f, r)) more h = let parts = some_pair_parts (b ∷ f) front r rest h in ap (λ t. b ∷ t) (more f r refl) ∙ (λ i. parts.0 i ++ at ∷ parts.1 i)
+    by_rest (Some (f, r)) more h = let parts = some_pair_parts (b ∷ f) prefix r rest h in ap (λ t. b ∷ t) (more f r refl) ∙ (λ i. parts.0 i ++ at ∷ parts.1 i)
 
-    by_test : (v : Bool) → (b == at) ≡ v → ((f r : List ℕ) → cut at bs ≡ Some (f, r) → bs ≡ f ++ at ∷ r) → cond v (Some ([], bs)) (onto_front b (cut at bs)) ≡ Some (front, rest) → b ∷ bs ≡ front ++ at ∷ rest
-    by_test true e more h = let parts = some_pair_parts [] front bs rest h in (λ i. eqb-true b at e i ∷ bs) ∙ (λ i. parts.0 i ++ at ∷ parts.1 i)
+    by_test : (v : Bool) → (b == at) ≡ v → ((f r : List ℕ) → cut at bs ≡ Some (f, r) → bs ≡ f ++ at ∷ r) → cond v (Some ([], bs)) (onto_piece b (cut at bs)) ≡ Some (prefix, rest) → b ∷ bs ≡ prefix ++ at ∷ rest
+    by_test true e more h = let parts = some_pair_parts [] prefix bs rest h in (λ i. eqb-true b at e i ∷ bs) ∙ (λ i. parts.0 i ++ at ∷ parts.1 i)
     by_test false e more h = by_rest (cut at bs) more h
 
 -- ---- items between quotes
@@ -143,11 +143,11 @@ word_cut : (w rest : List ℕ) → IsWord w → is_apart rest ≡ true → lengt
 word_cut w rest (inl bare) ends = sym (bare_cut w rest bare ends)
 word_cut w rest (inr (bytes, is)) ends = sym (ap (λ v. word_len (v ++ rest)) is ∙ quoted_cut bytes rest ∙ ap length (sym is))
 
-pub first_again : (w rest : List ℕ) → IsWord w → is_apart rest ≡ true → first_word (w ++ rest) ≡ w
-first_again w rest is ends = take_at w rest (word_len (w ++ rest)) (word_cut w rest is ends)
+pub first_round_trip : (w rest : List ℕ) → IsWord w → is_apart rest ≡ true → first_word (w ++ rest) ≡ w
+first_round_trip w rest is ends = take_at w rest (word_len (w ++ rest)) (word_cut w rest is ends)
 
-pub behind_again : (w rest : List ℕ) → IsWord w → is_apart rest ≡ true → behind_word (w ++ rest) ≡ rest
-behind_again w rest is ends = drop_at w rest (word_len (w ++ rest)) (word_cut w rest is ends)
+pub after_round_trip : (w rest : List ℕ) → IsWord w → is_apart rest ≡ true → after_word (w ++ rest) ≡ rest
+after_round_trip w rest is ends = drop_at w rest (word_len (w ++ rest)) (word_cut w rest is ends)
 
 -- ---- words have no line feed
 

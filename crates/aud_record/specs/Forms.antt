@@ -17,8 +17,8 @@ use Rattle.kern_model.specs.declared.numbers.Pid.{Pid}
 use Rattle.kern_model.specs.declared.records.Rec.{Rec}
 use Rattle.kern_model.specs.declared.records.Rec.TheVariants as rec
 use Rattle.aud_record.specs.Events.{event_word, all_events}
-use Rattle.aud_record.specs.Spelled.{number_spelled, label_spelled, pid_spelled, oid_spelled, thing_spelled, new_label_spelled, place_spelled, bytes_spelled, caps_spelled, choice_spelled}
-use Rattle.aud_record.specs.Words.{◌>>=◌, ended, field_said}
+use Rattle.aud_record.specs.Canonical.{canonical_number, canonical_label, canonical_pid, canonical_oid, canonical_thing, canonical_new_label, canonical_place, canonical_bytes, canonical_caps, canonical_choice}
+use Rattle.aud_record.specs.Words.{◌>>=◌, ended, parse_field}
 use Rattle.aud_record.specs.declared.event.Event.{Event}
 use Rattle.aud_record.specs.declared.event.Event.TheVariants as event
 use Rattle.aud_record.specs.declared.fault.Fault.{Fault}
@@ -95,22 +95,22 @@ is_listed Call = true
 is_listed _ = false
 
 -- what a word says in a field
-abbrev pub spelled : PolicyNames → (f : Field) → List ℕ → Option (Of f)
-spelled p (Number bound) = number_spelled bound
-spelled p (Either choice) = choice_spelled (first_of choice) (other_of choice)
-spelled p Kind = named event_word all_events
-spelled p Capability = named cap_name all_caps
-spelled p Check = check_named
-spelled p Error = errno_named
-spelled p Call = call_named
-spelled p Process = pid_spelled p
-spelled p Object = oid_spelled p
-spelled p Mark = label_spelled p
-spelled p NewMark = new_label_spelled p
-spelled p Caps = caps_spelled
-spelled p Bytes = bytes_spelled
-spelled p About = thing_spelled p
-spelled p Where = place_spelled
+abbrev pub canonical : PolicyNames → (f : Field) → List ℕ → Option (Of f)
+canonical p (Number bound) = canonical_number bound
+canonical p (Either choice) = canonical_choice (first_of choice) (other_of choice)
+canonical p Kind = named event_word all_events
+canonical p Capability = named cap_name all_caps
+canonical p Check = check_named
+canonical p Error = errno_named
+canonical p Call = call_named
+canonical p Process = canonical_pid p
+canonical p Object = canonical_oid p
+canonical p Mark = canonical_label p
+canonical p NewMark = canonical_new_label p
+canonical p Caps = canonical_caps
+canonical p Bytes = canonical_bytes
+canonical p About = canonical_thing p
+canonical p Where = canonical_place
 
 -- ---- forms
 
@@ -143,6 +143,6 @@ form_of event.Switch who = Next (Either OnOrOff) (λ on. Done (rec.Switch who on
 form_of event.Note who = Next Bytes (λ bytes. Done (rec.Note who bytes))
 
 -- the record of a form
-abbrev pub form_said : PolicyNames → Form → List ℕ → Result Rec Fault
-form_said p (Done r) left = ended r left
-form_said p (Next f more) left = field_said (is_listed f) (spelled p f) left >>= λ x. form_said p (more x.0) x.1
+abbrev pub parse_form : PolicyNames → Form → List ℕ → Result Rec Fault
+parse_form p (Done r) left = ended r left
+parse_form p (Next f more) left = parse_field (is_listed f) (canonical p f) left >>= λ x. parse_form p (more x.0) x.1

@@ -2,6 +2,6 @@ pub mod Events
 pub mod Written
 pub mod Fits
 pub mod Words
-pub mod Spelled
+pub mod Canonical
 pub mod Forms
-pub mod Said
+pub mod Parsed

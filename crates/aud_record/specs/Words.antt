@@ -20,8 +20,8 @@ word_len (b ∷ bs) = cond (b == 34) (1 + quoted_len false bs) (prefix_len (λ c
 abbrev pub first_word : List ℕ → List ℕ
 first_word left = take (word_len left) left
 
-abbrev pub behind_word : List ℕ → List ℕ
-behind_word left = drop (word_len left) left
+abbrev pub after_word : List ℕ → List ℕ
+after_word left = drop (word_len left) left
 
 -- ---- reading
 
@@ -45,9 +45,9 @@ Reads (Ok x) read left = read ≡ Ok (x, left)
 Reads (Err f) read left = Fails f read
 
 -- what stands behind the space that is due
-unfoldable pub behind_space : List ℕ → Result (List ℕ) Fault
-behind_space [] = Err (fault.Syntax 0)
-behind_space (b ∷ bs) = cond (is_space b) (Ok bs) (Err (fault.Syntax (length (b ∷ bs))))
+unfoldable pub after_space : List ℕ → Result (List ℕ) Fault
+after_space [] = Err (fault.Syntax 0)
+after_space (b ∷ bs) = cond (is_space b) (Ok bs) (Err (fault.Syntax (length (b ∷ bs))))
 
 -- a value with which the line ends; a further word is at fault where it begins
 unfoldable pub ended : {X : Type 0} → X → List ℕ → Result X Fault
@@ -60,13 +60,13 @@ fault_of listed left = cond (listed && nat_lt 0 (length (first_word left))) (fau
 
 -- what a word says and what stands behind it
 abbrev pub worded : {X : Type 0} → Bool → List ℕ → Option X → Result (X × List ℕ) Fault
-worded listed left (Some x) = Ok (x, behind_word left)
+worded listed left (Some x) = Ok (x, after_word left)
 worded listed left None = Err (fault_of listed left)
 
 -- what the first word says, by what each word says
-unfoldable pub word_said : {X : Type 0} → Bool → (List ℕ → Option X) → List ℕ → Result (X × List ℕ) Fault
-word_said listed said left = worded listed left (said (first_word left))
+unfoldable pub parse_word : {X : Type 0} → Bool → (List ℕ → Option X) → List ℕ → Result (X × List ℕ) Fault
+parse_word listed parsed left = worded listed left (parsed (first_word left))
 
 -- what the word behind a space says
-unfoldable pub field_said : {X : Type 0} → Bool → (List ℕ → Option X) → List ℕ → Result (X × List ℕ) Fault
-field_said listed said left = behind_space left >>= word_said listed said
+unfoldable pub parse_field : {X : Type 0} → Bool → (List ℕ → Option X) → List ℕ → Result (X × List ℕ) Fault
+parse_field listed parsed left = after_space left >>= parse_word listed parsed

@@ -1,13 +1,13 @@
 //! The texts of the audit trail: its header, and a line for each record.
 #![tactic(auto)]
 
+mod canonical;
 mod event;
 mod fault;
 mod fields;
 mod forms;
 mod line;
 mod reading;
-mod spelled;
 #[cfg(test)]
 mod tests;
 mod words;

@@ -1,7 +1,7 @@
 // A line as it is written, word by word.
 ghost use Rattle.std.specs.Prelude.{◌≡◌, ◌<◌, ◌^◌, true, [], ◌∷◌, ◌++◌, IfOk, OnOk};
 ghost use Rattle.std.specs.Fmt.{decimal};
-ghost use Rattle.fs_path.specs.Words.{quoted_text, behind_spaces};
+ghost use Rattle.fs_path.specs.Words.{quoted_text, after_spaces};
 ghost use Rattle.lab_text.specs.Numbered.{numbered_text};
 ghost use Rattle.lab_text.specs.Text.{label_text};
 ghost use Rattle.kern_model.specs.Names.{place_text, ending_text};
@@ -69,7 +69,7 @@ impl Line {
 
     /// Words, each behind a space.
     pub fn words(self, words: &[Word]) -> Result<Line, NoMemory>
-        ensures { IfOk result (λ line. line ≡ self ++ behind_spaces words.now) }
+        ensures { IfOk result (λ line. line ≡ self ++ after_spaces words.now) }
     {
         let mut line = self;
         for word in words {

@@ -2,7 +2,7 @@
 ghost use Rattle.std.specs.Prelude.{◌≡◌, ℕ, true, List, ◌++◌, length, take, IfOk, Ok};
 ghost use Rattle.kern_model.specs.declared.records.Rec.{Rec};
 ghost use Rattle.aud_record.specs.Fits.{has_valid_labels, IsInRange};
-ghost use Rattle.aud_record.specs.Said.{line_said, placed, rec_said, Answers};
+ghost use Rattle.aud_record.specs.Parsed.{parse_line, placed, parse_rec, Answers};
 ghost use Rattle.aud_record.specs.Words.{Gives};
 ghost use Rattle.aud_record.specs.Written.{rec_text};
 
@@ -39,9 +39,9 @@ pub enum RecError {
 }
 
 // The number of a call and the record that a line says.
-#[tactic(auto, unfolding(crate::specs::Said::line_said))]
+#[tactic(auto, unfolding(crate::specs::Parsed::parse_line))]
 fn read_line(alloc: Global, policy: &Policy, line: &[u8]) -> Result<(u64, Rec), Fault>
-    ensures { Gives (λ x. x) result (line_said policy.now line.now) }
+    ensures { Gives (λ x. x) result (parse_line policy.now line.now) }
 {
     let mut words = Words::new(line);
     let call = words.call_number(alloc)?;
@@ -63,9 +63,9 @@ fn placed(len: usize, fault: Fault) -> RecError
 }
 
 // The record with which a text begins.
-#[tactic(auto, unfolding(crate::specs::Said::rec_said))]
+#[tactic(auto, unfolding(crate::specs::Parsed::parse_rec))]
 fn first_record(alloc: Global, policy: &Policy, text: &[u8]) -> Result<ReadRec, RecError>
-    ensures { Answers result (rec_said policy.now text.now) }
+    ensures { Answers result (parse_rec policy.now text.now) }
 {
     let (line, _) = next_line(text).ok_or(RecError::Truncated)?;
     let (call, rec) = read_line(alloc, policy, line).map_err(|fault| placed(line.len(), fault))?;
@@ -83,7 +83,7 @@ pub fn rec_read(alloc: Global, policy: &Policy, text: &[u8]) -> Result<ReadRec, 
     // What is written so is read, unless memory runs out.
     ensures only { (call : ℕ) (rec : Rec) (rest : List ℕ) → has_valid_labels policy.now rec ≡ true → IsInRange call rec → text.now ≡ rec_text policy.now call rec ++ rest → Answers result (Ok (record { call = call; rec = rec; used = length (rec_text policy.now call rec) })) }
     // Which fault it is.
-    ensures cause { Answers result (rec_said policy.now text.now) }
+    ensures cause { Answers result (parse_rec policy.now text.now) }
 {
     // Its names make a policy, which the clause `only` needs.
     let _names = policy.levels();

@@ -140,8 +140,8 @@ fn is_written(
 ) -> Result<bool, Fail> {
     let text = rec_text(alloc, policy, call, rec)?;
     let read = rec_read(alloc, policy, &text).ok().ok_or("a record")?;
-    let again = rec_text(alloc, policy, read.call, &read.rec)?;
-    Ok(text.as_slice() == line && again.as_slice() == line && read.used == line.len())
+    let round_trip = rec_text(alloc, policy, read.call, &read.rec)?;
+    Ok(text.as_slice() == line && round_trip.as_slice() == line && read.used == line.len())
 }
 
 // The number of the first call whose record has another line.

@@ -2,7 +2,7 @@
 ghost use Rattle.std.specs.Prelude.{◌≡◌, ◌≤◌, not, false, true, length};
 ghost use Rattle.std.specs.List.{prefix_len};
 ghost use Rattle.fs_path.specs.Words.{is_space};
-ghost use Rattle.aud_record.specs.Words.{Gives, Reads, quoted_len, word_len, first_word, behind_word, behind_space, ended, worded};
+ghost use Rattle.aud_record.specs.Words.{Gives, Reads, quoted_len, word_len, first_word, after_word, after_space, ended, worded};
 
 use crate::fault::Fault;
 
@@ -46,9 +46,9 @@ fn word_len(left: &[u8]) -> usize
 }
 
 // What stands behind the space that is due.
-#[tactic(auto, unfolding(crate::specs::Words::behind_space))]
-fn behind_space(left: &[u8]) -> Result<&[u8], Fault>
-    ensures { Gives (λ rest. rest.now) result (behind_space left.now) }
+#[tactic(auto, unfolding(crate::specs::Words::after_space))]
+fn after_space(left: &[u8]) -> Result<&[u8], Fault>
+    ensures { Gives (λ rest. rest.now) result (after_space left.now) }
 {
     match left {
         [b' ', rest @ ..] => Ok(rest),
@@ -64,7 +64,7 @@ pub struct Due<'a> {
     pub word: &'a [u8],
     rest: &'a [u8],
     pub ghost word_is: { word.now ≡ first_word left.now },
-    pub ghost rest_is: { rest.now ≡ behind_word left.now },
+    pub ghost rest_is: { rest.now ≡ after_word left.now },
 }
 
 /// What is left of a line.
@@ -100,30 +100,30 @@ impl<'a> Words<'a> {
 
     /// The word behind the space that is due.
     pub fn next(&self) -> Result<Due<'a>, Fault>
-        ensures { Gives (λ due. due.left.now) result (behind_space self.now.left.now) }
+        ensures { Gives (λ due. due.left.now) result (after_space self.now.left.now) }
     {
-        Ok(Due::first(behind_space(self.left)?))
+        Ok(Due::first(after_space(self.left)?))
     }
 
     /// What the word says, where it says something. What stands behind it is left then.
     #[tactic(auto, unfolding(crate::specs::Words::fault_of))]
-    pub fn or_syntax<T>(&mut self, due: Due<'a>, said: Option<T>) -> Result<T, Fault>
-        ensures { Reads result (worded false due.entry.left.now said) self.new.left.now }
+    pub fn or_syntax<T>(&mut self, due: Due<'a>, parsed: Option<T>) -> Result<T, Fault>
+        ensures { Reads result (worded false due.entry.left.now parsed) self.new.left.now }
     {
-        let value = said.ok_or(Fault::Syntax(due.left.len()))?;
+        let value = parsed.ok_or(Fault::Syntax(due.left.len()))?;
         self.left = due.rest;
         Ok(value)
     }
 
     /// Which value of a list the word says, where it says one. What stands behind it is left then.
     #[tactic(auto, unfolding(crate::specs::Words::fault_of))]
-    pub fn or_unknown<T>(&mut self, due: Due<'a>, said: Option<T>) -> Result<T, Fault>
-        ensures { Reads result (worded true due.entry.left.now said) self.new.left.now }
+    pub fn or_unknown<T>(&mut self, due: Due<'a>, parsed: Option<T>) -> Result<T, Fault>
+        ensures { Reads result (worded true due.entry.left.now parsed) self.new.left.now }
     {
         if due.word.is_empty() {
-            return self.or_syntax(due, said);
+            return self.or_syntax(due, parsed);
         }
-        let value = said.ok_or(Fault::UnknownWord(due.left.len()))?;
+        let value = parsed.ok_or(Fault::UnknownWord(due.left.len()))?;
         self.left = due.rest;
         Ok(value)
     }

@@ -1,9 +1,9 @@
 // The writing of the trail.
 ghost use Rattle.std.specs.Prelude.{◌≡◌, true, List, ℕ, ◌++◌, length, IfOk, OnOk, Ok};
 ghost use Rattle.cap_clause.specs.Written.{set_text};
-ghost use Rattle.fs_path.specs.Words.{behind_spaces};
+ghost use Rattle.fs_path.specs.Words.{after_spaces};
 ghost use Rattle.aud_record.specs.Fits.{has_valid_labels, RestInRange, IsInRange};
-ghost use Rattle.aud_record.specs.Said.{rec_said};
+ghost use Rattle.aud_record.specs.Parsed.{parse_rec};
 ghost use Rattle.aud_record.specs.Written.{switch_word, rest_words, rec_text, header_text};
 
 use crate::NoMemory;
@@ -23,7 +23,7 @@ fn switch_word(on: bool) -> &'static [u8]
 
 // The words behind the number of the process.
 fn put_rest(line: Line, policy: &Policy, rec: &Rec) -> Result<Line, NoMemory>
-    ensures text { IfOk result (λ new. new ≡ line ++ behind_spaces (rest_words policy.now rec.now)) }
+    ensures text { IfOk result (λ new. new ≡ line ++ after_spaces (rest_words policy.now rec.now)) }
     ensures in_range { OnOk result (RestInRange rec.now) }
 {
     match rec {
@@ -74,7 +74,7 @@ fn line_of(alloc: Global, policy: &Policy, call: u64, rec: &Rec) -> Result<Vec<u
 pub fn rec_text(alloc: Global, policy: &Policy, call: u64, rec: &Rec) -> Result<Vec<u8>, NoMemory>
     ensures text { IfOk result (λ text. text.items ≡ rec_text policy.now call rec.now) }
     // Where its labels are valid it is read again, whatever stands after it.
-    ensures again { IfOk result (λ text. has_valid_labels policy.now rec.now ≡ true → (rest : List ℕ) → rec_said policy.now (text.items ++ rest) ≡ Ok (record { call = call; rec = rec.now; used = length text.items })) }
+    ensures round_trip { IfOk result (λ text. has_valid_labels policy.now rec.now ≡ true → (rest : List ℕ) → parse_rec policy.now (text.items ++ rest) ≡ Ok (record { call = call; rec = rec.now; used = length text.items })) }
 {
     // Its names make a policy, which the clause `again` needs.
     let _names = policy.levels();

@@ -169,7 +169,7 @@ every_cap cap = sym (set.contains-from_list cap_cmp_total all_caps cap) ∙ has-
 any_kept : (keep p : Cap → Bool) (cap : Cap) (caps : List Cap) → list_any (same_cap cap) caps ≡ true → keep cap ≡ true → p cap ≡ true → list_any p (filter keep caps) ≡ true
 any_kept keep p cap [] there kept passes = absurd (cc)
 any_kept keep p cap (x ∷ xs) there kept passes = elim (same_cap cap x) as (λ v. same_cap cap x ≡ v → (v || list_any (same_cap cap) xs) ≡ true → list_any p (filter keep (x ∷ xs)) ≡ true)
-    [ true ↦ λ same _. here ((same_cap-decides cap x).0 same) | false ↦ λ _ later. behind (any_kept keep p cap xs later kept passes) ] refl there
+    [ true ↦ λ same _. here ((same_cap-decides cap x).0 same) | false ↦ λ _ later. after (any_kept keep p cap xs later kept passes) ] refl there
   where
     here : cap ≡ x → list_any p (cond (keep x) (x ∷ filter keep xs) (filter keep xs)) ≡ true
     here same =
@@ -177,8 +177,8 @@ any_kept keep p cap (x ∷ xs) there kept passes = elim (same_cap cap x) as (λ 
         let hit = ap p (sym same) ∙ passes in
         ap (λ v. list_any p (cond v (x ∷ filter keep xs) (filter keep xs))) keeps ∙ or_left (p x) (list_any p (filter keep xs)) hit
 
-    behind : list_any p (filter keep xs) ≡ true → list_any p (cond (keep x) (x ∷ filter keep xs) (filter keep xs)) ≡ true
-    behind rest = elim (keep x) as (λ v. list_any p (cond v (x ∷ filter keep xs) (filter keep xs)) ≡ true) [ true ↦ or_right (p x) (list_any p (filter keep xs)) rest | false ↦ rest ]
+    after : list_any p (filter keep xs) ≡ true → list_any p (cond (keep x) (x ∷ filter keep xs) (filter keep xs)) ≡ true
+    after rest = elim (keep x) as (λ v. list_any p (cond v (x ∷ filter keep xs) (filter keep xs)) ≡ true) [ true ↦ or_right (p x) (list_any p (filter keep xs)) rest | false ↦ rest ]
 
 -- whether a capability with a lower number has equal flags
 abbrev earlier : CapState → Cap → Cap → Bool
@@ -212,11 +212,11 @@ first_below (suc n) s q f below flagged = by_earlier (list_any (earlier s q) all
     by_earlier : (v : Bool) → list_any (earlier s q) all_caps ≡ v
         → ((other : Cap) → cap_number other < n → has_flag s other f ≡ true → list_any (λ cap. same_flags s cap other) (filter (is_first s) all_caps) ≡ true)
         → list_any (λ cap. same_flags s cap q) (filter (is_first s) all_caps) ≡ true
-    by_earlier false none again = any_kept (is_first s) (λ cap. same_flags s cap q) q all_caps (every_cap q) (first_is none) (same_from s q q (λ g. refl))
-    by_earlier true some again = any_gives (earlier s q) _ all_caps some (λ other is.
+    by_earlier false none round_trip = any_kept (is_first s) (λ cap. same_flags s cap q) q all_caps (every_cap q) (first_is none) (same_from s q q (λ g. refl))
+    by_earlier true some round_trip = any_gives (earlier s q) _ all_caps some (λ other is.
         let parts = and_parts (nat_lt (cap_number other) (cap_number q)) (same_flags s q other) is in
         let lower = ltb-true (cap_number other) (cap_number q) parts.0 in
-        along other parts.1 (filter (is_first s) all_caps) (again other (omega arith) (sym (flags_same s q other parts.1 f) ∙ flagged)))
+        along other parts.1 (filter (is_first s) all_caps) (round_trip other (omega arith) (sym (flags_same s q other parts.1 f) ∙ flagged)))
 
 same_states : (s t : CapState) → ((q : Cap) (f : Flag) → has_flag s q f ≡ has_flag t q f) → s ≡ t
 same_states s t each = λ i. record {
@@ -239,9 +239,9 @@ assigned_none caps = same_states _ no_flags (λ q f. assigned_after caps [] no_f
     none false = refl
 
 -- the flags of each group, assigned to no flags, make the state
-pub groups_again : (s : CapState) → fold (assigned s) no_flags (firsts_of s) ≡ s
+pub groups_round_trip : (s : CapState) → fold (assigned s) no_flags (firsts_of s) ≡ s
 unfolding firsts_of
-groups_again s = same_states _ s (λ q f.
+groups_round_trip s = same_states _ s (λ q f.
     groups_after s no_flags (filter (is_first s) all_caps) q f ∙ ap (λ v. cond (list_any (λ cap. same_flags s cap q) (filter (is_first s) all_caps)) (has_flag s q f) v) (no_flag q f)
     ∙ all_there (has_flag s q f) (list_any (λ cap. same_flags s cap q) (filter (is_first s) all_caps)) (λ flagged. first_below (suc (cap_number q)) s q f (omega arith) flagged))
   where

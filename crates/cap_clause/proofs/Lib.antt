@@ -2,6 +2,6 @@ pub mod ListLemmas
 pub mod ReadLemmas
 pub mod WriteLemmas
 pub mod Groups
-pub mod ListAgain
+pub mod ListRoundTrip
 pub mod Steps
-pub mod WrittenAgain
+pub mod WrittenRoundTrip

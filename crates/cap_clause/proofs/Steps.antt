@@ -12,7 +12,7 @@ use Rattle.std.proofs.lemmas.List.Splits.{slice_split_at, slice_split_none}
 use Rattle.cap_bits.specs.CapSet.{CapSet, all_of_caps}
 use Rattle.cap_bits.specs.declared.state.CapState.{CapState}
 use Rattle.cap_clause.specs.Clauses.{is_blank, operator_of, is_operator, flag_of, is_flag, Placed, placed, has_bytes, clauses_of, pieces_of, first_fault, first_fault_or, unless_fault, piece_fault, caps_listed, Action, actions_in, needs_flag, action_fault, with_action, operated, first_operator, list_in, actions_fault, clause_fault_by, clause_fault, with_clause}
-use Rattle.cap_clause.specs.Reading.{actions_said, clause_said}
+use Rattle.cap_clause.specs.Reading.{parse_actions, parse_clause}
 use Rattle.cap_clause.specs.declared.action.Operator.{Operator}
 use Rattle.cap_clause.specs.declared.action.Operator.TheVariants.{Assign, Raise, Lower}
 use Rattle.cap_clause.specs.declared.error.CapTextError.{CapTextError}
@@ -37,23 +37,23 @@ abbrev pub Stops : (ℕ → Bool) → List ℕ → Type 0
 Stops p [] = Unit {0}
 Stops p (b ∷ bs) = p b ≡ false
 
-pub front_passes : (p : ℕ → Bool) (bs : List ℕ) → list_all p (take (prefix_len p bs) bs) ≡ true
-front_passes p [] = refl
-front_passes p (b ∷ bs) = elim (p b) as (λ v. p b ≡ v → list_all p (take (cond v (1 + prefix_len p bs) 0) (b ∷ bs)) ≡ true)
-    [ true ↦ λ e. ap (λ n. list_all p (take n (b ∷ bs))) (one-add (prefix_len p bs)) ∙ and_from (p b) _ e (front_passes p bs) | false ↦ λ _. refl ] refl
+pub prefix_passes : (p : ℕ → Bool) (bs : List ℕ) → list_all p (take (prefix_len p bs) bs) ≡ true
+prefix_passes p [] = refl
+prefix_passes p (b ∷ bs) = elim (p b) as (λ v. p b ≡ v → list_all p (take (cond v (1 + prefix_len p bs) 0) (b ∷ bs)) ≡ true)
+    [ true ↦ λ e. ap (λ n. list_all p (take n (b ∷ bs))) (one-add (prefix_len p bs)) ∙ and_from (p b) _ e (prefix_passes p bs) | false ↦ λ _. refl ] refl
 
-pub behind_stops : (p : ℕ → Bool) (bs : List ℕ) → Stops p (drop (prefix_len p bs) bs)
-behind_stops p [] = tt
-behind_stops p (b ∷ bs) = elim (p b) as (λ v. p b ≡ v → Stops p (drop (cond v (1 + prefix_len p bs) 0) (b ∷ bs)))
-    [ true ↦ λ e. let next = one-add (prefix_len p bs) in rw next (behind_stops p bs) | false ↦ λ e. e ] refl
+pub after_stops : (p : ℕ → Bool) (bs : List ℕ) → Stops p (drop (prefix_len p bs) bs)
+after_stops p [] = tt
+after_stops p (b ∷ bs) = elim (p b) as (λ v. p b ≡ v → Stops p (drop (cond v (1 + prefix_len p bs) 0) (b ∷ bs)))
+    [ true ↦ λ e. let next = one-add (prefix_len p bs) in rw next (after_stops p bs) | false ↦ λ e. e ] refl
 
 -- a front that passes a test is the longest such front where the rest stops
-pub front_len : (p : ℕ → Bool) (front rest : List ℕ) → list_all p front ≡ true → Stops p rest → prefix_len p (front ++ rest) ≡ length front
-front_len p [] [] all stops = refl
-front_len p [] (b ∷ bs) all stops = cond-false (p b) _ _ stops
-front_len p (b ∷ bs) rest all stops =
+pub len_of_prefix : (p : ℕ → Bool) (prefix rest : List ℕ) → list_all p prefix ≡ true → Stops p rest → prefix_len p (prefix ++ rest) ≡ length prefix
+len_of_prefix p [] [] all stops = refl
+len_of_prefix p [] (b ∷ bs) all stops = cond-false (p b) _ _ stops
+len_of_prefix p (b ∷ bs) rest all stops =
     let parts = and_parts (p b) (list_all p bs) all in
-    cond-true (p b) _ _ parts.0 ∙ ap (λ n. 1 + n) (front_len p bs rest parts.1 stops) ∙ one-add (length bs)
+    cond-true (p b) _ _ parts.0 ∙ ap (λ n. 1 + n) (len_of_prefix p bs rest parts.1 stops) ∙ one-add (length bs)
 
 -- no element passes a test
 pub without : (p : ℕ → Bool) (bs : List ℕ) → list_all (λ b. not (p b)) bs ≡ true → All (λ b. p b ≡ false) bs
@@ -119,17 +119,17 @@ abbrev actions_by : ℕ → List ℕ → Option Operator → List Action
 actions_by at bs o = cons_option (option_map (λ operator. record { at = at; operator = operator; rest = before_first is_operator bs }) o) (actions_in (at + 1) bs)
 
 -- what stands before an operator begins no action
-pub actions_behind : (at : ℕ) (front rest : List ℕ) → list_all (λ b. not (is_operator b)) front ≡ true → actions_in at (front ++ rest) ≡ actions_in (at + length front) rest
-actions_behind at [] rest none = ap (λ n. actions_in n rest) (sym (add-zero at))
-actions_behind at (b ∷ bs) rest none =
+pub actions_after : (at : ℕ) (prefix rest : List ℕ) → list_all (λ b. not (is_operator b)) prefix ≡ true → actions_in at (prefix ++ rest) ≡ actions_in (at + length prefix) rest
+actions_after at [] rest none = ap (λ n. actions_in n rest) (sym (add-zero at))
+actions_after at (b ∷ bs) rest none =
     let parts = and_parts (not (is_operator b)) (list_all (λ c. not (is_operator c)) bs) none in
     ap (actions_by at (bs ++ rest)) (none_there (operator_of b) parts.0)
-    ∙ actions_behind (at + 1) bs rest parts.1 ∙ ap (λ n. actions_in n rest) (one_on at (length bs))
+    ∙ actions_after (at + 1) bs rest parts.1 ∙ ap (λ n. actions_in n rest) (one_on at (length bs))
   where
     one_on : (n k : ℕ) → n + 1 + k ≡ n + suc k
     one_on n k = omega arith
 
-before_more : (p : ℕ → Bool) (front rest : List ℕ) → list_all (λ b. not (p b)) front ≡ true → before_first p (front ++ rest) ≡ front ++ before_first p rest
+before_more : (p : ℕ → Bool) (prefix rest : List ℕ) → list_all (λ b. not (p b)) prefix ≡ true → before_first p (prefix ++ rest) ≡ prefix ++ before_first p rest
 before_more p [] rest none = refl
 before_more p (b ∷ bs) rest none =
     let parts = and_parts (not (p b)) (list_all (λ c. not (p c)) bs) none in
@@ -151,83 +151,83 @@ pub actions_next : (at b : ℕ) (operator : Operator) (flags rest : List ℕ) �
     → actions_in at (b ∷ flags ++ rest) ≡ first_action at operator flags rest ∷ actions_in (at + 1 + length flags) rest
 actions_next at b operator flags rest is all =
     ap (actions_by at (flags ++ rest)) is
-    ∙ (λ i. record { at = at; operator = operator; rest = before_more is_operator flags rest (flags_apart flags all) i } ∷ actions_behind (at + 1) flags rest (flags_apart flags all) i)
+    ∙ (λ i. record { at = at; operator = operator; rest = before_more is_operator flags rest (flags_apart flags all) i } ∷ actions_after (at + 1) flags rest (flags_apart flags all) i)
 
 -- the fault of an action of which the flags are known
-abbrev fault_behind : ℕ → Operator → ℕ → ℕ → Option CapTextError
-fault_behind at operator count len =
+abbrev fault_after : ℕ → Operator → ℕ → ℕ → Option CapTextError
+fault_after at operator count len =
     cond (needs_flag operator && count == 0) (Some (error.NoFlag (at + 1)))
     (cond (nat_lt count len) (Some (error.NoOperator (at + 1 + count))) None)
 
 fault_is : (at : ℕ) (operator : Operator) (flags rest : List ℕ) → list_all is_flag flags ≡ true → Stops is_flag rest
-    → action_fault (first_action at operator flags rest) ≡ fault_behind at operator (length flags) (length flags + length (before_first is_operator rest))
+    → action_fault (first_action at operator flags rest) ≡ fault_after at operator (length flags) (length flags + length (before_first is_operator rest))
 fault_is at operator flags rest all stops =
-    (λ i. fault_behind at operator (front_len is_flag flags (before_first is_operator rest) all (before_stops is_operator is_flag rest stops) i) (length-append flags (before_first is_operator rest) i))
+    (λ i. fault_after at operator (len_of_prefix is_flag flags (before_first is_operator rest) all (before_stops is_operator is_flag rest stops) i) (length-append flags (before_first is_operator rest) i))
 
-said_some : (at : ℕ) (caps : CapSet) (b : ℕ) (bs : List ℕ) (s : CapState) (operator : Operator) → operator_of b ≡ Some operator
-    → actions_said at caps (b ∷ bs) s ≡ unless_fault (first_fault action_fault (actions_in at (b ∷ bs))) (fold (with_action caps) s (actions_in at (b ∷ bs)))
-unfolding actions_said
-said_some at caps b bs s operator is = cond-true _ _ _ (ap (λ (o : Option Operator). is_some o) is)
+parsed_some : (at : ℕ) (caps : CapSet) (b : ℕ) (bs : List ℕ) (s : CapState) (operator : Operator) → operator_of b ≡ Some operator
+    → parse_actions at caps (b ∷ bs) s ≡ unless_fault (first_fault action_fault (actions_in at (b ∷ bs))) (fold (with_action caps) s (actions_in at (b ∷ bs)))
+unfolding parse_actions
+parsed_some at caps b bs s operator is = cond-true _ _ _ (ap (λ (o : Option Operator). is_some o) is)
 
 begins : (at b : ℕ) (caps : CapSet) (operator : Operator) (flags rest : List ℕ) (s : CapState) → operator_of b ≡ Some operator → list_all is_flag flags ≡ true
-    → actions_said at caps (b ∷ flags ++ rest) s ≡ unless_fault (first_fault action_fault (first_action at operator flags rest ∷ actions_in (at + 1 + length flags) rest))
+    → parse_actions at caps (b ∷ flags ++ rest) s ≡ unless_fault (first_fault action_fault (first_action at operator flags rest ∷ actions_in (at + 1 + length flags) rest))
     (fold (with_action caps) s (first_action at operator flags rest ∷ actions_in (at + 1 + length flags) rest))
 begins at b caps operator flags rest s is all =
-    said_some at caps b (flags ++ rest) s operator is
+    parsed_some at caps b (flags ++ rest) s operator is
     ∙ ap (λ more. unless_fault (first_fault action_fault more) (fold (with_action caps) s more)) (actions_next at b operator flags rest is all)
 
 -- no operator stands first
-pub said_none : (at : ℕ) (caps : CapSet) (actions : List ℕ) (s : CapState) → first_operator actions ≡ None → actions_said at caps actions s ≡ Err (error.NoOperator at)
-unfolding actions_said
-said_none at caps actions s none = cond-false _ _ _ (ap (λ (o : Option Operator). is_some o) none)
+pub parsed_none : (at : ℕ) (caps : CapSet) (actions : List ℕ) (s : CapState) → first_operator actions ≡ None → parse_actions at caps actions s ≡ Err (error.NoOperator at)
+unfolding parse_actions
+parsed_none at caps actions s none = cond-false _ _ _ (ap (λ (o : Option Operator). is_some o) none)
 
 -- a flag is missing
-pub said_no_flag : (at b : ℕ) (caps : CapSet) (operator : Operator) (flags rest : List ℕ) (s : CapState) → operator_of b ≡ Some operator → list_all is_flag flags ≡ true → Stops is_flag rest
-    → (needs_flag operator && length flags == 0) ≡ true → actions_said at caps (b ∷ flags ++ rest) s ≡ Err (error.NoFlag (at + 1))
-said_no_flag at b caps operator flags rest s is all stops missing =
+pub parsed_no_flag : (at b : ℕ) (caps : CapSet) (operator : Operator) (flags rest : List ℕ) (s : CapState) → operator_of b ≡ Some operator → list_all is_flag flags ≡ true → Stops is_flag rest
+    → (needs_flag operator && length flags == 0) ≡ true → parse_actions at caps (b ∷ flags ++ rest) s ≡ Err (error.NoFlag (at + 1))
+parsed_no_flag at b caps operator flags rest s is all stops missing =
     begins at b caps operator flags rest s is all
     ∙ item_fault action_fault (with_action caps) s (first_action at operator flags rest) (actions_in (at + 1 + length flags) rest) (error.NoFlag (at + 1))
     (fault_is at operator flags rest all stops ∙ cond-true _ _ _ missing)
 
 -- what is left behind an action: nothing, or more, at a place
-abbrev pub said_rest : ℕ → CapSet → List ℕ → CapState → Result CapState CapTextError
-said_rest at caps [] s = Ok s
-said_rest at caps (r ∷ rs) s = actions_said at caps (r ∷ rs) s
+abbrev pub parsed_rest : ℕ → CapSet → List ℕ → CapState → Result CapState CapTextError
+parsed_rest at caps [] s = Ok s
+parsed_rest at caps (r ∷ rs) s = parse_actions at caps (r ∷ rs) s
 
-fine_behind : (at count : ℕ) (operator : Operator) → (needs_flag operator && count == 0) ≡ false → fault_behind at operator count (count + 0) ≡ None
-fine_behind at count operator enough = cond-false (needs_flag operator && count == 0) _ _ enough ∙ cond-false (nat_lt count (count + 0)) _ _ (le-ltb count (count + 0) (omega arith))
+fine_after : (at count : ℕ) (operator : Operator) → (needs_flag operator && count == 0) ≡ false → fault_after at operator count (count + 0) ≡ None
+fine_after at count operator enough = cond-false (needs_flag operator && count == 0) _ _ enough ∙ cond-false (nat_lt count (count + 0)) _ _ (le-ltb count (count + 0) (omega arith))
 
-wrong_behind : (at count more : ℕ) (operator : Operator) → (needs_flag operator && count == 0) ≡ false → fault_behind at operator count (count + suc more) ≡ Some (error.NoOperator (at + 1 + count))
-wrong_behind at count more operator enough = cond-false (needs_flag operator && count == 0) _ _ enough ∙ cond-true (nat_lt count (count + suc more)) _ _ (lt-ltb count (count + suc more) (omega arith))
+wrong_after : (at count more : ℕ) (operator : Operator) → (needs_flag operator && count == 0) ≡ false → fault_after at operator count (count + suc more) ≡ Some (error.NoOperator (at + 1 + count))
+wrong_after at count more operator enough = cond-false (needs_flag operator && count == 0) _ _ enough ∙ cond-true (nat_lt count (count + suc more)) _ _ (lt-ltb count (count + suc more) (omega arith))
 
 -- an action with its flags, and then what is left
-pub said_next : (at b : ℕ) (caps : CapSet) (operator : Operator) (flags rest : List ℕ) (s : CapState) → operator_of b ≡ Some operator → list_all is_flag flags ≡ true → Stops is_flag rest
+pub parsed_next : (at b : ℕ) (caps : CapSet) (operator : Operator) (flags rest : List ℕ) (s : CapState) → operator_of b ≡ Some operator → list_all is_flag flags ≡ true → Stops is_flag rest
     → (needs_flag operator && length flags == 0) ≡ false
-    → actions_said at caps (b ∷ flags ++ rest) s ≡ said_rest (at + 1 + length flags) caps rest (operated caps operator (filter_map flag_of flags) s)
-said_next at b caps operator flags [] s is all stops enough =
+    → parse_actions at caps (b ∷ flags ++ rest) s ≡ parsed_rest (at + 1 + length flags) caps rest (operated caps operator (filter_map flag_of flags) s)
+parsed_next at b caps operator flags [] s is all stops enough =
     begins at b caps operator flags [] s is all
-    ∙ item_fine action_fault (with_action caps) s (first_action at operator flags []) [] (fault_is at operator flags [] all stops ∙ fine_behind at (length flags) operator enough)
+    ∙ item_fine action_fault (with_action caps) s (first_action at operator flags []) [] (fault_is at operator flags [] all stops ∙ fine_after at (length flags) operator enough)
     ∙ ap (λ (rest : List ℕ). Ok (operated caps operator (filter_map flag_of rest) s)) (append-nil flags)
-said_next at b caps operator flags (r ∷ rs) s is all stops enough = by_rest (operator_of r) refl
+parsed_next at b caps operator flags (r ∷ rs) s is all stops enough = by_rest (operator_of r) refl
   where
-    front : (o : Option Operator) → operator_of r ≡ o → before_first is_operator (r ∷ rs) ≡ take (cond (not (is_some o)) (1 + position_or_len is_operator rs) 0) (r ∷ rs)
-    front o is = ap (λ (o : Option Operator). take (cond (not (is_some o)) (1 + position_or_len is_operator rs) 0) (r ∷ rs)) is
+    prefix : (o : Option Operator) → operator_of r ≡ o → before_first is_operator (r ∷ rs) ≡ take (cond (not (is_some o)) (1 + position_or_len is_operator rs) 0) (r ∷ rs)
+    prefix o is = ap (λ (o : Option Operator). take (cond (not (is_some o)) (1 + position_or_len is_operator rs) 0) (r ∷ rs)) is
 
-    by_rest : (o : Option Operator) → operator_of r ≡ o → actions_said at caps (b ∷ flags ++ r ∷ rs) s ≡ actions_said (at + 1 + length flags) caps (r ∷ rs) (operated caps operator (filter_map flag_of flags) s)
+    by_rest : (o : Option Operator) → operator_of r ≡ o → parse_actions at caps (b ∷ flags ++ r ∷ rs) s ≡ parse_actions (at + 1 + length flags) caps (r ∷ rs) (operated caps operator (filter_map flag_of flags) s)
     by_rest None none =
         let more : length (before_first is_operator (r ∷ rs)) ≡ suc (length (take (position_or_len is_operator rs) rs)) =
-        ap length (front None none) ∙ ap (λ n. length (take n (r ∷ rs))) (one-add (position_or_len is_operator rs)) in
+        ap length (prefix None none) ∙ ap (λ n. length (take n (r ∷ rs))) (one-add (position_or_len is_operator rs)) in
         begins at b caps operator flags (r ∷ rs) s is all
         ∙ item_fault action_fault (with_action caps) s (first_action at operator flags (r ∷ rs)) (actions_in (at + 1 + length flags) (r ∷ rs)) (error.NoOperator (at + 1 + length flags))
-        (fault_is at operator flags (r ∷ rs) all stops ∙ ap (λ n. fault_behind at operator (length flags) (length flags + n)) more ∙ wrong_behind at (length flags) (length (take (position_or_len is_operator rs) rs)) operator enough)
-        ∙ sym (said_none (at + 1 + length flags) caps (r ∷ rs) (operated caps operator (filter_map flag_of flags) s) none)
+        (fault_is at operator flags (r ∷ rs) all stops ∙ ap (λ n. fault_after at operator (length flags) (length flags + n)) more ∙ wrong_after at (length flags) (length (take (position_or_len is_operator rs) rs)) operator enough)
+        ∙ sym (parsed_none (at + 1 + length flags) caps (r ∷ rs) (operated caps operator (filter_map flag_of flags) s) none)
     by_rest (Some other) found =
         begins at b caps operator flags (r ∷ rs) s is all
         ∙ item_fine action_fault (with_action caps) s (first_action at operator flags (r ∷ rs)) (actions_in (at + 1 + length flags) (r ∷ rs))
-        (fault_is at operator flags (r ∷ rs) all stops ∙ ap (λ (f : List ℕ). fault_behind at operator (length flags) (length flags + length f)) (front (Some other) found) ∙ fine_behind at (length flags) operator enough)
+        (fault_is at operator flags (r ∷ rs) all stops ∙ ap (λ (f : List ℕ). fault_after at operator (length flags) (length flags + length f)) (prefix (Some other) found) ∙ fine_after at (length flags) operator enough)
         ∙ ap (λ (rest : List ℕ). unless_fault (first_fault action_fault (actions_in (at + 1 + length flags) (r ∷ rs))) (fold (with_action caps) (operated caps operator (filter_map flag_of rest) s) (actions_in (at + 1 + length flags) (r ∷ rs))))
-        (ap (λ (f : List ℕ). flags ++ f) (front (Some other) found) ∙ append-nil flags)
-        ∙ sym (said_some (at + 1 + length flags) caps r rs (operated caps operator (filter_map flag_of flags) s) other found)
+        (ap (λ (f : List ℕ). flags ++ f) (prefix (Some other) found) ∙ append-nil flags)
+        ∙ sym (parsed_some (at + 1 + length flags) caps r rs (operated caps operator (filter_map flag_of flags) s) other found)
 
 -- ---- a clause
 
@@ -242,23 +242,23 @@ one_at_least missing at b bs operator is =
 abbrev actions_meant : Placed → CapSet → CapState → Result CapState CapTextError
 actions_meant clause caps s = unless_fault (actions_fault clause) (fold (with_action caps) s (actions_in clause.at clause.bytes))
 
-meant_behind : (at : ℕ) (caps : CapSet) (list actions : List ℕ) (s : CapState) → list_all (λ b. not (is_operator b)) list ≡ true → Stops (λ b. not (is_operator b)) actions
-    → actions_meant (record { at = at; bytes = list ++ actions }) caps s ≡ actions_said (at + length list) caps actions s
-meant_behind at caps list [] s none stops =
-    ap (λ more. unless_fault (first_fault_or (error.NoOperator (at + length (list ++ []))) action_fault more) (fold (with_action caps) s more)) (actions_behind at list [] none)
+meant_after : (at : ℕ) (caps : CapSet) (list actions : List ℕ) (s : CapState) → list_all (λ b. not (is_operator b)) list ≡ true → Stops (λ b. not (is_operator b)) actions
+    → actions_meant (record { at = at; bytes = list ++ actions }) caps s ≡ parse_actions (at + length list) caps actions s
+meant_after at caps list [] s none stops =
+    ap (λ more. unless_fault (first_fault_or (error.NoOperator (at + length (list ++ []))) action_fault more) (fold (with_action caps) s more)) (actions_after at list [] none)
     ∙ ap (λ (l : List ℕ). Err (error.NoOperator (at + length l))) (append-nil list)
-    ∙ sym (said_none (at + length list) caps [] s refl)
-meant_behind at caps list (b ∷ bs) s none stops =
-    ap (λ more. unless_fault (first_fault_or (error.NoOperator (at + length (list ++ b ∷ bs))) action_fault more) (fold (with_action caps) s more)) (actions_behind at list (b ∷ bs) none)
+    ∙ sym (parsed_none (at + length list) caps [] s refl)
+meant_after at caps list (b ∷ bs) s none stops =
+    ap (λ more. unless_fault (first_fault_or (error.NoOperator (at + length (list ++ b ∷ bs))) action_fault more) (fold (with_action caps) s more)) (actions_after at list (b ∷ bs) none)
     ∙ by_operator (operator_of b) refl (not-false (is_operator b) stops)
   where
     by_operator : (o : Option Operator) → operator_of b ≡ o → is_some o ≡ true
         → unless_fault (first_fault_or (error.NoOperator (at + length (list ++ b ∷ bs))) action_fault (actions_in (at + length list) (b ∷ bs))) (fold (with_action caps) s (actions_in (at + length list) (b ∷ bs)))
-        ≡ actions_said (at + length list) caps (b ∷ bs) s
+        ≡ parse_actions (at + length list) caps (b ∷ bs) s
     by_operator None is some = absurd (cc)
     by_operator (Some operator) is some =
         ap (λ (f : Option CapTextError). unless_fault f (fold (with_action caps) s (actions_in (at + length list) (b ∷ bs)))) (one_at_least (error.NoOperator (at + length (list ++ b ∷ bs))) (at + length list) b bs operator is)
-        ∙ sym (said_some (at + length list) caps b bs s operator is)
+        ∙ sym (parsed_some (at + length list) caps b bs s operator is)
 
 before_none : (b : ℕ) (bs : List ℕ) → not (is_operator b) ≡ false → before_first is_operator (b ∷ bs) ≡ []
 before_none b bs is = ap (λ v. take (cond v (1 + position_or_len is_operator bs) 0) (b ∷ bs)) is
@@ -269,26 +269,26 @@ list_is list (b ∷ bs) none stops = before_more is_operator list (b ∷ bs) non
 
 -- a clause that begins with `+` or `-`
 pub clause_unnamed : (at : ℕ) (bytes : List ℕ) (s : CapState) (operator : Operator) → first_operator bytes ≡ Some operator → needs_flag operator ≡ true
-    → clause_said s (record { at = at; bytes = bytes }) ≡ Err (error.NoNames at)
-unfolding clause_said clause_fault
+    → parse_clause s (record { at = at; bytes = bytes }) ≡ Err (error.NoNames at)
+unfolding parse_clause clause_fault
 clause_unnamed at bytes s Assign is needs = absurd (cc)
 clause_unnamed at bytes s Raise is needs = ap (λ (o : Option Operator). unless_fault (clause_fault_by o (record { at = at; bytes = bytes })) (with_clause s (record { at = at; bytes = bytes }))) is
 clause_unnamed at bytes s Lower is needs = ap (λ (o : Option Operator). unless_fault (clause_fault_by o (record { at = at; bytes = bytes })) (with_clause s (record { at = at; bytes = bytes }))) is
 
 -- a clause that begins with `=`
 pub clause_for_all : (at : ℕ) (actions : List ℕ) (s : CapState) → first_operator actions ≡ Some Assign
-    → clause_said s (record { at = at; bytes = actions }) ≡ actions_said at all_of_caps actions s
-unfolding clause_said clause_fault with_clause
+    → parse_clause s (record { at = at; bytes = actions }) ≡ parse_actions at all_of_caps actions s
+unfolding parse_clause clause_fault with_clause
 clause_for_all at [] s is = absurd (cc)
 clause_for_all at (b ∷ bs) s is =
     ap (λ (o : Option Operator). unless_fault (clause_fault_by o (record { at = at; bytes = b ∷ bs })) (fold (with_action (cond (is_some o) all_of_caps (caps_listed (list_in (record { at = at; bytes = b ∷ bs }))))) s (actions_in at (b ∷ bs)))) is
-    ∙ meant_behind at all_of_caps [] (b ∷ bs) s refl (ap (λ (o : Option Operator). not (is_some o)) is)
-    ∙ ap (λ n. actions_said n all_of_caps (b ∷ bs) s) (add-zero at)
+    ∙ meant_after at all_of_caps [] (b ∷ bs) s refl (ap (λ (o : Option Operator). not (is_some o)) is)
+    ∙ ap (λ n. parse_actions n all_of_caps (b ∷ bs) s) (add-zero at)
 
 listed_by : (at : ℕ) (list actions : List ℕ) (s : CapState) → list_all (λ b. not (is_operator b)) list ≡ true → Stops (λ b. not (is_operator b)) actions → first_operator (list ++ actions) ≡ None
-    → clause_said s (record { at = at; bytes = list ++ actions })
+    → parse_clause s (record { at = at; bytes = list ++ actions })
     ≡ unless_fault (option_or (first_fault piece_fault (pieces_of at list)) (actions_fault (record { at = at; bytes = list ++ actions }))) (fold (with_action (caps_listed (pieces_of at list))) s (actions_in at (list ++ actions)))
-unfolding clause_said clause_fault with_clause
+unfolding parse_clause clause_fault with_clause
 listed_by at list actions s none stops first =
     ap (λ (o : Option Operator). unless_fault (clause_fault_by o (record { at = at; bytes = list ++ actions })) (fold (with_action (cond (is_some o) all_of_caps (caps_listed (list_in (record { at = at; bytes = list ++ actions }))))) s (actions_in at (list ++ actions)))) first
     ∙ ap (λ (l : List ℕ). unless_fault (option_or (first_fault piece_fault (pieces_of at l)) (actions_fault (record { at = at; bytes = list ++ actions }))) (fold (with_action (caps_listed (pieces_of at l))) s (actions_in at (list ++ actions)))) (list_is list actions none stops)
@@ -296,7 +296,7 @@ listed_by at list actions s none stops first =
 -- a clause with an unknown name
 pub clause_unknown : (at : ℕ) (list actions : List ℕ) (s : CapState) (e : CapTextError) → list_all (λ b. not (is_operator b)) list ≡ true → Stops (λ b. not (is_operator b)) actions
     → first_operator (list ++ actions) ≡ None → first_fault piece_fault (pieces_of at list) ≡ Some e
-    → clause_said s (record { at = at; bytes = list ++ actions }) ≡ Err e
+    → parse_clause s (record { at = at; bytes = list ++ actions }) ≡ Err e
 clause_unknown at list actions s e none stops first unknown =
     listed_by at list actions s none stops first
     ∙ ap (λ (f : Option CapTextError). unless_fault (option_or f (actions_fault (record { at = at; bytes = list ++ actions }))) (fold (with_action (caps_listed (pieces_of at list))) s (actions_in at (list ++ actions)))) unknown
@@ -304,11 +304,11 @@ clause_unknown at list actions s e none stops first unknown =
 -- a clause with a list of names
 pub clause_listed : (at : ℕ) (list actions : List ℕ) (s : CapState) → list_all (λ b. not (is_operator b)) list ≡ true → Stops (λ b. not (is_operator b)) actions
     → first_operator (list ++ actions) ≡ None → first_fault piece_fault (pieces_of at list) ≡ None
-    → clause_said s (record { at = at; bytes = list ++ actions }) ≡ actions_said (at + length list) (caps_listed (pieces_of at list)) actions s
+    → parse_clause s (record { at = at; bytes = list ++ actions }) ≡ parse_actions (at + length list) (caps_listed (pieces_of at list)) actions s
 clause_listed at list actions s none stops first known =
     listed_by at list actions s none stops first
     ∙ ap (λ (f : Option CapTextError). unless_fault (option_or f (actions_fault (record { at = at; bytes = list ++ actions }))) (fold (with_action (caps_listed (pieces_of at list))) s (actions_in at (list ++ actions)))) known
-    ∙ meant_behind at (caps_listed (pieces_of at list)) list actions s none stops
+    ∙ meant_after at (caps_listed (pieces_of at list)) list actions s none stops
 
 -- ---- clauses one after another
 
@@ -321,15 +321,15 @@ fault_in None v e is = absurd (cc)
 fault_in (Some f) v e is = cc
 
 -- what a clause and the next ones make of a state
-abbrev pub clauses_said : List Placed → CapState → Result CapState CapTextError
-clauses_said clauses s = unless_fault (first_fault clause_fault clauses) (fold with_clause s clauses)
+abbrev pub parse_clauses : List Placed → CapState → Result CapState CapTextError
+parse_clauses clauses s = unless_fault (first_fault clause_fault clauses) (fold with_clause s clauses)
 
-pub clause_taken : (clause : Placed) (clauses : List Placed) (s after : CapState) → clause_said s clause ≡ Ok after → clauses_said (clause ∷ clauses) s ≡ clauses_said clauses after
-unfolding clause_said
+pub clause_taken : (clause : Placed) (clauses : List Placed) (s after : CapState) → parse_clause s clause ≡ Ok after → parse_clauses (clause ∷ clauses) s ≡ parse_clauses clauses after
+unfolding parse_clause
 clause_taken clause clauses s after is =
     let fine = no_fault_in _ _ after is in
-    item_fine clause_fault with_clause s clause clauses fine.0 ∙ ap (clauses_said clauses) fine.1
+    item_fine clause_fault with_clause s clause clauses fine.0 ∙ ap (parse_clauses clauses) fine.1
 
-pub clause_refused : (clause : Placed) (clauses : List Placed) (s : CapState) (e : CapTextError) → clause_said s clause ≡ Err e → clauses_said (clause ∷ clauses) s ≡ Err e
-unfolding clause_said
+pub clause_refused : (clause : Placed) (clauses : List Placed) (s : CapState) (e : CapTextError) → parse_clause s clause ≡ Err e → parse_clauses (clause ∷ clauses) s ≡ Err e
+unfolding parse_clause
 clause_refused clause clauses s e is = item_fault clause_fault with_clause s clause clauses e (fault_in _ _ e is)

@@ -16,24 +16,24 @@ use Rattle.cap_bits.specs.declared.state.CapState.{CapState}
 use Rattle.cap_bits.specs.declared.state.Flag.TheVariants.{Effective, Inheritable, Permitted}
 use Rattle.cap_clause.specs.Clauses.{are_some, all_flags}
 use Rattle.cap_clause.proofs.Groups.{flags_same, has-group_of}
-use Rattle.cap_clause.proofs.WrittenAgain.{clause_some}
+use Rattle.cap_clause.proofs.WrittenRoundTrip.{clause_some}
 use Rattle.cap_clause.specs.Written.{caps_of, same_flags, group_of, is_first, firsts_of, group_text, clauses_text, caps_text}
 
 -- ---- pieces
 
 -- pieces with a mark before the first, and a byte before each further one
-abbrev behind : List ℕ → ℕ → List (List ℕ) → List ℕ
-behind mark c [] = []
-behind mark c (x ∷ xs) = mark ++ x ++ behind (c ∷ []) c xs
+abbrev after : List ℕ → ℕ → List (List ℕ) → List ℕ
+after mark c [] = []
+after mark c (x ∷ xs) = mark ++ x ++ after (c ∷ []) c xs
 
-behind_nothing : (c : ℕ) (pieces : List (List ℕ)) → behind [] c pieces ≡ join_with_byte c pieces
-behind_nothing c [] = refl
-behind_nothing c (x ∷ []) = append-nil x
-behind_nothing c (x ∷ y ∷ ys) = ap (λ (t : List ℕ). x ++ c ∷ t) (behind_nothing c (y ∷ ys))
+after_nothing : (c : ℕ) (pieces : List (List ℕ)) → after [] c pieces ≡ join_with_byte c pieces
+after_nothing c [] = refl
+after_nothing c (x ∷ []) = append-nil x
+after_nothing c (x ∷ y ∷ ys) = ap (λ (t : List ℕ). x ++ c ∷ t) (after_nothing c (y ∷ ys))
 
 -- a mark and a piece are written, and a rest is left
-piece_written : (old marked new mark piece rest front whole : List ℕ) → marked ≡ old ++ mark → new ≡ marked ++ piece → front ≡ mark ++ piece ++ rest → old ++ front ≡ whole → new ++ rest ≡ whole
-piece_written old marked new mark piece rest front whole mark_is new_is next all =
+piece_written : (old marked new mark piece rest prefix whole : List ℕ) → marked ≡ old ++ mark → new ≡ marked ++ piece → prefix ≡ mark ++ piece ++ rest → old ++ prefix ≡ whole → new ++ rest ≡ whole
+piece_written old marked new mark piece rest prefix whole mark_is new_is next all =
     ap (λ (t : List ℕ). t ++ rest) (new_is ∙ ap (λ (t : List ℕ). t ++ piece) mark_is) ∙ append_assoc (old ++ mark) piece rest ∙ append_assoc old mark (piece ++ rest)
     ∙ ap (λ (t : List ℕ). old ++ t) (sym (append_assoc mark piece rest)) ∙ ap (λ (t : List ℕ). old ++ t) (sym next) ∙ all
 
@@ -49,27 +49,27 @@ no_more_caps n past = drop_all n all_caps (omega arith)
 
 -- the names of a set's capabilities from a number on, the first behind a mark and each further one behind a comma
 unfoldable pub names_from : List ℕ → CapSet → ℕ → List ℕ
-names_from mark caps n = behind mark 44 (map cap_name (filter (has caps) (drop n all_caps)))
+names_from mark caps n = after mark 44 (map cap_name (filter (has caps) (drop n all_caps)))
 
 names_all : (caps : CapSet) → names_from [] caps 0 ≡ join_with_byte 44 (map cap_name (caps_of caps))
 unfolding names_from caps_of
-names_all caps = behind_nothing 44 (map cap_name (filter (has caps) all_caps))
+names_all caps = after_nothing 44 (map cap_name (filter (has caps) all_caps))
 
 names_there : (mark : List ℕ) (caps : CapSet) (cap : Cap) (n : ℕ) → cap_number cap ≡ n → has caps cap ≡ true → names_from mark caps n ≡ mark ++ cap_name cap ++ names_from (44 ∷ []) caps (n + 1)
 unfolding names_from
 names_there mark caps cap n is there =
-    ap (λ (cs : List Cap). behind mark 44 (map cap_name (filter (has caps) cs))) (caps_from cap n is)
-    ∙ ap (λ v. behind mark 44 (map cap_name (cond v (cap ∷ filter (has caps) (drop (n + 1) all_caps)) (filter (has caps) (drop (n + 1) all_caps))))) there
+    ap (λ (cs : List Cap). after mark 44 (map cap_name (filter (has caps) cs))) (caps_from cap n is)
+    ∙ ap (λ v. after mark 44 (map cap_name (cond v (cap ∷ filter (has caps) (drop (n + 1) all_caps)) (filter (has caps) (drop (n + 1) all_caps))))) there
 
 names_absent : (mark : List ℕ) (caps : CapSet) (cap : Cap) (n : ℕ) → cap_number cap ≡ n → has caps cap ≡ false → names_from mark caps n ≡ names_from mark caps (n + 1)
 unfolding names_from
 names_absent mark caps cap n is absent =
-    ap (λ (cs : List Cap). behind mark 44 (map cap_name (filter (has caps) cs))) (caps_from cap n is)
-    ∙ ap (λ v. behind mark 44 (map cap_name (cond v (cap ∷ filter (has caps) (drop (n + 1) all_caps)) (filter (has caps) (drop (n + 1) all_caps))))) absent
+    ap (λ (cs : List Cap). after mark 44 (map cap_name (filter (has caps) cs))) (caps_from cap n is)
+    ∙ ap (λ v. after mark 44 (map cap_name (cond v (cap ∷ filter (has caps) (drop (n + 1) all_caps)) (filter (has caps) (drop (n + 1) all_caps))))) absent
 
 names_end : (mark : List ℕ) (caps : CapSet) (n : ℕ) → 17 < n → names_from mark caps n ≡ []
 unfolding names_from
-names_end mark caps n past = ap (λ (cs : List Cap). behind mark 44 (map cap_name (filter (has caps) cs))) (no_more_caps n past)
+names_end mark caps n past = ap (λ (cs : List Cap). after mark 44 (map cap_name (filter (has caps) cs))) (no_more_caps n past)
 
 pub name_written : (old marked new mark name whole : List ℕ) (caps : CapSet) (cap : Cap) (n : ℕ) → cap_number cap ≡ n → has caps cap ≡ true → name ≡ cap_name cap → marked ≡ old ++ mark → new ≡ marked ++ name
     → old ++ names_from mark caps n ≡ whole → new ++ names_from (44 ∷ []) caps (n + 1) ≡ whole
@@ -175,27 +175,27 @@ left_same s cap q n none = by_flags (same_flags s cap q) refl
 
 -- the clauses of a state from a number on, the first behind a mark and each further one behind a space
 unfoldable pub groups_from : List ℕ → CapState → ℕ → List ℕ
-groups_from mark s n = behind mark 32 (map (group_text s) (filter (is_first s) (drop n all_caps)))
+groups_from mark s n = after mark 32 (map (group_text s) (filter (is_first s) (drop n all_caps)))
 
 groups_all : (s : CapState) → groups_from [] s 0 ≡ join_with_byte 32 (map (group_text s) (firsts_of s))
 unfolding groups_from firsts_of
-groups_all s = behind_nothing 32 (map (group_text s) (filter (is_first s) all_caps))
+groups_all s = after_nothing 32 (map (group_text s) (filter (is_first s) all_caps))
 
 groups_there : (mark : List ℕ) (s : CapState) (cap : Cap) (n : ℕ) → cap_number cap ≡ n → is_left s n cap ≡ true → groups_from mark s n ≡ mark ++ group_text s cap ++ groups_from (32 ∷ []) s (n + 1)
 unfolding groups_from
 groups_there mark s cap n is first =
-    ap (λ (cs : List Cap). behind mark 32 (map (group_text s) (filter (is_first s) cs))) (caps_from cap n is)
-    ∙ ap (λ v. behind mark 32 (map (group_text s) (cond v (cap ∷ filter (is_first s) (drop (n + 1) all_caps)) (filter (is_first s) (drop (n + 1) all_caps))))) (first_is_left s cap n is ∙ first)
+    ap (λ (cs : List Cap). after mark 32 (map (group_text s) (filter (is_first s) cs))) (caps_from cap n is)
+    ∙ ap (λ v. after mark 32 (map (group_text s) (cond v (cap ∷ filter (is_first s) (drop (n + 1) all_caps)) (filter (is_first s) (drop (n + 1) all_caps))))) (first_is_left s cap n is ∙ first)
 
 groups_absent : (mark : List ℕ) (s : CapState) (cap : Cap) (n : ℕ) → cap_number cap ≡ n → is_left s n cap ≡ false → groups_from mark s n ≡ groups_from mark s (n + 1)
 unfolding groups_from
 groups_absent mark s cap n is later =
-    ap (λ (cs : List Cap). behind mark 32 (map (group_text s) (filter (is_first s) cs))) (caps_from cap n is)
-    ∙ ap (λ v. behind mark 32 (map (group_text s) (cond v (cap ∷ filter (is_first s) (drop (n + 1) all_caps)) (filter (is_first s) (drop (n + 1) all_caps))))) (first_is_left s cap n is ∙ later)
+    ap (λ (cs : List Cap). after mark 32 (map (group_text s) (filter (is_first s) cs))) (caps_from cap n is)
+    ∙ ap (λ v. after mark 32 (map (group_text s) (cond v (cap ∷ filter (is_first s) (drop (n + 1) all_caps)) (filter (is_first s) (drop (n + 1) all_caps))))) (first_is_left s cap n is ∙ later)
 
 groups_end : (mark : List ℕ) (s : CapState) (n : ℕ) → 17 < n → groups_from mark s n ≡ []
 unfolding groups_from
-groups_end mark s n past = ap (λ (cs : List Cap). behind mark 32 (map (group_text s) (filter (is_first s) cs))) (no_more_caps n past)
+groups_end mark s n past = ap (λ (cs : List Cap). after mark 32 (map (group_text s) (filter (is_first s) cs))) (no_more_caps n past)
 
 pub group_written : (old marked new mark whole : List ℕ) (s : CapState) (cap : Cap) (n : ℕ) → cap_number cap ≡ n → is_left s n cap ≡ true → marked ≡ old ++ mark → new ≡ marked ++ group_text s cap
     → old ++ groups_from mark s n ≡ whole → new ++ groups_from (32 ∷ []) s (n + 1) ≡ whole

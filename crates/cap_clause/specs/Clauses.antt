@@ -104,8 +104,8 @@ abbrev pub caps_listed : List Placed → CapSet
 caps_listed pieces = fold with_piece no_caps pieces
 
 -- what a list that begins at a place stands for, or its first fault
-unfoldable pub list_said : ℕ → List ℕ → Result CapSet CapTextError
-list_said at list = unless_fault (first_fault piece_fault (pieces_of at list)) (caps_listed (pieces_of at list))
+unfoldable pub parse_list : ℕ → List ℕ → Result CapSet CapTextError
+parse_list at list = unless_fault (first_fault piece_fault (pieces_of at list)) (caps_listed (pieces_of at list))
 
 -- ---- actions
 

@@ -1,4 +1,4 @@
 pub mod Clauses
-pub mod Said
+pub mod Parsed
 pub mod Written
 pub mod Reading

@@ -3,7 +3,7 @@ use Rattle.std.specs.Prelude.{ℕ, ◌+◌, cond, List, [], length, Option, None
 use Rattle.std.specs.List.{slice_split}
 use Rattle.cap_bits.specs.CapSet.{CapSet, all_of_caps}
 use Rattle.cap_bits.specs.declared.state.CapState.{CapState}
-use Rattle.cap_clause.specs.Clauses.{is_comma, Placed, first_fault, unless_fault, list_said, actions_in, action_fault, with_action, first_operator, clause_fault, with_clause}
+use Rattle.cap_clause.specs.Clauses.{is_comma, Placed, first_fault, unless_fault, parse_list, actions_in, action_fault, with_action, first_operator, clause_fault, with_clause}
 use Rattle.cap_clause.specs.declared.action.Operator.{Operator}
 use Rattle.cap_clause.specs.declared.action.Operator.TheVariants.{Assign, Raise, Lower}
 use Rattle.cap_clause.specs.declared.error.CapTextError.{CapTextError}
@@ -20,19 +20,19 @@ bytes_left None = 0
 bytes_left (Some text) = length text + 1
 
 -- what actions make of a state where the first of them stands first, or the first fault
-unfoldable pub actions_said : ℕ → CapSet → List ℕ → CapState → Result CapState CapTextError
-actions_said at caps actions s =
+unfoldable pub parse_actions : ℕ → CapSet → List ℕ → CapState → Result CapState CapTextError
+parse_actions at caps actions s =
     cond (is_some (first_operator actions))
     (unless_fault (first_fault action_fault (actions_in at actions)) (fold (with_action caps) s (actions_in at actions)))
     (Err (error.NoOperator at))
 
 -- the capabilities that a clause is about, by its list and the operator with which it begins, or its first fault before its actions
-abbrev pub front_said : ℕ → List ℕ → Option Operator → Result CapSet CapTextError
-front_said at list None = list_said at list
-front_said at list (Some Assign) = Ok all_of_caps
-front_said at list (Some Raise) = Err (error.NoNames at)
-front_said at list (Some Lower) = Err (error.NoNames at)
+abbrev pub parse_prefix : ℕ → List ℕ → Option Operator → Result CapSet CapTextError
+parse_prefix at list None = parse_list at list
+parse_prefix at list (Some Assign) = Ok all_of_caps
+parse_prefix at list (Some Raise) = Err (error.NoNames at)
+parse_prefix at list (Some Lower) = Err (error.NoNames at)
 
 -- what a clause makes of a state, or its first fault
-unfoldable pub clause_said : CapState → Placed → Result CapState CapTextError
-clause_said s clause = unless_fault (clause_fault clause) (with_clause s clause)
+unfoldable pub parse_clause : CapState → Placed → Result CapState CapTextError
+parse_clause s clause = unless_fault (clause_fault clause) (with_clause s clause)

@@ -3,7 +3,7 @@ ghost use Rattle.std.specs.Prelude.{◌≡◌, ◌==◌, ◌&&◌, ◌+◌, ◌<
 ghost use Rattle.std.specs.Option.{option_map};
 ghost use Rattle.std.specs.List.{prefix_len};
 ghost use Rattle.cap_clause.specs.Clauses.{operator_of, flag_of, is_flag, put_caps, put_flag, put_flags, operated, first_operator, needs_flag};
-ghost use Rattle.cap_clause.specs.Reading.{actions_said};
+ghost use Rattle.cap_clause.specs.Reading.{parse_actions};
 
 use crate::CapTextError;
 use cap_bits::{CapSet, CapState, Flag};
@@ -125,13 +125,13 @@ fn operate(state: CapState, caps: CapSet, operator: Operator, flags: &[u8]) -> C
 // The operator with which a text begins, and what stands behind it.
 pub fn first_operator(text: &[u8]) -> Option<(Operator, &[u8])>
     ensures first { option_map (λ found. found.0) result ≡ first_operator text.now }
-    ensures behind { IfSome result (λ found. found.1.now ≡ drop 1 text.now) }
+    ensures after { IfSome result (λ found. found.1.now ≡ drop 1 text.now) }
     ensures fewer { IfSome result (λ found. length found.1.now + 1 ≡ length text.now) }
 {
-    let [first, behind @ ..] = text else {
+    let [first, after @ ..] = text else {
         return None;
     };
-    Some((operator_of(*first)?, behind))
+    Some((operator_of(*first)?, after))
 }
 
 // What actions, of which the first begins at a place, make of a state.
@@ -142,16 +142,16 @@ pub fn read_actions(
     state: CapState,
 ) -> Result<CapState, CapTextError>
     requires { start + length actions.now < 2 ^ 64 }
-    ensures { result ≡ actions_said start caps actions.now state }
+    ensures { result ≡ parse_actions start caps actions.now state }
 {
     let mut state = state;
     let mut at = start;
     let mut left = actions;
     loop {
-        let Some((operator, behind)) = first_operator(left) else {
+        let Some((operator, after)) = first_operator(left) else {
             return Err(CapTextError::NoOperator(at));
         };
-        let (flags, rest) = behind.split_at(flags_len(behind));
+        let (flags, rest) = after.split_at(flags_len(after));
         if operator.lacks_flag(flags) {
             return Err(CapTextError::NoFlag(at + 1));
         }

@@ -2,8 +2,8 @@
 ghost use Rattle.std.specs.Prelude.{◌≡◌, ◌+◌, ◌<◌, ◌≤◌, ◌^◌, length, drop};
 ghost use Rattle.std.specs.List.{position_or_len, prefix_len};
 ghost use Rattle.cap_clause.specs.Clauses.{is_blank, is_operator, first_operator};
-ghost use Rattle.cap_clause.specs.Reading.{front_said, clause_said};
-ghost use Rattle.cap_clause.specs.Said.{caps_said};
+ghost use Rattle.cap_clause.specs.Reading.{parse_prefix, parse_clause};
+ghost use Rattle.cap_clause.specs.Parsed.{parse_caps};
 
 use crate::CapTextError;
 use crate::action::{Operator, first_operator, operator_of, read_actions};
@@ -54,7 +54,7 @@ fn list_len(clause: &[u8]) -> usize
 // The capabilities that a clause which begins at a place is about: those in its list, or all where it begins with `=`.
 fn clause_caps(at: usize, clause: &[u8], list: &[u8]) -> Result<CapSet, CapTextError>
     requires { at + length list.now + 1 < 2 ^ 64 }
-    ensures { result ≡ front_said at list.now (first_operator clause.now) }
+    ensures { result ≡ parse_prefix at list.now (first_operator clause.now) }
 {
     let Some((operator, _)) = first_operator(clause) else {
         return caps_listed(at, list);
@@ -68,7 +68,7 @@ fn clause_caps(at: usize, clause: &[u8], list: &[u8]) -> Result<CapSet, CapTextE
 // What a clause that begins at a place makes of a state.
 fn read_clause(at: usize, clause: &[u8], state: CapState) -> Result<CapState, CapTextError>
     requires { at + length clause.now + 1 < 2 ^ 64 }
-    ensures { result ≡ clause_said state (record { at = at; bytes = clause.now }) }
+    ensures { result ≡ parse_clause state (record { at = at; bytes = clause.now }) }
 {
     let (list, actions) = clause.split_at(list_len(clause));
     let caps = clause_caps(at, clause, list)?;
@@ -78,7 +78,7 @@ fn read_clause(at: usize, clause: &[u8], state: CapState) -> Result<CapState, Ca
 /// The state that a text stands for: what its clauses make, one after another, of the state with no capability in any
 /// set. It takes no memory.
 pub fn cap_from_text(text: &[u8]) -> Result<CapState, CapTextError>
-    ensures said { result ≡ caps_said text.now }
+    ensures parsed { result ≡ parse_caps text.now }
 {
     let mut left = past_blanks(text);
     if left.is_empty() {

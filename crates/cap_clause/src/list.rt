@@ -3,9 +3,9 @@ ghost use Rattle.std.specs.Prelude.{◌≡◌, ◌+◌, ◌==◌, ◌<◌, ◌^�
 ghost use Rattle.std.specs.List.{slice_split};
 ghost use Rattle.std.specs.Option.{option_copied};
 ghost use Rattle.std.specs.Str.{str_eq_ignore_ascii_case};
-ghost use Rattle.cap_clause.specs.Clauses.{is_comma, caps_named, list_said};
+ghost use Rattle.cap_clause.specs.Clauses.{is_comma, caps_named, parse_list};
 ghost use Rattle.cap_clause.specs.Reading.{pieces_in, bytes_left};
-ghost use Rattle.cap_clause.specs.Said.{set_said};
+ghost use Rattle.cap_clause.specs.Parsed.{parse_set};
 
 use crate::CapTextError;
 use cap_bits::{Cap, CapSet};
@@ -49,10 +49,10 @@ fn caps_named(word: &[u8]) -> Option<CapSet>
 }
 
 // The capabilities in a list that begins at a place.
-#[tactic(auto, unfolding(crate::specs::Clauses::list_said))]
+#[tactic(auto, unfolding(crate::specs::Clauses::parse_list))]
 pub fn caps_listed(start: usize, list: &[u8]) -> Result<CapSet, CapTextError>
     requires { start + length list.now + 1 < 2 ^ 64 }
-    ensures { result ≡ list_said start list.now }
+    ensures { result ≡ parse_list start list.now }
 {
     let mut caps = CapSet::none();
     let mut at = start;
@@ -70,9 +70,9 @@ pub fn caps_listed(start: usize, list: &[u8]) -> Result<CapSet, CapTextError>
 }
 
 /// The set that a text stands for: `none`, or names and `all` with commas between them. It takes no memory.
-#[tactic(auto, unfolding(crate::specs::Said::set_said))]
+#[tactic(auto, unfolding(crate::specs::Parsed::parse_set))]
 pub fn set_from_text(text: &[u8]) -> Result<CapSet, CapTextError>
-    ensures said { result ≡ set_said text.now }
+    ensures parsed { result ≡ parse_set text.now }
 {
     if text.is_empty() {
         return Err(CapTextError::Empty);

@@ -88,8 +88,8 @@ fn states(rt: HostRuntime) -> Result<(), Fail> {
     for (text, answer) in STATES {
         match cap_from_text(text) {
             Ok(state) => {
-                let said = cap_to_text(rt.alloc(), &state)?;
-                assert_eq!(rt; Ok(said.as_slice()), answer);
+                let parsed = cap_to_text(rt.alloc(), &state)?;
+                assert_eq!(rt; Ok(parsed.as_slice()), answer);
             }
             Err(cause) => assert_eq!(rt; Err(cause), answer),
         }
@@ -102,8 +102,8 @@ fn sets(rt: HostRuntime) -> Result<(), Fail> {
     for (text, answer) in SETS {
         match set_from_text(text) {
             Ok(set) => {
-                let said = set_to_text(rt.alloc(), &set)?;
-                assert_eq!(rt; Ok(said.as_slice()), answer);
+                let parsed = set_to_text(rt.alloc(), &set)?;
+                assert_eq!(rt; Ok(parsed.as_slice()), answer);
             }
             Err(cause) => assert_eq!(rt; Err(cause), answer),
         }

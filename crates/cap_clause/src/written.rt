@@ -6,7 +6,7 @@ ghost use Rattle.cap_bits.specs.Cap.{cap_name};
 ghost use Rattle.cap_bits.specs.CapSet.{has};
 ghost use Rattle.cap_bits.specs.State.{has_flag};
 ghost use Rattle.cap_clause.specs.Clauses.{all_flags};
-ghost use Rattle.cap_clause.specs.Said.{caps_said, set_said};
+ghost use Rattle.cap_clause.specs.Parsed.{parse_caps, parse_set};
 ghost use Rattle.cap_clause.specs.Written.{caps_of, list_text, set_text, group_of, flag_byte, group_text, firsts_of, caps_text};
 
 use crate::NoMemory;
@@ -55,7 +55,7 @@ fn put_set(text: &mut Vec<u8>, set: &CapSet) -> Result<(), NoMemory>
 /// The canonical text of a set.
 pub fn set_to_text(alloc: Global, set: &CapSet) -> Result<Vec<u8>, NoMemory>
     ensures text { IfOk result (λ text. text.items ≡ set_text set.now) }
-    ensures again { IfOk result (λ text. set_said text.items ≡ Ok set.now) }
+    ensures round_trip { IfOk result (λ text. parse_set text.items ≡ Ok set.now) }
 {
     let mut text = Vec::new(alloc);
     put_set(&mut text, set)?;
@@ -137,7 +137,7 @@ fn put_groups(text: &mut Vec<u8>, state: &CapState) -> Result<(), NoMemory>
 /// The canonical text of a state.
 pub fn cap_to_text(alloc: Global, state: &CapState) -> Result<Vec<u8>, NoMemory>
     ensures text { IfOk result (λ text. text.items ≡ caps_text state.now) }
-    ensures again { IfOk result (λ text. caps_said text.items ≡ Ok state.now) }
+    ensures round_trip { IfOk result (λ text. parse_caps text.items ≡ Ok state.now) }
 {
     let mut text = Vec::new(alloc);
     put_groups(&mut text, state)?;

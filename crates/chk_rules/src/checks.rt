@@ -1,7 +1,7 @@
 // What checks come to, and the exercises that they leave.
 ghost use Rattle.std.specs.Prelude.{◌≡◌, IfOk, IfErr, OnOk, OnErr};
 ghost use Rattle.kern_model.specs.Row.{verdict_of};
-ghost use Rattle.chk_rules.specs.Asking.{asking, noting};
+ghost use Rattle.chk_rules.specs.CheckLog.{check_log, noting};
 ghost use Rattle.chk_rules.specs.Ends.{GoesOn, StopsHere};
 
 use crate::Stop;
@@ -25,19 +25,19 @@ impl Model for Checks {
     ghost use Rattle.std.specs.Coded.{codes};
     ghost use Rattle.cap_bits.specs.Cap.{cap_cmp, cap_code};
     ghost use Rattle.lab_lattice.specs.Label.{label_code};
-    ghost use Rattle.chk_rules.specs.Asking.{Asking};
+    ghost use Rattle.chk_rules.specs.CheckLog.{CheckLog};
 
-    ghost Value = { Asking };
+    ghost Value = { CheckLog };
 
     ghost coded = { Prim.hlevel (codes, set.code {R = cap_cmp} cap_code, label_code) };
 
-    ghost view = { λ c. record { asker = record { who = c.who; label = c.label; effective = c.effective }; used = c.used } };
+    ghost view = { λ c. record { subject = record { who = c.who; label = c.label; effective = c.effective }; used = c.used } };
 }
 
 impl Checks {
     /// The checks of a call of this process, before the first one. No memory is taken.
     pub fn new(alloc: Global, who: Pid, label: Label, effective: CapSet) -> Checks
-        ensures { result ≡ asking who label effective }
+        ensures { result ≡ check_log who label effective }
     {
         Checks {
             who,
@@ -50,9 +50,9 @@ impl Checks {
     /// What a check comes to. Where its capability is used, an exercise is added.
     #[tactic(auto, unfolding(kern_model::specs::Row::verdict_of))]
     pub fn need(&mut self, check: &Check) -> Result<Verdict, NoMemory>
-        ensures verdict { IfOk result (λ verdict. verdict ≡ verdict_of self.old.asker check.now) }
+        ensures verdict { IfOk result (λ verdict. verdict ≡ verdict_of self.old.subject check.now) }
         ensures used { IfOk result (λ verdict. self.new ≡ noting self.old check.now verdict) }
-        ensures asker { self.new.asker ≡ self.old.asker }
+        ensures subject { self.new.subject ≡ self.old.subject }
         ensures err { OnErr result (self.new ≡ self.old) }
     {
         if check.holds {
@@ -102,7 +102,7 @@ impl Checks {
 pub fn must(checks: &mut Checks, check: &Check) -> Result<(), Stop>
     ensures passed { OnOk result (GoesOn checks.old check.now checks.new) }
     ensures stop { IfErr result (λ stop. StopsHere checks.old check.now stop checks.new) }
-    ensures asker { checks.new.asker ≡ checks.old.asker }
+    ensures subject { checks.new.subject ≡ checks.old.subject }
 {
     match checks.need(check)? {
         Verdict::Passed | Verdict::Exercised => Ok(()),

@@ -3,7 +3,7 @@ pub mod LineLemmas
 pub mod PathLemmas
 pub mod ValueLemmas
 pub mod WordLemmas
-pub mod Again
+pub mod RoundTrip
 pub mod PathLaws
 pub mod ValueRanges
 pub mod WordSizes

@@ -5,7 +5,7 @@ use Rattle.std.specs.List.{position_or_len}
 use Rattle.std.proofs.lemmas.Option.{some_pair_parts}
 use Rattle.std.proofs.lemmas.Bool.Decides.{nat_tests}
 use Rattle.std.proofs.lemmas.List.{take_rest}
-use Rattle.fs_path.specs.Words.{onto_front}
+use Rattle.fs_path.specs.Words.{onto_piece}
 use Rattle.fs_path.specs.Lines.{cut, onto_first, pieces}
 
 -- ---- the first of a byte
@@ -16,11 +16,11 @@ parts_at n t = cond (nat_lt n (length t)) (Some (take n t, drop (suc n) t)) None
 less_more : (a b : ℕ) → nat_lt (suc a) (suc b) ≡ nat_lt a b
 less_more a b = grind (arith, nat_tests)
 
-onto_cond : (x : ℕ) (v : Bool) (p : List ℕ × List ℕ) → onto_front x (cond v (Some p) None) ≡ cond v (Some (x ∷ p.0, p.1)) None
+onto_cond : (x : ℕ) (v : Bool) (p : List ℕ × List ℕ) → onto_piece x (cond v (Some p) None) ≡ cond v (Some (x ∷ p.0, p.1)) None
 onto_cond x true p = refl
 onto_cond x false p = refl
 
-parts_more : (x n : ℕ) (t : List ℕ) → parts_at (1 + n) (x ∷ t) ≡ onto_front x (parts_at n t)
+parts_more : (x n : ℕ) (t : List ℕ) → parts_at (1 + n) (x ∷ t) ≡ onto_piece x (parts_at n t)
 parts_more x n t =
     let e : 1 + n ≡ suc n = omega arith in
     ap (λ k. parts_at k (x ∷ t)) e
@@ -34,8 +34,8 @@ cut_is : (b : ℕ) (t : List ℕ) → cut b t ≡ parts_at (position_or_len (λ 
 unfolding cut
 cut_is b [] = refl
 cut_is b (x ∷ xs) =
-    elim (x == b) as (λ v. cond v (Some ([], xs)) (onto_front x (cut b xs)) ≡ parts_at (cond (not v) (1 + position_or_len (λ y. y == b) xs) 0) (x ∷ xs))
-    [ true ↦ sym (ap (λ v. cond v (Some ([], xs)) None) (some_long xs)) | false ↦ ap (onto_front x) (cut_is b xs) ∙ sym (parts_more x (position_or_len (λ y. y == b) xs) xs) ]
+    elim (x == b) as (λ v. cond v (Some ([], xs)) (onto_piece x (cut b xs)) ≡ parts_at (cond (not v) (1 + position_or_len (λ y. y == b) xs) 0) (x ∷ xs))
+    [ true ↦ sym (ap (λ v. cond v (Some ([], xs)) None) (some_long xs)) | false ↦ ap (onto_piece x) (cut_is b xs) ∙ sym (parts_more x (position_or_len (λ y. y == b) xs) xs) ]
 
 some_same : (a b : ℕ) → Some a ≡ Some b → a ≡ b
 some_same a b e = cc
@@ -64,7 +64,7 @@ abbrev from_cut : ℕ → List ℕ → Option (List ℕ × List ℕ) → List (L
 from_cut b t None = t ∷ []
 from_cut b t (Some p) = p.0 ∷ pieces b p.1
 
-onto_cut : (b x : ℕ) (t : List ℕ) (o : Option (List ℕ × List ℕ)) → onto_first x (from_cut b t o) ≡ from_cut b (x ∷ t) (onto_front x o)
+onto_cut : (b x : ℕ) (t : List ℕ) (o : Option (List ℕ × List ℕ)) → onto_first x (from_cut b t o) ≡ from_cut b (x ∷ t) (onto_piece x o)
 onto_cut b x t None = refl
 onto_cut b x t (Some p) = refl
 
@@ -72,7 +72,7 @@ onto_cut b x t (Some p) = refl
 pub pieces_cut : (b : ℕ) (t : List ℕ) → pieces b t ≡ from_cut b t (cut b t)
 unfolding pieces cut
 pieces_cut b [] = refl
-pieces_cut b (x ∷ xs) = elim (x == b) as (λ v. cond v ([] ∷ pieces b xs) (onto_first x (pieces b xs)) ≡ from_cut b (x ∷ xs) (cond v (Some ([], xs)) (onto_front x (cut b xs))))
+pieces_cut b (x ∷ xs) = elim (x == b) as (λ v. cond v ([] ∷ pieces b xs) (onto_first x (pieces b xs)) ≡ from_cut b (x ∷ xs) (cond v (Some ([], xs)) (onto_piece x (cut b xs))))
     [ true ↦ refl | false ↦ ap (onto_first x) (pieces_cut b xs) ∙ onto_cut b x xs (cut b xs) ]
 
 pub pieces_some : (b : ℕ) (t l r : List ℕ) → cut b t ≡ Some (l, r) → pieces b t ≡ l ∷ pieces b r
@@ -98,10 +98,10 @@ unfolding cut
 cut_shorter b [] l r e = absurd (cc)
 cut_shorter b (x ∷ xs) l r e = by_head (x == b) (cut b xs) (cut_shorter b xs) e
   where
-    by_head : (v : Bool) (o : Option (List ℕ × List ℕ)) → ((l r : List ℕ) → o ≡ Some (l, r) → length r + 1 ≤ length xs) → cond v (Some ([], xs)) (onto_front x o) ≡ Some (l, r) → length r + 1 ≤ length (x ∷ xs)
-    by_head true o again e = let same : xs ≡ r = (some_pair_parts [] l xs r e).1 in let len = ap (λ (q : List ℕ). length q) same in omega arith
-    by_head false None again e = absurd (cc)
-    by_head false (Some p) again e = let same : p.1 ≡ r = (some_pair_parts (x ∷ p.0) l p.1 r e).1 in let less = again p.0 p.1 refl in let len = ap (λ (q : List ℕ). length q) same in omega arith
+    by_head : (v : Bool) (o : Option (List ℕ × List ℕ)) → ((l r : List ℕ) → o ≡ Some (l, r) → length r + 1 ≤ length xs) → cond v (Some ([], xs)) (onto_piece x o) ≡ Some (l, r) → length r + 1 ≤ length (x ∷ xs)
+    by_head true o round_trip e = let same : xs ≡ r = (some_pair_parts [] l xs r e).1 in let len = ap (λ (q : List ℕ). length q) same in omega arith
+    by_head false None round_trip e = absurd (cc)
+    by_head false (Some p) round_trip e = let same : p.1 ≡ r = (some_pair_parts (x ∷ p.0) l p.1 r e).1 in let less = round_trip p.0 p.1 refl in let len = ap (λ (q : List ℕ). length q) same in omega arith
 
 -- what stands before is no longer
 pub cut_longer : (b : ℕ) (t l r : List ℕ) → cut b t ≡ Some (l, r) → length l ≤ length t
@@ -109,7 +109,7 @@ unfolding cut
 cut_longer b [] l r e = absurd (cc)
 cut_longer b (x ∷ xs) l r e = by_head (x == b) (cut b xs) (cut_longer b xs) e
   where
-    by_head : (v : Bool) (o : Option (List ℕ × List ℕ)) → ((l r : List ℕ) → o ≡ Some (l, r) → length l ≤ length xs) → cond v (Some ([], xs)) (onto_front x o) ≡ Some (l, r) → length l ≤ length (x ∷ xs)
-    by_head true o again e = let same : [] ≡ l = (some_pair_parts [] l xs r e).0 in let len = ap (λ (q : List ℕ). length q) same in omega arith
-    by_head false None again e = absurd (cc)
-    by_head false (Some p) again e = let same : x ∷ p.0 ≡ l = (some_pair_parts (x ∷ p.0) l p.1 r e).0 in let less = again p.0 p.1 refl in let len = ap (λ (q : List ℕ). length q) same in omega arith
+    by_head : (v : Bool) (o : Option (List ℕ × List ℕ)) → ((l r : List ℕ) → o ≡ Some (l, r) → length l ≤ length xs) → cond v (Some ([], xs)) (onto_piece x o) ≡ Some (l, r) → length l ≤ length (x ∷ xs)
+    by_head true o round_trip e = let same : [] ≡ l = (some_pair_parts [] l xs r e).0 in let len = ap (λ (q : List ℕ). length q) same in omega arith
+    by_head false None round_trip e = absurd (cc)
+    by_head false (Some p) round_trip e = let same : x ∷ p.0 ≡ l = (some_pair_parts (x ∷ p.0) l p.1 r e).0 in let less = round_trip p.0 p.1 refl in let len = ap (λ (q : List ℕ). length q) same in omega arith

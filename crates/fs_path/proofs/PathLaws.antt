@@ -9,7 +9,7 @@ use Rattle.std.proofs.lemmas.List.Sums.{sum_by-cons}
 use Rattle.std.proofs.lemmas.List.{length-map}
 use Rattle.fs_path.specs.Name.{Name, is_name, is_dots}
 use Rattle.fs_path.specs.Path.{HasForm, written_len}
-use Rattle.fs_path.specs.PathText.{is_slash, has_no_slash, is_empty_or_dot, starts_badly, Component, placed, counts, names_of, component_fault, first_fault, components_of, path_fault, path_said}
+use Rattle.fs_path.specs.PathText.{is_slash, has_no_slash, is_empty_or_dot, starts_badly, Component, placed, counts, names_of, component_fault, first_fault, components_of, path_fault, parse_path}
 
 -- ---- pieces
 
@@ -169,8 +169,8 @@ fine text h =
     record { short = ltb-false _ _ short.0; none = short.1 }
 
 -- each name of the path is one
-path_names : (text : List ℕ) → path_fault text ≡ None → list_all is_name (path_said text).names ≡ true
-unfolding path_said components_of
+path_names : (text : List ℕ) → path_fault text ≡ None → list_all is_name (parse_path text).names ≡ true
+unfolding parse_path components_of
 path_names text h = all_names 0 0 (slice_split is_slash text) (no_slash_in_pieces text) (fine text h).none
 
 same_slash : (x : ℕ) → (x == 47) ≡ false → (47 == x && true) ≡ false
@@ -196,8 +196,8 @@ written_text (x ∷ xs) = by_head (x == 47) refl
         omega arith
 
 -- it has the form of a path
-pub path_form : (text : List ℕ) → path_fault text ≡ None → HasForm (path_said text).absolute (path_said text).names
-unfolding path_said
+pub path_form : (text : List ℕ) → path_fault text ≡ None → HasForm (parse_path text).absolute (parse_path text).names
+unfolding parse_path
 path_form text h =
     let good = fine text h in
     let few = few_components 0 (components_of text) (omega arith) good.none in

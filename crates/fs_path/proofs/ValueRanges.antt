@@ -31,8 +31,8 @@ as_many [] numbers is = ap (λ (ns : List ℕ). length ns) (sym (same_Some _ _ i
 as_many (w ∷ ws) numbers is = option_and_then_some _ (number_of w) numbers is (λ n n_is last. by_rest (λ ns e. as_many ws ns e) n (numbers_of ws) refl last)
   where
     by_rest : ((ns : List ℕ) → numbers_of ws ≡ Some ns → length ns ≡ length ws) → (n : ℕ) (o : Option (List ℕ)) → numbers_of ws ≡ o → option_map (λ ns. n ∷ ns) o ≡ Some numbers → length numbers ≡ length (w ∷ ws)
-    by_rest again n None e last = absurd (cc)
-    by_rest again n (Some ns) e last = let rest = again ns e in let all = ap (λ (xs : List ℕ). length xs) (sym (same_Some _ _ last)) in omega arith
+    by_rest round_trip n None e last = absurd (cc)
+    by_rest round_trip n (Some ns) e last = let rest = round_trip ns e in let all = ap (λ (xs : List ℕ). length xs) (sym (same_Some _ _ last)) in omega arith
 
 -- there are at most 16 groups
 pub groups_few : (word groups : List ℕ) → groups_of word ≡ Some groups → length groups ≤ 16

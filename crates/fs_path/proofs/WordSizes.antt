@@ -6,7 +6,7 @@ use Rattle.std.specs.Option.{option_and_then, option_map}
 use Rattle.std.proofs.lemmas.Bool.{cond_both}
 use Rattle.std.proofs.lemmas.List.{length-take}
 use Rattle.fs_path.specs.declared.words.LineWord.{LineWord}
-use Rattle.fs_path.specs.Words.{is_bare, first_item, onto_front, items_within, items_of, quoted_word, begun_word, apart, is_apart, first_word, past_spaces, words_by, words_within, words_of}
+use Rattle.fs_path.specs.Words.{is_bare, first_item, onto_piece, items_within, items_of, quoted_word, begun_word, apart, is_apart, first_word, past_spaces, words_by, words_within, words_of}
 use Rattle.fs_path.proofs.WordSteps.{AtMost, item_shorter, word_shorter, past_shorter}
 
 -- the bytes that stand between quotes are at most n
@@ -19,16 +19,16 @@ items_fit zero text = tt
 items_fit (suc n) [] = tt
 items_fit (suc n) (b ∷ bs) =
     let none : 0 ≤ length (b ∷ bs) = omega arith in
-    cond_both (b == 34) (Some ([], bs)) (option_and_then (λ (p : ℕ × List ℕ). onto_front p.0 (items_within n p.1)) (first_item (b ∷ bs))) (ItemsFit (length (b ∷ bs))) (λ _. none)
+    cond_both (b == 34) (Some ([], bs)) (option_and_then (λ (p : ℕ × List ℕ). onto_piece p.0 (items_within n p.1)) (first_item (b ∷ bs))) (ItemsFit (length (b ∷ bs))) (λ _. none)
     (λ _. by_item (λ t. items_fit n t) (first_item (b ∷ bs)) (item_shorter b bs))
   where
-    onto : (x k : ℕ) (o : Option (List ℕ × List ℕ)) → ItemsFit k o → k ≤ length bs → ItemsFit (length (b ∷ bs)) (onto_front x o)
+    onto : (x k : ℕ) (o : Option (List ℕ × List ℕ)) → ItemsFit k o → k ≤ length bs → ItemsFit (length (b ∷ bs)) (onto_piece x o)
     onto x k None fit le = tt
     onto x k (Some p) fit le = omega arith
 
-    by_item : ((t : List ℕ) → ItemsFit (length t) (items_within n t)) → (o : Option (ℕ × List ℕ)) → AtMost (length bs) o → ItemsFit (length (b ∷ bs)) (option_and_then (λ (p : ℕ × List ℕ). onto_front p.0 (items_within n p.1)) o)
-    by_item again None short = tt
-    by_item again (Some p) short = onto p.0 (length p.1) (items_within n p.1) (again p.1) short
+    by_item : ((t : List ℕ) → ItemsFit (length t) (items_within n t)) → (o : Option (ℕ × List ℕ)) → AtMost (length bs) o → ItemsFit (length (b ∷ bs)) (option_and_then (λ (p : ℕ × List ℕ). onto_piece p.0 (items_within n p.1)) o)
+    by_item round_trip None short = tt
+    by_item round_trip (Some p) short = onto p.0 (length p.1) (items_within n p.1) (round_trip p.1) short
 
 taken_fit : (p : ℕ → Bool) (xs : List ℕ) → length (take_while p xs) ≤ length xs
 taken_fit p xs = omega (arith, length-take (prefix_len p xs) xs)
@@ -64,8 +64,8 @@ AllFit n None = Unit {0}
 AllFit n (Some ws) = AllByRecursion (λ (w : LineWord). length w.bytes ≤ n) ws
 
 all_by : (most : ℕ) (more : List ℕ → Option (List LineWord)) (text : List ℕ) → length text ≤ most → ((rest : List ℕ) → length rest ≤ most → AllFit most (more rest)) → AllFit most (words_by more text)
-all_by most more [] le again = tt
-all_by most more (b ∷ bs) le again = by_word (first_word (b ∷ bs)) (first_fits (b ∷ bs)) (λ rest w is. let less = word_shorter (b ∷ bs) rest w is in omega arith)
+all_by most more [] le round_trip = tt
+all_by most more (b ∷ bs) le round_trip = by_word (first_word (b ∷ bs)) (first_fits (b ∷ bs)) (λ rest w is. let less = word_shorter (b ∷ bs) rest w is in omega arith)
   where
     onto : (w : LineWord) → length w.bytes ≤ most → (o : Option (List LineWord)) → AllFit most o → AllFit most (option_map (λ ws. w ∷ ws) o)
     onto w fits None all = tt
@@ -74,7 +74,7 @@ all_by most more (b ∷ bs) le again = by_word (first_word (b ∷ bs)) (first_fi
     by_word : (o : Option (LineWord × List ℕ)) → WordFits (length (b ∷ bs)) o → ((rest : List ℕ) (w : LineWord) → o ≡ Some (w, rest) → length rest ≤ most)
         → AllFit most (option_and_then (λ (p : LineWord × List ℕ). option_map (λ ws. p.0 ∷ ws) (more p.1)) o)
     by_word None fits short = tt
-    by_word (Some p) fits short = onto p.0 (omega arith) (more p.1) (again p.1 (short p.1 p.0 refl))
+    by_word (Some p) fits short = onto p.0 (omega arith) (more p.1) (round_trip p.1 (short p.1 p.0 refl))
 
 all_within : (most n : ℕ) (text : List ℕ) → length text ≤ most → AllFit most (words_within n text)
 all_within most zero text le = let past = past_shorter text in all_by most (λ _. None) (past_spaces text) (omega arith) (λ rest le. tt)

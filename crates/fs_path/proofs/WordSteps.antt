@@ -6,7 +6,7 @@ use Rattle.std.specs.Option.{option_and_then, option_map}
 use Rattle.std.proofs.lemmas.Bool.{cond_both, ne_eqb}
 use Rattle.std.proofs.lemmas.List.{length-drop}
 use Rattle.fs_path.specs.declared.words.LineWord.{LineWord}
-use Rattle.fs_path.specs.Words.{is_space, is_plain, is_bare, hex_value, hex_pair, escaped, first_item, onto_front, items_within, items_of, quoted_word, begun_word, apart, is_apart, first_word, past_spaces, words_by, words_within, words_of}
+use Rattle.fs_path.specs.Words.{is_space, is_plain, is_bare, hex_value, hex_pair, escaped, first_item, onto_piece, items_within, items_of, quoted_word, begun_word, apart, is_apart, first_word, past_spaces, words_by, words_within, words_of}
 
 -- ---- items between quotes
 
@@ -53,19 +53,19 @@ items_same (suc n) (suc m) [] h k = refl
 items_same (suc n) (suc m) (b ∷ bs) h k = ap (cond (b == 34) (Some ([], bs))) (by_item (λ t h k. items_same n m t h k) (first_item (b ∷ bs)) (item_shorter b bs))
   where
     by_item : ((t : List ℕ) → length t ≤ n → length t ≤ m → items_within n t ≡ items_within m t) → (o : Option (ℕ × List ℕ)) → AtMost (length bs) o
-        → option_and_then (λ (p : ℕ × List ℕ). onto_front p.0 (items_within n p.1)) o ≡ option_and_then (λ (p : ℕ × List ℕ). onto_front p.0 (items_within m p.1)) o
+        → option_and_then (λ (p : ℕ × List ℕ). onto_piece p.0 (items_within n p.1)) o ≡ option_and_then (λ (p : ℕ × List ℕ). onto_piece p.0 (items_within m p.1)) o
     by_item same None short = refl
-    by_item same (Some p) short = ap (onto_front p.0) (same p.1 (omega arith) (omega arith))
+    by_item same (Some p) short = ap (onto_piece p.0) (same p.1 (omega arith) (omega arith))
 
 -- an item that is no quote, and then what stands behind it
-items_cons : (b x : ℕ) (bs more : List ℕ) → (b == 34) ≡ false → first_item (b ∷ bs) ≡ Some (x, more) → items_of (b ∷ bs) ≡ onto_front x (items_of more)
+items_cons : (b x : ℕ) (bs more : List ℕ) → (b == 34) ≡ false → first_item (b ∷ bs) ≡ Some (x, more) → items_of (b ∷ bs) ≡ onto_piece x (items_of more)
 items_cons b x bs more no_quote first =
     let short : length more ≤ length bs = subst (AtMost (length bs)) first (item_shorter b bs) in
-    ap (λ v. cond v (Some ([], bs)) (option_and_then (λ (p : ℕ × List ℕ). onto_front p.0 (items_within (length bs) p.1)) (first_item (b ∷ bs)))) no_quote
-    ∙ ap (λ (o : Option (ℕ × List ℕ)). option_and_then (λ (p : ℕ × List ℕ). onto_front p.0 (items_within (length bs) p.1)) o) first
-    ∙ ap (onto_front x) (items_same (length bs) (length more) more short (omega arith))
+    ap (λ v. cond v (Some ([], bs)) (option_and_then (λ (p : ℕ × List ℕ). onto_piece p.0 (items_within (length bs) p.1)) (first_item (b ∷ bs)))) no_quote
+    ∙ ap (λ (o : Option (ℕ × List ℕ)). option_and_then (λ (p : ℕ × List ℕ). onto_piece p.0 (items_within (length bs) p.1)) o) first
+    ∙ ap (onto_piece x) (items_same (length bs) (length more) more short (omega arith))
 
-pub items_next : (text more : List ℕ) (x : ℕ) → (get_or text 0 0 ≡ 34 → ⊥) → first_item text ≡ Some (x, more) → items_of text ≡ onto_front x (items_of more)
+pub items_next : (text more : List ℕ) (x : ℕ) → (get_or text 0 0 ≡ 34 → ⊥) → first_item text ≡ Some (x, more) → items_of text ≡ onto_piece x (items_of more)
 items_next [] more x no_quote first = absurd (cc)
 items_next (b ∷ bs) more x no_quote first = items_cons b x bs more (ne_eqb b 34 no_quote) first
 
@@ -82,16 +82,16 @@ items_shorter zero text = tt
 items_shorter (suc n) [] = tt
 items_shorter (suc n) (b ∷ bs) =
     let fewer : length bs < length (b ∷ bs) = omega arith in
-    cond_both (b == 34) (Some ([], bs)) (option_and_then (λ (p : ℕ × List ℕ). onto_front p.0 (items_within n p.1)) (first_item (b ∷ bs))) (Below (length (b ∷ bs))) (λ _. fewer)
+    cond_both (b == 34) (Some ([], bs)) (option_and_then (λ (p : ℕ × List ℕ). onto_piece p.0 (items_within n p.1)) (first_item (b ∷ bs))) (Below (length (b ∷ bs))) (λ _. fewer)
     (λ _. by_item (λ t. items_shorter n t) (first_item (b ∷ bs)) (item_shorter b bs))
   where
-    onto : (x k : ℕ) (o : Option (List ℕ × List ℕ)) → Below k o → k ≤ length bs → Below (length (b ∷ bs)) (onto_front x o)
+    onto : (x k : ℕ) (o : Option (List ℕ × List ℕ)) → Below k o → k ≤ length bs → Below (length (b ∷ bs)) (onto_piece x o)
     onto x k None short le = tt
     onto x k (Some p) short le = omega arith
 
-    by_item : ((t : List ℕ) → Below (length t) (items_within n t)) → (o : Option (ℕ × List ℕ)) → AtMost (length bs) o → Below (length (b ∷ bs)) (option_and_then (λ (p : ℕ × List ℕ). onto_front p.0 (items_within n p.1)) o)
-    by_item again None short = tt
-    by_item again (Some p) short = onto p.0 (length p.1) (items_within n p.1) (again p.1) short
+    by_item : ((t : List ℕ) → Below (length t) (items_within n t)) → (o : Option (ℕ × List ℕ)) → AtMost (length bs) o → Below (length (b ∷ bs)) (option_and_then (λ (p : ℕ × List ℕ). onto_piece p.0 (items_within n p.1)) o)
+    by_item round_trip None short = tt
+    by_item round_trip (Some p) short = onto p.0 (length p.1) (items_within n p.1) (round_trip p.1) short
 
 begun_shorter : (text : List ℕ) → Below (length text) (begun_word text)
 begun_shorter [] = tt

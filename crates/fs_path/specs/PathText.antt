@@ -83,8 +83,8 @@ IsNoPath text e = Says (path_fault text) e
 -- ---- paths
 
 -- the path that a text without a fault stands for
-unfoldable pub path_said : List ℕ → PathValue
-path_said text = record { absolute = starts_with ◌==◌ text (47 ∷ []); names = names_of (components_of text) }
+unfoldable pub parse_path : List ℕ → PathValue
+parse_path text = record { absolute = starts_with ◌==◌ text (47 ∷ []); names = names_of (components_of text) }
 
 -- ---- reading from the left
 

@@ -49,10 +49,10 @@ unfoldable pub mode_text : ℕ → List ℕ
 mode_text mode = (48 + mode / 512 % 8) ∷ (48 + mode / 64 % 8) ∷ (48 + mode / 8 % 8) ∷ (48 + mode % 8) ∷ []
 
 -- numbers, each behind a comma
-abbrev pub behind_commas : List ℕ → List ℕ
-behind_commas ns = flat_map (λ n. 44 ∷ decimal n) ns
+abbrev pub after_commas : List ℕ → List ℕ
+after_commas ns = flat_map (λ n. 44 ∷ decimal n) ns
 
 -- `-` where there are none, else the numbers with commas between them
 unfoldable pub groups_text : List ℕ → List ℕ
 groups_text [] = codes "-"
-groups_text (n ∷ ns) = decimal n ++ behind_commas ns
+groups_text (n ∷ ns) = decimal n ++ after_commas ns

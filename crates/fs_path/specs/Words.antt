@@ -40,15 +40,15 @@ abbrev pub first_item : List ℕ → Option (ℕ × List ℕ)
 first_item [] = None
 first_item (b ∷ bs) = cond (b == 92) (escaped bs) (cond (is_plain b) (Some (b, bs)) None)
 
-abbrev pub onto_front : ℕ → Option (List ℕ × List ℕ) → Option (List ℕ × List ℕ)
-onto_front x None = None
-onto_front x (Some p) = Some (x ∷ p.0, p.1)
+abbrev pub onto_piece : ℕ → Option (List ℕ × List ℕ) → Option (List ℕ × List ℕ)
+onto_piece x None = None
+onto_piece x (Some p) = Some (x ∷ p.0, p.1)
 
 -- the bytes that up to n items stand for, up to the closing quote, and what stands behind that
 abbrev pub items_within : ℕ → List ℕ → Option (List ℕ × List ℕ)
 items_within zero text = None
 items_within (suc n) [] = None
-items_within (suc n) (b ∷ bs) = cond (b == 34) (Some ([], bs)) (option_and_then (λ (p : ℕ × List ℕ). onto_front p.0 (items_within n p.1)) (first_item (b ∷ bs)))
+items_within (suc n) (b ∷ bs) = cond (b == 34) (Some ([], bs)) (option_and_then (λ (p : ℕ × List ℕ). onto_piece p.0 (items_within n p.1)) (first_item (b ∷ bs)))
 
 -- the bytes that items up to a closing quote stand for, and what stands behind that; each item has a byte at least, so that there are no more of them than bytes
 abbrev pub items_of : List ℕ → Option (List ℕ × List ℕ)
@@ -135,10 +135,10 @@ abbrev pub spelling : LineWord → List ℕ
 spelling word = cond word.quoted (quoted_text word.bytes) word.bytes
 
 -- spellings, each behind a space
-abbrev pub behind_spaces : List (List ℕ) → List ℕ
-behind_spaces words = flat_map (λ w. 32 ∷ w) words
+abbrev pub after_spaces : List (List ℕ) → List ℕ
+after_spaces words = flat_map (λ w. 32 ∷ w) words
 
 -- spellings with one space between them
 abbrev pub line_text : List (List ℕ) → List ℕ
 line_text [] = []
-line_text (w ∷ ws) = w ++ behind_spaces ws
+line_text (w ∷ ws) = w ++ after_spaces ws

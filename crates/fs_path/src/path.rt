@@ -4,7 +4,7 @@ ghost use Rattle.std.specs.List.{list_all, slice_split};
 ghost use Rattle.std.specs.Option.{option_copied};
 ghost use Rattle.fs_path.specs.Name.{is_name};
 ghost use Rattle.fs_path.specs.Path.{written_len};
-ghost use Rattle.fs_path.specs.PathText.{is_slash, names_of, components_of, is_empty_or_dot, starts_badly, component_fault, first_fault, path_fault, path_said, Says, IsNoPath, pieces_in, has_no_slash, kept};
+ghost use Rattle.fs_path.specs.PathText.{is_slash, names_of, components_of, is_empty_or_dot, starts_badly, component_fault, first_fault, path_fault, parse_path, Says, IsNoPath, pieces_in, has_no_slash, kept};
 
 use crate::lines::place_of;
 use crate::name::MAX_NAME;
@@ -157,9 +157,9 @@ fn read_names(alloc: Global, text: &[u8]) -> Result<NameList, PathError>
 impl Path {
     /// The path that a text stands for: names with slashes between them. Empty components and components `.` are left
     /// out, and it is absolute where it begins with `/`.
-    #[tactic(auto, using(std::proofs::lemmas::Bool::Decides::nat_tests, crate::proofs::PathLaws::path_form), unfolding(crate::specs::PathText::path_fault, crate::specs::PathText::path_said))]
+    #[tactic(auto, using(std::proofs::lemmas::Bool::Decides::nat_tests, crate::proofs::PathLaws::path_form), unfolding(crate::specs::PathText::path_fault, crate::specs::PathText::parse_path))]
     pub fn read(alloc: Global, text: &[u8]) -> Result<Path, PathError>
-        ensures path { IfOk result (λ path. (path ≡ path_said text.now) × (path_fault text.now ≡ None)) }
+        ensures path { IfOk result (λ path. (path ≡ parse_path text.now) × (path_fault text.now ≡ None)) }
         ensures none { IfErr result (IsNoPath text.now) }
     {
         if text.is_empty() {

@@ -72,7 +72,7 @@ pub fn mode_of(word: &[u8]) -> Option<u16>
 
 // The numbers that words stand for.
 fn numbers_of(alloc: Global, words: &[&[u8]]) -> Result<Option<List<u32>>, NoMemory>
-    ensures { IfOk result (λ said. said ≡ numbers_of (map (λ word. word.now) words.now)) }
+    ensures { IfOk result (λ parsed. parsed ≡ numbers_of (map (λ word. word.now) words.now)) }
 {
     let mut numbers = List::new(alloc);
     for word in words {
@@ -94,7 +94,7 @@ fn parts_of(alloc: Global, word: &[u8]) -> Result<Vec<&[u8]>, NoMemory>
 /// Supplementary groups: `-`, or 1 to 16 numbers with commas between them.
 #[tactic(auto, unfolding(crate::specs::Values::groups_of))]
 pub fn groups_of(alloc: Global, word: &[u8]) -> Result<Option<List<u32>>, NoMemory>
-    ensures { IfOk result (λ said. said ≡ groups_of word.now) }
+    ensures { IfOk result (λ parsed. parsed ≡ groups_of word.now) }
 {
     if word == b"-".as_slice() {
         return Ok(Some(List::new(alloc)));

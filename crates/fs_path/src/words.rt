@@ -84,13 +84,13 @@ fn first_item(text: &[u8]) -> Option<(u8, &[u8])>
 
 // The bytes that stand between quotes, from behind the first one, and what stands behind the second.
 fn between_quotes(alloc: Global, text: &[u8]) -> Result<Option<(ByteList, &[u8])>, NoMemory>
-    ensures { IfOk result (λ said. MatchOption said (items_of text.now ≡ None) (λ items. items_of text.now ≡ Some (items.0, items.1.now))) }
+    ensures { IfOk result (λ parsed. MatchOption parsed (items_of text.now ≡ None) (λ items. items_of text.now ≡ Some (items.0, items.1.now))) }
 {
     let mut bytes = List::new(alloc);
     let mut left = text;
-    while let [first, behind @ ..] = left {
+    while let [first, after @ ..] = left {
         if *first == b'"' {
-            return Ok(Some((bytes, behind)));
+            return Ok(Some((bytes, after)));
         }
         let Some((byte, more)) = first_item(left) else {
             return Ok(None);
@@ -110,7 +110,7 @@ fn bare_len(text: &[u8]) -> usize
 
 // The word that begins a text, and what stands behind it, whatever that is.
 fn begun_word(alloc: Global, text: &[u8]) -> Result<Option<(LineWord, &[u8])>, NoMemory>
-    ensures { IfOk result (λ said. MatchOption said (begun_word text.now ≡ None) (λ word. begun_word text.now ≡ Some (word.0, word.1.now))) }
+    ensures { IfOk result (λ parsed. MatchOption parsed (begun_word text.now ≡ None) (λ word. begun_word text.now ≡ Some (word.0, word.1.now))) }
 {
     if let [b'"', inner @ ..] = text {
         let Some((bytes, rest)) = between_quotes(alloc, inner)? else {
@@ -150,7 +150,7 @@ fn is_apart(text: &[u8]) -> bool
 
 // The word that begins a text, and what stands behind it.
 fn first_word(alloc: Global, text: &[u8]) -> Result<Option<(LineWord, &[u8])>, NoMemory>
-    ensures { IfOk result (λ said. MatchOption said (first_word text.now ≡ None) (λ word. first_word text.now ≡ Some (word.0, word.1.now))) }
+    ensures { IfOk result (λ parsed. MatchOption parsed (first_word text.now ≡ None) (λ word. first_word text.now ≡ Some (word.0, word.1.now))) }
 {
     let Some((word, rest)) = begun_word(alloc, text)? else {
         return Ok(None);
@@ -174,7 +174,7 @@ fn past_spaces(text: &[u8]) -> &[u8]
 
 /// The words of a line, where it has the form of one: bare and quoted words with spaces between them and at both ends.
 pub fn words_of(alloc: Global, line: &[u8]) -> Result<Option<List<LineWord>>, NoMemory>
-    ensures { IfOk result (λ said. said ≡ words_of line.now) }
+    ensures { IfOk result (λ parsed. parsed ≡ words_of line.now) }
 {
     let mut words = List::new(alloc);
     let mut left = past_spaces(line);

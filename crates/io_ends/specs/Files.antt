@@ -4,5 +4,5 @@ use Rattle.std.specs.declared.option.Option.{Option}
 
 -- The bytes that the reader has left, where it tells them, and how many faults there were.
 pub record ReaderState : Type 0 where
-  pub told : Option (List ℕ)
+  pub reported : Option (List ℕ)
   pub faults : ℕ

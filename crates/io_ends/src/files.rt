@@ -25,13 +25,13 @@ impl<R: Read> Model for FileSource<R> {
 
     ghost Value = { ReaderState };
 
-    ghost view = { λ a. record { told = R.remaining a.reader; faults = a.faults } };
+    ghost view = { λ a. record { reported = R.remaining a.reader; faults = a.faults } };
 }
 
 impl<R: Read> FileSource<R> {
     /// A source of what the reader gives.
     pub fn new(reader: R) -> Self
-        ensures { result ≡ record { told = R.remaining reader; faults = 0 } }
+        ensures { result ≡ record { reported = R.remaining reader; faults = 0 } }
     {
         FileSource { reader, faults: 0 }
     }
@@ -48,7 +48,7 @@ impl<R: Read> Source for FileSource<R> {
         ensures counts { CountsFault self.old.faults self.new.faults result }
 
         // It hands on what its reader gives.
-        ensures given { ReadConsumes self.old.told self.new.told result buf.new }
+        ensures given { ReadConsumes self.old.reported self.new.reported result buf.new }
     {
         match self.reader.read(buf) {
             Ok(count) => Ok(count),

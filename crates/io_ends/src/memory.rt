@@ -11,7 +11,7 @@ use std::alloc::{AllocError, Global};
 use std::marker::Model;
 
 // Copies as many bytes as fit, and answers how many.
-pub(crate) fn copy_front(left: &[u8], buf: &mut [u8]) -> usize
+pub(crate) fn copy_prefix(left: &[u8], buf: &mut [u8]) -> usize
     ensures count { result ≡ min (length buf.new) (length left.now) }
     ensures given { take result buf.new ≡ take result left.now }
     ensures whole { left.now ≡ take result buf.new ++ drop result left.now }
@@ -76,7 +76,7 @@ impl Source for MemSource {
         if self.fails.contains(&self.calls) {
             return Err(count_fault(&mut self.faults));
         }
-        let count = copy_front(&self.bytes[self.at..], buf);
+        let count = copy_prefix(&self.bytes[self.at..], buf);
         self.at += count;
         Ok(count)
     }

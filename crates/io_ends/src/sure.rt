@@ -4,7 +4,7 @@ ghost use Rattle.std.specs.Io.{ReadsAtMost, WritesAtMost};
 ghost use Rattle.std.specs.Io.KnownBytes.{ReadConsumes, WriteAppends};
 ghost use Rattle.io_ends.specs.Faults.{CountsFault};
 
-use crate::memory::copy_front;
+use crate::memory::copy_prefix;
 use crate::{Failed, Sink, Source};
 use std::marker::Model;
 
@@ -48,7 +48,7 @@ impl Source for SureSource {
         ensures exact { result ≡ Ok (min (length buf.new) (length self.old)) }
         ensures after { self.new ≡ drop (length buf.new) self.old }
     {
-        let count = copy_front(&self.bytes[self.at..], buf);
+        let count = copy_prefix(&self.bytes[self.at..], buf);
         self.at += count;
         Ok(count)
     }

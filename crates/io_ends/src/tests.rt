@@ -29,7 +29,7 @@ fn a_whole_piece_stops_where_the_room_ends(rt: HostRuntime) -> Result<(), AllocE
 }
 
 #[test]
-fn a_sink_fails_where_it_is_told_to(rt: HostRuntime) -> Result<(), AllocError> {
+fn a_sink_fails_at_the_listed_calls(rt: HostRuntime) -> Result<(), AllocError> {
     let alloc = rt.alloc();
     let mut sink = MemSink::new(alloc, 4, vec![in alloc; 2u64]?)?;
     assert_eq!(rt; sink.write(b"ab"), Ok(2));
@@ -43,7 +43,7 @@ fn a_sink_fails_where_it_is_told_to(rt: HostRuntime) -> Result<(), AllocError> {
 }
 
 #[test]
-fn a_source_fails_where_it_is_told_to(rt: HostRuntime) -> Result<(), AllocError> {
+fn a_source_fails_at_the_listed_calls(rt: HostRuntime) -> Result<(), AllocError> {
     let alloc = rt.alloc();
     let mut source = source_of(alloc, "hello", vec![in alloc; 2u64]?)?;
     let mut buf = [0u8; 3];
@@ -134,9 +134,9 @@ fn a_file_is_made_at_the_first_write(rt: HostRuntime) -> io::Result<()> {
     assert_eq!(rt; write_whole(&mut sink, b" world"), Ok(()));
     assert_eq!(rt; fs::read(&rt, name)?.as_slice(), b"hello world".as_slice());
 
-    let mut again = FileSink::named(rt, String::from_str(alloc, name)?);
+    let mut round_trip = FileSink::named(rt, String::from_str(alloc, name)?);
     assert_eq!(rt; fs::read(&rt, name)?.as_slice(), b"hello world".as_slice());
-    assert_eq!(rt; again.write(b"new"), Ok(3));
+    assert_eq!(rt; round_trip.write(b"new"), Ok(3));
     assert_eq!(rt; fs::read(&rt, name)?.as_slice(), b"new".as_slice());
     fs::remove_file(&rt, name)
 }

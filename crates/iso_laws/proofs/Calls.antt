@@ -25,16 +25,16 @@ use Rattle.kern_model.specs.declared.objects.Object.{Object}
 use Rattle.kern_model.specs.declared.records.Rec.{Rec}
 use Rattle.kern_model.specs.declared.records.Rec.TheVariants as rec
 use Rattle.kern_model.specs.Arguments.{is_call}
-use Rattle.kern_model.specs.AttrRows.{on_path, behind}
+use Rattle.kern_model.specs.AttrRows.{on_path, on_open_object}
 use Rattle.kern_model.specs.Descriptors.{opened}
 use Rattle.kern_model.specs.FileRows.{or_not_open}
 use Rattle.kern_model.specs.Exec.{exec_caps, exec_ids}
 use Rattle.kern_model.specs.ProcessRows.{exec_row, cap_set_proc_row}
 use Rattle.kern_model.specs.Kinds.{is_dir, is_file, is_permission}
 use Rattle.kern_model.specs.Rules.{same_label, mode_allows, mac_read, mac_subject, cap_grow}
-use Rattle.kern_model.specs.Row.{Row, Need, Refuse, Give}
+use Rattle.kern_model.specs.Row.{Row, Need, Refuse, Commit}
 use Rattle.kern_model.specs.State.{State, Process, Change, SetProcess, changed_by, object_at}
-use Rattle.kern_model.specs.Step.{asker}
+use Rattle.kern_model.specs.Step.{subject}
 use Rattle.kern_model.specs.Table.{row}
 use Rattle.kern_model.specs.Walk.{last_place}
 use Rattle.kern_model.specs.Isolation.{low, crosses, Kept}
@@ -43,33 +43,33 @@ use Rattle.kern_model.proofs.MapLemmas.{some_same}
 use Rattle.iso_laws.specs.LawCalls.{has_laws}
 use Rattle.iso_laws.proofs.Part.{by_number, part_changes, part_of_low, part_of_high}
 use Rattle.iso_laws.proofs.Rows.{Alike, Ends, Passes, Gives, gives_need_if, gives_open, alike_itself, alike_open, ends_given, ends_need, ends_refuse, ends_give, ends_need_if}
-use Rattle.iso_laws.proofs.Sight.{of_object, opened_low, behind_low, same_side, alike_reach, alike_mac_read, ends_reach, object_low, dir_there, not_false, met_rule, new_side, read_low}
+use Rattle.iso_laws.proofs.Sight.{of_object, opened_low, open_object_low, same_side, alike_reach, alike_mac_read, ends_reach, object_low, dir_there, not_false, met_rule, new_side, read_low}
 use Rattle.iso_laws.proofs.Changes.{KeptProcess, kept_of, kept_process, valid_process}
 
 -- ---- what calls on a path do with the object that they read there
-abbrev label_told : Object → Row
-label_told o = Give [] (answer.Mark o.label) None
+abbrev label_reported : Object → Row
+label_reported o = Commit [] (answer.Mark o.label) None
 
-abbrev caps_told : Object → Row
-caps_told o = Refuse errno.EINVAL (not (is_file o.kind)) (Give [] (answer.Caps o.attr.caps) None)
+abbrev caps_reported : Object → Row
+caps_reported o = Refuse errno.EINVAL (not (is_file o.kind)) (Commit [] (answer.Caps o.attr.caps) None)
 
 abbrev stood_in : Pid → Process → Oid → Place → Object → Row
 stood_in who p id place o =
     Refuse errno.ENOTDIR (not (is_dir o.kind))
     (Need (of_object check.DacSearch (mode_allows o.attr p.ids want.Execute) id place o)
-    (Give (SetProcess who (record p { cwd = id }) ∷ []) answer.Nothing None))
+    (Commit (SetProcess who (record p { cwd = id }) ∷ []) answer.Nothing None))
 
 abbrev taken_on : CapSet → Pid → Process → Oid → Place → Object → Row
 taken_on bound who p id place o =
     Need (of_object check.ExecKind (is_file o.kind) id place o)
     (Need (of_object check.DacExecute (mode_allows o.attr p.ids want.Execute) id place o)
-    (Give (SetProcess who (record p { ids = exec_ids p.ids o.attr; caps = exec_caps p.caps o.attr.caps bound }) ∷ []) answer.Nothing
+    (Commit (SetProcess who (record p { ids = exec_ids p.ids o.attr; caps = exec_caps p.caps o.attr.caps bound }) ∷ []) answer.Nothing
     (Some (rec.Exec who id o.attr.caps (exec_caps p.caps o.attr.caps bound)))))
 
 -- ---- a Low process
 module _ (l : Label) (s : State) (kept : Kept l s) (valid : IsValid s) (who : Pid) (p : Process) (is : map.get s.procs who ≡ Some p) (is_low : low l p.label ≡ true) where
   abbrev Same : Row → Row → Type 0
-  Same r r' = Alike (crosses l) l s.top (asker who p) r r'
+  Same r r' = Alike (crosses l) l s.top (subject who p) r r'
 
   abbrev part_s : State
   part_s = by_number l s
@@ -80,7 +80,7 @@ module _ (l : Label) (s : State) (kept : Kept l s) (valid : IsValid s) (who : Pi
 
   -- a row that asks for nothing but the caller, which it tells or sets
   low_itself : (r : Row) → Gives (λ cs own. part_changes l s.top cs ≡ cs) r → Same r r
-  low_itself r h = alike_itself (crosses l) l s.top (asker who p) r h
+  low_itself r h = alike_itself (crosses l) l s.top (subject who p) r h
 
   -- a row that goes by a Low object alone
   low_by : (id : Oid) → low l id.label ≡ true → (r : Object → Row) → Gives (λ cs own. part_changes l s.top cs ≡ cs) (r (object_at s id)) → Same (r (object_at s id)) (r (object_at part_s id))
@@ -99,14 +99,14 @@ module _ (l : Label) (s : State) (kept : Kept l s) (valid : IsValid s) (who : Pi
       → Same (on_path s p path (λ id place. Need (mac_read s p id place) (r id place (object_at s id)))) (on_path part_s p path (λ id place. Need (mac_read part_s p id place) (r id place (object_at part_s id))))
   low_read_by path r gives = low_read path r r (λ id place h. low_by id h (r id place) (gives id place (object_at s id)))
 
-  -- the row of a call on what stands behind a descriptor, which goes by the object that it reads there
-  low_behind_by : (fd : ℕ) (r : Object → Row) → ((o : Object) → Gives (λ cs own. part_changes l s.top cs ≡ cs) (r o))
-      → Same (behind s p fd (λ id place. Need (mac_read s p id place) (r (object_at s id)))) (behind part_s p fd (λ id place. Need (mac_read part_s p id place) (r (object_at part_s id))))
-  low_behind_by fd r gives =
-      subst (λ w. Same (behind s p fd (λ id place. Need (mac_read s p id place) (r (object_at s id)))) (or_not_open w (λ f. Need (mac_read part_s p f.description.object Handle) (r (object_at part_s f.description.object)))))
+  -- the row of a call on what stands on_open_object a descriptor, which goes by the object that it reads there
+  low_open_object_by : (fd : ℕ) (r : Object → Row) → ((o : Object) → Gives (λ cs own. part_changes l s.top cs ≡ cs) (r o))
+      → Same (on_open_object s p fd (λ id place. Need (mac_read s p id place) (r (object_at s id)))) (on_open_object part_s p fd (λ id place. Need (mac_read part_s p id place) (r (object_at part_s id))))
+  low_open_object_by fd r gives =
+      subst (λ w. Same (on_open_object s p fd (λ id place. Need (mac_read s p id place) (r (object_at s id)))) (or_not_open w (λ f. Need (mac_read part_s p f.description.object Handle) (r (object_at part_s f.description.object)))))
       (sym (opened_low l s kept who p is is_low fd))
-      (alike_open (crosses l) l s.top (asker who p) (opened s p fd) _ _ (λ f e.
-      low_by f.description.object (behind_low l s kept who p is is_low fd f e) (λ o. Need (of_object check.MacRead (dominates p.label o.label) f.description.object Handle o) (r o)) (gives (object_at s f.description.object))))
+      (alike_open (crosses l) l s.top (subject who p) (opened s p fd) _ _ (λ f e.
+      low_by f.description.object (open_object_low l s kept who p is is_low fd f e) (λ o. Need (of_object check.MacRead (dominates p.label o.label) f.description.object Handle o) (r o)) (gives (object_at s f.description.object))))
 
   same_bound : part_s.bound ≡ s.bound
   unfolding by_number
@@ -121,11 +121,11 @@ module _ (l : Label) (s : State) (kept : Kept l s) (valid : IsValid s) (who : Pi
   pub low_row : (c : Call) → has_laws c ≡ true → Same (row s who p c) (row part_s who p c)
   low_row (call.Chdir path) _ = low_read_by path (stood_in who p) (λ id place o. seen_self _)
   low_row (call.Umask mode) _ = low_itself _ (seen_self _)
-  low_row (call.CapGetFile path) _ = low_read_by path (λ id place. caps_told) (λ id place o. refl)
-  low_row (call.MacGetFile path) _ = low_read_by path (λ id place. label_told) (λ id place o. refl)
+  low_row (call.CapGetFile path) _ = low_read_by path (λ id place. caps_reported) (λ id place o. refl)
+  low_row (call.MacGetFile path) _ = low_read_by path (λ id place. label_reported) (λ id place o. refl)
   low_row (call.Exec path) _ = low_exec path
-  low_row (call.CapGetFd fd) _ = low_behind_by fd caps_told (λ o. refl)
-  low_row (call.MacGetFd fd) _ = low_behind_by fd label_told (λ o. refl)
+  low_row (call.CapGetFd fd) _ = low_open_object_by fd caps_reported (λ o. refl)
+  low_row (call.MacGetFd fd) _ = low_open_object_by fd label_reported (λ o. refl)
   low_row call.Getpid _ = low_itself _ refl
   low_row call.Getppid _ = low_itself _ refl
   low_row call.Getids _ = low_itself _ refl
@@ -147,16 +147,16 @@ pub record Cases (bad : Rec → Bool) (s : State) (who : Pid) (p : Process) (fit
   pub self : (ids : Ids) (caps : CapState) (umask : ℕ) (audited : Bool) → ids.groups ≡ p.ids.groups → is_within caps.e caps.p ≡ true → (fit → is_permission umask ≡ true)
       → P (SetProcess who (record p { ids = ids; caps = caps; umask = umask; audited = audited }) ∷ [])
   -- another label, which the caller was let have
-  pub label : (new : Label) → (not (same_label new p.label) ≡ true → Passes bad (asker who p) (mac_subject who p new)) → (fit → dominates s.top new ≡ true) → P (SetProcess who (record p { label = new }) ∷ [])
+  pub label : (new : Label) → (not (same_label new p.label) ≡ true → Passes bad (subject who p) (mac_subject who p new)) → (fit → dominates s.top new ≡ true) → P (SetProcess who (record p { label = new }) ∷ [])
   -- another current directory, which the caller read
-  pub cwd : (id : Oid) (place : Place) → Passes bad (asker who p) (mac_read s p id place) → IsDir s.objects id → P (SetProcess who (record p { cwd = id }) ∷ [])
+  pub cwd : (id : Oid) (place : Place) → Passes bad (subject who p) (mac_read s p id place) → IsDir s.objects id → P (SetProcess who (record p { cwd = id }) ∷ [])
 
 within_meet : (a b : CapSet) → is_within (meet_of a b) b ≡ true
 within_meet a b = contains-is_subset cap_cmp_total (meet_of a b) b (λ q h. (and_parts _ _ (sym (contains-intersection cap_cmp_total a b q) ∙ h)).1)
 
 module _ (bad : Rec → Bool) (s : State) (valid : IsValid s) (who : Pid) (p : Process) (is : map.get s.procs who ≡ Some p) (fit : Type 0) (P : List Change → Type 0) (cases : Cases bad s who p fit P) where
   abbrev Meets : Row → Type 0
-  Meets r = Ends bad (asker who p) P r
+  Meets r = Ends bad (subject who p) P r
 
   own : IsValidProcess s who p
   own = valid.procs who p is
@@ -167,17 +167,17 @@ module _ (bad : Rec → Bool) (s : State) (valid : IsValid s) (who : Pid) (p : P
 
   -- a row that asks nothing of its checks
   meets_given : (r : Row) → Gives (λ cs own. P cs) r → Meets r
-  meets_given r h = ends_given bad (asker who p) P cases.none r h
+  meets_given r h = ends_given bad (subject who p) P cases.none r h
 
   -- the row of a call on what a path leads to, which reads it
-  meets_read : (path : PathValue) (r : Oid → Place → Row) → ((id : Oid) (place : Place) → Passes bad (asker who p) (mac_read s p id place) → Meets (r id place)) → Meets (on_path s p path (λ id place. Need (mac_read s p id place) (r id place)))
+  meets_read : (path : PathValue) (r : Oid → Place → Row) → ((id : Oid) (place : Place) → Passes bad (subject who p) (mac_read s p id place) → Meets (r id place)) → Meets (on_path s p path (λ id place. Need (mac_read s p id place) (r id place)))
   meets_read path r h =
       let place : Place = last_place (λ n. First n) path in
-      ends_reach bad s valid who p P cases.none is (λ n. First n) path _ (λ id there. ends_need bad (asker who p) P cases.none (mac_read s p id place) (r id place) (h id place))
+      ends_reach bad s valid who p P cases.none is (λ n. First n) path _ (λ id there. ends_need bad (subject who p) P cases.none (mac_read s p id place) (r id place) (h id place))
 
-  meets_stood_in : (id : Oid) (place : Place) → Passes bad (asker who p) (mac_read s p id place) → Meets (stood_in who p id place (object_at s id))
+  meets_stood_in : (id : Oid) (place : Place) → Passes bad (subject who p) (mac_read s p id place) → Meets (stood_in who p id place (object_at s id))
   meets_stood_in id place read =
-      ends_refuse bad (asker who p) P cases.none _ _ _ (λ dir. meets_given _ (cases.cwd id place read (dir_there s id (not_false _ dir))))
+      ends_refuse bad (subject who p) P cases.none _ _ _ (λ dir. meets_given _ (cases.cwd id place read (dir_there s id (not_false _ dir))))
 
   meets_taken_on : (id : Oid) (place : Place) → Meets (taken_on s.bound who p id place (object_at s id))
   meets_taken_on id place = meets_given (taken_on s.bound who p id place (object_at s id)) (cases.self _ _ p.umask p.audited refl (within_meet _ _) (λ _. own.umask))
@@ -185,17 +185,17 @@ module _ (bad : Rec → Bool) (s : State) (valid : IsValid s) (who : Pid) (p : P
   -- what the caller may become has no effective capability that is not permitted
   meets_cap_set_proc : (caps : CapState) → Meets (cap_set_proc_row s who p caps)
   meets_cap_set_proc caps =
-      ends_need bad (asker who p) P cases.none _ _ (λ passes.
-      let grow = met_rule bad (asker who p) (cap_grow who p caps) refl passes in
-      ends_give bad (asker who p) P cases.none _ _ _ (cases.self p.ids caps p.umask p.audited refl (and_parts _ _ (and_parts _ _ grow).0).1 (λ _. own.umask)))
+      ends_need bad (subject who p) P cases.none _ _ (λ passes.
+      let grow = met_rule bad (subject who p) (cap_grow who p caps) refl passes in
+      ends_give bad (subject who p) P cases.none _ _ _ (cases.self p.ids caps p.umask p.audited refl (and_parts _ _ (and_parts _ _ grow).0).1 (λ _. own.umask)))
 
   -- the changes of each row meet it
   pub row_meets : (c : Call) → (fit → is_call s.top c ≡ true) → has_laws c ≡ true → Meets (row s who p c)
   unfolding is_call
   row_meets (call.Chdir path) args _ = meets_read path (λ id place. stood_in who p id place (object_at s id)) meets_stood_in
   row_meets (call.Umask mode) args _ = meets_given _ (cases.self p.ids p.caps mode p.audited refl own.within args)
-  row_meets (call.CapGetFile path) args _ = meets_read path (λ id place. caps_told (object_at s id)) (λ id place _. meets_given _ cases.none)
-  row_meets (call.MacGetFile path) args _ = meets_read path (λ id place. label_told (object_at s id)) (λ id place _. meets_given _ cases.none)
+  row_meets (call.CapGetFile path) args _ = meets_read path (λ id place. caps_reported (object_at s id)) (λ id place _. meets_given _ cases.none)
+  row_meets (call.MacGetFile path) args _ = meets_read path (λ id place. label_reported (object_at s id)) (λ id place _. meets_given _ cases.none)
   row_meets (call.Exec path) args _ = meets_read path (λ id place. taken_on s.bound who p id place (object_at s id)) (λ id place _. meets_taken_on id place)
   row_meets (call.CapGetFd fd) args _ = meets_given _ (gives_open (λ cs own. P cs) (opened s p fd) _ (λ f. cases.none))
   row_meets (call.MacGetFd fd) args _ = meets_given _ (gives_open (λ cs own. P cs) (opened s p fd) _ (λ f. cases.none))
@@ -207,7 +207,7 @@ module _ (bad : Rec → Bool) (s : State) (valid : IsValid s) (who : Pid) (p : P
   row_meets call.CapGetProc args _ = meets_given _ cases.none
   row_meets (call.CapSetProc caps) args _ = meets_cap_set_proc caps
   row_meets call.MacGetProc args _ = meets_given _ cases.none
-  row_meets (call.MacSetProc new) args _ = ends_need_if bad (asker who p) P cases.none _ _ _ (λ passes. ends_give bad (asker who p) P cases.none _ _ _ (cases.label new passes args))
+  row_meets (call.MacSetProc new) args _ = ends_need_if bad (subject who p) P cases.none _ _ _ (λ passes. ends_give bad (subject who p) P cases.none _ _ _ (cases.label new passes args))
   row_meets (call.AudWrite bytes) args _ = meets_given _ cases.none
   row_meets (call.AudSwitch on) args _ = meets_given _ (cases.self p.ids p.caps p.umask on refl own.within (λ _. own.umask))
   row_meets c args none = absurd (true≢false (sym none))
@@ -224,11 +224,11 @@ hidden_cases l s who p fit high =
     }
 
 -- a label that the caller was let have is on the side of its own
-given_side : (l : Label) (who : Pid) (p : Process) (new : Label) → (not (same_label new p.label) ≡ true → Passes (crosses l) (asker who p) (mac_subject who p new)) → low l p.label ≡ low l new
+given_side : (l : Label) (who : Pid) (p : Process) (new : Label) → (not (same_label new p.label) ≡ true → Passes (crosses l) (subject who p) (mac_subject who p new)) → low l p.label ≡ low l new
 given_side l who p new passes =
     elim (same_label new p.label) as (λ b. same_label new p.label ≡ b → low l p.label ≡ low l new) [
       | true ↦ λ same. sym (same_side l new p.label same)
-      | false ↦ λ other. new_side l (asker who p) (mac_subject who p new) cap.MacRelabelSubj new refl refl refl refl (passes (ap not other))
+      | false ↦ λ other. new_side l (subject who p) (mac_subject who p new) cap.MacRelabelSubj new refl refl refl refl (passes (ap not other))
     ] refl
 
 -- what is kept stays kept

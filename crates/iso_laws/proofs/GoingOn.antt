@@ -14,11 +14,11 @@ use Rattle.kern_model.specs.declared.records.Rec.TheVariants as rec
 use Rattle.kern_model.specs.Boot.{boot}
 use Rattle.kern_model.specs.Drawing.{StayDrawn, NumbersGoOn, NothingComesBack}
 use Rattle.kern_model.specs.Refusals.{is_denial, IsNamed}
-use Rattle.kern_model.specs.Row.{Row, Need, Soft, Refuse, Fail, Give, Asker, End, Stopped, Refused, Done, judge, verdict_of, is_denied, noted}
+use Rattle.kern_model.specs.Row.{Row, Need, Soft, Refuse, Fail, Commit, Subject, End, Stopped, Refused, Done, judge, verdict_of, is_denied, noted}
 use Rattle.kern_model.specs.Rules.{denial_of}
 use Rattle.kern_model.specs.Run.{state_after_run}
 use Rattle.kern_model.specs.State.{State, Process, Change}
-use Rattle.kern_model.specs.Step.{step, asker, reply_of, state_after}
+use Rattle.kern_model.specs.Step.{step, subject, reply_of, state_after}
 use Rattle.kern_model.specs.Table.{row}
 use Rattle.kern_model.specs.Valid.{IsThere, IsValid}
 use Rattle.kern_model.specs.World.{IsWorld}
@@ -26,7 +26,7 @@ use Rattle.iso_laws.proofs.Rows.{when}
 use Rattle.iso_laws.proofs.Steps.{by_process, judged_row}
 use Rattle.iso_laws.proofs.ValidBoot.{valid_booted}
 use Rattle.iso_laws.proofs.DrawingLemmas.{LeadsTo, IsClosed, AllFit, stay_all, stay_itself, closed_valid, GoesOn, goes_all, goes_itself, on_itself, on_over, nothing_back}
-use Rattle.iso_laws.proofs.RowsFair.{Fair, TellsOwn, row_fair}
+use Rattle.iso_laws.proofs.RowsFair.{Fair, ReportsOwn, row_fair}
 
 -- ---- the end of a row that is fair
 abbrev pub EndsFair : (List Change → Option Rec → Type 0) → End → Type 0
@@ -34,21 +34,21 @@ EndsFair P (Stopped name place) = ⊤
 EndsFair P (Refused e) = is_denial e ≡ false
 EndsFair P (Done cs answer own) = P cs own
 
-module _ (P : List Change → Option Rec → Type 0) (a : Asker) where
+module _ (P : List Change → Option Rec → Type 0) (a : Subject) where
   pub ends_fair : (used : List Rec) (r : Row) → Fair P r → EndsFair P (judge a used r).end
   unfolding judge
   ends_fair used (Need c r) h = when (λ j. EndsFair P j.end) (is_denied (verdict_of a c)) _ _ (λ _. tt) (λ _. ends_fair (noted a c (verdict_of a c) used) r h)
   ends_fair used (Soft c r w) h = when (λ j. EndsFair P j.end) (is_denied (verdict_of a c)) _ _ (λ _. ends_fair used w h.1) (λ _. ends_fair (noted a c (verdict_of a c) used) r h.0)
   ends_fair used (Refuse e b r) h = when (λ j. EndsFair P j.end) b _ _ (λ _. h.0) (λ _. ends_fair used r h.1)
   ends_fair used (Fail e) h = h
-  ends_fair used (Give cs answer own) h = h
+  ends_fair used (Commit cs answer own) h = h
 
 -- what is known of how a call of a process ends, in a state in which what leads to an object leads to one of these
 abbrev pub Fitting : (There : Oid → Type 0) (s : State) (who : Pid) → List Change → Option Rec → Type 0
-Fitting There s who cs own = AllFit There (λ q. own ≡ Some (rec.Fork who q)) s s cs × TellsOwn who own
+Fitting There s who cs own = AllFit There (λ q. own ≡ Some (rec.Fork who q)) s s cs × ReportsOwn who own
 
 pub row_ends : (There : Oid → Type 0) (s : State) → LeadsTo There s → (who : Pid) (p : Process) → map.get s.procs who ≡ Some p → (c : Call) → EndsFair (Fitting There s who) (judged_row s who c p).end
-row_ends There s leads who p is c = ends_fair (Fitting There s who) (asker who p) [] (row s who p c) (row_fair There s leads who p is c)
+row_ends There s leads who p is c = ends_fair (Fitting There s who) (subject who p) [] (row s who p c) (row_fair There s leads who p is c)
 
 -- ---- in every state
 -- any object will do

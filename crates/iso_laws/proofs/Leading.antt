@@ -77,9 +77,9 @@ pub not_before : (os ps : List WorldObject) (names : List Name) → given (os ++
 not_before os ps names e = or_none (given os names) (given ps names) (sym (given-append os ps names) ∙ e)
 
 -- what is given is one of those before, or the last one with its own names
-pub given_behind : (P : List Name → WorldObject → Type 0) (os : List WorldObject) (o : WorldObject) → ((names : List Name) (x : WorldObject) → given os names ≡ Some x → P names x) → P o.path.names o
+pub given_after : (P : List Name → WorldObject → Type 0) (os : List WorldObject) (o : WorldObject) → ((names : List Name) (x : WorldObject) → given os names ≡ Some x → P names x) → P o.path.names o
     → (names : List Name) (x : WorldObject) → given (os ++ o ∷ []) names ≡ Some x → P names x
-given_behind P os o before last names x e =
+given_after P os o before last names x e =
     elim (given os names) as (λ w. given os names ≡ w → option_or w (given (o ∷ []) names) ≡ Some x → P names x) [
       | Some y ↦ λ f g. before names x (f ∙ g)
       | None ↦ λ _ g.

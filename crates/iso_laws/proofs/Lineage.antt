@@ -18,81 +18,81 @@ use Rattle.kern_model.specs.declared.records.Rec.TheVariants as rec
 use Rattle.kern_model.specs.declared.world.World.{World}
 use Rattle.kern_model.specs.declared.world.ScriptItem.{ScriptItem}
 use Rattle.kern_model.specs.Boot.{boot, boot_recs}
-use Rattle.kern_model.specs.Lineage.{told, caps_of, all_recs}
+use Rattle.kern_model.specs.Lineage.{reported, caps_of, all_recs}
 use Rattle.kern_model.specs.Names.{name_of}
-use Rattle.kern_model.specs.Row.{Row, Asker, Judged, judge, exercise_with}
+use Rattle.kern_model.specs.Row.{Row, Subject, CheckOutcome, judge, exercise_with}
 use Rattle.kern_model.specs.Rules.{cap_of, denial_of}
-use Rattle.kern_model.specs.Run.{Played, run, state_after_run}
+use Rattle.kern_model.specs.Run.{CallRecord, run, state_after_run}
 use Rattle.kern_model.specs.State.{State, Process}
-use Rattle.kern_model.specs.Step.{step, step_by, settled, asker, state_after, own_of}
+use Rattle.kern_model.specs.Step.{step, step_by, settled, subject, state_after, own_of}
 use Rattle.kern_model.specs.Table.{row}
 use Rattle.iso_laws.proofs.Part.{bound-changed}
 use Rattle.iso_laws.proofs.Rows.{Gives, used_is, end_is}
 use Rattle.iso_laws.proofs.Steps.{fixed_after}
 use Rattle.iso_laws.proofs.Booting.{fixed_booted}
-use Rattle.iso_laws.proofs.CapsTold.{Told, told-append, told_same, told_booted}
-use Rattle.iso_laws.proofs.RowsTell.{Tells, row_tells}
+use Rattle.iso_laws.proofs.CapsReported.{Reported, reported-append, reported_same, reported_booted}
+use Rattle.iso_laws.proofs.RowsReport.{MatchesRecord, row_reports}
 
 -- ---- a step
-exercise_untold : (a : Asker) (bound : CapSet) (f : Pid → CapState) (q : Pid) (c : Check) (with : Option Cap) → told bound f (exercise_with a c with) q ≡ f q
-exercise_untold a bound f q c None = refl
-exercise_untold a bound f q c (Some cap) = refl
+exercise_unreported : (a : Subject) (bound : CapSet) (f : Pid → CapState) (q : Pid) (c : Check) (with : Option Cap) → reported bound f (exercise_with a c with) q ≡ f q
+exercise_unreported a bound f q c None = refl
+exercise_unreported a bound f q c (Some cap) = refl
 
 -- exercises tell nothing of capability sets
-pub used_untold : (a : Asker) (bound : CapSet) (f : Pid → CapState) (q : Pid) (r : Row) → told bound f (judge a [] r).used q ≡ f q
-used_untold a bound f q r =
-    used_is (λ used. told bound f used q ≡ f q) a
-    (λ c used h. told-append bound f used (exercise_with a c (cap_of c.name)) q ∙ exercise_untold a bound (told bound f used) q c (cap_of c.name) ∙ h) [] r refl
+pub used_unreported : (a : Subject) (bound : CapSet) (f : Pid → CapState) (q : Pid) (r : Row) → reported bound f (judge a [] r).used q ≡ f q
+used_unreported a bound f q r =
+    used_is (λ used. reported bound f used q ≡ f q) a
+    (λ c used h. reported-append bound f used (exercise_with a c (cap_of c.name)) q ∙ exercise_unreported a bound (reported bound f used) q c (cap_of c.name) ∙ h) [] r refl
 
 -- nor does a deny record
-denied_untold : (bound : CapSet) (f : Pid → CapState) (q : Pid) (b : Bool) (who : Pid) (name : CallName) (check : CheckName) (place : Place) → f q ≡ told bound f (cond b (rec.Deny who name (denial_of check) check place ∷ []) []) q
-denied_untold bound f q true who name check place = refl
-denied_untold bound f q false who name check place = refl
+denied_unreported : (bound : CapSet) (f : Pid → CapState) (q : Pid) (b : Bool) (who : Pid) (name : CallName) (check : CheckName) (place : Place) → f q ≡ reported bound f (cond b (rec.Deny who name (denial_of check) check place ∷ []) []) q
+denied_unreported bound f q true who name check place = refl
+denied_unreported bound f q false who name check place = refl
 
 -- what an end leaves behind the exercises tells the sets in the state after it
-end_tells : (s : State) (who : Pid) (p : Process) (name : CallName) (f : Pid → CapState) → Told s f → (a : Asker) (r : Row) → Gives (Tells s f) r
-    → Told (state_after s (judge a [] r).end) (told s.bound f (own_of who p name (judge a [] r).end))
-end_tells s who p name f has a r h =
-    end_is (λ e. Told (state_after s e) (told s.bound f (own_of who p name e))) (Tells s f)
-    (λ check place. told_same s f _ (λ q. denied_untold s.bound f q p.audited who name check place) has) (λ e. has) (λ cs answer own h. h) a [] r h
+end_reports : (s : State) (who : Pid) (p : Process) (name : CallName) (f : Pid → CapState) → Reported s f → (a : Subject) (r : Row) → Gives (MatchesRecord s f) r
+    → Reported (state_after s (judge a [] r).end) (reported s.bound f (own_of who p name (judge a [] r).end))
+end_reports s who p name f has a r h =
+    end_is (λ e. Reported (state_after s e) (reported s.bound f (own_of who p name e))) (MatchesRecord s f)
+    (λ check place. reported_same s f _ (λ q. denied_unreported s.bound f q p.audited who name check place) has) (λ e. has) (λ cs answer own h. h) a [] r h
 
-module _ (s : State) (who : Pid) (c : Call) (f : Pid → CapState) (has : Told s f) where
-  settled_tells : (p : Process) → map.get s.procs who ≡ Some p → Told (settled s who p (name_of c) (judge (asker who p) [] (row s who p c))).state (told s.bound f (settled s who p (name_of c) (judge (asker who p) [] (row s who p c))).recs)
-  settled_tells p is =
-      let j : Judged = judge (asker who p) [] (row s who p c) in
+module _ (s : State) (who : Pid) (c : Call) (f : Pid → CapState) (has : Reported s f) where
+  settled_reports : (p : Process) → map.get s.procs who ≡ Some p → Reported (settled s who p (name_of c) (judge (subject who p) [] (row s who p c))).state (reported s.bound f (settled s who p (name_of c) (judge (subject who p) [] (row s who p c))).recs)
+  settled_reports p is =
+      let j : CheckOutcome = judge (subject who p) [] (row s who p c) in
       let own : List Rec = own_of who p (name_of c) j.end in
-      let before : Pid → CapState = told s.bound f j.used in
-      let has' : Told s before = told_same s f before (λ q. sym (used_untold (asker who p) s.bound f q (row s who p c))) has in
-      told_same (state_after s j.end) (told s.bound before own) (told s.bound f (j.used ++ own))
-      (λ q. sym (told-append s.bound f j.used own q))
-      (end_tells s who p (name_of c) before has' (asker who p) (row s who p c) (row_tells s before has' who p is c))
+      let before : Pid → CapState = reported s.bound f j.used in
+      let has' : Reported s before = reported_same s f before (λ q. sym (used_unreported (subject who p) s.bound f q (row s who p c))) has in
+      reported_same (state_after s j.end) (reported s.bound before own) (reported s.bound f (j.used ++ own))
+      (λ q. sym (reported-append s.bound f j.used own q))
+      (end_reports s who p (name_of c) before has' (subject who p) (row s who p c) (row_reports s before has' who p is c))
 
   -- the records of a step tell the sets after it
-  pub told_after : Told (step s who c).state (told s.bound f (step s who c).recs)
+  pub reported_after : Reported (step s who c).state (reported s.bound f (step s who c).recs)
   unfolding step
-  told_after =
-      elim (map.get s.procs who) as (λ o. map.get s.procs who ≡ o → Told (step_by s who c o).state (told s.bound f (step_by s who c o).recs)) [
+  reported_after =
+      elim (map.get s.procs who) as (λ o. map.get s.procs who ≡ o → Reported (step_by s who c o).state (reported s.bound f (step_by s who c o).recs)) [
         | None ↦ λ _. has
-        | Some p ↦ settled_tells p
+        | Some p ↦ settled_reports p
       ] refl
 
 -- ---- a run
 -- the records of a run tell the sets after it
-told_after_run : (items : List ScriptItem) (s : State) (bound : CapSet) (f : Pid → CapState) → s.bound ≡ bound → Told s f → Told (state_after_run s items) (told bound f (flat_map (λ (p : Played). p.recs) (run s items)))
-told_after_run [] s bound f is has = has
-told_after_run (i ∷ is) s bound f same has =
+reported_after_run : (items : List ScriptItem) (s : State) (bound : CapSet) (f : Pid → CapState) → s.bound ≡ bound → Reported s f → Reported (state_after_run s items) (reported bound f (flat_map (λ (p : CallRecord). p.recs) (run s items)))
+reported_after_run [] s bound f is has = has
+reported_after_run (i ∷ is) s bound f same has =
     let next : State = (step s i.who i.call).state in
     let recs : List Rec = (step s i.who i.call).recs in
-    let later : List Rec = flat_map (λ (p : Played). p.recs) (run next is) in
-    told_same (state_after_run next is) (told bound (told bound f recs) later) (told bound f (recs ++ later))
-    (λ q. sym (told-append bound f recs later q))
-    (told_after_run is next bound (told bound f recs) (fixed_after s i.who i.call (λ t. t.bound) bound-changed ∙ same)
-    (told_same next (told s.bound f recs) (told bound f recs) (λ q. ap (λ b. told b f recs q) same) (told_after s i.who i.call f has)))
+    let later : List Rec = flat_map (λ (p : CallRecord). p.recs) (run next is) in
+    reported_same (state_after_run next is) (reported bound (reported bound f recs) later) (reported bound f (recs ++ later))
+    (λ q. sym (reported-append bound f recs later q))
+    (reported_after_run is next bound (reported bound f recs) (fixed_after s i.who i.call (λ t. t.bound) bound-changed ∙ same)
+    (reported_same next (reported s.bound f recs) (reported bound f recs) (λ q. ap (λ b. reported b f recs q) same) (reported_after s i.who i.call f has)))
 
 -- the sets of each living process are those that all records tell
-pub caps_are_told : (w : World) (items : List ScriptItem) (who : Pid) (p : Process) → map.get (state_after_run (boot w) items).procs who ≡ Some p → p.caps ≡ caps_of w.bound (all_recs w items) who
-caps_are_told w items =
-    let later : List Rec = flat_map (λ (p : Played). p.recs) (run (boot w) items) in
-    told_same (state_after_run (boot w) items) (told w.bound (caps_of w.bound (boot_recs w)) later) (caps_of w.bound (all_recs w items))
-    (λ q. sym (told-append w.bound (λ _. no_flags) (boot_recs w) later q))
-    (told_after_run items (boot w) w.bound (caps_of w.bound (boot_recs w)) (fixed_booted (λ s. s.bound) bound-changed w) (told_booted w))
+pub caps_are_reported : (w : World) (items : List ScriptItem) (who : Pid) (p : Process) → map.get (state_after_run (boot w) items).procs who ≡ Some p → p.caps ≡ caps_of w.bound (all_recs w items) who
+caps_are_reported w items =
+    let later : List Rec = flat_map (λ (p : CallRecord). p.recs) (run (boot w) items) in
+    reported_same (state_after_run (boot w) items) (reported w.bound (caps_of w.bound (boot_recs w)) later) (caps_of w.bound (all_recs w items))
+    (λ q. sym (reported-append w.bound (λ _. no_flags) (boot_recs w) later q))
+    (reported_after_run items (boot w) w.bound (caps_of w.bound (boot_recs w)) (fixed_booted (λ s. s.bound) bound-changed w) (reported_booted w))

@@ -15,7 +15,7 @@ use Rattle.kern_model.specs.declared.calls.Errno.TheVariants as errno
 use Rattle.kern_model.specs.declared.calls.Answer.{Answer}
 use Rattle.kern_model.specs.declared.records.Rec.{Rec}
 use Rattle.kern_model.specs.State.{Change}
-use Rattle.kern_model.specs.Row.{Row, Need, Soft, Refuse, Fail, Give, need_if, Asker, End, Stopped, Refused, Done, Judged, judge, judged, verdict_of, is_denied, noted, exercise_with}
+use Rattle.kern_model.specs.Row.{Row, Need, Soft, Refuse, Fail, Commit, need_if, Subject, End, Stopped, Refused, Done, CheckOutcome, judge, check_outcome, verdict_of, is_denied, noted, exercise_with}
 use Rattle.kern_model.specs.Rules.{cap_of}
 use Rattle.kern_model.specs.Descriptors.{Opened}
 use Rattle.kern_model.specs.FileRows.{or_not_open}
@@ -31,12 +31,12 @@ false_or : (a b : Bool) → a ≡ false → b ≡ false → (a || b) ≡ false
 false_or true b p q = p
 false_or false b p q = q
 
-pub when : (P : Judged → Type 0) (b : Bool) (x y : Judged) → (b ≡ true → P x) → (b ≡ false → P y) → P (cond b x y)
+pub when : (P : CheckOutcome → Type 0) (b : Bool) (x y : CheckOutcome) → (b ≡ true → P x) → (b ≡ false → P y) → P (cond b x y)
 when P true x y f g = f refl
 when P false x y f g = g refl
 
 -- two answers to one test
-both : (P : Judged → Judged → Type 0) (b : Bool) (x y x' y' : Judged) → (b ≡ true → P x x') → (b ≡ false → P y y') → P (cond b x y) (cond b x' y')
+both : (P : CheckOutcome → CheckOutcome → Type 0) (b : Bool) (x y x' y' : CheckOutcome) → (b ≡ true → P x x') → (b ≡ false → P y y') → P (cond b x y) (cond b x' y')
 both P true x y x' y' f g = f refl
 both P false x y x' y' f g = g refl
 
@@ -49,7 +49,7 @@ none_never [] = refl
 none_never (r ∷ recs) = none_never recs
 
 -- the check lets the call go on, and its exercise is not bad
-pub record Passes (bad : Rec → Bool) (a : Asker) (c : Check) : Type 0 where
+pub record Passes (bad : Rec → Bool) (a : Subject) (c : Check) : Type 0 where
   pub granted : is_denied (verdict_of a c) ≡ false
   pub inside : list_any bad (noted a c (verdict_of a c) []) ≡ false
 
@@ -58,33 +58,33 @@ part_end l top (Stopped name place) = Stopped name place
 part_end l top (Refused e) = Refused e
 part_end l top (Done cs answer own) = Done (part_changes l top cs) answer own
 
-abbrev pub part_judged : Label → Label → Judged → Judged
-part_judged l top j = judged j.used (part_end l top j.end)
+abbrev pub part_judged : Label → Label → CheckOutcome → CheckOutcome
+part_judged l top j = check_outcome j.used (part_end l top j.end)
 
 -- unless something is bad, the second row ends as the first one does, with the part of its changes
-pub record Alike (bad : Rec → Bool) (l top : Label) (a : Asker) (r r' : Row) : Type 0 where
+pub record Alike (bad : Rec → Bool) (l top : Label) (a : Subject) (r r' : Row) : Type 0 where
   pub ends : (used : List Rec) → list_any bad (judge a used r).used ≡ false → judge a used r' ≡ part_judged l top (judge a used r)
 
 -- what the changes of a row meet, unless something is bad
-pub record Ends (bad : Rec → Bool) (a : Asker) (P : List Change → Type 0) (r : Row) : Type 0 where
+pub record Ends (bad : Rec → Bool) (a : Subject) (P : List Change → Type 0) (r : Row) : Type 0 where
   pub ends : (used : List Rec) → list_any bad (judge a used r).used ≡ false → P (changes_of (judge a used r).end)
 
 module _ (bad : Rec → Bool) where
   -- where none of all is bad, none of the first is
-  pub bad_front : (xs ys : List Rec) → list_any bad (xs ++ ys) ≡ false → list_any bad xs ≡ false
-  bad_front [] ys h = refl
-  bad_front (x ∷ xs) ys h = let h' = or_false (bad x) (list_any bad (xs ++ ys)) h in false_or _ _ h'.0 (bad_front xs ys h'.1)
+  pub bad_prefix : (xs ys : List Rec) → list_any bad (xs ++ ys) ≡ false → list_any bad xs ≡ false
+  bad_prefix [] ys h = refl
+  bad_prefix (x ∷ xs) ys h = let h' = or_false (bad x) (list_any bad (xs ++ ys)) h in false_or _ _ h'.0 (bad_prefix xs ys h'.1)
 
   -- nor is any of the last
   pub bad_back : (xs ys : List Rec) → list_any bad (xs ++ ys) ≡ false → list_any bad ys ≡ false
   bad_back [] ys h = h
   bad_back (x ∷ xs) ys h = let h' = or_false (bad x) (list_any bad (xs ++ ys)) h in bad_back xs ys h'.1
 
-module _ (bad : Rec → Bool) (a : Asker) where
-  noted_front : (c : Check) (v : Verdict) (used : List Rec) → list_any bad (noted a c v used) ≡ false → list_any bad used ≡ false
-  noted_front c Passed used h = h
-  noted_front c Exercised used h = bad_front bad used _ h
-  noted_front c Denied used h = h
+module _ (bad : Rec → Bool) (a : Subject) where
+  noted_prefix : (c : Check) (v : Verdict) (used : List Rec) → list_any bad (noted a c v used) ≡ false → list_any bad used ≡ false
+  noted_prefix c Passed used h = h
+  noted_prefix c Exercised used h = bad_prefix bad used _ h
+  noted_prefix c Denied used h = h
 
   noted_back : (c : Check) (v : Verdict) (used : List Rec) → list_any bad (noted a c v used) ≡ false → list_any bad (noted a c v []) ≡ false
   noted_back c Passed used h = refl
@@ -95,44 +95,44 @@ module _ (bad : Rec → Bool) (a : Asker) where
   pub used_before : (used : List Rec) (r : Row) → list_any bad (judge a used r).used ≡ false → list_any bad used ≡ false
   unfolding judge
   used_before used (Need c r) =
-      when (λ j. list_any bad j.used ≡ false → list_any bad used ≡ false) (is_denied (verdict_of a c)) _ _ (λ _ h. h) (λ _ h. noted_front c _ used (used_before (noted a c (verdict_of a c) used) r h))
+      when (λ j. list_any bad j.used ≡ false → list_any bad used ≡ false) (is_denied (verdict_of a c)) _ _ (λ _ h. h) (λ _ h. noted_prefix c _ used (used_before (noted a c (verdict_of a c) used) r h))
   used_before used (Soft c r w) =
-      when (λ j. list_any bad j.used ≡ false → list_any bad used ≡ false) (is_denied (verdict_of a c)) _ _ (λ _ h. used_before used w h) (λ _ h. noted_front c _ used (used_before (noted a c (verdict_of a c) used) r h))
+      when (λ j. list_any bad j.used ≡ false → list_any bad used ≡ false) (is_denied (verdict_of a c)) _ _ (λ _ h. used_before used w h) (λ _ h. noted_prefix c _ used (used_before (noted a c (verdict_of a c) used) r h))
   used_before used (Refuse e b r) =
       when (λ j. list_any bad j.used ≡ false → list_any bad used ≡ false) b _ _ (λ _ h. h) (λ _ h. used_before used r h)
   used_before used (Fail e) = λ h. h
-  used_before used (Give cs answer own) = λ h. h
+  used_before used (Commit cs answer own) = λ h. h
 
   -- what is known where a row goes on behind a check
   passed : (c : Check) (used : List Rec) (r : Row) → is_denied (verdict_of a c) ≡ false → list_any bad (judge a (noted a c (verdict_of a c) used) r).used ≡ false → Passes bad a c
   passed c used r granted h = record { granted = granted; inside = noted_back c _ used (used_before _ r h) }
 
 -- ---- two rows that end alike
-module _ (bad : Rec → Bool) (l top : Label) (a : Asker) where
+module _ (bad : Rec → Bool) (l top : Label) (a : Subject) where
   pub alike_fail : (e : Errno) → Alike bad l top a (Fail e) (Fail e)
   unfolding judge
   alike_fail e = record { ends = λ used h. refl }
 
-  pub alike_give : (cs cs' : List Change) (answer : Answer) (own : Option Rec) → cs' ≡ part_changes l top cs → Alike bad l top a (Give cs answer own) (Give cs' answer own)
+  pub alike_give : (cs cs' : List Change) (answer : Answer) (own : Option Rec) → cs' ≡ part_changes l top cs → Alike bad l top a (Commit cs answer own) (Commit cs' answer own)
   unfolding judge
-  alike_give cs cs' answer own e = record { ends = λ used h. ap (λ xs. judged used (Done xs answer own)) e }
+  alike_give cs cs' answer own e = record { ends = λ used h. ap (λ xs. check_outcome used (Done xs answer own)) e }
 
-  abbrev Follows : Judged → Judged → Type 0
+  abbrev Follows : CheckOutcome → CheckOutcome → Type 0
   Follows j j' = list_any bad j.used ≡ false → j' ≡ part_judged l top j
 
   pub alike_refuse : (e : Errno) (b b' : Bool) (r r' : Row) → b' ≡ b → (b ≡ false → Alike bad l top a r r') → Alike bad l top a (Refuse e b r) (Refuse e b' r')
   unfolding judge
   alike_refuse e b b' r r' same rest = record {
     ends = λ used h.
-        ap (λ t. cond t (judged used (Refused e)) (judge a used r')) same
-        ∙ both Follows b (judged used (Refused e)) (judge a used r) (judged used (Refused e)) (judge a used r') (λ _ _. refl) (λ f h. (rest f).ends used h) h;
+        ap (λ t. cond t (check_outcome used (Refused e)) (judge a used r')) same
+        ∙ both Follows b (check_outcome used (Refused e)) (judge a used r) (check_outcome used (Refused e)) (judge a used r') (λ _ _. refl) (λ f h. (rest f).ends used h) h;
   }
 
   pub alike_need : (c : Check) (r r' : Row) → (Passes bad a c → Alike bad l top a r r') → Alike bad l top a (Need c r) (Need c r')
   unfolding judge
   alike_need c r r' rest = record {
     ends = λ used h.
-        both Follows (is_denied (verdict_of a c)) (judged used (Stopped c.name c.place)) (judge a (noted a c (verdict_of a c) used) r) (judged used (Stopped c.name c.place)) (judge a (noted a c (verdict_of a c) used) r')
+        both Follows (is_denied (verdict_of a c)) (check_outcome used (Stopped c.name c.place)) (judge a (noted a c (verdict_of a c) used) r) (check_outcome used (Stopped c.name c.place)) (judge a (noted a c (verdict_of a c) used) r')
         (λ _ _. refl)
         (λ f h. (rest (passed bad a c used r f h)).ends (noted a c (verdict_of a c) used) h) h;
   }
@@ -167,9 +167,9 @@ module _ (bad : Rec → Bool) (l top : Label) (a : Asker) where
   unfolding judge
   alike_hidden c c' r r' name place verdict hidden = record {
     ends = λ used h.
-        ap (λ v. cond (is_denied v) (judged used (Stopped c'.name c'.place)) (judge a (noted a c' v used) r')) verdict
-        ∙ both Follows (is_denied (verdict_of a c)) (judged used (Stopped c.name c.place)) (judge a (noted a c (verdict_of a c) used) r) (judged used (Stopped c'.name c'.place)) (judge a (noted a c' (verdict_of a c) used) r')
-        (λ _ _ i. judged used (Stopped (name i) (place i)))
+        ap (λ v. cond (is_denied v) (check_outcome used (Stopped c'.name c'.place)) (judge a (noted a c' v used) r')) verdict
+        ∙ both Follows (is_denied (verdict_of a c)) (check_outcome used (Stopped c.name c.place)) (judge a (noted a c (verdict_of a c) used) r) (check_outcome used (Stopped c'.name c'.place)) (judge a (noted a c' (verdict_of a c) used) r')
+        (λ _ _ i. check_outcome used (Stopped (name i) (place i)))
         (λ f h. absurd (hidden (passed bad a c used r f h))) h;
   }
 
@@ -183,27 +183,27 @@ module _ (bad : Rec → Bool) (l top : Label) (a : Asker) where
   alike_open (Some f) k k' h = h f refl
 
 -- ---- what a row's changes meet
-module _ (bad : Rec → Bool) (a : Asker) (P : List Change → Type 0) (none : P []) where
+module _ (bad : Rec → Bool) (a : Subject) (P : List Change → Type 0) (none : P []) where
   pub ends_fail : (e : Errno) → Ends bad a P (Fail e)
   unfolding judge
   ends_fail e = record { ends = λ used h. none }
 
-  pub ends_give : (cs : List Change) (answer : Answer) (own : Option Rec) → P cs → Ends bad a P (Give cs answer own)
+  pub ends_give : (cs : List Change) (answer : Answer) (own : Option Rec) → P cs → Ends bad a P (Commit cs answer own)
   unfolding judge
   ends_give cs answer own p = record { ends = λ used h. p }
 
-  abbrev Meets : Judged → Type 0
+  abbrev Meets : CheckOutcome → Type 0
   Meets j = list_any bad j.used ≡ false → P (changes_of j.end)
 
   pub ends_refuse : (e : Errno) (b : Bool) (r : Row) → (b ≡ false → Ends bad a P r) → Ends bad a P (Refuse e b r)
   unfolding judge
-  ends_refuse e b r rest = record { ends = λ used h. when Meets b (judged used (Refused e)) (judge a used r) (λ _ _. none) (λ f h. (rest f).ends used h) h }
+  ends_refuse e b r rest = record { ends = λ used h. when Meets b (check_outcome used (Refused e)) (judge a used r) (λ _ _. none) (λ f h. (rest f).ends used h) h }
 
   pub ends_need : (c : Check) (r : Row) → (Passes bad a c → Ends bad a P r) → Ends bad a P (Need c r)
   unfolding judge
   ends_need c r rest = record {
     ends = λ used h.
-        when Meets (is_denied (verdict_of a c)) (judged used (Stopped c.name c.place)) (judge a (noted a c (verdict_of a c) used) r)
+        when Meets (is_denied (verdict_of a c)) (check_outcome used (Stopped c.name c.place)) (judge a (noted a c (verdict_of a c) used) r)
         (λ _ _. none)
         (λ f h. (rest (passed bad a c used r f h)).ends (noted a c (verdict_of a c) used) h) h;
   }
@@ -236,7 +236,7 @@ Gives P (Need c rest) = Gives P rest
 Gives P (Soft c granted weaker) = Gives P granted × Gives P weaker
 Gives P (Refuse e b rest) = Gives P rest
 Gives P (Fail e) = ⊤
-Gives P (Give cs answer own) = P cs own
+Gives P (Commit cs answer own) = P cs own
 
 module _ (P : List Change → Option Rec → Type 0) where
   pub gives_cond : (b : Bool) (x y : Row) → Gives P x → Gives P y → Gives P (cond b x y)
@@ -252,42 +252,42 @@ module _ (P : List Change → Option Rec → Type 0) where
   gives_open (Some f) k h = h f
 
 -- the exercises so far, and one more, meet what each exercise keeps
-noted_is : (P : List Rec → Type 0) (a : Asker) → ((c : Check) (used : List Rec) → P used → P (used ++ exercise_with a c (cap_of c.name))) → (c : Check) (v : Verdict) (used : List Rec) → P used → P (noted a c v used)
+noted_is : (P : List Rec → Type 0) (a : Subject) → ((c : Check) (used : List Rec) → P used → P (used ++ exercise_with a c (cap_of c.name))) → (c : Check) (v : Verdict) (used : List Rec) → P used → P (noted a c v used)
 noted_is P a keeps c Passed used h = h
 noted_is P a keeps c Exercised used h = keeps c used h
 noted_is P a keeps c Denied used h = h
 
 -- the exercises of a row meet what each exercise keeps
-pub used_is : (P : List Rec → Type 0) (a : Asker) → ((c : Check) (used : List Rec) → P used → P (used ++ exercise_with a c (cap_of c.name))) → (used : List Rec) (r : Row) → P used → P (judge a used r).used
+pub used_is : (P : List Rec → Type 0) (a : Subject) → ((c : Check) (used : List Rec) → P used → P (used ++ exercise_with a c (cap_of c.name))) → (used : List Rec) (r : Row) → P used → P (judge a used r).used
 unfolding judge
 used_is P a keeps used (Need c r) h = when (λ j. P j.used) (is_denied (verdict_of a c)) _ _ (λ _. h) (λ _. used_is P a keeps (noted a c (verdict_of a c) used) r (noted_is P a keeps c (verdict_of a c) used h))
 used_is P a keeps used (Soft c r w) h = when (λ j. P j.used) (is_denied (verdict_of a c)) _ _ (λ _. used_is P a keeps used w h) (λ _. used_is P a keeps (noted a c (verdict_of a c) used) r (noted_is P a keeps c (verdict_of a c) used h))
 used_is P a keeps used (Refuse e b r) h = when (λ j. P j.used) b _ _ (λ _. h) (λ _. used_is P a keeps used r h)
 used_is P a keeps used (Fail e) h = h
-used_is P a keeps used (Give cs answer own) h = h
+used_is P a keeps used (Commit cs answer own) h = h
 
 -- the end of a row meets what each stop meets, each refusal, and each end where it is done
 pub end_is : (P : End → Type 0) (Q : List Change → Option Rec → Type 0) → ((name : CheckName) (place : Place) → P (Stopped name place)) → ((e : Errno) → P (Refused e))
-    → ((cs : List Change) (answer : Answer) (own : Option Rec) → Q cs own → P (Done cs answer own)) → (a : Asker) (used : List Rec) (r : Row) → Gives Q r → P (judge a used r).end
+    → ((cs : List Change) (answer : Answer) (own : Option Rec) → Q cs own → P (Done cs answer own)) → (a : Subject) (used : List Rec) (r : Row) → Gives Q r → P (judge a used r).end
 unfolding judge
 end_is P Q stopped refused done a used (Need c r) h = when (λ j. P j.end) (is_denied (verdict_of a c)) _ _ (λ _. stopped c.name c.place) (λ _. end_is P Q stopped refused done a (noted a c (verdict_of a c) used) r h)
 end_is P Q stopped refused done a used (Soft c r w) h = when (λ j. P j.end) (is_denied (verdict_of a c)) _ _ (λ _. end_is P Q stopped refused done a used w h.1) (λ _. end_is P Q stopped refused done a (noted a c (verdict_of a c) used) r h.0)
 end_is P Q stopped refused done a used (Refuse e b r) h = when (λ j. P j.end) b _ _ (λ _. refused e) (λ _. end_is P Q stopped refused done a used r h)
 end_is P Q stopped refused done a used (Fail e) h = refused e
-end_is P Q stopped refused done a used (Give cs answer own) h = done cs answer own h
+end_is P Q stopped refused done a used (Commit cs answer own) h = done cs answer own h
 
 -- a row of which the part sees each change ends there as it does
-pub alike_itself : (bad : Rec → Bool) (l top : Label) (a : Asker) (r : Row) → Gives (λ cs own. part_changes l top cs ≡ cs) r → Alike bad l top a r r
+pub alike_itself : (bad : Rec → Bool) (l top : Label) (a : Subject) (r : Row) → Gives (λ cs own. part_changes l top cs ≡ cs) r → Alike bad l top a r r
 alike_itself bad l top a (Need c r) h = alike_need bad l top a c r r (λ _. alike_itself bad l top a r h)
 alike_itself bad l top a (Soft c r w) h = alike_soft bad l top a c r w r w (λ _. alike_itself bad l top a r h.0) (alike_itself bad l top a w h.1)
 alike_itself bad l top a (Refuse e b r) h = alike_refuse bad l top a e b b r r refl (λ _. alike_itself bad l top a r h)
 alike_itself bad l top a (Fail e) h = alike_fail bad l top a e
-alike_itself bad l top a (Give cs answer own) h = alike_give bad l top a cs cs answer own (sym h)
+alike_itself bad l top a (Commit cs answer own) h = alike_give bad l top a cs cs answer own (sym h)
 
 -- what the changes of a row meet wherever it is done
-pub ends_given : (bad : Rec → Bool) (a : Asker) (P : List Change → Type 0) → P [] → (r : Row) → Gives (λ cs own. P cs) r → Ends bad a P r
+pub ends_given : (bad : Rec → Bool) (a : Subject) (P : List Change → Type 0) → P [] → (r : Row) → Gives (λ cs own. P cs) r → Ends bad a P r
 ends_given bad a P none (Need c r) h = ends_need bad a P none c r (λ _. ends_given bad a P none r h)
 ends_given bad a P none (Soft c r w) h = ends_soft bad a P none c r w (λ _. ends_given bad a P none r h.0) (ends_given bad a P none w h.1)
 ends_given bad a P none (Refuse e b r) h = ends_refuse bad a P none e b r (λ _. ends_given bad a P none r h)
 ends_given bad a P none (Fail e) h = ends_fail bad a P none e
-ends_given bad a P none (Give cs answer own) h = ends_give bad a P none cs answer own h
+ends_given bad a P none (Commit cs answer own) h = ends_give bad a P none cs answer own h

@@ -26,17 +26,17 @@ use Rattle.kern_model.specs.declared.objects.Body.TheVariants as body
 use Rattle.kern_model.specs.declared.objects.Object.{Object}
 use Rattle.kern_model.specs.declared.records.Rec.{Rec}
 use Rattle.kern_model.specs.declared.records.Rec.TheVariants as rec
-use Rattle.kern_model.specs.AttrRows.{on_path, behind, get_caps, set_caps, get_label, set_label}
+use Rattle.kern_model.specs.AttrRows.{on_path, on_open_object, get_caps, set_caps, get_label, set_label}
 use Rattle.kern_model.specs.Descriptors.{Opened, Descriptor, opened, closing, let_go, is_let_go, is_drained, emptied}
 use Rattle.kern_model.specs.Drawing.{IsDrawnBetween}
-use Rattle.kern_model.specs.FileRows.{or_not_open, object_behind, with_bytes, with_bytes_cleared, opening, opens, open_emptying, open_present, open_found, rewriting, writing, moved, place_in}
+use Rattle.kern_model.specs.FileRows.{or_not_open, open_object, with_bytes, with_bytes_cleared, opening, opens, open_emptying, open_present, open_found, rewriting, writing, moved, place_in}
 use Rattle.kern_model.specs.Keys.{pid_cmp_total, pid_cmp_exact, did_cmp_total, did_cmp_exact, oid_cmp_total, same_pid, same_oid, is_pid}
 use Rattle.kern_model.specs.Kinds.{is_file, is_stream, object_with, masked}
-use Rattle.kern_model.specs.Making.{attr_of, made}
+use Rattle.kern_model.specs.Create.{attr_of, made}
 use Rattle.kern_model.specs.ProcessRows.{survives, left_by, ending_of, take_ended, signalled, send}
 use Rattle.kern_model.specs.Refusals.{is_denial}
 use Rattle.kern_model.specs.Rules.{same_label, mac_write, dac_write, held_order}
-use Rattle.kern_model.specs.Row.{Row, Need, Soft, Refuse, Fail, Give, need_if}
+use Rattle.kern_model.specs.Row.{Row, Need, Soft, Refuse, Fail, Commit, need_if}
 use Rattle.kern_model.specs.State.{State, Process, Description, Change, SetProcess, DropDescription, changed_by, drawn, look, object_at, next_object}
 use Rattle.kern_model.specs.Table.{row}
 use Rattle.kern_model.specs.TreeRows.{make_row, give_way, move_row}
@@ -56,9 +56,9 @@ IsOwn who (rec.Exec q id file new) = q ≡ who
 IsOwn who (rec.CapSetProc q caps) = q ≡ who
 IsOwn who _ = ⊤
 
-abbrev pub TellsOwn : Pid → Option Rec → Type 0
-TellsOwn who None = ⊤
-TellsOwn who (Some r) = IsOwn who r
+abbrev pub ReportsOwn : Pid → Option Rec → Type 0
+ReportsOwn who None = ⊤
+ReportsOwn who (Some r) = IsOwn who r
 
 -- what the row refuses by is no denial, and where it is done its changes and its own record meet something
 abbrev pub Fair : (List Change → Option Rec → Type 0) → Row → Type 0
@@ -66,7 +66,7 @@ Fair P (Need c rest) = Fair P rest
 Fair P (Soft c granted weaker) = Fair P granted × Fair P weaker
 Fair P (Refuse e b rest) = (is_denial e ≡ false) × Fair P rest
 Fair P (Fail e) = is_denial e ≡ false
-Fair P (Give cs answer own) = P cs own
+Fair P (Commit cs answer own) = P cs own
 
 module _ (P : List Change → Option Rec → Type 0) where
   fair_cond : (b : Bool) (x y : Row) → Fair P x → Fair P y → Fair P (cond b x y)
@@ -85,7 +85,7 @@ module _ (P : List Change → Option Rec → Type 0) where
   fair_missing None k h = refl
   fair_missing (Some id) k h = h id refl
 
--- ---- rows behind a walk, in a state whose entries lead to these objects
+-- ---- rows on_open_object a walk, in a state whose entries lead to these objects
 module _ (There : Oid → Type 0) (s : State) (leads : LeadsTo There s) (P : List Change → Option Rec → Type 0) where
   -- a walk found an object of these, or an entry that leads to one if it is there
   abbrev AreThere : Found → Type 0
@@ -173,7 +173,7 @@ module _ (m : FinMap label_cmp ℕ) (l : Label) where
   second_is_above : drawn m l ≤ drawn m l + 2
   second_is_above = omega arith
 
-  -- the next number, and the one behind it
+  -- the next number, and the one on_open_object it
   next_drawn : IsDrawnBetween m (map.insert m l (drawn m l + 1)) l (drawn m l + 1)
   next_drawn = drawn_since m m l (drawn m l + 1) (drawn m l + 1) (omega arith) (omega arith)
 
@@ -195,7 +195,7 @@ module _ (There : Oid → Type 0) (s : State) (leads : LeadsTo There s) (who : P
 
   -- changes and an own record
   abbrev pub Fit : List Change → Option Rec → Type 0
-  Fit cs own = AllFit There (Child own) s s cs × TellsOwn who own
+  Fit cs own = AllFit There (Child own) s s cs × ReportsOwn who own
 
   abbrev IsFair : Row → Type 0
   IsFair r = Fair Fit r
@@ -214,7 +214,7 @@ module _ (There : Oid → Type 0) (s : State) (leads : LeadsTo There s) (who : P
   on_path_fair : (path : PathValue) (k : Oid → Place → Row) → ((id : Oid) (place : Place) → There id → IsFair (k id place)) → IsFair (on_path s p path k)
   on_path_fair path k h = fair_reach There s leads Fit who p is (λ n. First n) path _ (λ id there. h id (last_place (λ n. First n) path) there)
 
-  -- what stands behind a descriptor is there
+  -- what stands on_open_object a descriptor is there
   record IsHeld (f : Opened) : Type 0 where
     description : IsThere s.descriptions f.did
     object : There f.description.object
@@ -225,8 +225,8 @@ module _ (There : Oid → Type 0) (s : State) (leads : LeadsTo There s) (who : P
   on_open : (fd : ℕ) (k : Opened → Row) → ((f : Opened) → IsHeld f → IsFair (k f)) → IsFair (or_not_open (opened s p fd) k)
   on_open fd k h = fair_open Fit (opened s p fd) k (λ f e. h f (held fd f e))
 
-  behind_fair : (fd : ℕ) (k : Oid → Place → Row) → ((id : Oid) (place : Place) → There id → IsFair (k id place)) → IsFair (behind s p fd k)
-  behind_fair fd k h = on_open fd _ (λ f is. h f.description.object Handle is.object)
+  on_open_object_fair : (fd : ℕ) (k : Oid → Place → Row) → ((id : Oid) (place : Place) → There id → IsFair (k id place)) → IsFair (on_open_object s p fd k)
+  on_open_object_fair fd k h = on_open fd _ (λ f is. h f.description.object Handle is.object)
 
   -- ---- open, and what is done through a descriptor
   opening_fits : (t : State) (id : Oid) (flags : OpenFlags) → t.description_numbers ≡ s.description_numbers → Known There (Child None) s t id → Fits_in t (opening s who p id flags)
@@ -270,8 +270,8 @@ module _ (There : Oid → Type 0) (s : State) (leads : LeadsTo There s) (who : P
 
   writing_fair : (f : Opened) → IsHeld f → (bytes : List ℕ) → IsFair (writing s f bytes)
   writing_fair f is bytes =
-      let offset : ℕ = place_in (object_behind s f) f + length bytes in
-      (refl, (refl, rewriting_fair f is bytes (λ changes. Give (changes ++ moved f offset ∷ []) (answer.Number (length bytes)) None) (λ changes h. (fit-append There (Child None) s changes (moved f offset ∷ []) s h ((inl is.description, inl is.object), tt), tt))))
+      let offset : ℕ = place_in (open_object s f) f + length bytes in
+      (refl, (refl, rewriting_fair f is bytes (λ changes. Commit (changes ++ moved f offset ∷ []) (answer.Number (length bytes)) None) (λ changes h. (fit-append There (Child None) s changes (moved f offset ∷ []) s h ((inl is.description, inl is.object), tt), tt))))
 
   -- ---- entries
   make_fair : (path : PathValue) (mode : ℕ) (kind : Body) → IsFair (make_row s who p path mode kind)
@@ -317,8 +317,8 @@ module _ (There : Oid → Type 0) (s : State) (leads : LeadsTo There s) (who : P
   pub row_fair : (c : Call) → IsFair (row s who p c)
   row_fair (call.OpenPath path flags mode) = (refl, (refl, fair_walk There s leads Fit who p is (λ n. First n) path _ (found_fair path flags (unwrap_or mode 0))))
   row_fair (call.Close fd) = on_open fd _ (λ f _. (((inl me, inl stays), fit_anywhere There (Child _) s (closing s _) _ (fit_closing There (Child _) s leads _)), tt))
-  row_fair (call.Read fd n) = on_open fd _ (λ f is. (refl, fair_need_if Fit _ _ _ (refl, fair_cond Fit (is_stream (object_behind s f).kind) _ _ ((inl is.object, tt), tt) (((inl is.description, inl is.object), tt), tt))))
-  row_fair (call.Write fd bytes) = on_open fd _ (λ f is. (refl, fair_cond Fit (is_stream (object_behind s f).kind) _ _ (refl, (refl, ((inl is.object, tt), tt))) (writing_fair f is bytes)))
+  row_fair (call.Read fd n) = on_open fd _ (λ f is. (refl, fair_need_if Fit _ _ _ (refl, fair_cond Fit (is_stream (open_object s f).kind) _ _ ((inl is.object, tt), tt) (((inl is.description, inl is.object), tt), tt))))
+  row_fair (call.Write fd bytes) = on_open fd _ (λ f is. (refl, fair_cond Fit (is_stream (open_object s f).kind) _ _ (refl, (refl, ((inl is.object, tt), tt))) (writing_fair f is bytes)))
   row_fair (call.Lseek fd from offset) = on_open fd _ (λ f is. (refl, (refl, (((inl is.description, inl is.object), tt), tt))))
   row_fair (call.Dup fd) = on_open fd _ (λ f _. (refl, (((inl me, inl stays), tt), tt)))
   row_fair call.Pipe = (
@@ -356,12 +356,12 @@ module _ (There : Oid → Type 0) (s : State) (leads : LeadsTo There s) (who : P
   row_fair (call.Umask mode) = (((inl me, inl stays), tt), tt)
   row_fair (call.CapGetFile path) = on_path_fair path (get_caps s p) (λ id place _. (refl, none))
   row_fair (call.CapSetFile path caps) = on_path_fair path (set_caps s who p caps) (λ id place there. (refl, ((inl there, tt), tt)))
-  row_fair (call.CapGetFd fd) = behind_fair fd (get_caps s p) (λ id place _. (refl, none))
-  row_fair (call.CapSetFd fd caps) = behind_fair fd (set_caps s who p caps) (λ id place there. (refl, ((inl there, tt), tt)))
+  row_fair (call.CapGetFd fd) = on_open_object_fair fd (get_caps s p) (λ id place _. (refl, none))
+  row_fair (call.CapSetFd fd caps) = on_open_object_fair fd (set_caps s who p caps) (λ id place there. (refl, ((inl there, tt), tt)))
   row_fair (call.MacGetFile path) = on_path_fair path (get_label s p) (λ id place _. none)
   row_fair (call.MacSetFile path new) = on_path_fair path (set_label s who p new) (set_label_fair new)
-  row_fair (call.MacGetFd fd) = behind_fair fd (get_label s p) (λ id place _. none)
-  row_fair (call.MacSetFd fd new) = behind_fair fd (set_label s who p new) (set_label_fair new)
+  row_fair (call.MacGetFd fd) = on_open_object_fair fd (get_label s p) (λ id place _. none)
+  row_fair (call.MacSetFd fd new) = on_open_object_fair fd (set_label s who p new) (set_label_fair new)
   row_fair call.Fork = (refl, ((next_is_above s.process_numbers p.label, ((inr (next_drawn s.process_numbers p.label, refl), inl stays), tt)), refl))
   row_fair (call.Exec path) = fair_reach There s leads Fit who p is (λ n. First n) path _ (λ id _. (((inl me, inl stays), tt), refl))
   row_fair (call.Exit code) = (ending_fits _ who p (ending.Exit code), tt)

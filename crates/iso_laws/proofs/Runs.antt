@@ -7,14 +7,14 @@ use Rattle.lab_lattice.specs.Label.{Label}
 use Rattle.kern_model.specs.declared.world.ScriptItem.{ScriptItem}
 use Rattle.kern_model.specs.Arguments.{is_call, is_item, is_script}
 use Rattle.kern_model.specs.State.{State}
-use Rattle.kern_model.specs.Step.{Outcome, step}
-use Rattle.kern_model.specs.Run.{Played, played, run}
+use Rattle.kern_model.specs.Step.{StepResult, step}
+use Rattle.kern_model.specs.Run.{CallRecord, played, run}
 use Rattle.kern_model.specs.Isolation.{low, part, part_script, crossing, Answered, answered, answers, all_answers, up_to, Kept}
 use Rattle.kern_model.specs.Valid.{IsValid}
-use Rattle.kern_model.specs.Fronts.{IsFront}
+use Rattle.kern_model.specs.Prefixes.{IsPrefix}
 use Rattle.iso_laws.specs.LawCalls.{has_laws, have_laws}
 use Rattle.iso_laws.proofs.Part.{top-changed}
-use Rattle.iso_laws.proofs.FrontLemmas.{front_through}
+use Rattle.iso_laws.proofs.PrefixLemmas.{prefix_through}
 use Rattle.iso_laws.proofs.Steps.{low_after, other_after, kept_after, valid_after, fixed_after}
 
 -- what a script of calls with laws asks of its first call and of the others
@@ -40,68 +40,68 @@ module _ (l : Label) where
   put true a xs ys = refl
   put false a xs ys = refl
 
-  answers-append : (ps qs : List Played) → answers l (ps ++ qs) ≡ answers l ps ++ answers l qs
+  answers-append : (ps qs : List CallRecord) → answers l (ps ++ qs) ≡ answers l ps ++ answers l qs
   answers-append [] qs = refl
   answers-append (p ∷ ps) qs = ap (λ xs. cond (low l p.who.label) (answered p ∷ xs) xs) (answers-append ps qs) ∙ put (low l p.who.label) (answered p) (answers l ps) (answers l qs)
 
   -- what the first calls tell is a front of what all tell
-  pub answers_of_first : (m : ℕ) (ps : List Played) → IsFront (answers l (take m ps)) (answers l ps)
+  pub answers_of_first : (m : ℕ) (ps : List CallRecord) → IsPrefix (answers l (take m ps)) (answers l ps)
   answers_of_first m ps = record { rest = answers l (drop m ps); whole_is = ap (answers l) (sym (take-append-drop m ps)) ∙ answers-append (take m ps) (drop m ps) }
 
   -- what was told before something crossed is a front of all that is told alone, and all of it where nothing crossed
-  pub record IsTold (ps : List Played) (whole : List Answered) : Type 0 where
+  pub record IsReported (ps : List CallRecord) (whole : List Answered) : Type 0 where
     pub rest : List Answered
     pub whole_is : whole ≡ answers l (up_to l ps) ++ rest
     pub all : up_to l ps ≡ ps → rest ≡ []
 
   -- what a step adds to both
-  told_more : (p : Played) (b : Bool) (ps : List Played) (whole : List Answered) → low l p.who.label ≡ b → crossing l p.recs ≡ false → IsTold ps whole → IsTold (p ∷ ps) (cond b (answered p ∷ whole) whole)
-  told_more p b ps whole is inside told = record {
-    rest = told.rest;
+  reported_more : (p : CallRecord) (b : Bool) (ps : List CallRecord) (whole : List Answered) → low l p.who.label ≡ b → crossing l p.recs ≡ false → IsReported ps whole → IsReported (p ∷ ps) (cond b (answered p ∷ whole) whole)
+  reported_more p b ps whole is inside reported = record {
+    rest = reported.rest;
     whole_is =
-        ap (λ w. cond b (answered p ∷ w) w) told.whole_is
-        ∙ put b (answered p) (answers l (up_to l ps)) told.rest
-        ∙ ap (λ t. cond t (answered p ∷ answers l (up_to l ps)) (answers l (up_to l ps)) ++ told.rest) (sym is)
-        ∙ ap (λ t. answers l (cond t [] (p ∷ up_to l ps)) ++ told.rest) (sym inside);
-    all = λ e. told.all (let same : p ∷ up_to l ps ≡ p ∷ ps = ap (λ t. cond t [] (p ∷ up_to l ps)) (sym inside) ∙ e in cc);
+        ap (λ w. cond b (answered p ∷ w) w) reported.whole_is
+        ∙ put b (answered p) (answers l (up_to l ps)) reported.rest
+        ∙ ap (λ t. cond t (answered p ∷ answers l (up_to l ps)) (answers l (up_to l ps)) ++ reported.rest) (sym is)
+        ∙ ap (λ t. answers l (cond t [] (p ∷ up_to l ps)) ++ reported.rest) (sym inside);
+    all = λ e. reported.all (let same : p ∷ up_to l ps ≡ p ∷ ps = ap (λ t. cond t [] (p ∷ up_to l ps)) (sym inside) ∙ e in cc);
   }
 
-  told_none : (p : Played) (ps : List Played) (whole : List Answered) → crossing l p.recs ≡ true → IsTold (p ∷ ps) whole
-  told_none p ps whole crosses = record {
+  reported_none : (p : CallRecord) (ps : List CallRecord) (whole : List Answered) → crossing l p.recs ≡ true → IsReported (p ∷ ps) whole
+  reported_none p ps whole crosses = record {
     rest = whole;
     whole_is = ap (λ t. answers l (cond t [] (p ∷ up_to l ps)) ++ whole) (sym crosses);
     all = λ e. let no : [] ≡ p ∷ ps = ap (λ t. cond t [] (p ∷ up_to l ps)) (sym crosses) ∙ e in cc;
   }
 
   -- what Low tags are told from a state is what the part tells alone, until something crosses
-  pub told_alone : (items : List ScriptItem) (s : State) → have_laws items ≡ true → is_script s.top items ≡ true → IsValid s → Kept l s → IsTold (run s items) (all_answers (run (part l s) (part_script l items)))
-  told_alone [] s laws args valid kept = record { rest = []; whole_is = refl; all = λ _. refl }
-  told_alone (i ∷ is) s laws args valid kept =
+  pub reported_alone : (items : List ScriptItem) (s : State) → have_laws items ≡ true → is_script s.top items ≡ true → IsValid s → Kept l s → IsReported (run s items) (all_answers (run (part l s) (part_script l items)))
+  reported_alone [] s laws args valid kept = record { rest = []; whole_is = refl; all = λ _. refl }
+  reported_alone (i ∷ is) s laws args valid kept =
       let first = first_of_script s i is laws args in
       let next : State = (step s i.who i.call).state in
-      elim (crossing l (step s i.who i.call).recs) as (λ b. crossing l (step s i.who i.call).recs ≡ b → IsTold (run s (i ∷ is)) (all_answers (run (part l s) (part_script l (i ∷ is))))) [
-        | true ↦ λ crosses. told_none (played s i) (run next is) _ crosses
+      elim (crossing l (step s i.who i.call).recs) as (λ b. crossing l (step s i.who i.call).recs ≡ b → IsReported (run s (i ∷ is)) (all_answers (run (part l s) (part_script l (i ∷ is))))) [
+        | true ↦ λ crosses. reported_none (played s i) (run next is) _ crosses
         | false ↦ λ inside.
-            let rest : IsTold (run next is) (all_answers (run (part l next) (part_script l is))) = told_alone is next first.later_laws first.later_args (valid_after s i.who i.call first.laws first.args valid) (kept_after l s i.who i.call first.laws kept valid inside) in
-            elim (low l i.who.label) as (λ b. low l i.who.label ≡ b → IsTold (run s (i ∷ is)) (all_answers (run (part l s) (cond b (i ∷ part_script l is) (part_script l is))))) [
+            let rest : IsReported (run next is) (all_answers (run (part l next) (part_script l is))) = reported_alone is next first.later_laws first.later_args (valid_after s i.who i.call first.laws first.args valid) (kept_after l s i.who i.call first.laws kept valid inside) in
+            elim (low l i.who.label) as (λ b. low l i.who.label ≡ b → IsReported (run s (i ∷ is)) (all_answers (run (part l s) (cond b (i ∷ part_script l is) (part_script l is))))) [
               | true ↦ λ is_low.
                   let e = low_after l s i.who i.call first.laws kept valid is_low inside in
-                  subst (λ (o : Outcome). IsTold (run s (i ∷ is)) (record { who = i.who; head = i.head; reply = o.reply } ∷ all_answers (run o.state (part_script l is)))) (sym e)
-                  (told_more (played s i) true (run next is) _ is_low inside rest)
+                  subst (λ (o : StepResult). IsReported (run s (i ∷ is)) (record { who = i.who; head = i.head; reply = o.reply } ∷ all_answers (run o.state (part_script l is)))) (sym e)
+                  (reported_more (played s i) true (run next is) _ is_low inside rest)
               | false ↦ λ high.
-                  subst (λ t. IsTold (run s (i ∷ is)) (all_answers (run t (part_script l is)))) (other_after l s i.who i.call first.laws kept valid high inside)
-                  (told_more (played s i) false (run next is) _ high inside rest)
+                  subst (λ t. IsReported (run s (i ∷ is)) (all_answers (run t (part_script l is)))) (other_after l s i.who i.call first.laws kept valid high inside)
+                  (reported_more (played s i) false (run next is) _ high inside rest)
             ] refl
       ] refl
 
   -- each front of what was told before something crossed is a front of all that is told alone
-  pub front_alone : (items : List ScriptItem) (m : ℕ) (s : State) → have_laws items ≡ true → is_script s.top items ≡ true → IsValid s → Kept l s → IsFront (answers l (take m (up_to l (run s items)))) (all_answers (run (part l s) (part_script l items)))
-  front_alone items m s laws args valid kept =
-      let told = told_alone items s laws args valid kept in
-      front_through _ _ _ (answers_of_first m (up_to l (run s items))) (record { rest = told.rest; whole_is = told.whole_is })
+  pub prefix_alone : (items : List ScriptItem) (m : ℕ) (s : State) → have_laws items ≡ true → is_script s.top items ≡ true → IsValid s → Kept l s → IsPrefix (answers l (take m (up_to l (run s items)))) (all_answers (run (part l s) (part_script l items)))
+  prefix_alone items m s laws args valid kept =
+      let reported = reported_alone items s laws args valid kept in
+      prefix_through _ _ _ (answers_of_first m (up_to l (run s items))) (record { rest = reported.rest; whole_is = reported.whole_is })
 
   -- where nothing crosses, Low tags are told just what the part tells alone
   pub whole_alone : (items : List ScriptItem) (s : State) → have_laws items ≡ true → is_script s.top items ≡ true → IsValid s → Kept l s → up_to l (run s items) ≡ run s items → answers l (run s items) ≡ all_answers (run (part l s) (part_script l items))
   whole_alone items s laws args valid kept e =
-      let told = told_alone items s laws args valid kept in
-      ap (answers l) (sym e) ∙ sym (append-nil _) ∙ ap (λ xs. answers l (up_to l (run s items)) ++ xs) (sym (told.all e)) ∙ sym told.whole_is
+      let reported = reported_alone items s laws args valid kept in
+      ap (answers l) (sym e) ∙ sym (append-nil _) ∙ ap (λ xs. answers l (up_to l (run s items)) ++ xs) (sym (reported.all e)) ∙ sym reported.whole_is

@@ -31,9 +31,9 @@ use Rattle.kern_model.specs.Descriptors.{Opened, opened}
 use Rattle.kern_model.specs.Kinds.{is_dir}
 use Rattle.kern_model.specs.State.{State, Process, Description, Change, drawn, object_at, look, stub, stub_object, root}
 use Rattle.kern_model.specs.Rules.{cap_of, same_label, mode_allows, mac_read, dac_search}
-use Rattle.kern_model.specs.Row.{Row, Need, Refuse, Asker, verdict_of, is_denied, noted, exercise_with, may}
+use Rattle.kern_model.specs.Row.{Row, Need, Refuse, Subject, verdict_of, is_denied, noted, exercise_with, may}
 use Rattle.kern_model.specs.Walk.{Found, Start, Entry, walk_from, walk, reach, start_of, enter, or_missing, to_object}
-use Rattle.kern_model.specs.Step.{asker}
+use Rattle.kern_model.specs.Step.{subject}
 use Rattle.kern_model.specs.Isolation.{low, crosses, is_mac, differ, differs_from, Kept}
 use Rattle.kern_model.specs.Valid.{IsValid, IsThere, IsDir}
 use Rattle.kern_model.proofs.MapLemmas.{get-select_kept, get-select_dropped, get_or-found, get_or-absent, get_or-same, never_some, some_same}
@@ -45,7 +45,7 @@ use Rattle.iso_laws.proofs.Rows.{Alike, Ends, Passes, alike_same, alike_hidden, 
 abbrev pub of_object : CheckName → Bool → Oid → Place → Object → Check
 of_object name holds id place o = record { name = name; holds = holds; thing = thing.Object id; thing_label = o.label; new_label = None; place = place }
 
-pub failed_verdict : (a : Asker) (c : Check) → c.holds ≡ false → verdict_of a c ≡ cond (may a.effective (cap_of c.name)) Exercised Denied
+pub failed_verdict : (a : Subject) (c : Check) → c.holds ≡ false → verdict_of a c ≡ cond (may a.effective (cap_of c.name)) Exercised Denied
 unfolding verdict_of
 failed_verdict a c h = ap (λ b. cond b Passed (cond (may a.effective (cap_of c.name)) Exercised Denied)) h
 
@@ -58,7 +58,7 @@ or_left true b p = refl
 or_left false b p = cc
 
 -- a check of a label that failed and went on crosses, where the labels are on two sides
-pub crossed : (l : Label) (a : Asker) (c : Check) (with : Cap) → c.holds ≡ false → cap_of c.name ≡ Some with → is_mac with ≡ true → differ (low l a.label) (low l c.thing_label) ≡ true → Passes (crosses l) a c → ⊥
+pub crossed : (l : Label) (a : Subject) (c : Check) (with : Cap) → c.holds ≡ false → cap_of c.name ≡ Some with → is_mac with ≡ true → differ (low l a.label) (low l c.thing_label) ≡ true → Passes (crosses l) a c → ⊥
 crossed l a c with fails named mac apart passes =
     elim (may a.effective (cap_of c.name)) as (λ b. verdict_of a c ≡ cond b Exercised Denied → ⊥) [
       | true ↦ λ v.
@@ -110,7 +110,7 @@ inner true false false p e = refl
 inner false b d p e = cc
 
 -- where a check wants equal labels and overriding it crosses, what passed is on the caller's side
-pub thing_side : (l : Label) (a : Asker) (c : Check) (with : Cap) → cap_of c.name ≡ Some with → is_mac with ≡ true → c.holds ≡ same_label a.label c.thing_label → Passes (crosses l) a c → low l a.label ≡ low l c.thing_label
+pub thing_side : (l : Label) (a : Subject) (c : Check) (with : Cap) → cap_of c.name ≡ Some with → is_mac with ≡ true → c.holds ≡ same_label a.label c.thing_label → Passes (crosses l) a c → low l a.label ≡ low l c.thing_label
 thing_side l a c with named mac holds passes =
     elim (same_label a.label c.thing_label) as (λ b. same_label a.label c.thing_label ≡ b → low l a.label ≡ low l c.thing_label) [
       | true ↦ λ h. same_side l _ _ h
@@ -122,7 +122,7 @@ thing_side l a c with named mac holds passes =
     ] refl
 
 -- where a new label is never given without the capability, and giving it crosses, it is on the caller's side
-pub new_side : (l : Label) (a : Asker) (c : Check) (with : Cap) (new : Label) → cap_of c.name ≡ Some with → is_mac with ≡ true → c.new_label ≡ Some new → c.holds ≡ false → Passes (crosses l) a c → low l a.label ≡ low l new
+pub new_side : (l : Label) (a : Subject) (c : Check) (with : Cap) (new : Label) → cap_of c.name ≡ Some with → is_mac with ≡ true → c.new_label ≡ Some new → c.holds ≡ false → Passes (crosses l) a c → low l a.label ≡ low l new
 new_side l a c with new named mac is_new fails passes =
     elim (may a.effective (cap_of c.name)) as (λ b. verdict_of a c ≡ cond b Exercised Denied → low l a.label ≡ low l new) [
       | true ↦ λ v.
@@ -132,7 +132,7 @@ new_side l a c with new named mac is_new fails passes =
     ] (failed_verdict a c fails)
 
 -- what passed a check that no capability overrides meets its rule
-pub met_rule : (bad : Rec → Bool) (a : Asker) (c : Check) → cap_of c.name ≡ None → Passes bad a c → c.holds ≡ true
+pub met_rule : (bad : Rec → Bool) (a : Subject) (c : Check) → cap_of c.name ≡ None → Passes bad a c → c.holds ≡ true
 met_rule bad a c unnamed passes =
     elim c.holds as (λ b. c.holds ≡ b → b ≡ true) [
       | true ↦ λ _. refl
@@ -186,23 +186,23 @@ start_there s valid who p path is =
 -- ---- any process
 module _ (bad : Rec → Bool) (s : State) (valid : IsValid s) (who : Pid) (p : Process) (P : List Change → Type 0) (none : P []) where
   abbrev Meets : Row → Type 0
-  Meets r = Ends bad (asker who p) P r
+  Meets r = Ends bad (subject who p) P r
 
   pub ends_enter : (dir : Oid) (place : Place) (r : Row) → (IsDir s.objects dir → Meets r) → Meets (enter s p dir place r)
-  ends_enter dir place r h = ends_need bad (asker who p) P none _ _ (λ _. ends_refuse bad (asker who p) P none _ _ _ (λ is. ends_need bad (asker who p) P none _ _ (λ _. h (dir_there s dir (not_false _ is)))))
+  ends_enter dir place r h = ends_need bad (subject who p) P none _ _ (λ _. ends_refuse bad (subject who p) P none _ _ _ (λ is. ends_need bad (subject who p) P none _ _ (λ _. h (dir_there s dir (not_false _ is)))))
 
   pub ends_walk_from : (place : ℕ → Place) (at : ℕ) (dir : Oid) (names : List Name) (k : Found → Row) → IsThere s.objects dir → ((found : Found) → FoundIn s found → Meets (k found)) → Meets (walk_from s p place at dir names k)
   ends_walk_from place at dir [] k there h = h (Start dir) there
   ends_walk_from place at dir (name ∷ []) k there h = ends_enter dir (place at) _ (λ is. h (Entry dir name (look s dir name)) (is, refl))
   ends_walk_from place at dir (name ∷ next ∷ names) k there h =
-      ends_enter dir (place at) _ (λ _. ends_missing bad (asker who p) P none (look s dir name) _ (λ id e. ends_walk_from place (at + 1) id (next ∷ names) k (led_there s valid dir name id e) h))
+      ends_enter dir (place at) _ (λ _. ends_missing bad (subject who p) P none (look s dir name) _ (λ id e. ends_walk_from place (at + 1) id (next ∷ names) k (led_there s valid dir name id e) h))
 
   pub ends_walk : map.get s.procs who ≡ Some p → (place : ℕ → Place) (path : PathValue) (k : Found → Row) → ((found : Found) → FoundIn s found → Meets (k found)) → Meets (walk s p place path k)
   ends_walk is place path k h = ends_walk_from place 0 (start_of p path) path.names k (start_there s valid who p path is) h
 
   ends_to_object : (k : Oid → Row) → ((id : Oid) → IsThere s.objects id → Meets (k id)) → (found : Found) → FoundIn s found → Meets (to_object found k)
   ends_to_object k h (Start id) there = h id there
-  ends_to_object k h (Entry dir name object) f = ends_missing bad (asker who p) P none object k (λ id e. h id (led_there s valid dir name id (sym f.1 ∙ e)))
+  ends_to_object k h (Entry dir name object) f = ends_missing bad (subject who p) P none object k (λ id e. h id (led_there s valid dir name id (sym f.1 ∙ e)))
 
   -- a walk to an object that is there
   pub ends_reach : map.get s.procs who ≡ Some p → (place : ℕ → Place) (path : PathValue) (k : Oid → Row) → ((id : Oid) → IsThere s.objects id → Meets (k id)) → Meets (reach s p place path k)
@@ -271,15 +271,15 @@ module _ (l : Label) (s : State) (kept : Kept l s) (who : Pid) (p : Process) (is
   pub read_fails : dominates p.label (object_at s id).label ≡ false
   read_fails = ap (dominates p.label) label_at ∙ not_below l p.label there.value.label is_low hidden_label
 
-  pub read_crosses : (place : Place) → Passes (crosses l) (asker who p) (mac_read s p id place) → ⊥
-  read_crosses place = crossed l (asker who p) (mac_read s p id place) cap.MacRead read_fails refl refl
+  pub read_crosses : (place : Place) → Passes (crosses l) (subject who p) (mac_read s p id place) → ⊥
+  read_crosses place = crossed l (subject who p) (mac_read s p id place) cap.MacRead read_fails refl refl
       (ap (λ b. differ b (low l (object_at s id).label)) is_low ∙ ap (λ x. not (low l x)) label_at ∙ ap not hidden_label)
 
   pub top_high : IsValid s → low l s.top ≡ false
   top_high valid = top_hidden l s.top there.value.label (valid.objects id there.value there.is).below hidden_label
 
 -- what a Low process read is Low
-pub read_low : (l : Label) (s : State) → Kept l s → (who : Pid) (p : Process) → low l p.label ≡ true → (id : Oid) → IsThere s.objects id → (place : Place) → Passes (crosses l) (asker who p) (mac_read s p id place) → low l id.label ≡ true
+pub read_low : (l : Label) (s : State) → Kept l s → (who : Pid) (p : Process) → low l p.label ≡ true → (id : Oid) → IsThere s.objects id → (place : Place) → Passes (crosses l) (subject who p) (mac_read s p id place) → low l id.label ≡ true
 read_low l s kept who p is_low id there place passes =
     elim (low l id.label) as (λ b. low l id.label ≡ b → b ≡ true) [
       | true ↦ λ _. refl
@@ -288,19 +288,19 @@ read_low l s kept who p is_low id there place passes =
 
 module _ (l : Label) (s : State) (kept : Kept l s) (valid : IsValid s) (who : Pid) (p : Process) (is_low : low l p.label ≡ true) where
   abbrev Same : Row → Row → Type 0
-  Same r r' = Alike (crosses l) l s.top (asker who p) r r'
+  Same r r' = Alike (crosses l) l s.top (subject who p) r r'
 
   -- what passed a Low caller's mac_read is Low, and reads the same in the part
   pub alike_mac_read : (id : Oid) → IsThere s.objects id → (place : Place) (r : Row) (r' : Oid → Row) → (low l id.label ≡ true → Same r (r' id)) → Same (Need (mac_read s p id place) r) (Need (mac_read (by_number l s) p (shown l s.top id) place) (r' (shown l s.top id)))
   alike_mac_read id there place r r' rest =
       elim (low l id.label) as (λ b. low l id.label ≡ b → Same (Need (mac_read s p id place) r) (Need (mac_read (by_number l s) p (cond b id (stub s.top)) place) (r' (cond b id (stub s.top))))) [
-        | true ↦ λ h. alike_same (crosses l) l s.top (asker who p) _ _ r (r' id) (ap (λ o. of_object check.MacRead (dominates p.label o.label) id place o) (object_low l s id h)) (λ _. rest h)
+        | true ↦ λ h. alike_same (crosses l) l s.top (subject who p) _ _ r (r' id) (ap (λ o. of_object check.MacRead (dominates p.label o.label) id place o) (object_low l s id h)) (λ _. rest h)
         | false ↦ λ h.
             let top : low l s.top ≡ false = top_high l s kept who p is_low id there h valid in
             let stub_label : (object_at (by_number l s) (stub s.top)).label ≡ s.top = ap (λ o. o.label) (object_stub l s top) in
             let fails' : dominates p.label (object_at (by_number l s) (stub s.top)).label ≡ false = ap (dominates p.label) stub_label ∙ not_below l p.label s.top is_low top in
-            alike_hidden (crosses l) l s.top (asker who p) (mac_read s p id place) (mac_read (by_number l s) p (stub s.top) place) r (r' (stub s.top)) refl refl
-            (failed_verdict (asker who p) (mac_read (by_number l s) p (stub s.top) place) fails' ∙ sym (failed_verdict (asker who p) (mac_read s p id place) (read_fails l s kept who p is_low id there h)))
+            alike_hidden (crosses l) l s.top (subject who p) (mac_read s p id place) (mac_read (by_number l s) p (stub s.top) place) r (r' (stub s.top)) refl refl
+            (failed_verdict (subject who p) (mac_read (by_number l s) p (stub s.top) place) fails' ∙ sym (failed_verdict (subject who p) (mac_read s p id place) (read_fails l s kept who p is_low id there h)))
             (read_crosses l s kept who p is_low id there h place)
       ] refl
 
@@ -309,8 +309,8 @@ module _ (l : Label) (s : State) (kept : Kept l s) (valid : IsValid s) (who : Pi
       alike_mac_read dir there place
       (Refuse errno.ENOTDIR (not (is_dir (object_at s dir).kind)) (Need (dac_search s p dir place) r))
       (λ d. Refuse errno.ENOTDIR (not (is_dir (object_at (by_number l s) d).kind)) (Need (dac_search (by_number l s) p d place) (r' d)))
-      (λ h. alike_refuse (crosses l) l s.top (asker who p) errno.ENOTDIR _ _ _ _ (ap (λ o. not (is_dir o.kind)) (object_low l s dir h))
-      (λ is. alike_same (crosses l) l s.top (asker who p) (dac_search s p dir place) (dac_search (by_number l s) p dir place) r (r' dir)
+      (λ h. alike_refuse (crosses l) l s.top (subject who p) errno.ENOTDIR _ _ _ _ (ap (λ o. not (is_dir o.kind)) (object_low l s dir h))
+      (λ is. alike_same (crosses l) l s.top (subject who p) (dac_search s p dir place) (dac_search (by_number l s) p dir place) r (r' dir)
       (ap (λ o. of_object check.DacSearch (mode_allows o.attr p.ids want.Execute) dir place o) (object_low l s dir h)) (λ _. rest h (dir_there s dir (not_false _ is)))))
 
   -- what a walk found, in the part
@@ -333,7 +333,7 @@ module _ (l : Label) (s : State) (kept : Kept l s) (valid : IsValid s) (who : Pi
       alike_enter dir there (place at) (or_missing (look s dir name) (λ id. walk_from s p place (at + 1) id (next ∷ names) k))
       (λ d. or_missing (look (by_number l s) d name) (λ id. walk_from (by_number l s) p place (at + 1) id (next ∷ names) k'))
       (λ is_low_dir _. subst (λ w. Same (or_missing (look s dir name) (λ id. walk_from s p place (at + 1) id (next ∷ names) k)) (or_missing w (λ id. walk_from (by_number l s) p place (at + 1) id (next ∷ names) k'))) (sym (look_low l s dir name is_low_dir))
-      (alike_missing (crosses l) l s.top (asker who p) (look s dir name) _ _ (shown l s.top)
+      (alike_missing (crosses l) l s.top (subject who p) (look s dir name) _ _ (shown l s.top)
       (λ id e. alike_walk_from place (at + 1) id (next ∷ names) k k' (led_there s valid dir name id e) h)))
 
   start_low : (path : PathValue) → map.get s.procs who ≡ Some p → low l (start_of p path).label ≡ true
@@ -348,7 +348,7 @@ module _ (l : Label) (s : State) (kept : Kept l s) (valid : IsValid s) (who : Pi
 
   alike_to_object : (k k' : Oid → Row) → ((id : Oid) → IsThere s.objects id → Same (k id) (k' (shown l s.top id))) → (found : Found) → Seen found → Same (to_object found k) (to_object (part_found found) k')
   alike_to_object k k' h (Start id) there = h id there
-  alike_to_object k k' h (Entry dir name object) seen = alike_missing (crosses l) l s.top (asker who p) object k k' (shown l s.top) (λ id e. h id (led_there s valid dir name id (sym seen.2 ∙ e)))
+  alike_to_object k k' h (Entry dir name object) seen = alike_missing (crosses l) l s.top (subject who p) object k k' (shown l s.top) (λ id e. h id (led_there s valid dir name id (sym seen.2 ∙ e)))
 
   -- a walk to an object that is there
   pub alike_reach : map.get s.procs who ≡ Some p → (place : ℕ → Place) (path : PathValue) (k k' : Oid → Row) → ((id : Oid) → IsThere s.objects id → Same (k id) (k' (shown l s.top id))) → Same (reach s p place path k) (reach (by_number l s) p place path k')
@@ -380,12 +380,12 @@ module _ (l : Label) (s : State) (kept : Kept l s) (who : Pid) (p : Process) (is
   pub opened_low : opened (by_number l s) p fd ≡ opened s p fd
   unfolding opened
   opened_low =
-      let behind : State → Did → Option Opened = λ t did. option_map (λ d. record { did = did; description = d }) (map.get t.descriptions did) in
-      elim (map.get p.fds fd) as (λ w. map.get p.fds fd ≡ w → option_and_then (behind (by_number l s)) w ≡ option_and_then (behind s) w) [
+      let following : State → Did → Option Opened = λ t did. option_map (λ d. record { did = did; description = d }) (map.get t.descriptions did) in
+      elim (map.get p.fds fd) as (λ w. map.get p.fds fd ≡ w → option_and_then (following (by_number l s)) w ≡ option_and_then (following s) w) [
         | None ↦ λ _. refl
         | Some did ↦ λ at. ap (option_map (λ (d : Description). record { did = did; description = d })) (get_description l s did (fd_low did at))
       ] refl
 
   -- and it is Low
-  pub behind_low : (f : Opened) → opened s p fd ≡ Some f → low l f.description.object.label ≡ true
-  behind_low f e = let held = is_open s p fd f e in kept.descriptions f.did f.description held.is (fd_low f.did held.fd_is)
+  pub open_object_low : (f : Opened) → opened s p fd ≡ Some f → low l f.description.object.label ≡ true
+  open_object_low f e = let held = is_open s p fd f e in kept.descriptions f.did f.description held.is (fd_low f.did held.fd_is)

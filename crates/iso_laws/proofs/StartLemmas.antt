@@ -23,18 +23,18 @@ use Rattle.kern_model.specs.declared.world.WorldProc.{WorldProc}
 use Rattle.kern_model.specs.Boot.{boot_process, started}
 use Rattle.kern_model.specs.Drawing.{NeverFalls}
 use Rattle.kern_model.specs.Keys.{pid_cmp_total, pid_cmp_exact, same_pid}
-use Rattle.kern_model.specs.Lineage.{told_behind, told, origin, ancestor, StartOnce}
+use Rattle.kern_model.specs.Lineage.{caps_after, reported, origin, ancestor, StartOnce}
 use Rattle.kern_model.specs.Names.{name_of}
-use Rattle.kern_model.specs.Row.{Row, Asker, End, Stopped, Refused, Done, judge, exercise_with}
+use Rattle.kern_model.specs.Row.{Row, Subject, End, Stopped, Refused, Done, judge, exercise_with}
 use Rattle.kern_model.specs.Rules.{cap_of, denial_of}
-use Rattle.kern_model.specs.Run.{Played, run}
+use Rattle.kern_model.specs.Run.{CallRecord, run}
 use Rattle.kern_model.specs.State.{State, Process, drawn, next_process}
-use Rattle.kern_model.specs.Step.{step, asker, own_of}
+use Rattle.kern_model.specs.Step.{step, subject, own_of}
 use Rattle.kern_model.proofs.MapLemmas.{same_key, get_or-found, get-insert_same}
 use Rattle.iso_laws.proofs.Rows.{used_is}
 use Rattle.iso_laws.proofs.Steps.{by_process, judged_row}
 use Rattle.iso_laws.proofs.DrawingLemmas.{falls_nowhere}
-use Rattle.iso_laws.proofs.RowsFair.{IsOwn, TellsOwn, all-append}
+use Rattle.iso_laws.proofs.RowsFair.{IsOwn, ReportsOwn, all-append}
 use Rattle.iso_laws.proofs.GoingOn.{EndsFair, Fitting, row_ends, Anything, lead_anywhere}
 
 -- ---- no call leaves a record of a start
@@ -46,11 +46,11 @@ IsNoStart _ = ⊤
 abbrev pub NoStarts : List Rec → Type 0
 NoStarts recs = AllByRecursion IsNoStart recs
 
-exercise_no_start : (a : Asker) (c : Check) (with : Option Cap) → NoStarts (exercise_with a c with)
+exercise_no_start : (a : Subject) (c : Check) (with : Option Cap) → NoStarts (exercise_with a c with)
 exercise_no_start a c None = tt
 exercise_no_start a c (Some cap) = (tt, tt)
 
-used_no_start : (a : Asker) (r : Row) → NoStarts (judge a [] r).used
+used_no_start : (a : Subject) (r : Row) → NoStarts (judge a [] r).used
 used_no_start a r = used_is NoStarts a (λ c used h. all-append IsNoStart used _ h (exercise_no_start a c (cap_of c.name))) [] r tt
 
 denied_no_start : (b : Bool) (who : Pid) (name : CallName) (check : CheckName) (place : Place) → NoStarts (cond b (rec.Deny who name (denial_of check) check place ∷ []) [])
@@ -61,20 +61,20 @@ own_is_no_start : (who : Pid) (r : Rec) → IsOwn who r → IsNoStart r
 own_is_no_start who (rec.Boot q label caps) h = h
 own_is_no_start who r h = tt
 
-told_no_start : (who : Pid) (own : Option Rec) → TellsOwn who own → NoStarts (option_to_list own)
-told_no_start who None h = tt
-told_no_start who (Some r) h = (own_is_no_start who r h, tt)
+reported_no_start : (who : Pid) (own : Option Rec) → ReportsOwn who own → NoStarts (option_to_list own)
+reported_no_start who None h = tt
+reported_no_start who (Some r) h = (own_is_no_start who r h, tt)
 
 own_no_start : (s : State) (who : Pid) (p : Process) (name : CallName) (e : End) → EndsFair (Fitting Anything s who) e → NoStarts (own_of who p name e)
 own_no_start s who p name (Stopped check place) h = denied_no_start p.audited who name check place
 own_no_start s who p name (Refused e) h = tt
-own_no_start s who p name (Done cs answer own) h = told_no_start who own h.1
+own_no_start s who p name (Done cs answer own) h = reported_no_start who own h.1
 
 step_no_start : (s : State) (who : Pid) (c : Call) → NoStarts (step s who c).recs
 step_no_start s who c = by_process s who c (λ o. NoStarts o.recs) (λ _. tt) (λ p is.
-    all-append IsNoStart (judged_row s who c p).used _ (used_no_start (asker who p) _) (own_no_start s who p (name_of c) _ (row_ends Anything s (lead_anywhere s) who p is c)))
+    all-append IsNoStart (judged_row s who c p).used _ (used_no_start (subject who p) _) (own_no_start s who p (name_of c) _ (row_ends Anything s (lead_anywhere s) who p is c)))
 
-pub run_no_start : (items : List ScriptItem) (s : State) → NoStarts (flat_map (λ (p : Played). p.recs) (run s items))
+pub run_no_start : (items : List ScriptItem) (s : State) → NoStarts (flat_map (λ (p : CallRecord). p.recs) (run s items))
 run_no_start [] s = tt
 run_no_start (i ∷ is) s = all-append IsNoStart (step s i.who i.call).recs _ (step_no_start s i.who i.call) (run_no_start is (step s i.who i.call).state)
 
@@ -85,14 +85,14 @@ StartsOther who (rec.Boot q label caps) = q ≡ who → ⊥
 StartsOther who _ = ⊥
 
 -- records behind a start are starts of others
-abbrev pub OthersBehind : Rec → List Rec → Type 0
-OthersBehind (rec.Boot who label caps) rs = AllByRecursion (StartsOther who) rs
-OthersBehind _ rs = ⊥
+abbrev pub OthersAfter : Rec → List Rec → Type 0
+OthersAfter (rec.Boot who label caps) rs = AllByRecursion (StartsOther who) rs
+OthersAfter _ rs = ⊥
 
 -- starts, of one process each
 abbrev pub AreStarts : List Rec → Type 0
 AreStarts [] = ⊤
-AreStarts (r ∷ rs) = OthersBehind r rs × AreStarts rs
+AreStarts (r ∷ rs) = OthersAfter r rs × AreStarts rs
 
 -- a start with a number above the last ones drawn
 abbrev StartsAbove : FinMap label_cmp ℕ → Rec → Type 0
@@ -152,9 +152,9 @@ among (b ∷ first) others (x ∷ before) who label caps after none e =
     among_cons b first others before x (rec.Boot who label caps) after head (among first others before who label caps after none tail)
 
 -- behind a start, starts are of others
-pub behind_start : (before : List Rec) (r : Rec) (rest : List Rec) → AreStarts (before ++ r ∷ rest) → OthersBehind r rest
-behind_start [] r rest h = h.0
-behind_start (b ∷ before) r rest h = behind_start before r rest h.1
+pub after_start : (before : List Rec) (r : Rec) (rest : List Rec) → AreStarts (before ++ r ∷ rest) → OthersAfter r rest
+after_start [] r rest h = h.0
+after_start (b ∷ before) r rest h = after_start before r rest h.1
 
 other_here : (who : Pid) (before : List Rec) (r : Rec) (rest : List Rec) → AllByRecursion (StartsOther who) (before ++ r ∷ rest) → StartsOther who r
 other_here who [] r rest h = h.0
@@ -165,8 +165,8 @@ pub start_once : (first others : List Rec) → AreStarts first → NoStarts othe
 start_once first others starts none before between after who label label' caps caps' e =
     let one : IsAmong first others before (rec.Boot who label caps) (between ++ rec.Boot who label' caps' ∷ after) = among first others before who label caps _ none e in
     let two : IsAmong one.rest others between (rec.Boot who label' caps') after = among one.rest others between who label' caps' after none (sym one.after_is) in
-    let behind : AllByRecursion (StartsOther who) one.rest = behind_start before (rec.Boot who label caps) one.rest (subst AreStarts one.first_is starts) in
-    other_here who between (rec.Boot who label' caps') two.rest (subst (AllByRecursion (StartsOther who)) two.first_is behind) refl
+    let following : AllByRecursion (StartsOther who) one.rest = after_start before (rec.Boot who label caps) one.rest (subst AreStarts one.first_is starts) in
+    other_here who between (rec.Boot who label' caps') two.rest (subst (AllByRecursion (StartsOther who)) two.first_is following) refl
 
 -- ---- what starts tell
 other_pid : (a q : Pid) → (q ≡ a → ⊥) → same_pid a q ≡ false
@@ -174,20 +174,20 @@ other_pid a q other =
     elim (same_pid a q) as (λ b. same_pid a q ≡ b → b ≡ false) [ true ↦ λ t. absurd (other (sym (same_key pid_cmp_exact a q t))) | false ↦ λ _. refl ] refl
 
 module _ (bound : CapSet) where
-  other_told : (f : Pid → CapState) (who : Pid) (r : Rec) → StartsOther who r → told_behind bound f r who ≡ f who
-  other_told f who (rec.Boot q label caps) other = ap (λ b. cond b caps (f who)) (other_pid who q other)
-  other_told f who r other = absurd other
+  other_reported : (f : Pid → CapState) (who : Pid) (r : Rec) → StartsOther who r → caps_after bound f r who ≡ f who
+  other_reported f who (rec.Boot q label caps) other = ap (λ b. cond b caps (f who)) (other_pid who q other)
+  other_reported f who r other = absurd other
 
   -- starts of others tell nothing of a process
-  others_told : (f : Pid → CapState) (who : Pid) (rs : List Rec) → AllByRecursion (StartsOther who) rs → told bound f rs who ≡ f who
-  others_told f who [] h = refl
-  others_told f who (r ∷ rs) h = others_told (told_behind bound f r) who rs h.1 ∙ other_told f who r h.0
+  others_reported : (f : Pid → CapState) (who : Pid) (rs : List Rec) → AllByRecursion (StartsOther who) rs → reported bound f rs who ≡ f who
+  others_reported f who [] h = refl
+  others_reported f who (r ∷ rs) h = others_reported (caps_after bound f r) who rs h.1 ∙ other_reported f who r h.0
 
   -- a start tells the sets of its process, whatever starts there are before and behind it
-  pub start_told : (f : Pid → CapState) (before : List Rec) (who : Pid) (label : Label) (caps : CapState) (rest : List Rec) → AreStarts (before ++ rec.Boot who label caps ∷ rest) → told bound f (before ++ rec.Boot who label caps ∷ rest) who ≡ caps
-  start_told f [] who label caps rest h =
-      others_told (told_behind bound f (rec.Boot who label caps)) who rest h.0 ∙ ap (λ b. cond b caps (f who)) ((eq_by_cmp_equiv pid_cmp_total).refl who)
-  start_told f (b ∷ before) who label caps rest h = start_told (told_behind bound f b) before who label caps rest h.1
+  pub start_reported : (f : Pid → CapState) (before : List Rec) (who : Pid) (label : Label) (caps : CapState) (rest : List Rec) → AreStarts (before ++ rec.Boot who label caps ∷ rest) → reported bound f (before ++ rec.Boot who label caps ∷ rest) who ≡ caps
+  start_reported f [] who label caps rest h =
+      others_reported (caps_after bound f (rec.Boot who label caps)) who rest h.0 ∙ ap (λ b. cond b caps (f who)) ((eq_by_cmp_equiv pid_cmp_total).refl who)
+  start_reported f (b ∷ before) who label caps rest h = start_reported (caps_after bound f b) before who label caps rest h.1
 
 other_origin : (who q : Pid) (r : Rec) (rs : List Rec) → StartsOther who r → ancestor (r ∷ rs) q ≡ ancestor rs q
 other_origin who q (rec.Boot k label caps) rs other = refl

@@ -11,24 +11,24 @@ use Rattle.kern_model.specs.Maps.{where_key}
 use Rattle.kern_model.specs.Keys.{pid_cmp_total, pid_cmp_exact}
 use Rattle.kern_model.specs.Names.{name_of}
 use Rattle.kern_model.specs.State.{State, Process, Change, changed, changed_by}
-use Rattle.kern_model.specs.Row.{Stopped, Refused, Done, Judged, judge, judged}
+use Rattle.kern_model.specs.Row.{Stopped, Refused, Done, CheckOutcome, judge, check_outcome}
 use Rattle.kern_model.specs.Table.{row}
-use Rattle.kern_model.specs.Step.{Outcome, step, step_by, settled, asker, reply_of, changes_of, state_after, own_of}
+use Rattle.kern_model.specs.Step.{StepResult, step, step_by, settled, subject, reply_of, changes_of, state_after, own_of}
 use Rattle.kern_model.specs.Isolation.{low, part, crosses, crossing, Kept}
 use Rattle.kern_model.specs.Valid.{IsValid}
 use Rattle.kern_model.proofs.MapLemmas.{get-select}
 use Rattle.iso_laws.specs.LawCalls.{has_laws}
 use Rattle.iso_laws.proofs.Part.{by_number, low_pid, same, part_changes, part_by_number, by_number-changed_by, fixed_by}
-use Rattle.iso_laws.proofs.Rows.{part_end, part_judged, bad_front, never, none_never}
+use Rattle.iso_laws.proofs.Rows.{part_end, part_judged, bad_prefix, never, none_never}
 use Rattle.iso_laws.proofs.Sight.{get_process}
 use Rattle.iso_laws.proofs.Calls.{Cases, low_row, row_meets, hidden_cases, kept_cases, valid_cases}
 
 module _ (s : State) (who : Pid) (c : Call) where
-  abbrev pub judged_row : Process → Judged
-  judged_row p = judge (asker who p) [] (row s who p c)
+  abbrev pub judged_row : Process → CheckOutcome
+  judged_row p = judge (subject who p) [] (row s who p c)
 
   -- by the process, if there is one
-  pub by_process : (P : Outcome → Type 0) → (map.get s.procs who ≡ None → P (step_by s who c None)) → ((p : Process) → map.get s.procs who ≡ Some p → P (settled s who p (name_of c) (judged_row p))) → P (step s who c)
+  pub by_process : (P : StepResult → Type 0) → (map.get s.procs who ≡ None → P (step_by s who c None)) → ((p : Process) → map.get s.procs who ≡ Some p → P (settled s who p (name_of c) (judged_row p))) → P (step s who c)
   unfolding step
   by_process P f g =
       elim (map.get s.procs who) as (λ o. map.get s.procs who ≡ o → P (step_by s who c o)) [ None ↦ f | Some p ↦ g p ] refl
@@ -49,8 +49,8 @@ module _ (l : Label) (s : State) (who : Pid) (c : Call) (laws : has_laws c ≡ t
   met : (P : List Change → Type 0) → IsValid s → (p : Process) → map.get s.procs who ≡ Some p → Cases (crosses l) s who p (is_call s.top c ≡ true) P
       → crossing l (settled s who p (name_of c) (judged_row s who c p)).recs ≡ false → P (changes_of (judged_row s who c p).end)
   met P valid p is cases h =
-      let j : Judged = judged_row s who c p in
-      (row_meets (crosses l) s valid who p is (is_call s.top c ≡ true) P cases c (λ args. args) laws).ends [] (bad_front (crosses l) j.used (own_of who p (name_of c) j.end) h)
+      let j : CheckOutcome = judged_row s who c p in
+      (row_meets (crosses l) s valid who p is (is_call s.top c ≡ true) P cases c (λ args. args) laws).ends [] (bad_prefix (crosses l) j.used (own_of who p (name_of c) j.end) h)
 
   -- what is kept is kept by a step that does not cross
   pub kept_after : Kept l s → IsValid s → crossing l (step s who c).recs ≡ false → Kept l (step s who c).state
@@ -69,12 +69,12 @@ module _ (l : Label) (s : State) (who : Pid) (c : Call) (laws : has_laws c ≡ t
       ∙ sym (part_by_number l s kept))
       (kept_after kept valid)
 
-  abbrev part_outcome : Outcome → Outcome
+  abbrev part_outcome : StepResult → StepResult
   part_outcome o = record { state = part l o.state; reply = o.reply; recs = o.recs }
 
-  settled_part : Kept l s → (p : Process) (j : Judged) → Kept l (state_after s j.end) → settled (by_number l s) who p (name_of c) (part_judged l s.top j) ≡ part_outcome (settled s who p (name_of c) j)
+  settled_part : Kept l s → (p : Process) (j : CheckOutcome) → Kept l (state_after s j.end) → settled (by_number l s) who p (name_of c) (part_judged l s.top j) ≡ part_outcome (settled s who p (name_of c) j)
   settled_part kept p j kept' =
-      elim j.end as (λ e. Kept l (state_after s e) → settled (by_number l s) who p (name_of c) (judged j.used (part_end l s.top e)) ≡ part_outcome (settled s who p (name_of c) (judged j.used e))) [
+      elim j.end as (λ e. Kept l (state_after s e) → settled (by_number l s) who p (name_of c) (check_outcome j.used (part_end l s.top e)) ≡ part_outcome (settled s who p (name_of c) (check_outcome j.used e))) [
         | Stopped name place ↦ λ k. ap (λ t. record { state = t; reply = reply_of (Stopped name place); recs = j.used ++ own_of who p (name_of c) (Stopped name place) }) (sym (part_by_number l s kept))
         | Refused e ↦ λ k. ap (λ t. record { state = t; reply = reply_of (Refused e); recs = j.used ++ own_of who p (name_of c) (Refused e) }) (sym (part_by_number l s kept))
         | Done cs answer own ↦ λ k. ap (λ t. record { state = t; reply = reply_of (Done cs answer own); recs = j.used ++ own_of who p (name_of c) (Done cs answer own) }) (sym (by_number-changed_by l s cs) ∙ sym (part_by_number l _ k))
@@ -94,6 +94,6 @@ module _ (l : Label) (s : State) (who : Pid) (c : Call) (laws : has_laws c ≡ t
       (λ p is k h.
       let p_low : low l p.label ≡ true = sym (kept.procs who p is) ∙ is_low in
       ap (step_by (by_number l s) who c) (get_process l s who is_low ∙ is)
-      ∙ ap (settled (by_number l s) who p (name_of c)) ((low_row l s kept valid who p is p_low c laws).ends [] (bad_front (crosses l) (judged_row s who c p).used (own_of who p (name_of c) (judged_row s who c p).end) h))
+      ∙ ap (settled (by_number l s) who p (name_of c)) ((low_row l s kept valid who p is p_low c laws).ends [] (bad_prefix (crosses l) (judged_row s who c p).used (own_of who p (name_of c) (judged_row s who c p).end) h))
       ∙ settled_part kept p (judged_row s who c p) (k h))
       (kept_after kept valid) h

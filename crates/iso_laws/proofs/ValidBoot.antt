@@ -23,14 +23,14 @@ use Rattle.kern_model.specs.declared.world.World.{World}
 use Rattle.kern_model.specs.declared.world.WorldObject.{WorldObject}
 use Rattle.kern_model.specs.declared.world.WorldProc.{WorldProc}
 use Rattle.kern_model.specs.Boot.{object_of, process_of, entry_for, boot_object, boot_process, boot_objects, boot_processes, nothing, furnished, boot}
-use Rattle.kern_model.specs.Entries.{name_count}
+use Rattle.kern_model.specs.Entries.{link_count}
 use Rattle.kern_model.specs.Keys.{Spot, oid_cmp, oid_cmp_total, oid_cmp_exact, same_oid, pid_cmp, pid_cmp_total, pid_cmp_exact, did_cmp, spot_cmp, spot_cmp_total, spot_cmp_exact}
 use Rattle.kern_model.specs.Kinds.{kind_of, bytes_of, is_stream}
 use Rattle.kern_model.specs.State.{State, Process, Description, SetObject, SetEntry, DrawObject, changed, changed_by, drawn, next_object, next_process, root}
 use Rattle.kern_model.specs.Valid.{IsDrawn, AreFew, leads, IsRoot, IsValidObject, IsValidEntry, IsValidProcess, IsValid}
 use Rattle.kern_model.specs.World.{objects_at, procs_at, same_names, parent_names, given, IsPlaced, ArePlaced, IsWorldObject, IsWorldProc, IsWorld}
 use Rattle.kern_model.proofs.MapLemmas.{same_key, get_or-absent, get-insert_same, get-insert_kept, other_key, each-insert, never_some, some_same, count_entries-one}
-use Rattle.iso_laws.proofs.Leading.{leads_kept, leads_on, IsEnd, has_end, names_itself, given-append, not_before, given_behind}
+use Rattle.iso_laws.proofs.Leading.{leads_kept, leads_on, IsEnd, has_end, names_itself, given-append, not_before, given_after}
 use Rattle.iso_laws.proofs.ValidLemmas.{no_fewer, one_more, still_drawn, next_drawn, still_below, still_counted}
 
 -- ---- names and bodies
@@ -158,7 +158,7 @@ module _ (bound : CapSet) (top : Label) (o : WorldObject) (is_dir : o.body ≡ b
         names_of = λ id. [];
         root_names = refl;
         root_given = λ e. never_some _ o e (ap (λ names. cond (same_names names []) (Some o) None) no_names);
-        stands = given_behind (Stands (λ id. []) first_state.objects) [] o (λ names x e. absurd (never_some None x refl e))
+        stands = given_after (Stands (λ id. []) first_state.objects) [] o (λ names x e. absurd (never_some None x refl e))
             (record { id = root; named = sym no_names; is = root_is_first });
         led = only_first (λ (id : Oid) (x : Object). leads first_state root [] ≡ Some id) (ap (λ (id : Oid). Some id) (sym first_is_root));
         entered = λ spot id e. absurd (never_some _ id (get-empty spot_cmp spot) e);
@@ -290,7 +290,7 @@ module _ (top : Label) (before : List WorldObject) (s : State) (built : IsBuilt 
       names_of = names_now;
       root_names = old_names root built.root_is.object built.root_is.is ∙ built.root_names;
       root_given = still_given [] built.root_given;
-      stands = given_behind (Stands names_now next_objects) before o
+      stands = given_after (Stands names_now next_objects) before o
           (λ names x e. let h = built.stands names x e in record { id = h.id; named = old_names h.id (object_of x) h.is ∙ h.named; is = stays h.id (object_of x) h.is })
           (record { id = new; named = new_names; is = is_new });
       led = led_next;
@@ -394,7 +394,7 @@ module _ (w : World) (is : IsWorld w) (f : State) (built : IsBuilt w.top w.objec
       let dirs : a.0 ≡ b.0 = some_same a.0 b.0 (sym (built.led a.0 at.dir at.dir_is) ∙ ap (leads f root) ends.0 ∙ built.led b.0 there.dir there.dir_is) in
       λ i. (dirs i, ends.1 i)
 
-  one_name : (id : Oid) → name_count s id ≤ 1
+  one_name : (id : Oid) → link_count s id ≤ 1
   one_name id = count_entries-one spot_cmp_total spot_cmp_exact (λ (spot : Spot) (at : Oid). same_oid at id) s.entries
       (λ a b x y e g p q. same_spot a b id (e ∙ ap (λ (at : Oid). Some at) (same_key oid_cmp_exact x id p)) (g ∙ ap (λ (at : Oid). Some at) (same_key oid_cmp_exact y id q)))
 

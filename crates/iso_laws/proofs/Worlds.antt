@@ -9,11 +9,11 @@ use Rattle.kern_model.specs.Boot.{boot}
 use Rattle.kern_model.specs.Run.{run}
 use Rattle.kern_model.specs.Isolation.{part, part_script, answers, all_answers, alone, up_to}
 use Rattle.kern_model.specs.World.{IsWorld}
-use Rattle.kern_model.specs.Fronts.{IsFront, Agree}
+use Rattle.kern_model.specs.Prefixes.{IsPrefix, Agree}
 use Rattle.iso_laws.specs.LawCalls.{have_laws}
 use Rattle.iso_laws.proofs.Part.{top-changed}
-use Rattle.iso_laws.proofs.FrontLemmas.{fronts_agree}
-use Rattle.iso_laws.proofs.Runs.{front_alone, whole_alone}
+use Rattle.iso_laws.proofs.PrefixLemmas.{prefixes_agree}
+use Rattle.iso_laws.proofs.Runs.{prefix_alone, whole_alone}
 use Rattle.iso_laws.proofs.Booting.{kept_booted, fixed_booted}
 use Rattle.iso_laws.proofs.ValidBoot.{valid_booted}
 
@@ -23,8 +23,8 @@ module _ (l : Label) (w : World) (items : List ScriptItem) where
   on_first args = ap (λ top. is_script top items) (fixed_booted (λ s. s.top) top-changed w) ∙ args
 
   -- what Low tags are told before something crosses is a front of what they are told with nothing else there
-  pub isolated_front : (m : ℕ) → IsWorld w → is_script w.top items ≡ true → have_laws items ≡ true → IsFront (answers l (take m (up_to l (run (boot w) items)))) (alone l w items)
-  isolated_front m is args laws = front_alone l items m (boot w) laws (on_first args) (valid_booted w is) (kept_booted l w)
+  pub isolated_prefix : (m : ℕ) → IsWorld w → is_script w.top items ≡ true → have_laws items ≡ true → IsPrefix (answers l (take m (up_to l (run (boot w) items)))) (alone l w items)
+  isolated_prefix m is args laws = prefix_alone l items m (boot w) laws (on_first args) (valid_booted w is) (kept_booted l w)
 
   -- and all of it where nothing crosses
   pub isolated_whole : IsWorld w → is_script w.top items ≡ true → have_laws items ≡ true → up_to l (run (boot w) items) ≡ run (boot w) items → answers l (run (boot w) items) ≡ alone l w items
@@ -36,11 +36,11 @@ module _ (l : Label) (w v : World) (is js : List ScriptItem) (same : part l (boo
   same_alone = λ i. all_answers (run (same i) (same_script i))
 
   -- what two worlds with one part tell, before something crosses, are fronts of one another
-  pub two_fronts : (m n : ℕ) → IsWorld w → IsWorld v → is_script w.top is ≡ true → is_script v.top js ≡ true → have_laws is ≡ true → have_laws js ≡ true
+  pub two_prefixes : (m n : ℕ) → IsWorld w → IsWorld v → is_script w.top is ≡ true → is_script v.top js ≡ true → have_laws is ≡ true → have_laws js ≡ true
       → Agree (answers l (take m (up_to l (run (boot w) is)))) (answers l (take n (up_to l (run (boot v) js))))
-  two_fronts m n is_w is_v args args' laws laws' = fronts_agree _ _ (alone l v js)
-      (subst (IsFront (answers l (take m (up_to l (run (boot w) is))))) same_alone (isolated_front l w is m is_w args laws))
-      (isolated_front l v js n is_v args' laws')
+  two_prefixes m n is_w is_v args args' laws laws' = prefixes_agree _ _ (alone l v js)
+      (subst (IsPrefix (answers l (take m (up_to l (run (boot w) is))))) same_alone (isolated_prefix l w is m is_w args laws))
+      (isolated_prefix l v js n is_v args' laws')
 
   -- and the same where nothing crosses
   pub two_wholes : IsWorld w → IsWorld v → is_script w.top is ≡ true → is_script v.top js ≡ true → have_laws is ≡ true → have_laws js ≡ true

@@ -22,7 +22,7 @@ ghost use Rattle.kern_model.specs.Valid.{IsValid};
 ghost use Rattle.kern_model.specs.Refusals.{IsNamed};
 ghost use Rattle.kern_model.specs.Drawing.{StayDrawn, NumbersGoOn, NothingComesBack};
 ghost use Rattle.kern_model.specs.World.{IsWorld};
-ghost use Rattle.kern_model.specs.Fronts.{IsFront, Agree};
+ghost use Rattle.kern_model.specs.Prefixes.{IsPrefix, Agree};
 ghost use Rattle.iso_laws.specs.LawCalls.{has_laws, have_laws};
 
 /// A step of a Low process that crosses nothing gives in the part the same reply, the same records, and the
@@ -60,8 +60,8 @@ pub fn kept_boot()
 /// the part of the world is all there is, and only the Low items are played. Where no call crosses, both are the same.
 /// For scripts of calls with laws.
 pub fn isolated()
-    ensures front { (l : Label) (w : World) (items : List ScriptItem) (m : ℕ) → IsWorld w → is_script w.top items ≡ true → have_laws items ≡ true
-        → IsFront (answers l (take m (up_to l (run (boot w) items)))) (alone l w items) }
+    ensures prefix { (l : Label) (w : World) (items : List ScriptItem) (m : ℕ) → IsWorld w → is_script w.top items ≡ true → have_laws items ≡ true
+        → IsPrefix (answers l (take m (up_to l (run (boot w) items)))) (alone l w items) }
     ensures whole { (l : Label) (w : World) (items : List ScriptItem) → IsWorld w → is_script w.top items ≡ true → have_laws items ≡ true
         → up_to l (run (boot w) items) ≡ run (boot w) items → answers l (run (boot w) items) ≡ alone l w items }
 {}
@@ -70,7 +70,7 @@ pub fn isolated()
 /// neither run has a call that crosses: one list is a front of the other. Where no call crosses, both are the same.
 /// For scripts of calls with laws.
 pub fn two_worlds()
-    ensures fronts { (l : Label) (w v : World) (is js : List ScriptItem) (m n : ℕ) → IsWorld w → IsWorld v → is_script w.top is ≡ true → is_script v.top js ≡ true → have_laws is ≡ true → have_laws js ≡ true
+    ensures prefixes { (l : Label) (w v : World) (is js : List ScriptItem) (m n : ℕ) → IsWorld w → IsWorld v → is_script w.top is ≡ true → is_script v.top js ≡ true → have_laws is ≡ true → have_laws js ≡ true
         → part l (boot w) ≡ part l (boot v) → part_script l is ≡ part_script l js → Agree (answers l (take m (up_to l (run (boot w) is)))) (answers l (take n (up_to l (run (boot v) js)))) }
     ensures whole { (l : Label) (w v : World) (is js : List ScriptItem) → IsWorld w → IsWorld v → is_script w.top is ≡ true → is_script v.top js ≡ true → have_laws is ≡ true → have_laws js ≡ true
         → part l (boot w) ≡ part l (boot v) → part_script l is ≡ part_script l js
@@ -78,18 +78,18 @@ pub fn two_worlds()
 {}
 
 /// The capability sets of each process that lives at the end of a run are those that the records tell. For every call.
-pub fn told_caps()
+pub fn reported_caps()
     ensures { (w : World) (items : List ScriptItem) (who : Pid) (p : Process) → map.get (state_after_run (boot w) items).procs who ≡ Some p → p.caps ≡ caps_of w.bound (all_recs w items) who }
 {}
 
 /// What `cap_set_proc` makes permitted was permitted, by the records before its own. For every call.
-pub fn told_drops()
+pub fn reported_drops()
     ensures { (w : World) (items : List ScriptItem) → OnlyDrops w.bound (all_recs w items) }
 {}
 
 /// Permitted sets grow by exec alone: each capability that the records tell to be permitted to a process was permitted to
 /// an ancestor at its start, or a program gave it to an ancestor. For every call.
-pub fn told_growth()
+pub fn reported_growth()
     ensures { (w : World) (items : List ScriptItem) → GrowsByExec w.bound (all_recs w items) }
 {}
 

@@ -10,7 +10,7 @@ use Rattle.std.proofs.lemmas.Result.{IfOk-weaker}
 use Rattle.kern_model.specs.declared.calls.Call.{Call}
 use Rattle.kern_model.specs.declared.calls.CallName.{CallName}
 use Rattle.kern_model.specs.declared.numbers.Pid.{Pid}
-use Rattle.kern_model.specs.declared.records.Outcome as told
+use Rattle.kern_model.specs.declared.records.Outcome as reported
 use Rattle.kern_model.specs.declared.world.World.{World}
 use Rattle.kern_model.specs.declared.world.WorldObject.{WorldObject}
 use Rattle.kern_model.specs.declared.world.WorldProc.{WorldProc}
@@ -19,9 +19,9 @@ use Rattle.kern_model.specs.Boot.{boot_objects, boot_processes, nothing}
 use Rattle.kern_model.specs.Drawing.{NumbersGoOn}
 use Rattle.kern_model.specs.Names.{name_of}
 use Rattle.kern_model.specs.Refusals.{IsNamed}
-use Rattle.kern_model.specs.Row.{Judged, End, Stopped, Refused, Done, judge}
+use Rattle.kern_model.specs.Row.{CheckOutcome, End, Stopped, Refused, Done, judge}
 use Rattle.kern_model.specs.State.{State, Process}
-use Rattle.kern_model.specs.Step.{Outcome, IsPlayed, step, step_by, settled, asker, reply_of, state_after}
+use Rattle.kern_model.specs.Step.{StepResult, IsPlayed, step, step_by, settled, subject, reply_of, state_after}
 use Rattle.kern_model.specs.Table.{row}
 use Rattle.kern_model.specs.Valid.{IsValid}
 use Rattle.iso_laws.proofs.GoingOn.{named_after, on_after}
@@ -32,7 +32,7 @@ use Rattle.kern_core.specs.Built.{is_built, built_laws}
 use Rattle.kern_core.specs.Kernel.{IsStopped}
 
 -- ---- a call that stopped
-kept_at : (s : State) (who : Pid) (p : Process) (name : CallName) (j : Judged) → IsStopped (settled s who p name j).reply → (settled s who p name j).state ≡ s
+kept_at : (s : State) (who : Pid) (p : Process) (name : CallName) (j : CheckOutcome) → IsStopped (settled s who p name j).reply → (settled s who p name j).state ≡ s
 kept_at s who p name j = kept j.end
   where
     kept : (e : End) → IsStopped (reply_of e) → state_after s e ≡ s
@@ -42,31 +42,31 @@ kept_at s who p name j = kept j.end
 
 kept_by : (s : State) (who : Pid) (c : Call) (o : Option Process) → IsStopped (step_by s who c o).reply → (step_by s who c o).state ≡ s
 kept_by s who c None h = refl
-kept_by s who c (Some p) h = kept_at s who p (name_of c) (judge (asker who p) [] (row s who p c)) h
+kept_by s who c (Some p) h = kept_at s who p (name_of c) (judge (subject who p) [] (row s who p c)) h
 
 -- leaves the state as it was
-pub kept_played : (s t : State) (who : Pid) (c : Call) (o : told.Outcome) → IsPlayed s who c o t → IsStopped o.reply → t ≡ s
+pub kept_played : (s t : State) (who : Pid) (c : Call) (o : reported.Outcome) → IsPlayed s who c o t → IsStopped o.reply → t ≡ s
 unfolding step
-kept_played s t who c o is h = sym (ap (λ (u : Outcome). u.state) is) ∙ kept_by s who c (map.get s.procs who) (subst IsStopped (sym (ap (λ (u : Outcome). u.reply) is)) h)
+kept_played s t who c o is h = sym (ap (λ (u : StepResult). u.state) is) ∙ kept_by s who c (map.get s.procs who) (subst IsStopped (sym (ap (λ (u : StepResult). u.reply) is)) h)
 
 -- ---- a call that was played
 go_on_prop : (s t : State) → IsProp (NumbersGoOn s t)
 go_on_prop s t = hlevel le_prop
 
-module _ {E : Type 0} (s t : State) (who : Pid) (c : Call) (r : Result told.Outcome E) (is : IfOk r (λ o. IsPlayed s who c o t)) where
+module _ {E : Type 0} (s t : State) (who : Pid) (c : Call) (r : Result reported.Outcome E) (is : IfOk r (λ o. IsPlayed s who c o t)) where
   -- names what refused it
   pub named_played : IfOk r (λ o. IsNamed o.reply)
-  named_played = IfOk-weaker r _ _ (λ o e. subst IsNamed (ap (λ (u : Outcome). u.reply) e) (named_after s who c)) is
+  named_played = IfOk-weaker r _ _ (λ o e. subst IsNamed (ap (λ (u : StepResult). u.reply) e) (named_after s who c)) is
 
   -- leaves a valid state valid
   pub valid_played : is_built c ≡ true → is_call s.top c ≡ true → ∥ IsValid s ∥₁ → OnOk r (∥ IsValid t ∥₁)
   valid_played built arguments valid =
       let after : IsValid s → IsValid (step s who c).state = valid_after s who c (built_laws c built) arguments in
-      IfOk-weaker r _ _ (λ o e. ∥∥₁_map valid (λ v. subst IsValid (ap (λ (u : Outcome). u.state) e) (after v))) is
+      IfOk-weaker r _ _ (λ o e. ∥∥₁_map valid (λ v. subst IsValid (ap (λ (u : StepResult). u.state) e) (after v))) is
 
   -- lets numbers go on
   pub go_on_played : ∥ IsValid s ∥₁ → OnOk r (NumbersGoOn s t)
-  go_on_played valid = IfOk-weaker r _ _ (λ o e. ∥∥₁_elim valid (go_on_prop s t) (λ v. subst (NumbersGoOn s) (ap (λ (u : Outcome). u.state) e) (on_after s who c v))) is
+  go_on_played valid = IfOk-weaker r _ _ (λ o e. ∥∥₁_elim valid (go_on_prop s t) (λ v. subst (NumbersGoOn s) (ap (λ (u : StepResult). u.state) e) (on_after s who c v))) is
 
 -- what holds where a result is Ok, holds where it is no error
 pub where_no_error : {X E P : Type 0} (r : Result X E) → OnOk r P → is_err r ≡ false → P

@@ -8,15 +8,15 @@ use Rattle.kern_model.specs.declared.checks.Check.{Check}
 use Rattle.kern_model.specs.declared.numbers.Pid.{Pid}
 use Rattle.kern_model.specs.declared.records.Rec.{Rec}
 use Rattle.kern_model.specs.Keys.{pid_cmp}
-use Rattle.kern_model.specs.Row.{Row, Need, Give}
+use Rattle.kern_model.specs.Row.{Row, Need, Commit}
 use Rattle.kern_model.specs.State.{State, Process, SetProcess}
 use Rattle.kern_model.proofs.MapLemmas.{some_same}
 use Rattle.kern_model.proofs.RowLemmas.{judge-give}
-use Rattle.chk_rules.specs.Asking.{Asking, judge_from}
+use Rattle.chk_rules.specs.CheckLog.{CheckLog, judge_from}
 use Rattle.chk_rules.specs.Ends.{GoesOn}
 use Rattle.chk_rules.specs.declared.stop.Stop.{Stop}
 use Rattle.chk_rules.specs.declared.stop.Stop.TheVariants as stop
-use Rattle.kern_core.specs.Plays.{Plays, Keeps}
+use Rattle.kern_core.specs.RowCompletes.{RowCompletes, Keeps}
 
 -- the state is as it was, however the call stopped
 pub keeps_same : (how : Stop) (s t : State) → t ≡ s → Keeps how s t
@@ -28,12 +28,12 @@ keeps_same (stop.NoMemory m) s t e = tt
 -- a process that changes itself behind one check
 module _ (s : State) (who : Pid) (check : Process → Check) (new : Process → Process) (answer : Answer) (own : Option Rec) where
   abbrev row_of : Process → Row
-  row_of p = Need (check p) (Give (SetProcess who (new p) ∷ []) answer own)
+  row_of p = Need (check p) (Commit (SetProcess who (new p) ∷ []) answer own)
 
-  pub plays_own : (q p : Process) → Some q ≡ map.get s.procs who → map.get s.procs who ≡ Some p → (procs : FinMap pid_cmp Process) → procs ≡ map.insert s.procs who (new q) → (a b : Asking) (c : Check) → c ≡ check q → GoesOn a c b → Plays s a (row_of p) (record s { procs = procs }) b (record { answer = answer; own = own })
+  pub plays_own : (q p : Process) → Some q ≡ map.get s.procs who → map.get s.procs who ≡ Some p → (procs : FinMap pid_cmp Process) → procs ≡ map.insert s.procs who (new q) → (a b : CheckLog) (c : Check) → c ≡ check q → GoesOn a c b → RowCompletes s a (row_of p) (record s { procs = procs }) b (record { answer = answer; own = own })
   plays_own q p found there procs left a b c is go =
-      let done = Give (SetProcess who (new q) ∷ []) answer own in
-      subst (λ x. Plays s a (row_of x) (record s { procs = procs }) b (record { answer = answer; own = own })) (some_same q p (found ∙ there))
+      let done = Commit (SetProcess who (new q) ∷ []) answer own in
+      subst (λ x. RowCompletes s a (row_of x) (record s { procs = procs }) b (record { answer = answer; own = own })) (some_same q p (found ∙ there))
       (record {
         changes = SetProcess who (new q) ∷ [];
         ends = ap (λ k. judge_from a (Need k done)) (sym is) ∙ go done ∙ judge-give _ _ _ _ _;

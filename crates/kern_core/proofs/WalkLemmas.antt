@@ -13,10 +13,10 @@ use Rattle.kern_model.specs.declared.numbers.Oid.{Oid}
 use Rattle.kern_model.specs.Kinds.{is_dir}
 use Rattle.kern_model.specs.State.{State, Process, object_at, look}
 use Rattle.kern_model.specs.Rules.{mac_read, dac_search}
-use Rattle.kern_model.specs.Row.{Row, Need, Refuse, Refused, Judged, judged}
+use Rattle.kern_model.specs.Row.{Row, Need, Refuse, Refused, CheckOutcome, check_outcome}
 use Rattle.kern_model.specs.Walk.{enter, or_missing, reach, start_of, to_object}
 use Rattle.kern_model.proofs.RowLemmas.{judge-refuse, judge-pass, judge-fail}
-use Rattle.chk_rules.specs.Asking.{Asking, judge_from}
+use Rattle.chk_rules.specs.CheckLog.{CheckLog, judge_from}
 use Rattle.chk_rules.specs.Ends.{EndsBy, GoesOn, StopsHere}
 use Rattle.chk_rules.specs.declared.stop.Stop.{Stop}
 use Rattle.chk_rules.specs.declared.stop.Stop.TheVariants as stop
@@ -25,15 +25,15 @@ use Rattle.kern_core.specs.declared.walk.Found.TheVariants as found
 use Rattle.kern_core.specs.Walks.{found_of, object_found, Enters, StopsAt, FindsFrom, PassStops, Reaches, StopsReaching}
 
 -- what ends an equal row ends the row
-pub ends_over : {i j : Judged} (after : Asking) (how : Stop) → i ≡ j → EndsBy j after how → EndsBy i after how
+pub ends_over : {i j : CheckOutcome} (after : CheckLog) (how : Stop) → i ≡ j → EndsBy j after how → EndsBy i after how
 ends_over after how e h = subst (λ k. EndsBy k after how) (sym e) h
 
 -- a row that is refused ends so
-pub ends_refused : {i : Judged} (after : Asking) (e : Errno) → i ≡ judged after.used (Refused e) → EndsBy i after (stop.Refused e)
+pub ends_refused : {i : CheckOutcome} (after : CheckLog) (e : Errno) → i ≡ check_outcome after.used (Refused e) → EndsBy i after (stop.Refused e)
 unfolding EndsBy
 ends_refused after e h = h
 
-module _ (s : State) (p : Process) (place : Place) (dir : Oid) (a b : Asking) (read : Check) (is : read ≡ mac_read s p dir place) where
+module _ (s : State) (p : Process) (place : Place) (dir : Oid) (a b : CheckLog) (read : Check) (is : read ≡ mac_read s p dir place) where
   -- what follows the kind
   abbrev then_search : Row → Row
   then_search r = Need (dac_search s p dir place) r
@@ -49,12 +49,12 @@ module _ (s : State) (p : Process) (place : Place) (dir : Oid) (a b : Asking) (r
   enter-unread how h = λ r. subst (λ c. EndsBy (judge_from a (Need c (then_kind r))) b how) is (h (then_kind r))
 
   pub enter-no_dir : GoesOn a read b → is_dir (object_at s dir).kind ≡ false → StopsAt s p place dir a (stop.Refused errno.ENOTDIR) b
-  enter-no_dir go kind = λ r. ends_refused b errno.ENOTDIR (passed go r ∙ judge-refuse b.asker b.used errno.ENOTDIR _ _ (ap not kind))
+  enter-no_dir go kind = λ r. ends_refused b errno.ENOTDIR (passed go r ∙ judge-refuse b.subject b.used errno.ENOTDIR _ _ (ap not kind))
 
   searching : GoesOn a read b → is_dir (object_at s dir).kind ≡ true → (r : Row) → judge_from a (enter s p dir place r) ≡ judge_from b (then_search r)
-  searching go kind r = passed go r ∙ judge-pass b.asker b.used errno.ENOTDIR _ _ (ap not kind)
+  searching go kind r = passed go r ∙ judge-pass b.subject b.used errno.ENOTDIR _ _ (ap not kind)
 
-  module _ (c : Asking) (second : Check) (is_second : second ≡ dac_search s p dir place) (go : GoesOn a read b) (kind : is_dir (object_at s dir).kind ≡ true) where
+  module _ (c : CheckLog) (second : Check) (is_second : second ≡ dac_search s p dir place) (go : GoesOn a read b) (kind : is_dir (object_at s dir).kind ≡ true) where
     searched : (r : Row) → judge_from a (enter s p dir place r) ≡ judge_from b (Need second r)
     searched r = searching go kind r ∙ ap (λ x. judge_from b (Need x r)) (sym is_second)
 
@@ -64,13 +64,13 @@ module _ (s : State) (p : Process) (place : Place) (dir : Oid) (a b : Asking) (r
     pub enter-unsearched : (how : Stop) → StopsHere b second how c → StopsAt s p place dir a how c
     enter-unsearched how h = λ r. ends_over c how (searched r) (h r)
 
-module _ (s : State) (p : Process) (place : Place) (dir : Oid) (name : Name) (a b : Asking) where
+module _ (s : State) (p : Process) (place : Place) (dir : Oid) (name : Name) (a b : CheckLog) where
   -- a name that is not the last, entered or not
   pub pass-stops : (how : Stop) → StopsAt s p place dir a how b → PassStops s p place dir name a how b
   pass-stops how h = λ k. h (or_missing (look s dir name) k)
 
   pass-missing : Enters s p place dir a b → look s dir name ≡ None → PassStops s p place dir name a (stop.Refused errno.ENOENT) b
-  pass-missing go none = λ k. ends_refused b errno.ENOENT (go (or_missing (look s dir name) k) ∙ ap (λ o. judge_from b (or_missing o k)) none ∙ judge-fail b.asker b.used errno.ENOENT)
+  pass-missing go none = λ k. ends_refused b errno.ENOENT (go (or_missing (look s dir name) k) ∙ ap (λ o. judge_from b (or_missing o k)) none ∙ judge-fail b.subject b.used errno.ENOENT)
 
   -- what was looked up, or else ENOENT
   pub pass_stops : Enters s p place dir a b → (found : Option Oid) → found ≡ look s dir name → (r : Result Oid Stop) → r ≡ ok_or found (stop.Refused errno.ENOENT) → IfErr r (λ how. PassStops s p place dir name a how b)
@@ -82,7 +82,7 @@ to_found : (f : walked.Found) (k : Oid → Row) → to_object (found_of f) k ≡
 to_found (found.Start id) k = refl
 to_found (found.Entry dir name object) k = refl
 
-module _ (s : State) (p : Process) (path : PathValue) (a b : Asking) (f : walked.Found) (finds : FindsFrom s p 0 (start_of p path) path.names a f b) where
+module _ (s : State) (p : Process) (path : PathValue) (a b : CheckLog) (f : walked.Found) (finds : FindsFrom s p 0 (start_of p path) path.names a f b) where
   reaching : (k : Oid → Row) (o : Option Oid) → object_found f ≡ o → judge_from a (reach s p (λ n. First n) path k) ≡ judge_from b (or_missing o k)
   reaching k o is = finds (λ g. to_object g k) ∙ ap (judge_from b) (to_found f k ∙ ap (λ w. or_missing w k) is)
 
@@ -92,5 +92,5 @@ module _ (s : State) (p : Process) (path : PathValue) (a b : Asking) (f : walked
   reaches (Some id) is r e = subst (λ (r : Result Oid Stop). IfOk r (λ id. Reaches s p path a id b)) (sym e) (λ k. reaching k (Some id) (sym is))
 
   pub stops_reaching : (o : Option Oid) → o ≡ object_found f → (r : Result Oid Stop) → r ≡ ok_or o (stop.Refused errno.ENOENT) → IfErr r (λ how. StopsReaching s p path a how b)
-  stops_reaching None is r e = subst (λ (r : Result Oid Stop). IfErr r (λ how. StopsReaching s p path a how b)) (sym e) (λ k. ends_refused b errno.ENOENT (reaching k None (sym is) ∙ judge-fail b.asker b.used errno.ENOENT))
+  stops_reaching None is r e = subst (λ (r : Result Oid Stop). IfErr r (λ how. StopsReaching s p path a how b)) (sym e) (λ k. ends_refused b errno.ENOENT (reaching k None (sym is) ∙ judge-fail b.subject b.used errno.ENOENT))
   stops_reaching (Some id) is r e = subst (λ (r : Result Oid Stop). IfErr r (λ how. StopsReaching s p path a how b)) (sym e) tt

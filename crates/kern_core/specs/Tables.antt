@@ -6,8 +6,8 @@ use Rattle.kern_core.specs.declared.tables.Tables.{Tables}
 use Rattle.kern_core.specs.declared.tables.Metadata.{Metadata}
 
 -- the state that the tables hold: nothing is open yet
-abbrev pub held_by : Tables → State
-held_by t = record {
+abbrev pub state_of_tables : Tables → State
+state_of_tables t = record {
   objects = t.objects;
   entries = t.entries;
   procs = t.procs;

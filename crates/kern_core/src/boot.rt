@@ -4,7 +4,7 @@ ghost use Rattle.cap_bits.specs.CapSet.{is_within};
 ghost use Rattle.kern_model.specs.declared.records.Rec.TheVariants as rec;
 ghost use Rattle.kern_model.specs.State.{drawn, next_process};
 ghost use Rattle.kern_model.specs.Boot.{boot_object, boot_objects, boot_process, boot_processes, nothing, started};
-ghost use Rattle.kern_core.specs.Tables.{held_by};
+ghost use Rattle.kern_core.specs.Tables.{state_of_tables};
 ghost use Rattle.kern_core.specs.Starts.{CanStart, RoomForObjects, IsSpotOf};
 
 use crate::made::{object_from, process_from};
@@ -18,7 +18,7 @@ use std::alloc::Global;
 impl Tables {
     /// The tables in which nothing is yet.
     pub fn empty(alloc: Global, bound: CapSet, top: Label) -> Tables
-        ensures { held_by result ≡ nothing bound top }
+        ensures { state_of_tables result ≡ nothing bound top }
     {
         Tables {
             alloc,
@@ -35,7 +35,7 @@ impl Tables {
     /// Makes the objects of a world, in their order.
     pub fn boot_objects(&mut self, objects: &[WorldObject]) -> Result<(), NoMemory>
         requires { RoomForObjects self.old.object_numbers objects.now }
-        ensures { OnOk result (held_by self.new ≡ boot_objects (held_by self.old) objects.now) }
+        ensures { OnOk result (state_of_tables self.new ≡ boot_objects (state_of_tables self.old) objects.now) }
     {
         for object in objects {
             self.boot_object(object)?;
@@ -46,8 +46,8 @@ impl Tables {
     /// Makes the processes of a world, in their order, with a record for each.
     pub fn boot_processes(&mut self, procs: &[WorldProc]) -> Result<RecList, NoMemory>
         requires { CanStart self.old.process_numbers procs.now }
-        ensures state { OnOk result (held_by self.new ≡ boot_processes (held_by self.old) procs.now) }
-        ensures recs { IfOk result (λ recs. recs ≡ started (held_by self.old) procs.now) }
+        ensures state { OnOk result (state_of_tables self.new ≡ boot_processes (state_of_tables self.old) procs.now) }
+        ensures recs { IfOk result (λ recs. recs ≡ started (state_of_tables self.old) procs.now) }
     {
         let mut recs = RecList::new(self.alloc);
         for process in procs {
@@ -60,7 +60,7 @@ impl Tables {
     // Makes an object under the next number of its label, and its entry.
     fn boot_object(&mut self, object: &WorldObject) -> Result<(), NoMemory>
         requires { drawn self.old.object_numbers object.now.label < 65535 }
-        ensures { OnOk result (held_by self.new ≡ boot_object (held_by self.old) object.now) }
+        ensures { OnOk result (state_of_tables self.new ≡ boot_object (state_of_tables self.old) object.now) }
     {
         let spot = self.spot_of(root_directory(), object.path.components())?;
         let n = self.object_numbers.last(&object.label) + 1;
@@ -78,7 +78,7 @@ impl Tables {
 
     // The spot of a new object with these names, from a directory; the root has none.
     fn spot_of(&self, dir: Oid, names: &[Name]) -> Result<Option<Spot>, NoMemory>
-        ensures { IfOk result (λ spot. IsSpotOf (held_by self.now) dir names.now spot) }
+        ensures { IfOk result (λ spot. IsSpotOf (state_of_tables self.now) dir names.now spot) }
     {
         match names {
             [] => Ok(None),
@@ -95,8 +95,8 @@ impl Tables {
     fn boot_process(&mut self, process: &WorldProc) -> Result<Pid, NoMemory>
         requires number { drawn self.old.process_numbers process.now.label < 4095 }
         requires within { is_within process.now.caps.e process.now.caps.p ≡ true }
-        ensures state { OnOk result (held_by self.new ≡ boot_process (held_by self.old) process.now) }
-        ensures number { IfOk result (λ who. who ≡ next_process (held_by self.old) process.now.label) }
+        ensures state { OnOk result (state_of_tables self.new ≡ boot_process (state_of_tables self.old) process.now) }
+        ensures number { IfOk result (λ who. who ≡ next_process (state_of_tables self.old) process.now.label) }
     {
         let n = self.process_numbers.last(&process.label) + 1;
         let who = Pid {

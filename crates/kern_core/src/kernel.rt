@@ -10,7 +10,7 @@ ghost use Rattle.kern_model.specs.Step.{IsPlayed};
 ghost use Rattle.kern_model.specs.Valid.{IsValid};
 ghost use Rattle.kern_model.specs.World.{IsWorld};
 ghost use Rattle.kern_core.specs.Built.{is_built};
-ghost use Rattle.kern_core.specs.Tables.{held_by};
+ghost use Rattle.kern_core.specs.Tables.{state_of_tables};
 
 use crate::tables::Tables;
 use cap_bits::CapState;
@@ -24,7 +24,7 @@ use std::alloc::Global;
 pub struct Kernel {
     tables: Tables,
     failed: bool,
-    ghost valid: { failed ≡ false → ∥ IsValid (held_by tables) ∥₁ },
+    ghost valid: { failed ≡ false → ∥ IsValid (state_of_tables tables) ∥₁ },
 }
 
 impl Kernel {

@@ -2,7 +2,7 @@
 ghost use Rattle.std.specs.Prelude.{◌≡◌, [], None, IfOk, IsOk};
 ghost use Rattle.kern_model.specs.declared.calls.Reply.TheVariants as reply;
 ghost use Rattle.kern_model.specs.declared.calls.Errno.TheVariants as errno;
-ghost use Rattle.kern_core.specs.Plays.{LeavesNothing, OutcomeOf};
+ghost use Rattle.kern_core.specs.RowCompletes.{LeavesNothing, OutcomeOf};
 
 use chk_rules::{Checks, Stop};
 use kern_model::{Answer, CallName, Errno, NoMemory, Outcome, Pid, Rec, RecList, Reply};
@@ -10,7 +10,7 @@ use std::alloc::Global;
 
 /// What a call answers that was done, and its own record if it leaves one.
 #[derive(Debug, Drop)]
-pub struct Played {
+pub struct Effect {
     pub answer: Answer,
     pub own: Option<Rec>,
 }
@@ -27,20 +27,20 @@ pub fn no_process(alloc: Global) -> Outcome
 
 /// The outcome of a call that was played or stopped: behind the exercises stands the call's own record, or that of
 /// the denial where the caller's switch is on. No memory is taken where the call is done and leaves no record of its own.
-pub fn tell(
+pub fn report(
     checks: Checks,
     who: &Pid,
     audited: bool,
     name: CallName,
-    played: Result<Played, Stop>,
+    played: Result<Effect, Stop>,
 ) -> Result<Outcome, NoMemory>
-    ensures told { IfOk result (λ outcome. OutcomeOf checks who.now audited name played outcome) }
+    ensures reported { IfOk result (λ outcome. OutcomeOf checks who.now audited name played outcome) }
     ensures ready { LeavesNothing played → IsOk result }
 {
     let mut recs = checks.into_exercises();
     match played {
         Ok(played) => {
-            let Played { answer, own } = played;
+            let Effect { answer, own } = played;
             if let Some(own) = own {
                 recs.push(own)?;
             }

@@ -2,7 +2,7 @@
 ghost use Rattle.std.specs.Prelude.{◌≡◌};
 ghost use Rattle.kern_model.specs.Kinds.{is_dir};
 ghost use Rattle.kern_model.specs.State.{look};
-ghost use Rattle.kern_core.specs.Tables.{held_by, metadata_of};
+ghost use Rattle.kern_core.specs.Tables.{state_of_tables, metadata_of};
 
 mod entries;
 mod numbers;
@@ -56,7 +56,7 @@ impl Tables {
     /// The metadata of an object, or of the stub where there is none.
     #[tactic(auto, unfolding(kern_model::specs::Maps::get_or))]
     pub fn metadata(&self, id: &Oid) -> Metadata
-        ensures { result ≡ metadata_of (held_by self.now) id.now }
+        ensures { result ≡ metadata_of (state_of_tables self.now) id.now }
     {
         match self.objects.get(id) {
             Some(object) => Metadata {
@@ -81,7 +81,7 @@ impl Tables {
 
     /// Where an entry leads, if it is there.
     pub fn look(&self, spot: &Spot) -> Option<Oid>
-        ensures { result ≡ look (held_by self.now) spot.now.0 spot.now.1 }
+        ensures { result ≡ look (state_of_tables self.now) spot.now.0 spot.now.1 }
     {
         self.entries.get(spot)
     }

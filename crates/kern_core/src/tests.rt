@@ -142,7 +142,7 @@ fn sets_of(kernel: &mut Kernel, who: &Pid) -> Result<Outcome, Fail> {
 }
 
 // Whether the label is answered, and no record left.
-fn tells(outcome: &Outcome, label: Label) -> bool {
+fn reports(outcome: &Outcome, label: Label) -> bool {
     match &outcome.reply {
         Reply::Done(Answer::Mark(mark)) => *mark == label && outcome.recs.items().is_empty(),
         _ => false,
@@ -150,7 +150,7 @@ fn tells(outcome: &Outcome, label: Label) -> bool {
 }
 
 // Whether the sets are answered, and no record left.
-fn tells_caps(outcome: &Outcome, caps: CapState) -> bool {
+fn reports_caps(outcome: &Outcome, caps: CapState) -> bool {
     match &outcome.reply {
         Reply::Done(Answer::Caps(sets)) => *sets == caps && outcome.recs.items().is_empty(),
         _ => false,
@@ -160,7 +160,7 @@ fn tells_caps(outcome: &Outcome, caps: CapState) -> bool {
 // Whether a call is denied at the check, with its record.
 fn denies(outcome: &Outcome, denial: (Errno, CheckName, Place), by: Pid) -> bool {
     let (why, name, at) = denial;
-    let told = match &outcome.reply {
+    let reported = match &outcome.reply {
         Reply::Denied {
             errno,
             check,
@@ -170,7 +170,7 @@ fn denies(outcome: &Outcome, denial: (Errno, CheckName, Place), by: Pid) -> bool
     };
     match outcome.recs.items() {
         [Rec::Deny(who, _, errno, check, _)] => {
-            told && *who == by && *errno == why && *check == name
+            reported && *who == by && *errno == why && *check == name
         }
         _ => false,
     }
@@ -185,13 +185,13 @@ fn refuses(outcome: &Outcome, why: Errno) -> bool {
 
 // Whether the label is answered by a capability.
 fn exercises(outcome: &Outcome, cap: Cap, object: Oid) -> bool {
-    let told = match &outcome.reply {
+    let reported = match &outcome.reply {
         Reply::Done(Answer::Mark(mark)) => *mark == object.label,
         _ => false,
     };
     match outcome.recs.items() {
         [Rec::Exercise(_, _, with, _, thing, label, None, Place::First(1))] => {
-            told && *with == cap && *thing == Thing::Object(object) && *label == object.label
+            reported && *with == cap && *thing == Thing::Object(object) && *label == object.label
         }
         _ => false,
     }
@@ -233,11 +233,11 @@ fn a_small_world_starts(rt: HostRuntime) -> Result<(), Fail> {
 }
 
 #[test]
-fn labels_are_told_or_denied(rt: HostRuntime) -> Result<(), Fail> {
+fn labels_are_reported_or_denied(rt: HostRuntime) -> Result<(), Fail> {
     let alloc = rt.alloc();
     let (mut kernel, _) = booted(alloc)?;
     let denial = (Errno::EACCES, CheckName::MacRead, Place::First(1));
-    assert!(rt; tells(&ask(alloc, &mut kernel, &low(1), b"low")?, bottom()));
+    assert!(rt; reports(&ask(alloc, &mut kernel, &low(1), b"low")?, bottom()));
     assert!(rt; refuses(&ask(alloc, &mut kernel, &low(1), b"lower")?, Errno::ENOENT));
     assert!(rt; denies(&ask(alloc, &mut kernel, &low(1), b"high")?, denial, low(1)));
     Ok(())
@@ -253,12 +253,12 @@ fn capability_is_exercised(rt: HostRuntime) -> Result<(), Fail> {
 }
 
 #[test]
-fn own_sets_are_told_and_shrink(rt: HostRuntime) -> Result<(), Fail> {
+fn own_sets_are_reported_and_shrink(rt: HostRuntime) -> Result<(), Fail> {
     let none = CapState::none();
     let (mut kernel, _) = booted(rt.alloc())?;
     let own = kernel.caps_of(&low(2)).ok_or("no process")?;
     let denial = (Errno::EPERM, CheckName::CapGrow, Place::Caller);
-    assert!(rt; tells_caps(&sets_of(&mut kernel, &low(2))?, own));
+    assert!(rt; reports_caps(&sets_of(&mut kernel, &low(2))?, own));
     assert!(rt; denies(&set(&mut kernel, &low(1), own)?, denial, low(1)));
     assert!(rt; sets(&set(&mut kernel, &low(2), none)?, low(2), none));
     assert!(rt; kernel.caps_of(&low(2)) == Some(none));

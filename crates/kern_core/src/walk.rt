@@ -1,7 +1,7 @@
 // The walk of a path.
 ghost use Rattle.std.specs.Prelude.{◌≡◌, ◌≤◌, ◌+◌, [], ◌∷◌, IfOk, IfErr, OnOk, length};
 ghost use Rattle.kern_model.specs.Walk.{start_of};
-ghost use Rattle.kern_core.specs.Tables.{held_by};
+ghost use Rattle.kern_core.specs.Tables.{state_of_tables};
 ghost use Rattle.kern_core.specs.Walks.{object_found, Enters, StopsAt, FindsFrom, StopsFrom, PassesTo, PassStops, Reaches, StopsReaching};
 
 use crate::checks::{dac_search, mac_read};
@@ -34,9 +34,9 @@ impl Found {
 impl Tables {
     /// Walks a path to an object that is there.
     pub fn reach(&self, checks: &mut Checks, process: &Proc, path: &Path) -> Result<Oid, Stop>
-        ensures reached { IfOk result (λ id. Reaches (held_by self.now) process.now path.now checks.old id checks.new) }
-        ensures stop { IfErr result (λ stop. StopsReaching (held_by self.now) process.now path.now checks.old stop checks.new) }
-        ensures asker { checks.new.asker ≡ checks.old.asker }
+        ensures reached { IfOk result (λ id. Reaches (state_of_tables self.now) process.now path.now checks.old id checks.new) }
+        ensures stop { IfErr result (λ stop. StopsReaching (state_of_tables self.now) process.now path.now checks.old stop checks.new) }
+        ensures subject { checks.new.subject ≡ checks.old.subject }
     {
         let found = self.walk(checks, process, path)?;
         found.object().ok_or(Stop::Refused(Errno::ENOENT))
@@ -44,9 +44,9 @@ impl Tables {
 
     /// Walks a path from where it starts. Its last name may be absent.
     pub fn walk(&self, checks: &mut Checks, process: &Proc, path: &Path) -> Result<Found, Stop>
-        ensures found { IfOk result (λ found. FindsFrom (held_by self.now) process.now 0 (start_of process.now path.now) path.now.names checks.old found checks.new) }
-        ensures stop { IfErr result (λ stop. StopsFrom (held_by self.now) process.now 0 (start_of process.now path.now) path.now.names checks.old stop checks.new) }
-        ensures asker { checks.new.asker ≡ checks.old.asker }
+        ensures found { IfOk result (λ found. FindsFrom (state_of_tables self.now) process.now 0 (start_of process.now path.now) path.now.names checks.old found checks.new) }
+        ensures stop { IfErr result (λ stop. StopsFrom (state_of_tables self.now) process.now 0 (start_of process.now path.now) path.now.names checks.old stop checks.new) }
+        ensures subject { checks.new.subject ≡ checks.old.subject }
     {
         let start = if path.absolute {
             root_directory()
@@ -66,9 +66,9 @@ impl Tables {
         names: &[Name],
     ) -> Result<Found, Stop>
         requires { at + length names.now ≤ 32 }
-        ensures found { IfOk result (λ found. FindsFrom (held_by self.now) process.now at dir names.now checks.old found checks.new) }
-        ensures stop { IfErr result (λ stop. StopsFrom (held_by self.now) process.now at dir names.now checks.old stop checks.new) }
-        ensures asker { checks.new.asker ≡ checks.old.asker }
+        ensures found { IfOk result (λ found. FindsFrom (state_of_tables self.now) process.now at dir names.now checks.old found checks.new) }
+        ensures stop { IfErr result (λ stop. StopsFrom (state_of_tables self.now) process.now at dir names.now checks.old stop checks.new) }
+        ensures subject { checks.new.subject ≡ checks.old.subject }
     {
         match names {
             [] => Ok(Found::Start(dir)),
@@ -90,9 +90,9 @@ impl Tables {
         dir: Oid,
         name: &Name,
     ) -> Result<Found, Stop>
-        ensures found { IfOk result (λ found. FindsFrom (held_by self.now) process.now at dir (name.now ∷ []) checks.old found checks.new) }
-        ensures stop { IfErr result (λ stop. StopsAt (held_by self.now) process.now (Place.First at) dir checks.old stop checks.new) }
-        ensures asker { checks.new.asker ≡ checks.old.asker }
+        ensures found { IfOk result (λ found. FindsFrom (state_of_tables self.now) process.now at dir (name.now ∷ []) checks.old found checks.new) }
+        ensures stop { IfErr result (λ stop. StopsAt (state_of_tables self.now) process.now (Place.First at) dir checks.old stop checks.new) }
+        ensures subject { checks.new.subject ≡ checks.old.subject }
     {
         self.enter(checks, process, Place::First(at), &dir)?;
         let spot = (dir, name.copy()?);
@@ -111,9 +111,9 @@ impl Tables {
         dir: Oid,
         name: &Name,
     ) -> Result<Oid, Stop>
-        ensures passed { IfOk result (λ next. PassesTo (held_by self.now) process.now (Place.First at) dir name.now checks.old next checks.new) }
-        ensures stop { IfErr result (λ stop. PassStops (held_by self.now) process.now (Place.First at) dir name.now checks.old stop checks.new) }
-        ensures asker { checks.new.asker ≡ checks.old.asker }
+        ensures passed { IfOk result (λ next. PassesTo (state_of_tables self.now) process.now (Place.First at) dir name.now checks.old next checks.new) }
+        ensures stop { IfErr result (λ stop. PassStops (state_of_tables self.now) process.now (Place.First at) dir name.now checks.old stop checks.new) }
+        ensures subject { checks.new.subject ≡ checks.old.subject }
     {
         self.enter(checks, process, Place::First(at), &dir)?;
         let spot = (dir, name.copy()?);
@@ -128,9 +128,9 @@ impl Tables {
         place: Place,
         dir: &Oid,
     ) -> Result<(), Stop>
-        ensures entered { OnOk result (Enters (held_by self.now) process.now place dir.now checks.old checks.new) }
-        ensures stop { IfErr result (λ stop. StopsAt (held_by self.now) process.now place dir.now checks.old stop checks.new) }
-        ensures asker { checks.new.asker ≡ checks.old.asker }
+        ensures entered { OnOk result (Enters (state_of_tables self.now) process.now place dir.now checks.old checks.new) }
+        ensures stop { IfErr result (λ stop. StopsAt (state_of_tables self.now) process.now place dir.now checks.old stop checks.new) }
+        ensures subject { checks.new.subject ≡ checks.old.subject }
     {
         let object = self.metadata(dir);
         must(checks, &mac_read(process, &object, place))?;

@@ -214,13 +214,13 @@ module _ {K X : Type 0} {R : K → K → Ordering} (o : IsTotalOrder R) (exact :
   found_first : (e : K × X) (es : List (K × X)) → find R e.0 (e ∷ es) ≡ Some e.1
   found_first e es = ap (λ r. cond (is_eq r) (Some e.1) (find R e.0 es)) (tied_itself o e.0)
 
-  not_behind : (e : K × X) (es : List (K × X)) → T (is_sorted R (e ∷ es)) → (q : K) (y : X) → find R q es ≡ Some y → e.0 ≡ q → ⊥
-  not_behind e es h q y f same = never_some (find R q es) y (none_above R q es (subst (λ k. T (below_all R k es)) same (first (below_all R e.0 es) (is_sorted R es) h))) f
+  not_after : (e : K × X) (es : List (K × X)) → T (is_sorted R (e ∷ es)) → (q : K) (y : X) → find R q es ≡ Some y → e.0 ≡ q → ⊥
+  not_after e es h q y f same = never_some (find R q es) y (none_above R q es (subst (λ k. T (below_all R k es)) same (first (below_all R e.0 es) (is_sorted R es) h))) f
 
-  found_behind : (e : K × X) (es : List (K × X)) → T (is_sorted R (e ∷ es)) → (q : K) (y : X) → find R q es ≡ Some y → find R q (e ∷ es) ≡ Some y
-  found_behind e es h q y f =
+  found_after : (e : K × X) (es : List (K × X)) → T (is_sorted R (e ∷ es)) → (q : K) (y : X) → find R q es ≡ Some y → find R q (e ∷ es) ≡ Some y
+  found_after e es h q y f =
       elim (eq_by_cmp R q e.0) as (λ b. eq_by_cmp R q e.0 ≡ b → cond b (Some e.1) (find R q es) ≡ Some y) [
-        | true ↦ λ t. absurd (not_behind e es h q y f (sym (same_key exact q e.0 t)))
+        | true ↦ λ t. absurd (not_after e es h q y f (sym (same_key exact q e.0 t)))
         | false ↦ λ t. f
       ] refl
 
@@ -228,7 +228,7 @@ module _ {K X : Type 0} {R : K → K → Ordering} (o : IsTotalOrder R) (exact :
   none_passing [] h fails = refl
   none_passing (e ∷ es) h fails =
       let step : passing (e ∷ es) ≡ 0 + passing es = passing-cons e es false (fails e.0 e.1 (found_first e es)) in
-      let none : passing es ≡ 0 = none_passing es (second (below_all R e.0 es) (is_sorted R es) h) (λ q y f. fails q y (found_behind e es h q y f)) in
+      let none : passing es ≡ 0 = none_passing es (second (below_all R e.0 es) (is_sorted R es) h) (λ q y f. fails q y (found_after e es h q y f)) in
       omega (arith, step, none)
 
   one_passing : (es : List (K × X)) → T (is_sorted R es) → ((a b : K) (x y : X) → find R a es ≡ Some x → find R b es ≡ Some y → p a x ≡ true → p b y ≡ true → a ≡ b) → passing es ≤ 1
@@ -239,7 +239,7 @@ module _ {K X : Type 0} {R : K → K → Ordering} (o : IsTotalOrder R) (exact :
         | true ↦ λ t.
             let fails : (q : K) (y : X) → find R q es ≡ Some y → p q y ≡ false =
             λ q y f. elim (p q y) as (λ b. p q y ≡ b → b ≡ false) [
-              | true ↦ λ v. absurd (not_behind e es h q y f (alone e.0 q e.1 y (found_first e es) (found_behind e es h q y f) t v))
+              | true ↦ λ v. absurd (not_after e es h q y f (alone e.0 q e.1 y (found_first e es) (found_after e es h q y f) t v))
               | false ↦ λ _. refl
             ] refl in
             let step : passing (e ∷ es) ≡ 1 + passing es = passing-cons e es true t in
@@ -247,7 +247,7 @@ module _ {K X : Type 0} {R : K → K → Ordering} (o : IsTotalOrder R) (exact :
             omega (arith, step, none)
         | false ↦ λ t.
             let step : passing (e ∷ es) ≡ 0 + passing es = passing-cons e es false t in
-            let few : passing es ≤ 1 = one_passing es rest (λ a b x y f g. alone a b x y (found_behind e es h a x f) (found_behind e es h b y g)) in
+            let few : passing es ≤ 1 = one_passing es rest (λ a b x y f g. alone a b x y (found_after e es h a x f) (found_after e es h b y g)) in
             omega (arith, step, few)
       ] refl
 

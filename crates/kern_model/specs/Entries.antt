@@ -26,8 +26,8 @@ abbrev pub is_held : State → Oid → Bool
 is_held s id = any_entry (λ spot at. same_oid at id) s.entries
 
 -- how many names an object has
-abbrev pub name_count : State → Oid → ℕ
-name_count s id = count_entries (λ spot at. same_oid at id) s.entries
+abbrev pub link_count : State → Oid → ℕ
+link_count s id = count_entries (λ spot at. same_oid at id) s.entries
 
 -- a directory is removed where it is not the root and no directory holds it
 abbrev pub is_removed : State → Oid → Bool

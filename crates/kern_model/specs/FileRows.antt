@@ -22,10 +22,10 @@ use Rattle.kern_model.specs.Kinds.{is_dir, is_file, is_fifo, is_stream, object_w
 use Rattle.kern_model.specs.State.{State, Process, Description, Change, SetObject, SetProcess, SetDescription, DrawDescription, object_at, drawn, next_object, next_description}
 use Rattle.kern_model.specs.Descriptors.{Opened, Descriptor, opened, open_count, lowest_free, with_descriptor, any_open, closing}
 use Rattle.kern_model.specs.Rules.{mac_read, mac_write, dac_read, dac_write, fsetid, is_plain}
-use Rattle.kern_model.specs.Row.{Row, Need, Soft, Refuse, Fail, Give, need_if}
+use Rattle.kern_model.specs.Row.{Row, Need, Soft, Refuse, Fail, Commit, need_if}
 use Rattle.kern_model.specs.Walk.{Found, Start, Entry, walk, last_place, dir_place}
-use Rattle.kern_model.specs.Making.{make_in, attr_of, drawing, made, has_object_number}
-use Rattle.kern_model.specs.Told.{stat_of}
+use Rattle.kern_model.specs.Create.{make_in, attr_of, drawing, made, has_object_number}
+use Rattle.kern_model.specs.Stat.{stat_of}
 
 -- ---- what rows of descriptors share
 
@@ -37,8 +37,8 @@ or_not_open (Some f) k = k f
 abbrev pub on_descriptor : State → Process → ℕ → (Opened → Row) → Row
 on_descriptor s p fd k = or_not_open (opened s p fd) k
 
-abbrev pub object_behind : State → Opened → Object
-object_behind s f = object_at s f.description.object
+abbrev pub open_object : State → Opened → Object
+open_object s f = object_at s f.description.object
 
 -- whether n more numbers of descriptions are left at the caller's label
 abbrev pub has_descriptions : State → Process → ℕ → Bool
@@ -75,7 +75,7 @@ opening s who p id flags =
 
 -- what was done before, and then the description
 abbrev pub opens : State → Pid → Process → Oid → OpenFlags → List Change → Row
-opens s who p id flags before = Give (before ++ opening s who p id flags) (answer.Number (lowest_free p.fds)) None
+opens s who p id flags before = Commit (before ++ opening s who p id flags) (answer.Number (lowest_free p.fds)) None
 
 -- where nothing has the name a file is made, if that is asked for
 abbrev pub open_absent : State → Pid → Process → OpenFlags → ℕ → Oid → Name → Place → Row
@@ -122,13 +122,13 @@ open_row s who p path flags mode =
 -- `close FD`
 abbrev pub close_row : State → Pid → Process → ℕ → Row
 close_row s who p fd = on_descriptor s p fd (λ f.
-    Give (SetProcess who (record p { fds = map.remove p.fds fd }) ∷ closing s (λ (d : Descriptor). same_pid d.who who && d.fd == fd)) answer.Nothing None)
+    Commit (SetProcess who (record p { fds = map.remove p.fds fd }) ∷ closing s (λ (d : Descriptor). same_pid d.who who && d.fd == fd)) answer.Nothing None)
 
 -- `dup FD`
 abbrev pub dup_row : State → Pid → Process → ℕ → Row
 dup_row s who p fd = on_descriptor s p fd (λ f.
     Refuse errno.EMFILE (nat_le 32 (open_count p))
-    (Give (SetProcess who (with_descriptor p f.did) ∷ []) (answer.Number (lowest_free p.fds)) None))
+    (Commit (SetProcess who (with_descriptor p f.did) ∷ []) (answer.Number (lowest_free p.fds)) None))
 
 -- octal 0600
 abbrev pub pipe_mode : ℕ
@@ -157,7 +157,7 @@ pipe_row s who p =
     Refuse errno.EMFILE (nat_le 31 (open_count p))
     (Refuse errno.ENFILE (not (has_descriptions s p 2))
     (Refuse errno.ENOSPC (not (has_object_number s p))
-    (Give (piped s who p) (answer.Two (lowest_free p.fds) (lowest_free (with_descriptor p (next_description s p.label)).fds)) None)))
+    (Commit (piped s who p) (answer.Two (lowest_free p.fds) (lowest_free (with_descriptor p (next_description s p.label)).fds)) None)))
 
 -- up to n bytes of a file from the offset on
 abbrev pub taken_from : Object → Opened → ℕ → List ℕ
@@ -166,25 +166,25 @@ taken_from o f n = take n (drop f.description.offset o.bytes)
 -- bytes come out: of a file from the offset, which moves behind them, of a pipe or FIFO from the front
 abbrev pub reading : State → Opened → ℕ → Row
 reading s f n =
-    cond (is_stream (object_behind s f).kind)
-    (Give (with_bytes s f.description.object (drop n (object_behind s f).bytes) ∷ []) (answer.Bytes (take n (object_behind s f).bytes)) None)
-    (Give (moved f (f.description.offset + length (taken_from (object_behind s f) f n)) ∷ []) (answer.Bytes (taken_from (object_behind s f) f n)) None)
+    cond (is_stream (open_object s f).kind)
+    (Commit (with_bytes s f.description.object (drop n (open_object s f).bytes) ∷ []) (answer.Bytes (take n (open_object s f).bytes)) None)
+    (Commit (moved f (f.description.offset + length (taken_from (open_object s f) f n)) ∷ []) (answer.Bytes (taken_from (open_object s f) f n)) None)
 
 -- `read FD N`
 abbrev pub read_row : State → Pid → Process → ℕ → ℕ → Row
 read_row s who p fd n = on_descriptor s p fd (λ f.
     Refuse errno.EBADF (not f.description.reads)
     (Need (mac_read s p f.description.object Handle)
-    (need_if (is_stream (object_behind s f).kind) (mac_write s p f.description.object Handle)
-    (Refuse errno.EAGAIN (is_stream (object_behind s f).kind && length (object_behind s f).bytes == 0 && any_open s (λ d. d.writes) f.description.object)
+    (need_if (is_stream (open_object s f).kind) (mac_write s p f.description.object Handle)
+    (Refuse errno.EAGAIN (is_stream (open_object s f).kind && length (open_object s f).bytes == 0 && any_open s (λ d. d.writes) f.description.object)
     (reading s f n)))))
 
 -- bytes go in at the end of a pipe or FIFO
 abbrev pub putting : State → Opened → List ℕ → Row
 putting s f bytes =
     Refuse errno.EPIPE (not (any_open s (λ d. d.reads) f.description.object))
-    (Refuse errno.EAGAIN (nat_lt 4096 (length (object_behind s f).bytes + length bytes))
-    (Give (with_bytes s f.description.object ((object_behind s f).bytes ++ bytes) ∷ []) (answer.Number (length bytes)) None))
+    (Refuse errno.EAGAIN (nat_lt 4096 (length (open_object s f).bytes + length bytes))
+    (Commit (with_bytes s f.description.object ((open_object s f).bytes ++ bytes) ∷ []) (answer.Number (length bytes)) None))
 
 -- where a piece goes into a file: at the offset, or at the end
 abbrev pub place_in : Object → Opened → ℕ
@@ -198,37 +198,37 @@ written_over old at bytes = take at old ++ (bytes ++ drop (at + length bytes) ol
 abbrev pub rewriting : State → Opened → List ℕ → (List Change → Row) → Row
 rewriting s f bytes k =
     cond (length bytes == 0) (k [])
-    (rewritten s f.description.object Handle (λ change. k (change ∷ [])) (written_over (object_behind s f).bytes (place_in (object_behind s f) f) bytes))
+    (rewritten s f.description.object Handle (λ change. k (change ∷ [])) (written_over (open_object s f).bytes (place_in (open_object s f) f) bytes))
 
 -- a piece goes into a file, and the offset moves behind it
 abbrev pub writing : State → Opened → List ℕ → Row
 writing s f bytes =
-    Refuse errno.EINVAL (nat_lt (length (object_behind s f).bytes) (place_in (object_behind s f) f))
-    (Refuse errno.EFBIG (nat_lt 65536 (place_in (object_behind s f) f + length bytes))
-    (rewriting s f bytes (λ changes. Give (changes ++ moved f (place_in (object_behind s f) f + length bytes) ∷ []) (answer.Number (length bytes)) None)))
+    Refuse errno.EINVAL (nat_lt (length (open_object s f).bytes) (place_in (open_object s f) f))
+    (Refuse errno.EFBIG (nat_lt 65536 (place_in (open_object s f) f + length bytes))
+    (rewriting s f bytes (λ changes. Commit (changes ++ moved f (place_in (open_object s f) f + length bytes) ∷ []) (answer.Number (length bytes)) None)))
 
 -- `write FD BYTES`
 abbrev pub write_row : State → Pid → Process → ℕ → List ℕ → Row
 write_row s who p fd bytes = on_descriptor s p fd (λ f.
     Refuse errno.EBADF (not f.description.writes)
     (Need (mac_write s p f.description.object Handle)
-    (cond (is_stream (object_behind s f).kind) (putting s f bytes) (writing s f bytes))))
+    (cond (is_stream (open_object s f).kind) (putting s f bytes) (writing s f bytes))))
 
 -- from where an offset is counted
 abbrev pub base_of : State → Opened → Whence → ℕ
 base_of s f whence.Set = 0
 base_of s f whence.Cur = f.description.offset
-base_of s f whence.End = length (object_behind s f).bytes
+base_of s f whence.End = length (open_object s f).bytes
 
 -- `lseek FD set|cur|end OFFSET`
 abbrev pub lseek_row : State → Pid → Process → ℕ → Whence → ℤ → Row
 lseek_row s who p fd from offset = on_descriptor s p fd (λ f.
     Need (mac_read s p f.description.object Handle)
-    (Refuse errno.ESPIPE (is_stream (object_behind s f).kind)
-    (Refuse errno.EINVAL (int_lt (pos (base_of s f from) +ℤ offset) (pos 0) || int_lt (pos (length (object_behind s f).bytes)) (pos (base_of s f from) +ℤ offset))
-    (Give (moved f (unsigned_abs (pos (base_of s f from) +ℤ offset)) ∷ []) (answer.Number (unsigned_abs (pos (base_of s f from) +ℤ offset))) None))))
+    (Refuse errno.ESPIPE (is_stream (open_object s f).kind)
+    (Refuse errno.EINVAL (int_lt (pos (base_of s f from) +ℤ offset) (pos 0) || int_lt (pos (length (open_object s f).bytes)) (pos (base_of s f from) +ℤ offset))
+    (Commit (moved f (unsigned_abs (pos (base_of s f from) +ℤ offset)) ∷ []) (answer.Number (unsigned_abs (pos (base_of s f from) +ℤ offset))) None))))
 
 -- `fstat FD`
 abbrev pub fstat_row : State → Pid → Process → ℕ → Row
 fstat_row s who p fd = on_descriptor s p fd (λ f.
-    Need (mac_read s p f.description.object Handle) (Give [] (answer.Stat (stat_of s f.description.object)) None))
+    Need (mac_read s p f.description.object Handle) (Commit [] (answer.Stat (stat_of s f.description.object)) None))

@@ -20,7 +20,7 @@ use Rattle.kern_model.specs.Maps.{select}
 use Rattle.kern_model.specs.Kinds.{is_stream}
 use Rattle.kern_model.specs.State.{State, Process, Description, stub}
 use Rattle.kern_model.specs.Boot.{boot}
-use Rattle.kern_model.specs.Run.{Played, run}
+use Rattle.kern_model.specs.Run.{CallRecord, run}
 
 -- a label is Low for l where l dominates it
 abbrev pub low : Label → Label → Bool
@@ -92,16 +92,16 @@ pub record Answered : Type 0 where
   pub head : List ℕ
   pub reply : Reply
 
-abbrev pub answered : Played → Answered
+abbrev pub answered : CallRecord → Answered
 answered p = record { who = p.who; head = p.head; reply = p.reply }
 
 -- what Low tags were told, in order
-abbrev pub answers : Label → List Played → List Answered
+abbrev pub answers : Label → List CallRecord → List Answered
 answers l [] = []
 answers l (p ∷ ps) = cond (low l p.who.label) (answered p ∷ answers l ps) (answers l ps)
 
 -- all that was told
-abbrev pub all_answers : List Played → List Answered
+abbrev pub all_answers : List CallRecord → List Answered
 all_answers [] = []
 all_answers (p ∷ ps) = answered p ∷ all_answers ps
 
@@ -110,7 +110,7 @@ abbrev pub alone : Label → World → List ScriptItem → List Answered
 alone l w items = all_answers (run (part l (boot w)) (part_script l items))
 
 -- the calls before the first one that has a record which crosses l
-abbrev pub up_to : Label → List Played → List Played
+abbrev pub up_to : Label → List CallRecord → List CallRecord
 up_to l [] = []
 up_to l (p ∷ ps) = cond (crossing l p.recs) [] (p ∷ up_to l ps)
 

@@ -10,8 +10,8 @@ pub mod Rules
 pub mod Row
 pub mod Items
 pub mod Walk
-pub mod Making
-pub mod Told
+pub mod Create
+pub mod Stat
 pub mod Exec
 pub mod FileRows
 pub mod TreeRows
@@ -28,5 +28,5 @@ pub mod Valid
 pub mod Refusals
 pub mod Drawing
 pub mod World
-pub mod Fronts
+pub mod Prefixes
 pub mod Lineage

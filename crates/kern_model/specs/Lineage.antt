@@ -15,29 +15,29 @@ use Rattle.kern_model.specs.declared.world.ScriptItem.{ScriptItem}
 use Rattle.kern_model.specs.Exec.{exec_caps}
 use Rattle.kern_model.specs.Keys.{same_pid}
 use Rattle.kern_model.specs.Boot.{boot, boot_recs}
-use Rattle.kern_model.specs.Run.{Played, run}
+use Rattle.kern_model.specs.Run.{CallRecord, run}
 
 -- what a record makes of the sets that were told of each process before it: a start and `cap_set_proc` give those in the
 -- record, a child has its parent's, a program makes the exec formula of them, and any other record leaves them
-abbrev pub told_behind : CapSet → (Pid → CapState) → Rec → Pid → CapState
-told_behind bound before (rec.Boot who label caps) q = cond (same_pid q who) caps (before q)
-told_behind bound before (rec.Fork who child) q = cond (same_pid q child) (before who) (before q)
-told_behind bound before (rec.Exec who id file new) q = cond (same_pid q who) (exec_caps (before q) file bound) (before q)
-told_behind bound before (rec.CapSetProc who caps) q = cond (same_pid q who) caps (before q)
-told_behind bound before _ q = before q
+abbrev pub caps_after : CapSet → (Pid → CapState) → Rec → Pid → CapState
+caps_after bound before (rec.Boot who label caps) q = cond (same_pid q who) caps (before q)
+caps_after bound before (rec.Fork who child) q = cond (same_pid q child) (before who) (before q)
+caps_after bound before (rec.Exec who id file new) q = cond (same_pid q who) (exec_caps (before q) file bound) (before q)
+caps_after bound before (rec.CapSetProc who caps) q = cond (same_pid q who) caps (before q)
+caps_after bound before _ q = before q
 
 -- what records make of them, from the first to the last
-abbrev pub told : CapSet → (Pid → CapState) → List Rec → Pid → CapState
-told bound before [] q = before q
-told bound before (r ∷ rs) q = told bound (told_behind bound before r) rs q
+abbrev pub reported : CapSet → (Pid → CapState) → List Rec → Pid → CapState
+reported bound before [] q = before q
+reported bound before (r ∷ rs) q = reported bound (caps_after bound before r) rs q
 
 -- the capability sets of a process by the records alone; without a record of it they are empty
 abbrev pub caps_of : CapSet → List Rec → Pid → CapState
-caps_of bound rs q = told bound (λ _. no_flags) rs q
+caps_of bound rs q = reported bound (λ _. no_flags) rs q
 
 -- all records of a run: those of the start, and those of each call
 abbrev pub all_recs : World → List ScriptItem → List Rec
-all_recs w items = boot_recs w ++ flat_map (λ (p : Played). p.recs) (run (boot w) items)
+all_recs w items = boot_recs w ++ flat_map (λ (p : CallRecord). p.recs) (run (boot w) items)
 
 -- what `cap_set_proc` makes permitted was permitted, by the records before its own
 abbrev pub OnlyDrops : CapSet → List Rec → Type 0

@@ -40,10 +40,10 @@ abbrev pub call_named : List ℕ → Option CallName
 call_named = named word_of all_calls
 
 -- each call is found by its word
-pub call_again : (c : CallName) → call_named (word_of c) ≡ Some c
+pub call_round_trip : (c : CallName) → call_named (word_of c) ≡ Some c
 unfolding named
-call_again name.OpenPath = refl
-call_again _ = refl
+call_round_trip name.OpenPath = refl
+call_round_trip _ = refl
 
 -- ---- checks
 
@@ -56,10 +56,10 @@ abbrev pub check_named : List ℕ → Option CheckName
 check_named = named check_word all_checks
 
 -- each check is found by its word
-pub check_again : (c : CheckName) → check_named (check_word c) ≡ Some c
+pub check_round_trip : (c : CheckName) → check_named (check_word c) ≡ Some c
 unfolding named
-check_again check.MacRead = refl
-check_again _ = refl
+check_round_trip check.MacRead = refl
+check_round_trip _ = refl
 
 -- ---- error numbers
 
@@ -72,7 +72,7 @@ abbrev pub errno_named : List ℕ → Option Errno
 errno_named = named errno_word all_errnos
 
 -- each error number is found by its word
-pub errno_again : (e : Errno) → errno_named (errno_word e) ≡ Some e
+pub errno_round_trip : (e : Errno) → errno_named (errno_word e) ≡ Some e
 unfolding named
-errno_again errno.EACCES = refl
-errno_again _ = refl
+errno_round_trip errno.EACCES = refl
+errno_round_trip _ = refl

@@ -20,7 +20,7 @@ use Rattle.kern_model.specs.Exec.{exec_caps, exec_ids}
 use Rattle.kern_model.specs.Keys.{same_pid, is_pid}
 use Rattle.kern_model.specs.Maps.{any_entry}
 use Rattle.kern_model.specs.Rules.{same_label, mac_read, mac_write_process, mac_subject, dac_execute, exec_kind, kill_rule, cap_grow, setuid_rule, setgid_rule, setuid_all, setgid_all}
-use Rattle.kern_model.specs.Row.{Row, Need, Soft, Refuse, Fail, Give, need_if}
+use Rattle.kern_model.specs.Row.{Row, Need, Soft, Refuse, Fail, Commit, need_if}
 use Rattle.kern_model.specs.State.{State, Process, Change, SetProcess, DropProcess, DrawProcess, drawn, next_process, object_at}
 
 -- ---- children
@@ -33,7 +33,7 @@ child_of who p = record p { parent = Some who; ended = [] }
 abbrev pub fork_row : State → Pid → Process → Row
 fork_row s who p =
     Refuse errno.EAGAIN (nat_le 4095 (drawn s.process_numbers p.label))
-    (Give (DrawProcess p.label (drawn s.process_numbers p.label + 1) ∷ SetProcess (next_process s p.label) (child_of who p) ∷ [])
+    (Commit (DrawProcess p.label (drawn s.process_numbers p.label + 1) ∷ SetProcess (next_process s p.label) (child_of who p) ∷ [])
     (answer.Process (next_process s p.label)) (Some (rec.Fork who (next_process s p.label))))
 
 -- whether a process has a living child
@@ -43,7 +43,7 @@ has_child s who = any_entry (λ q (child : Process). is_pid who child.parent) s.
 -- the first child that ended is taken
 abbrev pub take_ended : Pid → Process → List (Pid × Ending) → Row
 take_ended who p [] = Fail errno.EAGAIN
-take_ended who p (e ∷ es) = Give (SetProcess who (record p { ended = es }) ∷ []) (answer.Ended e.0 e.1) None
+take_ended who p (e ∷ es) = Commit (SetProcess who (record p { ended = es }) ∷ []) (answer.Ended e.0 e.1) None
 
 -- `wait`
 abbrev pub wait_row : State → Pid → Process → Row
@@ -67,15 +67,15 @@ ending_of s who p how = DropProcess who ∷ (closing s (λ (d : Descriptor). sam
 
 -- `exit N`
 abbrev pub exit_row : State → Pid → Process → ℕ → Row
-exit_row s who p code = Give (ending_of s who p (ending.Exit code)) answer.Nothing (Some (rec.Exit who (ending.Exit code)))
+exit_row s who p code = Commit (ending_of s who p (ending.Exit code)) answer.Nothing (Some (rec.Exit who (ending.Exit code)))
 
 -- the target ends
 abbrev pub kill_with : State → Pid → Process → Ending → Row
-kill_with s target t how = Give (ending_of s target t how) answer.Nothing (Some (rec.Exit target how))
+kill_with s target t how = Commit (ending_of s target t how) answer.Nothing (Some (rec.Exit target how))
 
 -- what a signal does
 abbrev pub signalled : State → Pid → Process → Signal → Row
-signalled s target t signal.Zero = Give [] answer.Nothing None
+signalled s target t signal.Zero = Commit [] answer.Nothing None
 signalled s target t signal.Term = kill_with s target t ending.Term
 signalled s target t signal.Kill = kill_with s target t ending.Kill
 
@@ -98,36 +98,36 @@ exec_row s who p path = on_path s p path (λ id place.
     Need (mac_read s p id place)
     (Need (exec_kind s id place)
     (Need (dac_execute s p id place)
-    (Give (SetProcess who (record p { ids = exec_ids p.ids (object_at s id).attr; caps = exec_caps p.caps (object_at s id).attr.caps s.bound }) ∷ [])
+    (Commit (SetProcess who (record p { ids = exec_ids p.ids (object_at s id).attr; caps = exec_caps p.caps (object_at s id).attr.caps s.bound }) ∷ [])
     answer.Nothing (Some (rec.Exec who id (object_at s id).attr.caps (exec_caps p.caps (object_at s id).attr.caps s.bound)))))))
 
 -- ---- what a process tells of itself
 
 -- `getpid`
 abbrev pub getpid_row : State → Pid → Process → Row
-getpid_row s who p = Give [] (answer.Process who) None
+getpid_row s who p = Commit [] (answer.Process who) None
 
 -- `getppid`
 abbrev pub getppid_row : State → Pid → Process → Row
-getppid_row s who p = Give [] (answer.Parent p.parent) None
+getppid_row s who p = Commit [] (answer.Parent p.parent) None
 
 -- `getids`
 abbrev pub getids_row : State → Pid → Process → Row
-getids_row s who p = Give [] (answer.Ids p.ids) None
+getids_row s who p = Commit [] (answer.Ids p.ids) None
 
 -- `cap_get_proc`
 abbrev pub cap_get_proc_row : State → Pid → Process → Row
-cap_get_proc_row s who p = Give [] (answer.Caps p.caps) None
+cap_get_proc_row s who p = Commit [] (answer.Caps p.caps) None
 
 -- `mac_get_proc`
 abbrev pub mac_get_proc_row : State → Pid → Process → Row
-mac_get_proc_row s who p = Give [] (answer.Mark p.label) None
+mac_get_proc_row s who p = Commit [] (answer.Mark p.label) None
 
 -- ---- what a process sets of itself
 
 -- the caller gets other ids
 abbrev pub set_ids : Pid → Process → Ids → Row
-set_ids who p ids = Give (SetProcess who (record p { ids = ids }) ∷ []) answer.Nothing None
+set_ids who p ids = Commit (SetProcess who (record p { ids = ids }) ∷ []) answer.Nothing None
 
 -- `setuid UID`
 abbrev pub setuid_row : State → Pid → Process → ℕ → Row
@@ -145,14 +145,14 @@ setgid_row s who p group =
 
 -- `umask MODE`
 abbrev pub umask_row : State → Pid → Process → ℕ → Row
-umask_row s who p mode = Give (SetProcess who (record p { umask = mode }) ∷ []) (answer.Bits p.umask) None
+umask_row s who p mode = Commit (SetProcess who (record p { umask = mode }) ∷ []) (answer.Bits p.umask) None
 
 -- `cap_set_proc CAPS`
 abbrev pub cap_set_proc_row : State → Pid → Process → CapState → Row
-cap_set_proc_row s who p caps = Need (cap_grow who p caps) (Give (SetProcess who (record p { caps = caps }) ∷ []) answer.Nothing (Some (rec.CapSetProc who caps)))
+cap_set_proc_row s who p caps = Need (cap_grow who p caps) (Commit (SetProcess who (record p { caps = caps }) ∷ []) answer.Nothing (Some (rec.CapSetProc who caps)))
 
 -- `mac_set_proc LABEL`
 abbrev pub mac_set_proc_row : State → Pid → Process → Label → Row
 mac_set_proc_row s who p new =
     need_if (not (same_label new p.label)) (mac_subject who p new)
-    (Give (SetProcess who (record p { label = new }) ∷ []) answer.Nothing (Some (rec.MacSetProc who p.label new)))
+    (Commit (SetProcess who (record p { label = new }) ∷ []) answer.Nothing (Some (rec.MacSetProc who p.label new)))

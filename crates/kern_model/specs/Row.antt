@@ -26,14 +26,14 @@ pub data Row : Type 0 where
   -- a refusal without a condition
   Fail : (errno : Errno) → Row
   -- nothing stopped the call: what changes, what it answers, and its own record if it leaves one
-  Give : (changes : List Change) (answer : Answer) (own : Option Rec) → Row
+  Commit : (changes : List Change) (answer : Answer) (own : Option Rec) → Row
 
 -- a check that is made only where it is asked for
 unfoldable pub need_if : Bool → Check → Row → Row
 need_if asked check rest = cond asked (Need check rest) rest
 
 -- who asks, and with which effective capabilities
-pub record Asker : Type 0 where
+pub record Subject : Type 0 where
   pub who : Pid
   pub label : Label
   pub effective : CapSet
@@ -44,7 +44,7 @@ may caps None = false
 may caps (Some c) = has caps c
 
 -- passed where the rule holds, and else exercised where the capability is effective
-unfoldable pub verdict_of : Asker → Check → Verdict
+unfoldable pub verdict_of : Subject → Check → Verdict
 verdict_of a c = cond c.holds Passed (cond (may a.effective (cap_of c.name)) Exercised Denied)
 
 abbrev pub is_denied : Verdict → Bool
@@ -52,12 +52,12 @@ is_denied Passed = false
 is_denied Exercised = false
 is_denied Denied = true
 
-abbrev pub exercise_with : Asker → Check → Option Cap → List Rec
+abbrev pub exercise_with : Subject → Check → Option Cap → List Rec
 exercise_with a c None = []
 exercise_with a c (Some with) = Exercise a.who a.label with c.name c.thing c.thing_label c.new_label c.place ∷ []
 
 -- the exercises so far, and one more where the check was exercised
-abbrev pub noted : Asker → Check → Verdict → List Rec → List Rec
+abbrev pub noted : Subject → Check → Verdict → List Rec → List Rec
 noted a c Passed used = used
 noted a c Exercised used = used ++ exercise_with a c (cap_of c.name)
 noted a c Denied used = used
@@ -69,17 +69,17 @@ pub data End : Type 0 where
   Done : (changes : List Change) (answer : Answer) (own : Option Rec) → End
 
 -- the exercises, and how the call ends
-pub record Judged : Type 0 where
+pub record CheckOutcome : Type 0 where
   pub used : List Rec
   pub end : End
 
-abbrev pub judged : List Rec → End → Judged
-judged used end = record { used = used; end = end }
+abbrev pub check_outcome : List Rec → End → CheckOutcome
+check_outcome used end = record { used = used; end = end }
 
 -- the first item that stops, or else what is done, with the exercises before it added to those so far
-unfoldable pub judge : Asker → List Rec → Row → Judged
-judge a used (Need c rest) = cond (is_denied (verdict_of a c)) (judged used (Stopped c.name c.place)) (judge a (noted a c (verdict_of a c) used) rest)
+unfoldable pub judge : Subject → List Rec → Row → CheckOutcome
+judge a used (Need c rest) = cond (is_denied (verdict_of a c)) (check_outcome used (Stopped c.name c.place)) (judge a (noted a c (verdict_of a c) used) rest)
 judge a used (Soft c granted weaker) = cond (is_denied (verdict_of a c)) (judge a used weaker) (judge a (noted a c (verdict_of a c) used) granted)
-judge a used (Refuse e holds rest) = cond holds (judged used (Refused e)) (judge a used rest)
-judge a used (Fail e) = judged used (Refused e)
-judge a used (Give changes answer own) = judged used (Done changes answer own)
+judge a used (Refuse e holds rest) = cond holds (check_outcome used (Refused e)) (judge a used rest)
+judge a used (Fail e) = check_outcome used (Refused e)
+judge a used (Commit changes answer own) = check_outcome used (Done changes answer own)

@@ -8,18 +8,18 @@ use Rattle.kern_model.specs.State.{State}
 use Rattle.kern_model.specs.Step.{step}
 
 -- one call that was played: who called, the word or words that the reply shows, the reply and the records
-pub record Played : Type 0 where
+pub record CallRecord : Type 0 where
   pub who : Pid
   pub head : List ℕ
   pub reply : Reply
   pub recs : List Rec
 
 -- an item as it is played on a state
-abbrev pub played : State → ScriptItem → Played
+abbrev pub played : State → ScriptItem → CallRecord
 played s i = record { who = i.who; head = i.head; reply = (step s i.who i.call).reply; recs = (step s i.who i.call).recs }
 
 -- what is played of a script from a state on
-abbrev pub run : State → List ScriptItem → List Played
+abbrev pub run : State → List ScriptItem → List CallRecord
 run s [] = []
 run s (i ∷ is) = played s i ∷ run (step s i.who i.call).state is
 

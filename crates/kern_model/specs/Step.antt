@@ -14,16 +14,16 @@ use Rattle.kern_model.specs.declared.records.Rec.TheVariants as rec
 use Rattle.kern_model.specs.State.{State, Process, Change, changed_by}
 use Rattle.kern_model.specs.Names.{name_of}
 use Rattle.kern_model.specs.Rules.{denial_of}
-use Rattle.kern_model.specs.Row.{Asker, Judged, End, Stopped, Refused, Done, judge}
+use Rattle.kern_model.specs.Row.{Subject, CheckOutcome, End, Stopped, Refused, Done, judge}
 use Rattle.kern_model.specs.Table.{row}
 
-pub record Outcome : Type 0 where
+pub record StepResult : Type 0 where
   pub state : State
   pub reply : Reply
   pub recs : List Rec
 
-abbrev pub asker : Pid → Process → Asker
-asker who p = record { who = who; label = p.label; effective = p.caps.e }
+abbrev pub subject : Pid → Process → Subject
+subject who p = record { who = who; label = p.label; effective = p.caps.e }
 
 abbrev pub reply_of : End → Reply
 reply_of (Stopped name place) = reply.Denied (denial_of name) name place
@@ -45,17 +45,17 @@ own_of who p name (Stopped check place) = cond p.audited (rec.Deny who name (den
 own_of who p name (Refused e) = []
 own_of who p name (Done changes answer own) = option_to_list own
 
-abbrev pub settled : State → Pid → Process → CallName → Judged → Outcome
+abbrev pub settled : State → Pid → Process → CallName → CheckOutcome → StepResult
 settled s who p name j = record { state = state_after s j.end; reply = reply_of j.end; recs = j.used ++ own_of who p name j.end }
 
 -- where no living process has the number, nothing is asked and nothing changes
-abbrev pub step_by : State → Pid → Call → Option Process → Outcome
+abbrev pub step_by : State → Pid → Call → Option Process → StepResult
 step_by s who call None = record { state = s; reply = reply.Refused errno.ESRCH; recs = [] }
-step_by s who call (Some p) = settled s who p (name_of call) (judge (asker who p) [] (row s who p call))
+step_by s who call (Some p) = settled s who p (name_of call) (judge (subject who p) [] (row s who p call))
 
-unfoldable pub step : State → Pid → Call → Outcome
+unfoldable pub step : State → Pid → Call → StepResult
 step s who call = step_by s who call (map.get s.procs who)
 
 -- what was told and left is what the call table says, and so is the new state
 abbrev pub IsPlayed : State → Pid → Call → declared.Outcome → State → Type 0
-IsPlayed s who call told t = step s who call ≡ record { state = t; reply = told.reply; recs = told.recs }
+IsPlayed s who call reported t = step s who call ≡ record { state = t; reply = reported.reply; recs = reported.recs }

@@ -10,14 +10,14 @@ use Rattle.kern_model.specs.declared.numbers.Oid.{Oid}
 use Rattle.kern_model.specs.declared.numbers.Pid.{Pid}
 use Rattle.kern_model.specs.declared.objects.Body.{Body}
 use Rattle.kern_model.specs.declared.objects.Body.TheVariants as body
-use Rattle.kern_model.specs.Entries.{is_empty, is_removed, is_under, name_count, names_in}
+use Rattle.kern_model.specs.Entries.{is_empty, is_removed, is_under, link_count, names_in}
 use Rattle.kern_model.specs.Keys.{same_oid}
 use Rattle.kern_model.specs.Kinds.{is_dir, object_with, masked}
-use Rattle.kern_model.specs.Making.{make_in, enter_in, attr_of, made, has_object_number}
+use Rattle.kern_model.specs.Create.{make_in, enter_in, attr_of, made, has_object_number}
 use Rattle.kern_model.specs.Rules.{mac_read, mac_write, dac_read, dac_search, dac_write, held_order, link_dir, unlink_dir}
-use Rattle.kern_model.specs.Row.{Row, Need, Refuse, Give}
+use Rattle.kern_model.specs.Row.{Row, Need, Refuse, Commit}
 use Rattle.kern_model.specs.State.{State, Process, SetEntry, DropEntry, SetProcess, object_at}
-use Rattle.kern_model.specs.Told.{stat_of}
+use Rattle.kern_model.specs.Stat.{stat_of}
 use Rattle.kern_model.specs.Walk.{walk, reach, to_new_name, to_entry, to_entry_of_object, last_place, dir_place}
 
 -- ---- making
@@ -27,7 +27,7 @@ abbrev pub make_row : State → Pid → Process → PathValue → ℕ → Body �
 make_row s who p path mode body = walk s p (λ n. First n) path (λ found. to_new_name found (λ dir name.
     make_in s p dir (dir_place (λ n. First n) path)
     (Refuse errno.ENOSPC (not (has_object_number s p))
-    (Give (made s p dir name (object_with p.label (attr_of p (masked mode p.umask)) body)) answer.Nothing None))))
+    (Commit (made s p dir name (object_with p.label (attr_of p (masked mode p.umask)) body)) answer.Nothing None))))
 
 -- `mkfifo PATH MODE`
 abbrev pub mkfifo_row : State → Pid → Process → PathValue → ℕ → Row
@@ -52,14 +52,14 @@ rmdir_row s who p path = walk s p (λ n. First n) path (λ found. to_entry_of_ob
     leave_from s p path dir id
     (Refuse errno.ENOTDIR (not (is_dir (object_at s id).kind))
     (Refuse errno.ENOTEMPTY (not (is_empty s id))
-    (Give (DropEntry (dir, name) ∷ []) answer.Nothing None)))))
+    (Commit (DropEntry (dir, name) ∷ []) answer.Nothing None)))))
 
 -- `unlink PATH`
 abbrev pub unlink_row : State → Pid → Process → PathValue → Row
 unlink_row s who p path = walk s p (λ n. First n) path (λ found. to_entry_of_object found (λ dir name id.
     leave_from s p path dir id
     (Need (unlink_dir s id (last_place (λ n. First n) path))
-    (Give (DropEntry (dir, name) ∷ []) answer.Nothing None))))
+    (Commit (DropEntry (dir, name) ∷ []) answer.Nothing None))))
 
 -- ---- linking
 
@@ -68,10 +68,10 @@ abbrev pub link_row : State → Pid → Process → PathValue → PathValue → 
 link_row s who p path to = reach s p (λ n. First n) path (λ id.
     Need (mac_write s p id (last_place (λ n. First n) path))
     (Need (link_dir s id (last_place (λ n. First n) path))
-    (Refuse errno.EMLINK (nat_le 1024 (name_count s id))
+    (Refuse errno.EMLINK (nat_le 1024 (link_count s id))
     (walk s p (λ n. Second n) to (λ found. to_new_name found (λ dir name.
     enter_in s p dir (dir_place (λ n. Second n) to) (held_order s id dir (dir_place (λ n. Second n) to))
-    (Give (SetEntry (dir, name) id ∷ []) answer.Nothing None)))))))
+    (Commit (SetEntry (dir, name) id ∷ []) answer.Nothing None)))))))
 
 -- ---- moving
 
@@ -80,14 +80,14 @@ abbrev pub move_row : State → (dir : Oid) → (name : Name) → (id : Oid) →
 move_row s dir name id into new =
     Refuse errno.EINVAL (is_dir (object_at s id).kind && is_under s into id)
     (Refuse errno.ENOENT (is_removed s into)
-    (Give (DropEntry (dir, name) ∷ SetEntry (into, new) id ∷ []) answer.Nothing None))
+    (Commit (DropEntry (dir, name) ∷ SetEntry (into, new) id ∷ []) answer.Nothing None))
 
 -- the object at the target gives way, if there is one: nothing is done where it is the object itself, and the two must be of one sort
 abbrev pub give_way : State → Process → Oid → Option Oid → Place → Row → Row
 give_way s p id None place rest = rest
 give_way s p id (Some t) place rest =
     Need (mac_write s p t place)
-    (cond (same_oid t id) (Give [] answer.Nothing None)
+    (cond (same_oid t id) (Commit [] answer.Nothing None)
     (Refuse errno.ENOTDIR (is_dir (object_at s id).kind && not (is_dir (object_at s t).kind))
     (Refuse errno.EISDIR (is_dir (object_at s t).kind && not (is_dir (object_at s id).kind))
     (Refuse errno.ENOTEMPTY (is_dir (object_at s t).kind && not (is_empty s t)) rest))))
@@ -111,12 +111,12 @@ readdir_row s who p path = reach s p (λ n. First n) path (λ id.
     Need (mac_read s p id (last_place (λ n. First n) path))
     (Refuse errno.ENOTDIR (not (is_dir (object_at s id).kind))
     (Need (dac_read s p id (last_place (λ n. First n) path))
-    (Give [] (answer.Names (names_in s id)) None))))
+    (Commit [] (answer.Names (names_in s id)) None))))
 
 -- `stat PATH`
 abbrev pub stat_row : State → Pid → Process → PathValue → Row
 stat_row s who p path = reach s p (λ n. First n) path (λ id.
-    Need (mac_read s p id (last_place (λ n. First n) path)) (Give [] (answer.Stat (stat_of s id)) None))
+    Need (mac_read s p id (last_place (λ n. First n) path)) (Commit [] (answer.Stat (stat_of s id)) None))
 
 -- `chdir PATH`
 abbrev pub chdir_row : State → Pid → Process → PathValue → Row
@@ -124,4 +124,4 @@ chdir_row s who p path = reach s p (λ n. First n) path (λ id.
     Need (mac_read s p id (last_place (λ n. First n) path))
     (Refuse errno.ENOTDIR (not (is_dir (object_at s id).kind))
     (Need (dac_search s p id (last_place (λ n. First n) path))
-    (Give (SetProcess who (record p { cwd = id }) ∷ []) answer.Nothing None))))
+    (Commit (SetProcess who (record p { cwd = id }) ∷ []) answer.Nothing None))))

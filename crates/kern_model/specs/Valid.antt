@@ -15,7 +15,7 @@ use Rattle.kern_model.specs.declared.numbers.Oid.{Oid}
 use Rattle.kern_model.specs.declared.numbers.Did.{Did}
 use Rattle.kern_model.specs.declared.objects.Kind.TheVariants as kind
 use Rattle.kern_model.specs.declared.objects.Object.{Object}
-use Rattle.kern_model.specs.Entries.{is_empty, is_removed, name_count}
+use Rattle.kern_model.specs.Entries.{is_empty, is_removed, link_count}
 use Rattle.kern_model.specs.Keys.{oid_cmp, Spot}
 use Rattle.kern_model.specs.Kinds.{is_dir, is_file, is_stream, is_mode, is_permission}
 use Rattle.kern_model.specs.Descriptors.{any_open}
@@ -66,7 +66,7 @@ pub record IsValidObject (s : State) (id : Oid) (o : Object) : Type 0 where
   pub stream_bytes : is_stream o.kind ≡ true → length o.bytes ≤ 4096
   -- a FIFO without a description is empty
   pub fifo_bytes : o.kind ≡ kind.Fifo → any_open s (λ d. true) id ≡ false → o.bytes ≡ []
-  pub few_names : is_dir o.kind ≡ false → name_count s id ≤ 1024
+  pub few_names : is_dir o.kind ≡ false → link_count s id ≤ 1024
   -- a directory is reached from the root, or is removed and empty
   pub reached : o.kind ≡ kind.Dir → IsReached s id ⊎ ((is_removed s id ≡ true) × (is_empty s id ≡ true))
 

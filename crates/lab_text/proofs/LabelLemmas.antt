@@ -10,19 +10,19 @@ use Rattle.std.proofs.lemmas.Option.{same_Some}
 use Rattle.lab_lattice.specs.Cats.{CatSet}
 use Rattle.lab_text.specs.Names.{Names, same_bytes, place_of}
 use Rattle.lab_text.specs.Policy.{PolicyNames}
-use Rattle.lab_text.specs.Text.{is_colon, LabelWords, parts_of, label_words, is_label_text, places_of, label_of, label_said, first_unknown, unknown_in, SaysNone, names_in, behind_mark}
-use Rattle.lab_text.specs.Scan.{names_behind, behind_first}
+use Rattle.lab_text.specs.Text.{is_colon, LabelWords, parts_of, label_words, is_label_text, places_of, label_of, parse_label, first_unknown, unknown_in, SaysNone, names_in, past_mark}
+use Rattle.lab_text.specs.Scan.{names_after, first_after}
 use Rattle.lab_text.proofs.Made.{any_before_end, position_found, position_missing}
-use Rattle.lab_text.proofs.Said.{labelled, words_of}
+use Rattle.lab_text.proofs.Parsed.{labelled, words_of}
 use Rattle.lab_text.specs.declared.text.LabelError.{LabelError}
 use Rattle.lab_text.specs.declared.text.LabelError.TheVariants as error
 
 -- ---- a text that was cut at its colon
 
 abbrev words_read : List ℕ → Option (List ℕ) → LabelWords
-words_read level list = record { level = level; cats = names_behind list }
+words_read level list = record { level = level; cats = names_after list }
 
-parts_cut : (t : List ℕ) → parts_of t ≡ words_read (before_first is_colon t) (behind_first is_colon t)
+parts_cut : (t : List ℕ) → parts_of t ≡ words_read (before_first is_colon t) (first_after is_colon t)
 parts_cut t = by_colon (list_any is_colon t) refl
   where
     by_colon : (v : Bool) → list_any is_colon t ≡ v
@@ -34,10 +34,10 @@ parts_cut t = by_colon (list_any is_colon t) refl
 pub record IsRead (text level : List ℕ) (list : Option (List ℕ)) : Type 0 where
   pub form : is_label_text text ≡ true
   pub before : level ≡ before_first is_colon text
-  pub behind : list ≡ behind_first is_colon text
+  pub after : list ≡ first_after is_colon text
 
 read_words : {text level : List ℕ} {list : Option (List ℕ)} → IsRead text level list → label_words text ≡ Some (words_read level list)
-read_words {text} h = words_of text h.form ∙ ap Some (parts_cut text ∙ sym (λ i. words_read (h.before i) (h.behind i)))
+read_words {text} h = words_of text h.form ∙ ap Some (parts_cut text ∙ sym (λ i. words_read (h.before i) (h.after i)))
 
 labelled_is : (level : Option ℕ) (cats : Option (List ℕ)) (first : ℕ) (second : CatSet) → level ≡ Some first → option_map set.from_list cats ≡ Some second → labelled level cats ≡ Some (record { first = first; second = second })
 labelled_is level cats first second e h = ap (λ o. labelled o cats) e ∙ by_cats cats h
@@ -46,29 +46,29 @@ labelled_is level cats first second e h = ap (λ o. labelled o cats) e ∙ by_ca
     by_cats None h = absurd (cc)
     by_cats (Some is) h = ap (λ (c : CatSet). Some (record { first = first; second = c })) (same_Some (set.from_list is) second h)
 
-pub read_said : {text level : List ℕ} {list : Option (List ℕ)} → IsRead text level list → (p : PolicyNames) (first : ℕ) (second : CatSet) → place_of p.levels level ≡ Some first
-    → option_map set.from_list (places_of p.cats (names_behind list)) ≡ Some second → label_said p text ≡ Some (record { first = first; second = second })
-unfolding label_said
-read_said {level = level} {list = list} h p first second e f = ap (option_and_then (label_of p)) (read_words h) ∙ labelled_is (place_of p.levels level) (places_of p.cats (names_behind list)) first second e f
+pub read_parsed : {text level : List ℕ} {list : Option (List ℕ)} → IsRead text level list → (p : PolicyNames) (first : ℕ) (second : CatSet) → place_of p.levels level ≡ Some first
+    → option_map set.from_list (places_of p.cats (names_after list)) ≡ Some second → parse_label p text ≡ Some (record { first = first; second = second })
+unfolding parse_label
+read_parsed {level = level} {list = list} h p first second e f = ap (option_and_then (label_of p)) (read_words h) ∙ labelled_is (place_of p.levels level) (places_of p.cats (names_after list)) first second e f
 
 pub level_unknown : {text level : List ℕ} {list : Option (List ℕ)} → IsRead text level list → (p : PolicyNames) → place_of p.levels level ≡ None → SaysNone p text (error.UnknownLevel 0)
 level_unknown {level = level} {list = list} h p e =
     ap (option_and_then (unknown_in p)) (read_words h)
-    ∙ ap (λ v. cond v (option_map error.UnknownCategory (first_unknown p.cats (length level + 1) (names_behind list))) (Some (error.UnknownLevel 0))) (position_missing (same_bytes level) p.levels e).1
+    ∙ ap (λ v. cond v (option_map error.UnknownCategory (first_unknown p.cats (length level + 1) (names_after list))) (Some (error.UnknownLevel 0))) (position_missing (same_bytes level) p.levels e).1
 
 pub cat_unknown : {text level : List ℕ} {list : Option (List ℕ)} → IsRead text level list → (p : PolicyNames) (first : ℕ) (e : LabelError) → place_of p.levels level ≡ Some first
-    → option_map error.UnknownCategory (first_unknown p.cats (length level + 1) (names_behind list)) ≡ Some e → SaysNone p text e
+    → option_map error.UnknownCategory (first_unknown p.cats (length level + 1) (names_after list)) ≡ Some e → SaysNone p text e
 cat_unknown {text = text} {level = level} {list = list} h p first e place unknown = by_error e unknown
   where
-    cause : option_and_then (unknown_in p) (label_words text) ≡ option_map error.UnknownCategory (first_unknown p.cats (length level + 1) (names_behind list))
+    cause : option_and_then (unknown_in p) (label_words text) ≡ option_map error.UnknownCategory (first_unknown p.cats (length level + 1) (names_after list))
     cause = ap (option_and_then (unknown_in p)) (read_words h)
-        ∙ ap (λ v. cond v (option_map error.UnknownCategory (first_unknown p.cats (length level + 1) (names_behind list))) (Some (error.UnknownLevel 0))) (position_found (same_bytes level) p.levels first place).2
+        ∙ ap (λ v. cond v (option_map error.UnknownCategory (first_unknown p.cats (length level + 1) (names_after list))) (Some (error.UnknownLevel 0))) (position_found (same_bytes level) p.levels first place).2
 
     no_syntax : (o : Option ℕ) (at : ℕ) → option_map error.UnknownCategory o ≡ Some (error.Syntax at) → ⊥
     no_syntax None at u = cc
     no_syntax (Some a) at u = cc
 
-    by_error : (e : LabelError) → option_map error.UnknownCategory (first_unknown p.cats (length level + 1) (names_behind list)) ≡ Some e → SaysNone p text e
+    by_error : (e : LabelError) → option_map error.UnknownCategory (first_unknown p.cats (length level + 1) (names_after list)) ≡ Some e → SaysNone p text e
     by_error (error.Syntax at) u = absurd (no_syntax _ at u)
     by_error (error.UnknownLevel at) u = cause ∙ u
     by_error (error.UnknownCategory at) u = cause ∙ u
@@ -76,5 +76,5 @@ cat_unknown {text = text} {level = level} {list = list} h p first e place unknow
 -- ---- a label's text as it is written
 
 -- past the last category the text is whole
-pub all_written : (text all : List ℕ) (mark i : ℕ) (cats : CatSet) (names : Names) → text ++ behind_mark mark (names_in cats i (drop i names)) ≡ all → length names ≤ i → text ≡ all
-all_written text all mark i cats names h past = sym (append-nil text) ∙ ap (λ ns. text ++ behind_mark mark (names_in cats i ns)) (sym (drop_all i names past)) ∙ h
+pub all_written : (text all : List ℕ) (mark i : ℕ) (cats : CatSet) (names : Names) → text ++ past_mark mark (names_in cats i (drop i names)) ≡ all → length names ≤ i → text ≡ all
+all_written text all mark i cats names h past = sym (append-nil text) ∙ ap (λ ns. text ++ past_mark mark (names_in cats i ns)) (sym (drop_all i names past)) ∙ h

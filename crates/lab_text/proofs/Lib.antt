@@ -3,4 +3,4 @@ pub mod PolicyLemmas
 pub mod NameLemmas
 pub mod LabelLemmas
 pub mod Made
-pub mod Said
+pub mod Parsed

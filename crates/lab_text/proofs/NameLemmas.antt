@@ -13,18 +13,18 @@ use Rattle.std.proofs.lemmas.List.Splits.{slice_split_first, slice_split-cons_no
 use Rattle.lab_lattice.specs.Cats.{CatSet, has_cat, no_cats, one_cat, cats_join, has-no_cats, has-one_cat, has-cats_join, same_cats}
 use Rattle.lab_text.specs.Names.{Names, same_bytes, place_of}
 use Rattle.lab_text.specs.Text.{is_comma, places_of, first_unknown}
-use Rattle.lab_text.specs.Scan.{names_behind, behind_first}
+use Rattle.lab_text.specs.Scan.{names_after, first_after}
 use Rattle.lab_text.proofs.Made.{any_before_end, position_found, position_missing}
 
 -- ---- cuts
 
-pub cut_behind : (p : ℕ → Bool) (t : List ℕ) (n : ℕ) → position p t ≡ Some n → Some (take (length t - (n + 1)) (drop (n + 1) t)) ≡ behind_first p t
-cut_behind p t n h =
+pub cut_after : (p : ℕ → Bool) (t : List ℕ) (n : ℕ) → position p t ≡ Some n → Some (take (length t - (n + 1)) (drop (n + 1) t)) ≡ first_after p t
+cut_after p t n h =
     let found = position_found p t n h in
     ap Some (take_rest t (n + 1) ∙ ap (λ k. drop (k + 1) t) (sym found.1)) ∙ ap (λ v. cond v (Some (after_first p t)) None) (sym found.2)
 
-pub uncut_behind : (p : ℕ → Bool) (t : List ℕ) → position p t ≡ None → None ≡ behind_first p t
-uncut_behind p t h = ap (λ v. cond v (Some (after_first p t)) None) (sym (position_missing p t h).1)
+pub uncut_after : (p : ℕ → Bool) (t : List ℕ) → position p t ≡ None → None ≡ first_after p t
+uncut_after p t h = ap (λ v. cond v (Some (after_first p t)) None) (sym (position_missing p t h).1)
 
 uncut_split : (t : List ℕ) → list_any is_comma t ≡ false → slice_split is_comma t ≡ t ∷ []
 uncut_split [] h = refl
@@ -33,10 +33,10 @@ uncut_split (b ∷ bs) h =
     slice_split-cons_no is_comma b bs both.0 ∙ ap (onto_first b) (uncut_split bs both.1)
 
 -- the first name in a comma list, and those behind it
-names_cut : (t : List ℕ) → slice_split is_comma t ≡ before_first is_comma t ∷ names_behind (behind_first is_comma t)
+names_cut : (t : List ℕ) → slice_split is_comma t ≡ before_first is_comma t ∷ names_after (first_after is_comma t)
 names_cut t = by_comma (list_any is_comma t) refl
   where
-    by_comma : (v : Bool) → list_any is_comma t ≡ v → slice_split is_comma t ≡ before_first is_comma t ∷ names_behind (cond v (Some (after_first is_comma t)) None)
+    by_comma : (v : Bool) → list_any is_comma t ≡ v → slice_split is_comma t ≡ before_first is_comma t ∷ names_after (cond v (Some (after_first is_comma t)) None)
     by_comma true h = slice_split_first is_comma t 0 (ltb-true (position_or_len is_comma t) (length t) (sym (any_before_end is_comma t) ∙ h))
     by_comma false h =
         uncut_split t h
@@ -117,23 +117,23 @@ unknown_here known at w ws h = by_place (place_of known w) refl h
 pub record IsCut (rest : Option (List ℕ)) (word : List ℕ) (more : Option (List ℕ)) (text : List ℕ) : Type 0 where
   pub some : rest ≡ Some text
   pub before : word ≡ before_first is_comma text
-  pub behind : more ≡ behind_first is_comma text
+  pub after : more ≡ first_after is_comma text
 
-names_left : {rest more : Option (List ℕ)} {word text : List ℕ} → IsCut rest word more text → names_behind rest ≡ word ∷ names_behind more
-names_left {text = text} h = ap names_behind h.some ∙ names_cut text ∙ sym (λ i. h.before i ∷ names_behind (h.behind i))
+names_left : {rest more : Option (List ℕ)} {word text : List ℕ} → IsCut rest word more text → names_after rest ≡ word ∷ names_after more
+names_left {text = text} h = ap names_after h.some ∙ names_cut text ∙ sym (λ i. h.before i ∷ names_after (h.after i))
 
 pub gathered_more : {rest more : Option (List ℕ)} {word text : List ℕ} → IsCut rest word more text → (known : Names) (cats cat new : CatSet) → option_map one_cat (place_of known word) ≡ Some cat → new ≡ cats_join cats cat
-    → gathered known cats (names_behind rest) ≡ gathered known new (names_behind more)
-gathered_more {more = more} {word = word} cut known cats cat new h is = ap (gathered known cats) (names_left cut) ∙ gathered_step known cats cat new word (names_behind more) h is
+    → gathered known cats (names_after rest) ≡ gathered known new (names_after more)
+gathered_more {more = more} {word = word} cut known cats cat new h is = ap (gathered known cats) (names_left cut) ∙ gathered_step known cats cat new word (names_after more) h is
 
 pub unknown_more : {rest more : Option (List ℕ)} {word text : List ℕ} → IsCut rest word more text → (known : Names) (at : ℕ) (cat : CatSet) → option_map one_cat (place_of known word) ≡ Some cat
-    → first_unknown known at (names_behind rest) ≡ first_unknown known (at + (length word + 1)) (names_behind more)
-unknown_more {more = more} {word = word} cut known at cat h = ap (first_unknown known at) (names_left cut) ∙ unknown_step known at cat word (names_behind more) h
+    → first_unknown known at (names_after rest) ≡ first_unknown known (at + (length word + 1)) (names_after more)
+unknown_more {more = more} {word = word} cut known at cat h = ap (first_unknown known at) (names_left cut) ∙ unknown_step known at cat word (names_after more) h
 
 pub unknown_now : {rest more : Option (List ℕ)} {word text : List ℕ} → IsCut rest word more text → (known : Names) (at : ℕ) → option_map one_cat (place_of known word) ≡ None
-    → first_unknown known at (names_behind rest) ≡ Some at
-unknown_now {more = more} {word = word} cut known at h = ap (first_unknown known at) (names_left cut) ∙ unknown_here known at word (names_behind more) h
+    → first_unknown known at (names_after rest) ≡ Some at
+unknown_now {more = more} {word = word} cut known at h = ap (first_unknown known at) (names_left cut) ∙ unknown_here known at word (names_after more) h
 
-pub gathered_end : (known : Names) (cats : CatSet) (all rest : Option (List ℕ)) → gathered known no_cats (names_behind all) ≡ gathered known cats (names_behind rest) → rest ≡ None
-    → option_map set.from_list (places_of known (names_behind all)) ≡ Some cats
-gathered_end known cats all rest same none = gathered_all known (names_behind all) ∙ same ∙ ap (λ o. gathered known cats (names_behind o)) none
+pub gathered_end : (known : Names) (cats : CatSet) (all rest : Option (List ℕ)) → gathered known no_cats (names_after all) ≡ gathered known cats (names_after rest) → rest ≡ None
+    → option_map set.from_list (places_of known (names_after all)) ≡ Some cats
+gathered_end known cats all rest same none = gathered_all known (names_after all) ∙ same ∙ ap (λ o. gathered known cats (names_after o)) none

@@ -8,7 +8,7 @@ use Rattle.lab_lattice.specs.Cats.{CatSet, has_cat, no_cats, one_cat, cats_join,
 use Rattle.lab_text.specs.Names.{same_bytes, place_of}
 use Rattle.lab_text.specs.Policy.{PolicyNames, MakePolicy, top_of}
 use Rattle.lab_text.proofs.Made.{made, position_found}
-use Rattle.lab_text.proofs.Said.{has-first_cats}
+use Rattle.lab_text.proofs.Parsed.{has-first_cats}
 
 -- ---- places fit
 

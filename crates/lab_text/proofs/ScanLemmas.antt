@@ -10,7 +10,7 @@ use Rattle.std.proofs.lemmas.Bool.Decides.{nat_tests}
 use Rattle.lab_text.specs.declared.scan.Scan.{Scan}
 use Rattle.lab_text.specs.Names.{Names, is_letter, is_name_part, is_label_name}
 use Rattle.lab_text.specs.Text.{is_colon, is_comma, LabelWords, parts_of, label_words, is_label_text, CanGoOn, Breaks}
-use Rattle.lab_text.proofs.Said.{parts_colon, parts_more}
+use Rattle.lab_text.proofs.Parsed.{parts_colon, parts_more}
 use Rattle.lab_text.specs.Scan.{mark_of, step}
 
 abbrev pub scan_at : Bool → ℕ → Scan
@@ -137,11 +137,11 @@ after_name in_cats n b bs e = ap (holds_of (goes_on bs)) (step_is in_cats n b �
 after_mark : (in_cats : Bool) (n b : ℕ) (bs : List ℕ) → may_name n b ≡ false → (b == mark_of in_cats) ≡ true
     → goes_on (b ∷ bs) (scan_at in_cats n) ≡ (not (n == 0) && goes_on bs (scan_at true 0))
 after_mark in_cats n b bs e f =
-    ap (holds_of (goes_on bs)) (step_is in_cats n b ∙ (λ i. step_by in_cats n (e i) (f i))) ∙ judged (not (n == 0))
+    ap (holds_of (goes_on bs)) (step_is in_cats n b ∙ (λ i. step_by in_cats n (e i) (f i))) ∙ check_outcome (not (n == 0))
   where
-    judged : (z : Bool) → holds_of (goes_on bs) (cond (z && true) (Some (scan_at true 0)) None) ≡ (z && goes_on bs (scan_at true 0))
-    judged true = refl
-    judged false = refl
+    check_outcome : (z : Bool) → holds_of (goes_on bs) (cond (z && true) (Some (scan_at true 0)) None) ≡ (z && goes_on bs (scan_at true 0))
+    check_outcome true = refl
+    check_outcome false = refl
 
 after_other : (in_cats : Bool) (n b : ℕ) (bs : List ℕ) → may_name n b ≡ false → (b == mark_of in_cats) ≡ false → goes_on (b ∷ bs) (scan_at in_cats n) ≡ false
 after_other in_cats n b bs e f =
@@ -188,11 +188,11 @@ text_form (b ∷ bs) n h = by_cases (λ k. text_form bs (n + 1) k) (may_name n b
 -- a text has a label's form where its reading from the start ends in a name
 pub form_by_reading : (t : List ℕ) → is_label_text t ≡ goes_on t (scan_at false 0)
 unfolding label_words
-form_by_reading t = judged (is_form 0 (parts_of t)) ∙ sym (text_form t 0 (omega arith))
+form_by_reading t = check_outcome (is_form 0 (parts_of t)) ∙ sym (text_form t 0 (omega arith))
   where
-    judged : (v : Bool) → is_some (cond v (Some (parts_of t)) None) ≡ v
-    judged true = refl
-    judged false = refl
+    check_outcome : (v : Bool) → is_some (cond v (Some (parts_of t)) None) ≡ v
+    check_outcome true = refl
+    check_outcome false = refl
 
 -- ---- where no text goes on
 

@@ -17,9 +17,9 @@ step s byte =
     (cond (byte == mark_of s.in_cats) (Some (record { in_cats = true; len = 0 })) None))
 
 -- the names in what stands behind a colon, where there is one
-abbrev pub names_behind : Option (List ℕ) → Names
-names_behind None = []
-names_behind (Some text) = slice_split is_comma text
+abbrev pub names_after : Option (List ℕ) → Names
+names_after None = []
+names_after (Some text) = slice_split is_comma text
 
 -- how many bytes a colon and what stands behind it have, where there is one
 abbrev pub left_in : Option (List ℕ) → ℕ
@@ -27,5 +27,5 @@ left_in None = 0
 left_in (Some text) = length text + 1
 
 -- what stands behind the first byte that passes a test, where one does
-abbrev pub behind_first : (ℕ → Bool) → List ℕ → Option (List ℕ)
-behind_first p text = cond (list_any p text) (Some (after_first p text)) None
+abbrev pub first_after : (ℕ → Bool) → List ℕ → Option (List ℕ)
+first_after p text = cond (list_any p text) (Some (after_first p text)) None

@@ -49,15 +49,15 @@ abbrev pub label_of : PolicyNames → LabelWords → Option Label
 label_of p w = option_and_then (λ level. option_map (λ cats. record { first = level; second = set.from_list cats }) (places_of p.cats w.cats)) (place_of p.levels w.level)
 
 -- the label that a text stands for
-unfoldable pub label_said : PolicyNames → List ℕ → Option Label
-label_said p text = option_and_then (label_of p) (label_words text)
+unfoldable pub parse_label : PolicyNames → List ℕ → Option Label
+parse_label p text = option_and_then (label_of p) (label_words text)
 
 -- ---- why a text says none
 
 -- a front of a label's text
-pub record CanGoOn (front : List ℕ) : Type 0 where
+pub record CanGoOn (prefix : List ℕ) : Type 0 where
   pub rest : List ℕ
-  pub is_label : is_label_text (front ++ rest) ≡ true
+  pub is_label : is_label_text (prefix ++ rest) ≡ true
 
 -- a text has not the form of a label's, and this is the first place at which no text of that form can go on as it does, or its length
 pub record Breaks (text : List ℕ) (at : ℕ) : Type 0 where
@@ -88,10 +88,10 @@ names_in cats i [] = []
 names_in cats i (n ∷ ns) = cond (has_cat cats i) (n ∷ names_in cats (i + 1) ns) (names_in cats (i + 1) ns)
 
 -- names, the first behind a mark and each further one behind a comma
-abbrev pub behind_mark : ℕ → Names → List ℕ
-behind_mark mark [] = []
-behind_mark mark (n ∷ ns) = mark ∷ n ++ behind_mark 44 ns
+abbrev pub past_mark : ℕ → Names → List ℕ
+past_mark mark [] = []
+past_mark mark (n ∷ ns) = mark ∷ n ++ past_mark 44 ns
 
 -- the level's name, and behind a colon the names of the categories in the policy's order
 unfoldable pub label_text : PolicyNames → Label → List ℕ
-label_text p label = get_or p.levels label.first [] ++ behind_mark 58 (names_in label.second 0 p.cats)
+label_text p label = get_or p.levels label.first [] ++ past_mark 58 (names_in label.second 0 p.cats)

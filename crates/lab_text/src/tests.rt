@@ -127,8 +127,8 @@ fn label_texts(rt: HostRuntime) -> Result<(), Fail> {
         let policy = policy_of(rt.alloc(), levels, cats)?;
         match mac_from_text(&policy, text) {
             Ok(label) => {
-                let said = mac_to_text(rt.alloc(), &policy, &label)?;
-                assert_eq!(rt; Ok(said.as_slice()), answer);
+                let parsed = mac_to_text(rt.alloc(), &policy, &label)?;
+                assert_eq!(rt; Ok(parsed.as_slice()), answer);
             }
             Err(cause) => assert_eq!(rt; Err(cause), answer),
         }

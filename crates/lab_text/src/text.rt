@@ -4,8 +4,8 @@ ghost use Rattle.std.specs.FinSet as set;
 ghost use Rattle.std.specs.List.{before_first};
 ghost use Rattle.std.specs.Option.{option_copied, option_map};
 ghost use Rattle.lab_text.specs.Policy.{is_valid};
-ghost use Rattle.lab_text.specs.Scan.{names_behind, left_in, behind_first};
-ghost use Rattle.lab_text.specs.Text.{places_of, first_unknown, label_said, SaysNone, label_text};
+ghost use Rattle.lab_text.specs.Scan.{names_after, left_in, first_after};
+ghost use Rattle.lab_text.specs.Text.{places_of, first_unknown, parse_label, SaysNone, label_text};
 
 use crate::scan::syntax_fault;
 use crate::{NoMemory, Policy};
@@ -33,7 +33,7 @@ fn first_place(text: &[u8], at: u8) -> Option<usize>
 // What stands before the first `at`, and what stands behind it, if there is one.
 fn cut(text: &[u8], at: u8) -> (&[u8], Option<&[u8]>)
     ensures before { result.0.now ≡ before_first (λ b. b == at) text.now }
-    ensures behind { option_copied result.1 ≡ behind_first (λ b. b == at) text.now }
+    ensures after { option_copied result.1 ≡ first_after (λ b. b == at) text.now }
     ensures fewer { length result.0.now + left_in (option_copied result.1) ≤ length text.now }
 {
     match first_place(text, at) {
@@ -45,8 +45,8 @@ fn cut(text: &[u8], at: u8) -> (&[u8], Option<&[u8]>)
 // The categories in a comma list that stands at `start`, if there is one, or the first that the policy does not know.
 fn cats_named(policy: &Policy, list: Option<&[u8]>, start: usize) -> Result<Cats, LabelError>
     requires { start + left_in (option_copied list) < 2 ^ 64 }
-    ensures cats { IfOk result (λ cats. option_map set.from_list (places_of policy.now.cats (names_behind (option_copied list.entry))) ≡ Some cats) }
-    ensures unknown { IfErr result (λ e. option_map LabelError.UnknownCategory (first_unknown policy.now.cats start (names_behind (option_copied list.entry))) ≡ Some e) }
+    ensures cats { IfOk result (λ cats. option_map set.from_list (places_of policy.now.cats (names_after (option_copied list.entry))) ≡ Some cats) }
+    ensures unknown { IfErr result (λ e. option_map LabelError.UnknownCategory (first_unknown policy.now.cats start (names_after (option_copied list.entry))) ≡ Some e) }
 {
     let mut cats = Cats::empty();
     let mut at = start;
@@ -65,10 +65,10 @@ fn cats_named(policy: &Policy, list: Option<&[u8]>, start: usize) -> Result<Cats
 
 /// The label that a text stands for. Its form is judged before any name.
 pub fn mac_from_text(policy: &Policy, text: &[u8]) -> Result<Label, LabelError>
-    ensures said { IfOk result (λ label. label_said policy.now text.now ≡ Some label) }
+    ensures parsed { IfOk result (λ label. parse_label policy.now text.now ≡ Some label) }
     ensures valid { IfOk result (λ label. is_valid policy.now label ≡ true) }
     ensures cause { IfErr result (SaysNone policy.now text.now) }
-    ensures none { IfErr result (λ _. label_said policy.now text.now ≡ None) }
+    ensures none { IfErr result (λ _. parse_label policy.now text.now ≡ None) }
 {
     if let Some(at) = syntax_fault(text) {
         return Err(LabelError::Syntax(at));
@@ -95,7 +95,7 @@ fn level_name<'a>(policy: &'a Policy, label: &Label) -> &'a [u8]
 /// only the names that the policy has are written.
 pub fn mac_to_text(alloc: Global, policy: &Policy, label: &Label) -> Result<Vec<u8>, NoMemory>
     ensures text { IfOk result (λ text. text.items ≡ label_text policy.now label.now) }
-    ensures again { IfOk result (λ text. is_valid policy.now label.now ≡ true → label_said policy.now text.items ≡ Some label.now) }
+    ensures round_trip { IfOk result (λ text. is_valid policy.now label.now ≡ true → parse_label policy.now text.items ≡ Some label.now) }
 {
     let mut text = Vec::from_slice(alloc, level_name(policy, label))?;
     let mut mark = b':';

@@ -13,12 +13,12 @@ use Rattle.iso_laws.specs.LawCalls.{have_laws}
 use Rattle.script_text.specs.declared.line.Line.{Line}
 use Rattle.script_text.specs.declared.line.Line.TheVariants as line
 use Rattle.script_text.specs.declared.fault.LineError.{LineError}
-use Rattle.script_text.specs.Line.{line_said}
-use Rattle.script_text.proofs.LineLaws.{said_played}
+use Rattle.script_text.specs.Line.{parse_line}
+use Rattle.script_text.proofs.LineLaws.{parsed_played}
 use Rattle.world_text.specs.declared.world.WorldText.{WorldText}
 use Rattle.world_text.proofs.Accepted.{accepted_world, accepted_top}
 use Rattle.world_text.specs.Reading.{Reading, Accepted, Refused as Stopped, Ended, read_text}
-use Rattle.labsys.specs.declared.status.Ending.TheVariants.{Refused}
+use Rattle.labsys.specs.declared.status.InputEnd.TheVariants.{Refused}
 use Rattle.labsys.specs.declared.status.Part.TheVariants as part
 use Rattle.labsys.specs.declared.status.Refusal.TheVariants as refusal
 use Rattle.labsys.specs.Input.{Accepted as AcceptedWorld, Script, Input, no_world, script, item_of, after_line, script_from, has_fifo, input_by, input_of}
@@ -36,16 +36,16 @@ module _ (policy : PolicyNames) where
   by_built who c n more fit true built rest = record { arguments = and_from _ _ (and_from _ _ fit.0 fit.1) rest.arguments; laws = and_from _ _ (built_laws c built) rest.laws }
   by_built who c n more fit false built rest = record { arguments = refl; laws = refl }
 
-  after_played : (text : List ℕ) (said : Result Line LineError) → line_said policy text ≡ said → (n : ℕ) (more : Script) → MayBePlayed (top_of policy) more → MayBePlayed (top_of policy) (after_line said n more)
+  after_played : (text : List ℕ) (parsed : Result Line LineError) → parse_line policy text ≡ parsed → (n : ℕ) (more : Script) → MayBePlayed (top_of policy) more → MayBePlayed (top_of policy) (after_line parsed n more)
   after_played text (Err e) is n more rest = record { arguments = refl; laws = refl }
   after_played text (Ok line.Blank) is n more rest = rest
-  after_played text (Ok (line.One who c)) is n more rest = by_built who c n more (said_played policy text (line.One who c) is) (is_built c) refl rest
+  after_played text (Ok (line.One who c)) is n more rest = by_built who c n more (parsed_played policy text (line.One who c) is) (is_built c) refl rest
 
   script_played : (over : Bool) (n : ℕ) (ls : List (List ℕ)) → MayBePlayed (top_of policy) (script_from over policy n ls)
   unfolding script_from
   script_played over n [] = record { arguments = refl; laws = refl }
   script_played over n (last ∷ []) = record { arguments = refl; laws = refl }
-  script_played over n (text ∷ next ∷ ls) = after_played text (line_said policy text) refl n _ (script_played over (n + 1) (next ∷ ls))
+  script_played over n (text ∷ next ∷ ls) = after_played text (parse_line policy text) refl n _ (script_played over (n + 1) (next ∷ ls))
 
 -- ---- inputs
 

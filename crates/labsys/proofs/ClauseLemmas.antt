@@ -5,14 +5,14 @@ use Rattle.std.specs.declared.option.Option.{Option}
 use Rattle.std.specs.Io.KnownBytes.{Appends, Consumes, IsAtEnd}
 use Rattle.std.proofs.KnownBytes.{Consumes-nil}
 use Rattle.lab_lattice.specs.Label.{Label}
-use Rattle.kern_model.specs.Fronts.{IsFront}
+use Rattle.kern_model.specs.Prefixes.{IsPrefix}
 use Rattle.kern_model.specs.Lineage.{OnlyDrops, GrowsByExec}
-use Rattle.iso_laws.proofs.Drops.{drops_are_told}
-use Rattle.iso_laws.proofs.Growth.{growth_is_told}
+use Rattle.iso_laws.proofs.Drops.{drops_are_reported}
+use Rattle.iso_laws.proofs.Growth.{growth_is_reported}
 use Rattle.labsys.specs.declared.command.Command.{Command}
 use Rattle.labsys.specs.declared.command.Command.TheVariants.{Play}
-use Rattle.labsys.specs.declared.status.Ending.{Ending}
-use Rattle.labsys.specs.declared.status.Ending.TheVariants.{Whole, Refused as IsRefused, TooMuch}
+use Rattle.labsys.specs.declared.status.InputEnd.{InputEnd}
+use Rattle.labsys.specs.declared.status.InputEnd.TheVariants.{Whole, Refused as IsRefused, TooMuch}
 use Rattle.labsys.specs.declared.status.Fault.{Fault}
 use Rattle.labsys.specs.declared.status.Fault.TheVariants.{Read, Write, Trail, NoMemory as Memory}
 use Rattle.labsys.specs.declared.status.Status.{Status}
@@ -22,7 +22,7 @@ use Rattle.labsys.specs.Session.{Session, session_of, bytes_of, replies_of, reco
 use Rattle.labsys.specs.Order.{Sent, out_of, trail_of, session_order, order_by, order_of, IsInOrder}
 use Rattle.labsys.specs.Commands.{ends_with, due}
 use Rattle.labsys.specs.Counts.{Counts, CountsOnce, counts_after, counted_by}
-use Rattle.labsys.specs.Playing.{Sends, Finishes, Plays, left_of}
+use Rattle.labsys.specs.Playing.{Sends, Finishes, RunDid, left_of}
 use Rattle.labsys.specs.Clauses.{status_of, OnWhole, Reports, reports, Moved, WhereReported, WhereAccepted, TakesAtMost, Covered, RepliesFirst, Printed, Dropped, Written, Isolated, IsolatedWhole, SameBelow, TwoInputs, TwoWhole}
 use Rattle.labsys.proofs.Sending.{out_of-append, trail_of-append}
 use Rattle.labsys.proofs.Coverage.{session_out, session_trail, covered, replies_first, recorded}
@@ -81,7 +81,7 @@ whole_gives WriteFault P Q f p = tt
 whole_gives TrailFault P Q f p = tt
 whole_gives NoMemory P Q f p = tt
 
-on_whole : (r : Result Ending Fault) (P : Status → Type 0) → ((e : Ending) → r ≡ Ok e → P (ends_with e)) → OnWhole (status_of r) (P (status_of r))
+on_whole : (r : Result InputEnd Fault) (P : Status → Type 0) → ((e : InputEnd) → r ≡ Ok e → P (ends_with e)) → OnWhole (status_of r) (P (status_of r))
 on_whole (Ok Whole) P f = f Whole refl
 on_whole (Ok (IsRefused n part why)) P f = f (IsRefused n part why) refl
 on_whole (Ok TooMuch) P f = f TooMuch refl
@@ -97,7 +97,7 @@ on_command (Some Play) P p = p
 
 -- ---- counts
 
-counts_by : (r : Result Ending Fault) (before now : Counts) → CountsOnce r before now → now ≡ counts_after (status_of r) before
+counts_by : (r : Result InputEnd Fault) (before now : Counts) → CountsOnce r before now → now ≡ counts_after (status_of r) before
 unfolding counted_by
 counts_by (Ok Whole) before now h = h
 counts_by (Ok (IsRefused n part why)) before now h = h
@@ -107,7 +107,7 @@ counts_by (Err Write) before now h = h
 counts_by (Err Trail) before now h = h
 counts_by (Err Memory) before now h = h
 
-pub run_counts : (r : Result Ending Fault) (s : Status) (before now : Counts) → s ≡ status_of r → CountsOnce r before now → now ≡ counts_after s before
+pub run_counts : (r : Result InputEnd Fault) (s : Status) (before now : Counts) → s ≡ status_of r → CountsOnce r before now → now ≡ counts_after s before
 run_counts r s before now is h = subst (λ z. now ≡ counts_after z before) (sym is) (counts_by r before now h)
 
 -- ---- without a command
@@ -142,12 +142,12 @@ session_printed a m sent rest e = record {
 session_dropped : (a : Accepted) (m : Script) (sent rest : List Sent) → session_order (session_of a m) ≡ sent ++ rest → Dropped (session_of a m) (trail_of sent)
 session_dropped a m sent rest e = record {
   begins = record { rest = trail_of rest; whole_is = sym (trail_reported (session_of a m)) ∙ trail_is (session_of a m) sent rest e };
-  drops = subst (OnlyDrops a.world.bound) (sym (all_numbered a m)) (drops_are_told a.world m.items);
-  grows = subst (GrowsByExec a.world.bound) (sym (all_numbered a m)) (growth_is_told a.world m.items);
+  drops = subst (OnlyDrops a.world.bound) (sym (all_numbered a m)) (drops_are_reported a.world m.items);
+  grows = subst (GrowsByExec a.world.bound) (sym (all_numbered a m)) (growth_is_reported a.world m.items);
 }
 
 -- where the whole output stands all replies do
-all_written : (text : List ℕ) (a : Accepted) (out : List ℕ) → (input_of text).accepted ≡ Some a → out ≡ out_of (order_of (input_of text)) → IsFront (replies_of (bytes_of (session_of a (input_of text).script))) out
+all_written : (text : List ℕ) (a : Accepted) (out : List ℕ) → (input_of text).accepted ≡ Some a → out ≡ out_of (order_of (input_of text)) → IsPrefix (replies_of (bytes_of (session_of a (input_of text).script))) out
 unfolding order_by
 all_written text a out is so = record {
   rest = tail_text (session_of a (input_of text).script);
@@ -156,7 +156,7 @@ all_written text a out is so = record {
 
 -- ---- a run
 
-module _ (r : Result Ending Fault) (l l' o o' t t' : Option (List ℕ)) (x : Plays r l l' o o' t t') where
+module _ (r : Result InputEnd Fault) (l l' o o' t t' : Option (List ℕ)) (x : RunDid r l l' o o' t t') where
   -- what holds of each prefix of the order holds where the ends report
   where_sent : (P : List ℕ → List ℕ → List ℕ → Type 0) → ((text : List ℕ) (sent rest : List Sent) → order_of (input_of text) ≡ sent ++ rest → P text (out_of sent) (trail_of sent)) → WhereReported (reports l o t) (reports l' o' t') P
   where_sent P f text before above el eo et =
@@ -198,7 +198,7 @@ module _ (r : Result Ending Fault) (l l' o o' t t' : Option (List ℕ)) (x : Pla
 
   -- ---- a whole run
 
-  abbrev EndsSo : Result Ending Fault → Type 0
+  abbrev EndsSo : Result InputEnd Fault → Type 0
   EndsSo q = IfOk q (λ e. Finishes o o' t t' (order_of (input_of (x.taken ++ left_of l'))) e (input_of (x.taken ++ left_of l')).script.ending × (e ≡ Whole → IsAtEnd l'))
 
   run_all : (s : Status) → s ≡ status_of r → OnWhole s (WhereReported (reports l o t) (reports l' o' t') (λ text out trail. (out ≡ out_of (order_of (input_of text))) × (trail ≡ trail_of (order_of (input_of text)))))

@@ -2,30 +2,30 @@
 use Rattle.std.proofs.Common.{◌≡◌, ℕ, ◌+◌, ◌≤◌, ◌<◌, List, [], ◌∷◌, ◌++◌, length, take, suc, zero, refl, sym, ◌∙◌, ap, subst, append_assoc, arith}
 use Rattle.std.proofs.lemmas.List.{append-nil, append_cancel_left, length-append}
 use Rattle.std.specs.List.{flat_map, AllByRecursion}
-use Rattle.kern_model.specs.Fronts.{IsFront}
+use Rattle.kern_model.specs.Prefixes.{IsPrefix}
 use Rattle.fs_path.specs.Words.{line_text}
-use Rattle.kern_model.specs.Run.{Played}
+use Rattle.kern_model.specs.Run.{CallRecord}
 use Rattle.lab_text.specs.Policy.{PolicyNames}
-use Rattle.script_text.specs.Reply.{pid_text, outcome_words, reply_said}
+use Rattle.script_text.specs.Reply.{pid_text, outcome_words, reply_line}
 use Rattle.labsys.specs.Texts.{reply_text}
 use Rattle.labsys.specs.Session.{Session, CallBytes, bytes_from, bytes_of, replies_of, records_of, head_text, tail_text}
 use Rattle.labsys.specs.Order.{Sent, out_of, trail_of, to_out, to_trail, call_order, session_order}
 use Rattle.labsys.proofs.Sending.{out_of-append, trail_of-append, out_of-to_out, out_of-to_trail, trail_of-to_out, trail_of-to_trail}
 
 -- a front of two lists is a front of the first, or all of it and a front of the second
-pub data Split (a b front rest : List Sent) : Type 0 where
-  Within : (more : List Sent) (a_is : a ≡ front ++ more) → Split a b front rest
-  Past : (more : List Sent) (front_is : front ≡ a ++ more) (b_is : b ≡ more ++ rest) → Split a b front rest
+pub data Split (a b prefix rest : List Sent) : Type 0 where
+  Within : (more : List Sent) (a_is : a ≡ prefix ++ more) → Split a b prefix rest
+  Past : (more : List Sent) (prefix_is : prefix ≡ a ++ more) (b_is : b ≡ more ++ rest) → Split a b prefix rest
 
-pub split : (a b front rest : List Sent) → a ++ b ≡ front ++ rest → Split a b front rest
-split [] b front rest e = Past front refl e
+pub split : (a b prefix rest : List Sent) → a ++ b ≡ prefix ++ rest → Split a b prefix rest
+split [] b prefix rest e = Past prefix refl e
 split (x ∷ a) b [] rest e = Within (x ∷ a) refl
-split (x ∷ a) b (y ∷ front) rest e =
+split (x ∷ a) b (y ∷ prefix) rest e =
     let h : x ≡ y = cc in
-    let t : a ++ b ≡ front ++ rest = cc in
-    elim (split a b front rest t) [
-      | Within more a_is ↦ Within more (ap (λ (z : List Sent). x ∷ z) a_is ∙ ap (λ q. q ∷ (front ++ more)) h)
-      | Past more front_is b_is ↦ Past more (ap (λ (z : List Sent). y ∷ z) front_is ∙ ap (λ q. q ∷ (a ++ more)) (sym h)) b_is
+    let t : a ++ b ≡ prefix ++ rest = cc in
+    elim (split a b prefix rest t) [
+      | Within more a_is ↦ Within more (ap (λ (z : List Sent). x ∷ z) a_is ∙ ap (λ q. q ∷ (prefix ++ more)) h)
+      | Past more prefix_is b_is ↦ Past more (ap (λ (z : List Sent). y ∷ z) prefix_is ∙ ap (λ q. q ∷ (a ++ more)) (sym h)) b_is
     ]
 
 -- what stands in each sink after records, and after a reply
@@ -71,15 +71,15 @@ session_trail s = trail_after (head_text s) (flat_map call_order (bytes_of s) ++
 
 -- ---- no reply line is empty
 
-reply_pos : (policy : PolicyNames) (p : Played) → 0 < length (reply_text policy p)
-unfolding reply_text reply_said
+reply_pos : (policy : PolicyNames) (p : CallRecord) → 0 < length (reply_text policy p)
+unfolding reply_text reply_line
 reply_pos policy p = omega (arith, length-append (line_text (pid_text policy p.who ∷ p.head ∷ outcome_words policy p.reply)) (10 ∷ []))
 
 -- each call has a reply
 abbrev AllReply : List CallBytes → Type 0
 AllReply ts = AllByRecursion (λ (t : CallBytes). 0 < length t.reply) ts
 
-all_reply : (policy : PolicyNames) (n : ℕ) (ps : List Played) → AllReply (bytes_from policy n ps)
+all_reply : (policy : PolicyNames) (n : ℕ) (ps : List CallRecord) → AllReply (bytes_from policy n ps)
 unfolding bytes_from
 all_reply policy n [] = tt
 all_reply policy n (p ∷ ps) = (reply_pos policy p, all_reply policy (n + 1) ps)
@@ -94,8 +94,8 @@ empty_back : (xs ys : List ℕ) → xs ++ ys ≡ [] → ys ≡ []
 empty_back [] ys e = e
 empty_back (x ∷ xs) ys e = absurd (cc)
 
-only_front : (xs ys zs : List ℕ) → ys ≡ [] → xs ++ ys ≡ zs → xs ≡ zs
-only_front xs ys zs none e = sym (append-nil xs) ∙ ap (λ (z : List ℕ). xs ++ z) (sym none) ∙ e
+only_prefix : (xs ys zs : List ℕ) → ys ≡ [] → xs ++ ys ≡ zs → xs ≡ zs
+only_prefix xs ys zs none e = sym (append-nil xs) ∙ ap (λ (z : List ℕ). xs ++ z) (sym none) ∙ e
 
 -- among records nothing stands in the output
 none_out : (r : List ℕ) (x y : List Sent) → to_trail r ≡ x ++ y → length (out_of x) ≡ 0
@@ -121,15 +121,15 @@ call_parts t ts tail =
     append_assoc (to_trail t.recs ++ to_out t.reply) (flat_map call_order ts) (to_out tail) ∙ append_assoc (to_trail t.recs) (to_out t.reply) (flat_map call_order ts ++ to_out tail)
 
 after_records : (t : CallBytes) (ts : List CallBytes) (after x rest : List Sent) → AllReply ts
-    → (again : (z rest : List Sent) → after ≡ z ++ rest → (m : ℕ) → suc m ≤ length ts → IsFront (replies_of (take (suc m) ts)) (out_of z) → IsFront (records_of (take (suc m) ts)) (trail_of z))
+    → (round_trip : (z rest : List Sent) → after ≡ z ++ rest → (m : ℕ) → suc m ≤ length ts → IsPrefix (replies_of (take (suc m) ts)) (out_of z) → IsPrefix (records_of (take (suc m) ts)) (trail_of z))
     → to_out t.reply ++ after ≡ x ++ rest
     → (sent : List Sent) → sent ≡ to_trail t.recs ++ x
-    → (m : ℕ) → suc m ≤ length (t ∷ ts) → IsFront (replies_of (take (suc m) (t ∷ ts))) (out_of sent) → IsFront (records_of (take (suc m) (t ∷ ts))) (trail_of sent)
-after_records t ts after x rest all again eq sent is zero le f = record {
+    → (m : ℕ) → suc m ≤ length (t ∷ ts) → IsPrefix (replies_of (take (suc m) (t ∷ ts))) (out_of sent) → IsPrefix (records_of (take (suc m) (t ∷ ts))) (trail_of sent)
+after_records t ts after x rest all round_trip eq sent is zero le f = record {
   rest = trail_of x;
   whole_is = ap trail_of is ∙ trail_after t.recs x ∙ ap (λ (z : List ℕ). z ++ trail_of x) (sym (append-nil t.recs));
 }
-after_records t ts after x rest all again eq sent is (suc m) le f =
+after_records t ts after x rest all round_trip eq sent is (suc m) le f =
     let r = t.recs in
     let p = t.reply in
     let reps = replies_of (take (suc m) ts) in
@@ -138,52 +138,52 @@ after_records t ts after x rest all again eq sent is (suc m) le f =
     let more = replies_pos ts m all fewer in
     elim (split (to_out p) after x rest eq) [
       | Within y a_is ↦ absurd (omega (arith, some_out p x y a_is, ap length out_x, length-append (p ++ reps) f.rest, length-append p reps))
-      | Past z front_is b_is ↦
-          let out_z : out_of z ≡ reps ++ f.rest = append_cancel_left p (out_of z) (reps ++ f.rest) (sym (out_reply p z) ∙ ap out_of (sym front_is) ∙ out_x ∙ append_assoc p reps f.rest) in
-          let next : IsFront (records_of (take (suc m) ts)) (trail_of z) = again z rest b_is m fewer (record { rest = f.rest; whole_is = out_z }) in
+      | Past z prefix_is b_is ↦
+          let out_z : out_of z ≡ reps ++ f.rest = append_cancel_left p (out_of z) (reps ++ f.rest) (sym (out_reply p z) ∙ ap out_of (sym prefix_is) ∙ out_x ∙ append_assoc p reps f.rest) in
+          let next : IsPrefix (records_of (take (suc m) ts)) (trail_of z) = round_trip z rest b_is m fewer (record { rest = f.rest; whole_is = out_z }) in
           record {
             rest = next.rest;
-            whole_is = ap trail_of is ∙ trail_after r x ∙ ap (λ (q : List ℕ). r ++ q) (ap trail_of front_is ∙ trail_reply p z ∙ next.whole_is) ∙ sym (append_assoc r _ next.rest);
+            whole_is = ap trail_of is ∙ trail_after r x ∙ ap (λ (q : List ℕ). r ++ q) (ap trail_of prefix_is ∙ trail_reply p z ∙ next.whole_is) ∙ sym (append_assoc r _ next.rest);
           }
     ]
 
 covered_from : (ts : List CallBytes) (tail : List ℕ) (sent rest : List Sent) → AllReply ts → flat_map call_order ts ++ to_out tail ≡ sent ++ rest
-    → (m : ℕ) → suc m ≤ length ts → IsFront (replies_of (take (suc m) ts)) (out_of sent) → IsFront (records_of (take (suc m) ts)) (trail_of sent)
+    → (m : ℕ) → suc m ≤ length ts → IsPrefix (replies_of (take (suc m) ts)) (out_of sent) → IsPrefix (records_of (take (suc m) ts)) (trail_of sent)
 covered_from [] tail sent rest all eq m le f = absurd (omega arith)
 covered_from (t ∷ ts) tail sent rest all eq m le f =
     let after = flat_map call_order ts ++ to_out tail in
     let pos = all.0 in
     elim (split (to_trail t.recs) (to_out t.reply ++ after) sent rest (sym (call_parts t ts tail) ∙ eq)) [
       | Within y a_is ↦ absurd (omega (arith, none_out t.recs sent y a_is, ap length f.whole_is, length-append (t.reply ++ replies_of (take m ts)) f.rest, length-append t.reply (replies_of (take m ts))))
-      | Past x front_is b_is ↦ after_records t ts after x rest all.1 (λ z rest h m le f. covered_from ts tail z rest all.1 h m le f) b_is sent front_is m le f
+      | Past x prefix_is b_is ↦ after_records t ts after x rest all.1 (λ z rest h m le f. covered_from ts tail z rest all.1 h m le f) b_is sent prefix_is m le f
     ]
 
 -- the same after the head of the trail
 covered_after : (head : List ℕ) (ts : List CallBytes) (tail : List ℕ) (sent rest : List Sent) → AllReply ts → to_trail head ++ (flat_map call_order ts ++ to_out tail) ≡ sent ++ rest
-    → (m : ℕ) → suc m ≤ length ts → IsFront (replies_of (take (suc m) ts)) (out_of sent) → IsFront (head ++ records_of (take (suc m) ts)) (trail_of sent)
+    → (m : ℕ) → suc m ≤ length ts → IsPrefix (replies_of (take (suc m) ts)) (out_of sent) → IsPrefix (head ++ records_of (take (suc m) ts)) (trail_of sent)
 covered_after head ts tail sent rest all e m le f =
     let pos = replies_pos ts m all le in
     elim (split (to_trail head) (flat_map call_order ts ++ to_out tail) sent rest e) [
       | Within y a_is ↦ absurd (omega (arith, none_out head sent y a_is, ap length f.whole_is, length-append (replies_of (take (suc m) ts)) f.rest))
-      | Past x front_is b_is ↦
-          let h : IsFront (replies_of (take (suc m) ts)) (out_of x) = record { rest = f.rest; whole_is = sym (out_after head x) ∙ ap out_of (sym front_is) ∙ f.whole_is } in
+      | Past x prefix_is b_is ↦
+          let h : IsPrefix (replies_of (take (suc m) ts)) (out_of x) = record { rest = f.rest; whole_is = sym (out_after head x) ∙ ap out_of (sym prefix_is) ∙ f.whole_is } in
           let r = covered_from ts tail x rest all b_is m le h in
-          record { rest = r.rest; whole_is = ap trail_of front_is ∙ trail_after head x ∙ ap (λ (q : List ℕ). head ++ q) r.whole_is ∙ sym (append_assoc head _ r.rest) }
+          record { rest = r.rest; whole_is = ap trail_of prefix_is ∙ trail_after head x ∙ ap (λ (q : List ℕ). head ++ q) r.whole_is ∙ sym (append_assoc head _ r.rest) }
     ]
 
 -- a reply line that stands has its call's records before it
 pub covered : (s : Session) (sent rest : List Sent) → session_order s ≡ sent ++ rest → (k : ℕ) → k + 1 ≤ length (bytes_of s)
-    → IsFront (replies_of (take (k + 1) (bytes_of s))) (out_of sent) → IsFront (head_text s ++ records_of (take (k + 1) (bytes_of s))) (trail_of sent)
+    → IsPrefix (replies_of (take (k + 1) (bytes_of s))) (out_of sent) → IsPrefix (head_text s ++ records_of (take (k + 1) (bytes_of s))) (trail_of sent)
 unfolding session_order
 covered s sent rest e k le f =
     let next : k + 1 ≡ suc k = omega arith in
     let less : suc k ≤ length (bytes_of s) = omega arith in
-    let g : IsFront (replies_of (take (suc k) (bytes_of s))) (out_of sent) = subst (λ j. IsFront (replies_of (take j (bytes_of s))) (out_of sent)) next f in
-    subst (λ j. IsFront (head_text s ++ records_of (take j (bytes_of s))) (trail_of sent)) (sym next)
+    let g : IsPrefix (replies_of (take (suc k) (bytes_of s))) (out_of sent) = subst (λ j. IsPrefix (replies_of (take j (bytes_of s))) (out_of sent)) next f in
+    subst (λ j. IsPrefix (head_text s ++ records_of (take j (bytes_of s))) (trail_of sent)) (sym next)
     (covered_after (head_text s) (bytes_of s) (tail_text s) sent rest (all_reply s.policy 1 s.calls) e k less g)
 
 replies_from : (ts : List CallBytes) (tail : List ℕ) (sent rest : List Sent) → flat_map call_order ts ++ to_out tail ≡ sent ++ rest
-    → (m : ℕ) → m ≤ length ts → length (records_of (take m ts)) < length (trail_of sent) → IsFront (replies_of (take m ts)) (out_of sent)
+    → (m : ℕ) → m ≤ length ts → length (records_of (take m ts)) < length (trail_of sent) → IsPrefix (replies_of (take m ts)) (out_of sent)
 replies_from ts tail sent rest eq zero le h = record { rest = out_of sent; whole_is = refl }
 replies_from [] tail sent rest eq (suc m) le h = absurd (omega arith)
 replies_from (t ∷ ts) tail sent rest eq (suc m) le h =
@@ -195,36 +195,36 @@ replies_from (t ∷ ts) tail sent rest eq (suc m) le h =
     let fewer : m ≤ length ts = omega arith in
     elim (split (to_trail r) (to_out p ++ after) sent rest (sym (call_parts t ts tail) ∙ eq)) [
       | Within y a_is ↦ absurd (omega (arith, some_trail r sent y a_is))
-      | Past x front_is b_is ↦
+      | Past x prefix_is b_is ↦
           elim (split (to_out p) after x rest b_is) [
-            | Within y a_is ↦ absurd (omega (arith, none_trail p x y a_is, ap length (ap trail_of front_is ∙ trail_after r x), length-append r (trail_of x)))
+            | Within y a_is ↦ absurd (omega (arith, none_trail p x y a_is, ap length (ap trail_of prefix_is ∙ trail_after r x), length-append r (trail_of x)))
             | Past z x_is z_is ↦
-                let trail_is = ap length (ap trail_of front_is ∙ trail_after r x ∙ ap (λ (q : List ℕ). r ++ q) (ap trail_of x_is ∙ trail_reply p z)) in
+                let trail_is = ap length (ap trail_of prefix_is ∙ trail_after r x ∙ ap (λ (q : List ℕ). r ++ q) (ap trail_of x_is ∙ trail_reply p z)) in
                 let more : length recs < length (trail_of z) = omega (arith, length-append r (trail_of z)) in
                 let next = replies_from ts tail z rest z_is m fewer more in
                 record {
                   rest = next.rest;
-                  whole_is = ap out_of front_is ∙ out_after r x ∙ ap out_of x_is ∙ out_reply p z ∙ ap (λ (q : List ℕ). p ++ q) next.whole_is ∙ sym (append_assoc p (replies_of (take m ts)) next.rest);
+                  whole_is = ap out_of prefix_is ∙ out_after r x ∙ ap out_of x_is ∙ out_reply p z ∙ ap (λ (q : List ℕ). p ++ q) next.whole_is ∙ sym (append_assoc p (replies_of (take m ts)) next.rest);
                 }
           ]
     ]
 
 first_after : (head : List ℕ) (ts : List CallBytes) (tail : List ℕ) (sent rest : List Sent) → to_trail head ++ (flat_map call_order ts ++ to_out tail) ≡ sent ++ rest
-    → (m : ℕ) → m ≤ length ts → length (head ++ records_of (take m ts)) < length (trail_of sent) → IsFront (replies_of (take m ts)) (out_of sent)
+    → (m : ℕ) → m ≤ length ts → length (head ++ records_of (take m ts)) < length (trail_of sent) → IsPrefix (replies_of (take m ts)) (out_of sent)
 first_after head ts tail sent rest e m le h =
     let all = length-append head (records_of (take m ts)) in
     elim (split (to_trail head) (flat_map call_order ts ++ to_out tail) sent rest e) [
       | Within y a_is ↦ absurd (omega (arith, some_trail head sent y a_is))
-      | Past x front_is b_is ↦
-          let trail_is = ap length (ap trail_of front_is ∙ trail_after head x) in
+      | Past x prefix_is b_is ↦
+          let trail_is = ap length (ap trail_of prefix_is ∙ trail_after head x) in
           let more : length (records_of (take m ts)) < length (trail_of x) = omega (arith, length-append head (trail_of x)) in
           let r = replies_from ts tail x rest b_is m le more in
-          record { rest = r.rest; whole_is = ap out_of front_is ∙ out_after head x ∙ r.whole_is }
+          record { rest = r.rest; whole_is = ap out_of prefix_is ∙ out_after head x ∙ r.whole_is }
     ]
 
 -- a record stands only after the replies of the calls before
 pub replies_first : (s : Session) (sent rest : List Sent) → session_order s ≡ sent ++ rest → (k : ℕ) → k ≤ length (bytes_of s)
-    → length (head_text s ++ records_of (take k (bytes_of s))) < length (trail_of sent) → IsFront (replies_of (take k (bytes_of s))) (out_of sent)
+    → length (head_text s ++ records_of (take k (bytes_of s))) < length (trail_of sent) → IsPrefix (replies_of (take k (bytes_of s))) (out_of sent)
 unfolding session_order
 replies_first s sent rest e k le h = first_after (head_text s) (bytes_of s) (tail_text s) sent rest e k le h
 
@@ -251,5 +251,5 @@ recorded s sent rest e more =
         ap length (out_of-to_out tail),
         length-append (replies_of cs) tail,
       ))
-      | Past z front_is b_is ↦ only_front (trail_of sent) (trail_of rest) _ (none_after tail z rest b_is) (sym (trail_of-append sent rest) ∙ sym (ap trail_of e) ∙ session_trail s)
+      | Past z prefix_is b_is ↦ only_prefix (trail_of sent) (trail_of rest) _ (none_after tail z rest b_is) (sym (trail_of-append sent rest) ∙ sym (ap trail_of e) ∙ session_trail s)
     ]

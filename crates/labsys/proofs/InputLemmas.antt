@@ -6,8 +6,8 @@ use Rattle.std.specs.Prelude.{Result, IsErrAnd, IfOk, Ok, Err, Option, None, Som
 use Rattle.std.specs.Io.KnownBytes.{Appends, IsAtEnd}
 use Rattle.io_ends.specs.declared.whole.Whole.{Whole}
 use Rattle.io_ends.specs.Whole.{IsWhole}
-use Rattle.labsys.specs.declared.status.Ending.{Ending}
-use Rattle.labsys.specs.declared.status.Ending.TheVariants.{Whole as AllRead, Refused, TooMuch}
+use Rattle.labsys.specs.declared.status.InputEnd.{InputEnd}
+use Rattle.labsys.specs.declared.status.InputEnd.TheVariants.{Whole as AllRead, Refused, TooMuch}
 use Rattle.labsys.specs.declared.status.Refusal.{Refusal}
 use Rattle.labsys.specs.declared.status.Refusal.TheVariants as refusal
 use Rattle.labsys.specs.declared.status.Part.{Part}
@@ -15,11 +15,11 @@ use Rattle.labsys.specs.declared.status.Part.TheVariants as part
 use Rattle.labsys.specs.declared.status.Fault.{Fault}
 use Rattle.lab_text.specs.Policy.{PolicyNames}
 use Rattle.world_text.specs.declared.world.WorldText.{WorldText}
-use Rattle.world_text.specs.declared.stage.Stage.{Stage}
-use Rattle.world_text.specs.declared.stage.Stage.TheVariants as at
-use Rattle.world_text.specs.declared.stage.Said.{Said}
-use Rattle.world_text.specs.declared.stage.Said.TheVariants.{Refuses, GoesOn, Begins}
-use Rattle.world_text.specs.Stage.{line_said}
+use Rattle.world_text.specs.declared.expecting.Expecting.{Expecting}
+use Rattle.world_text.specs.declared.expecting.Expecting.TheVariants as at
+use Rattle.world_text.specs.declared.expecting.Parsed.{Parsed}
+use Rattle.world_text.specs.declared.expecting.Parsed.TheVariants.{Refuses, GoesOn, Begins}
+use Rattle.world_text.specs.Expecting.{parse_line}
 use Rattle.world_text.specs.Reading.{Reading, Accepted, Refused as Stopped, Ended, after, reading, read_text}
 use Rattle.fs_path.specs.Lines.{pieces}
 use Rattle.kern_core.specs.Built.{is_built}
@@ -30,7 +30,7 @@ use Rattle.script_text.specs.Line as script_lines
 use Rattle.labsys.specs.Input.{Input, Script, script, item_of, no_world, cut_off, after_line, script_from, has_fifo, of_world, input_by, read_input, input_of}
 use Rattle.labsys.specs.Texts.{last_text}
 use Rattle.labsys.specs.Order.{order_by, order_of}
-use Rattle.labsys.specs.Playing.{AppendsPrefix, SendsPrefix, Finishes, Takes, Plays, left_of}
+use Rattle.labsys.specs.Playing.{AppendsPrefix, SendsPrefix, Finishes, Takes, RunDid, left_of}
 use Rattle.labsys.proofs.Sending.{sends_start, sends_reply, sends_out}
 
 -- ---- bytes
@@ -82,13 +82,13 @@ input_taken w got now text is kept =
 
 -- ---- an input that goes on past the limit does not end whole
 
-abbrev NotWhole : Ending → Type 0
+abbrev NotWhole : InputEnd → Type 0
 NotWhole e = e ≡ AllRead → ⊥
 
 cut_not : (n : ℕ) (p : Part) (why : Refusal) (last : List ℕ) → NotWhole (cut_off n p why last)
 cut_not n p why last = elim (nat_lt 2048 (length last)) as (λ b. NotWhole (cond b (Refused n p why) TooMuch)) [ true ↦ λ e. cc | false ↦ λ e. cc ]
 
-line_not : (said : Result Line LineError) (n : ℕ) (more : Script) → NotWhole more.ending → NotWhole (after_line said n more).ending
+line_not : (parsed : Result Line LineError) (n : ℕ) (more : Script) → NotWhole more.ending → NotWhole (after_line parsed n more).ending
 line_not (Err e) n more h = λ e. cc
 line_not (Ok Blank) n more h = h
 line_not (Ok (One who call)) n more h =
@@ -97,7 +97,7 @@ line_not (Ok (One who call)) n more h =
 script_not : (policy : PolicyNames) (n : ℕ) (l : List ℕ) (ls : List (List ℕ)) → NotWhole (script_from true policy n (l ∷ ls)).ending
 unfolding script_from
 script_not policy n l [] = cut_not n part.Script refusal.TooLong l
-script_not policy n l (next ∷ ls) = line_not (script_lines.line_said policy l) n (script_from true policy (n + 1) (next ∷ ls)) (script_not policy (n + 1) next ls)
+script_not policy n l (next ∷ ls) = line_not (script_lines.parse_line policy l) n (script_from true policy (n + 1) (next ∷ ls)) (script_not policy (n + 1) next ls)
 
 abbrev InputNot : Input → Type 0
 InputNot i = NotWhole i.script.ending
@@ -109,16 +109,16 @@ HasPiece (Accepted w n (l ∷ ls)) = Unit {0}
 HasPiece (Stopped n why) = Unit {0}
 HasPiece (Ended n last) = Unit {0}
 
-pieces_said : (said : Said) (n : ℕ) (next : List ℕ) (ls : List (List ℕ)) (k : Stage → Reading) → ((stage : Stage) → HasPiece (k stage)) → HasPiece (after said n (next ∷ ls) k)
-pieces_said (Refuses why) n next ls k h = tt
-pieces_said (GoesOn stage) n next ls k h = h stage
-pieces_said (Begins w) n next ls k h = tt
+parse_pieces : (parsed : Parsed) (n : ℕ) (next : List ℕ) (ls : List (List ℕ)) (k : Expecting → Reading) → ((expecting : Expecting) → HasPiece (k expecting)) → HasPiece (after parsed n (next ∷ ls) k)
+parse_pieces (Refuses why) n next ls k h = tt
+parse_pieces (GoesOn expecting) n next ls k h = h expecting
+parse_pieces (Begins w) n next ls k h = tt
 
-has_piece : (n : ℕ) (stage : Stage) (ls : List (List ℕ)) → HasPiece (reading n stage ls)
+has_piece : (n : ℕ) (expecting : Expecting) (ls : List (List ℕ)) → HasPiece (reading n expecting ls)
 unfolding reading
-has_piece n stage [] = tt
-has_piece n stage (last ∷ []) = tt
-has_piece n stage (line ∷ next ∷ ls) = pieces_said (line_said stage line) n next ls _ (λ stage. has_piece (n + 1) stage (next ∷ ls))
+has_piece n expecting [] = tt
+has_piece n expecting (last ∷ []) = tt
+has_piece n expecting (line ∷ next ∷ ls) = parse_pieces (parse_line expecting line) n next ls _ (λ expecting. has_piece (n + 1) expecting (next ∷ ls))
 
 world_not : (w : WorldText) (n : ℕ) (l : List ℕ) (ls : List (List ℕ)) → InputNot (of_world true w n (l ∷ ls))
 world_not w n l ls = elim (has_fifo w.world) as (λ b. InputNot (cond b (no_world (Refused 0 part.World refusal.NotBuilt)) (record { accepted = Some w; script = script_from true w.policy n (l ∷ ls) }))) [ true ↦ λ e. cc | false ↦ script_not w.policy n l ls ]
@@ -135,17 +135,17 @@ lines_not text = input_not (read_text text) (has_piece 1 at.Format (pieces 10 te
 -- ---- what a run leaves
 
 -- the last line alone, where no world was accepted
-pub without_world : (o o' t : Option (List ℕ)) (e : Ending) → AppendsPrefix o o' (last_text 0 e) → SendsPrefix o o' t t (order_of (no_world e))
+pub without_world : (o o' t : Option (List ℕ)) (e : InputEnd) → AppendsPrefix o o' (last_text 0 e) → SendsPrefix o o' t t (order_of (no_world e))
 unfolding order_by
 without_world o o' t e f = sends_reply o o' t (last_text 0 e) f
 
-pub without_world_whole : (r : Result Ending Fault) (o o' t : Option (List ℕ)) (e : Ending) → IfOk r (λ x. Appends o o' (last_text 0 e) × (x ≡ e)) → IfOk r (λ x. Finishes o o' t t (order_of (no_world e)) x (no_world e).script.ending)
+pub without_world_whole : (r : Result InputEnd Fault) (o o' t : Option (List ℕ)) (e : InputEnd) → IfOk r (λ x. Appends o o' (last_text 0 e) × (x ≡ e)) → IfOk r (λ x. Finishes o o' t t (order_of (no_world e)) x (no_world e).script.ending)
 unfolding order_by
 without_world_whole (Ok x) o o' t e h = record { all = sends_out o o' t (last_text 0 e) h.0; ends = h.1 }
 without_world_whole (Err fault) o o' t e h = tt
 
 -- a run on one input is a run on the same input
-pub whole_over : (r : Result Ending Fault) (o o' t t' : Option (List ℕ)) (i j : Input) → i ≡ j → IfOk r (λ e. Finishes o o' t t' (order_of i) e i.script.ending) → IfOk r (λ e. Finishes o o' t t' (order_of j) e j.script.ending)
+pub whole_over : (r : Result InputEnd Fault) (o o' t t' : Option (List ℕ)) (i j : Input) → i ≡ j → IfOk r (λ e. Finishes o o' t t' (order_of i) e i.script.ending) → IfOk r (λ e. Finishes o o' t t' (order_of j) e j.script.ending)
 whole_over r o o' t t' i j is h = subst (λ k. IfOk r (λ e. Finishes o o' t t' (order_of k) e k.script.ending)) is h
 
 pub prefix_over : (o o' t t' : Option (List ℕ)) (i j : Input) → i ≡ j → SendsPrefix o o' t t' (order_of i) → SendsPrefix o o' t t' (order_of j)
@@ -160,9 +160,9 @@ at_end w got text now is =
     ] refl
 
 -- a run that played what was taken
-pub plays_taken : (r : Result Ending Fault) (w : Whole) (left left' o o' t t' : Option (List ℕ)) (text : List ℕ) → (takes : Takes (Ok w) left left') → text ≡ w.bytes
+pub plays_taken : (r : Result InputEnd Fault) (w : Whole) (left left' o o' t t' : Option (List ℕ)) (text : List ℕ) → (takes : Takes (Ok w) left left') → text ≡ w.bytes
     → SendsPrefix o o' t t' (order_of (read_input w.more text)) → IfOk r (λ e. Finishes o o' t t' (order_of (read_input w.more text)) e (read_input w.more text).script.ending)
-    → Plays r left left' o o' t t'
+    → RunDid r left left' o o' t t'
 plays_taken (Ok e) w left left' o o' t t' text takes kept prefix whole =
     let i = input_taken w takes.got left' text takes.shows kept in
     record {
@@ -183,7 +183,7 @@ plays_taken (Err fault) w left left' o o' t t' text takes kept prefix whole =
     }
 
 -- nothing was played
-pub plays_nothing : (r : Result Ending Fault) (w : Result Whole Fault) (fault : Fault) (left left' o t : Option (List ℕ)) → Takes w left left' → IsErrAnd r (λ e. e ≡ fault) → Plays r left left' o o t t
+pub plays_nothing : (r : Result InputEnd Fault) (w : Result Whole Fault) (fault : Fault) (left left' o t : Option (List ℕ)) → Takes w left left' → IsErrAnd r (λ e. e ≡ fault) → RunDid r left left' o o t t
 plays_nothing (Ok e) w fault left left' o t takes is = absurd is
 plays_nothing (Err e) w fault left left' o t takes is = record {
   taken = takes.got;

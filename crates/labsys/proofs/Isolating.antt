@@ -3,10 +3,10 @@ use Rattle.std.proofs.Common.{◌≡◌, ℕ, ◌+◌, ◌≤◌, ◌<◌, true,
 use Rattle.std.proofs.lemmas.List.{append-nil, length-append}
 use Rattle.std.specs.Prelude.{nat_lt}
 use Rattle.lab_lattice.specs.Label.{Label}
-use Rattle.kern_model.specs.Run.{Played}
+use Rattle.kern_model.specs.Run.{CallRecord}
 use Rattle.kern_model.specs.Isolation.{answers, alone, crossing, up_to}
-use Rattle.kern_model.specs.Fronts.{IsFront, Agree}
-use Rattle.iso_laws.proofs.Worlds.{isolated_front, isolated_whole, two_fronts, two_wholes}
+use Rattle.kern_model.specs.Prefixes.{IsPrefix, Agree}
+use Rattle.iso_laws.proofs.Worlds.{isolated_prefix, isolated_whole, two_prefixes, two_wholes}
 use Rattle.labsys.specs.Input.{Accepted, Script}
 use Rattle.labsys.specs.Session.{CallBytes, session_of, bytes_of, replies_of}
 use Rattle.labsys.proofs.AcceptedLemmas.{IsPlayable}
@@ -78,24 +78,24 @@ written (t ∷ ts) tail out more e =
 -- ---- the first calls
 
 -- before the first crossing the first calls are the first of all
-pub take_up_to : (l : Label) (m : ℕ) (ps : List Played) → m ≤ length (up_to l ps) → take m ps ≡ take m (up_to l ps)
+pub take_up_to : (l : Label) (m : ℕ) (ps : List CallRecord) → m ≤ length (up_to l ps) → take m ps ≡ take m (up_to l ps)
 take_up_to l zero ps le = refl
 take_up_to l (suc m) [] le = refl
 take_up_to l (suc m) (p ∷ ps) le =
     elim (crossing l p.recs) as (λ b. suc m ≤ length (cond b [] (p ∷ up_to l ps)) → p ∷ take m ps ≡ take (suc m) (cond b [] (p ∷ up_to l ps))) [
       | true ↦ λ le. absurd (omega arith)
-      | false ↦ λ le. let less : m ≤ length (up_to l ps) = omega arith in ap (λ (r : List Played). p ∷ r) (take_up_to l m ps less)
+      | false ↦ λ le. let less : m ≤ length (up_to l ps) = omega arith in ap (λ (r : List CallRecord). p ∷ r) (take_up_to l m ps less)
     ] le
 
 module _ (l : Label) (a : Accepted) (script : Script) (is : IsPlayable a script) where
   pub is_isolated : (out : List ℕ) → Written (bytes_of (session_of a script)) out → Isolated l a script out
   is_isolated out w = record {
     written = w;
-    told = λ m few before. subst (λ ps. IsFront (answers l ps) (alone l a.world script.items)) (sym (take_up_to l m (run_of a script) before)) (isolated_front l a.world script.items m is.world is.script.arguments is.script.laws);
+    reported = λ m few before. subst (λ ps. IsPrefix (answers l ps) (alone l a.world script.items)) (sym (take_up_to l m (run_of a script) before)) (isolated_prefix l a.world script.items m is.world is.script.arguments is.script.laws);
   }
 
-  pub is_isolated_whole : (out : List ℕ) → IsFront (replies_of (bytes_of (session_of a script))) out → IsolatedWhole l a script out
-  is_isolated_whole out w = record { written = w; told = λ none. isolated_whole l a.world script.items is.world is.script.arguments is.script.laws none }
+  pub is_isolated_whole : (out : List ℕ) → IsPrefix (replies_of (bytes_of (session_of a script))) out → IsolatedWhole l a script out
+  is_isolated_whole out w = record { written = w; reported = λ none. isolated_whole l a.world script.items is.world is.script.arguments is.script.laws none }
 
   module _ (b : Accepted) (script' : Script) (is' : IsPlayable b script') (same : SameBelow l a script b script') where
     pub two_agree : (out : List ℕ) → Written (bytes_of (session_of a script)) out → TwoInputs l a script b script' out
@@ -104,8 +104,8 @@ module _ (l : Label) (a : Accepted) (script : Script) (is : IsPlayable a script)
       agree = λ m n few before before'.
           subst (λ ps. Agree (answers l ps) (answers l (take n (run_of b script')))) (sym (take_up_to l m (run_of a script) before))
           (subst (λ ps. Agree (answers l (take m (up_to l (run_of a script)))) (answers l ps)) (sym (take_up_to l n (run_of b script') before'))
-          (two_fronts l a.world b.world script.items script'.items same.world same.items m n is.world is'.world is.script.arguments is'.script.arguments is.script.laws is'.script.laws));
+          (two_prefixes l a.world b.world script.items script'.items same.world same.items m n is.world is'.world is.script.arguments is'.script.arguments is.script.laws is'.script.laws));
     }
 
-    pub two_whole : (out : List ℕ) → IsFront (replies_of (bytes_of (session_of a script))) out → TwoWhole l a script b script' out
+    pub two_whole : (out : List ℕ) → IsPrefix (replies_of (bytes_of (session_of a script))) out → TwoWhole l a script b script' out
     two_whole out w = record { written = w; equal = λ none none'. two_wholes l a.world b.world script.items script'.items same.world same.items is.world is'.world is.script.arguments is'.script.arguments is.script.laws is'.script.laws none none' }

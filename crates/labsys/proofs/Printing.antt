@@ -9,12 +9,12 @@ use Rattle.std.specs.Option.{option_map}
 use Rattle.aud_record.specs.Written.{rec_text, header_text}
 use Rattle.std.specs.FinMap as finite
 use Rattle.kern_model.specs.declared.records.Rec.{Rec}
-use Rattle.kern_model.specs.Run.{Played}
+use Rattle.kern_model.specs.Run.{CallRecord}
 use Rattle.lab_text.specs.Policy.{PolicyNames}
 use Rattle.kern_model.specs.declared.numbers.Pid.{Pid}
 use Rattle.kern_model.specs.Lineage.{caps_of, all_recs}
 use Rattle.kern_model.specs.State.{Process}
-use Rattle.iso_laws.proofs.Lineage.{caps_are_told}
+use Rattle.iso_laws.proofs.Lineage.{caps_are_reported}
 use Rattle.labsys.specs.Input.{Accepted, Script}
 use Rattle.labsys.specs.Texts.{end_text, ends_text, last_text}
 use Rattle.labsys.specs.Session.{Session, session_of, bytes_from, bytes_of, replies_of, records_of, head_text, tail_text}
@@ -26,7 +26,7 @@ unnumbered : (n : ℕ) (rs : List Rec) → recs_in (map (λ (r : Rec). (n, r)) r
 unnumbered n [] = refl
 unnumbered n (r ∷ rs) = ap (λ (xs : List Rec). r ∷ xs) (unnumbered n rs)
 
-unnumbered_from : (n : ℕ) (ps : List Played) → recs_in (numbered_from n ps) ≡ flat_map (λ (p : Played). p.recs) ps
+unnumbered_from : (n : ℕ) (ps : List CallRecord) → recs_in (numbered_from n ps) ≡ flat_map (λ (p : CallRecord). p.recs) ps
 unnumbered_from n [] = refl
 unnumbered_from n (p ∷ ps) =
     map-append (λ (r : ℕ × Rec). r.1) (map (λ (r : Rec). (n, r)) p.recs) (numbered_from (n + 1) ps)
@@ -41,7 +41,7 @@ lines_of_call : (policy : PolicyNames) (n : ℕ) (rs : List Rec) → lines polic
 lines_of_call policy n [] = refl
 lines_of_call policy n (r ∷ rs) = ap (λ (xs : List ℕ). rec_text policy n r ++ xs) (lines_of_call policy n rs)
 
-lines_from : (policy : PolicyNames) (n : ℕ) (ps : List Played) → lines policy (numbered_from n ps) ≡ records_of (bytes_from policy n ps)
+lines_from : (policy : PolicyNames) (n : ℕ) (ps : List CallRecord) → lines policy (numbered_from n ps) ≡ records_of (bytes_from policy n ps)
 unfolding bytes_from
 lines_from policy n [] = refl
 lines_from policy n (p ∷ ps) =
@@ -84,7 +84,7 @@ module _ (a : Accepted) (script : Script) where
   same_line who =
       elim (finite.get s.last_state.procs who) as (λ found. finite.get s.last_state.procs who ≡ found → line who found ≡ reported_line who found) [
         | None ↦ λ _. refl
-        | Some p ↦ λ is. ap (λ c. end_text a.policy who (Some p.label) (Some c)) (caps_are_told a.world script.items who p is)
+        | Some p ↦ λ is. ap (λ c. end_text a.policy who (Some p.label) (Some c)) (caps_are_reported a.world script.items who p is)
       ] refl
 
   -- the output is the one in which the records give the capability sets

@@ -11,7 +11,7 @@ use Rattle.kern_model.specs.State.{State}
 use Rattle.kern_model.specs.Step.{step}
 use Rattle.kern_model.specs.Run.{played, run, state_after_run}
 use Rattle.lab_text.specs.Policy.{PolicyNames}
-use Rattle.labsys.specs.declared.status.Ending.{Ending}
+use Rattle.labsys.specs.declared.status.InputEnd.{InputEnd}
 use Rattle.labsys.specs.declared.status.Fault.{Fault}
 use Rattle.labsys.specs.Input.{Accepted, Script, script}
 use Rattle.aud_record.specs.Written.{header_text, rec_text}
@@ -34,18 +34,18 @@ order_item policy count s i m =
     ∙ ap (λ k. t ++ (ts ++ to_out (ends ++ last_text k m.ending))) more
 
 -- without items the end lines and the last line are left
-pub order_end : (policy : PolicyNames) (count : ℕ) (s : State) (e : Ending) → order_in policy count s (script [] e) ≡ to_out (ends_text policy s ++ last_text count e)
+pub order_end : (policy : PolicyNames) (count : ℕ) (s : State) (e : InputEnd) → order_in policy count s (script [] e) ≡ to_out (ends_text policy s ++ last_text count e)
 unfolding order_in bytes_from tail_from
 order_end policy count s e = let none : count + 0 ≡ count = omega arith in ap (λ k. to_out (ends_text policy s ++ last_text k e)) none
 
 -- so much went out, and what is left of the script still has to
-pub record Underway (out out' trail trail' : Option (List ℕ)) (whole : List Sent) (ending : Ending) (policy : PolicyNames) (count : ℕ) (s : State) (left : Script) : Type 0 where
+pub record Underway (out out' trail trail' : Option (List ℕ)) (whole : List Sent) (ending : InputEnd) (policy : PolicyNames) (count : ℕ) (s : State) (left : Script) : Type 0 where
   pub sent : List Sent
   pub sends : Sends out out' trail trail' sent
   pub order : whole ≡ sent ++ order_in policy count s left
   pub ends : ending ≡ left.ending
 
-module _ (o o' t t' : Option (List ℕ)) (whole : List Sent) (ending : Ending) (policy : PolicyNames) (count : ℕ) (s : State) (left : Script) (u : Underway o o' t t' whole ending policy count s left) where
+module _ (o o' t t' : Option (List ℕ)) (whole : List Sent) (ending : InputEnd) (policy : PolicyNames) (count : ℕ) (s : State) (left : Script) (u : Underway o o' t t' whole ending policy count s left) where
   -- a prefix of what is left went out
   pub underway_prefix : (o'' t'' : Option (List ℕ)) → SendsPrefix o' o'' t' t'' (order_in policy count s left) → SendsPrefix o o'' t t'' whole
   underway_prefix o'' t'' f = subst (λ w. SendsPrefix o o'' t t'' w) (sym u.order) (sends_on o o' o'' t t' t'' u.sent _ u.sends f)
@@ -69,7 +69,7 @@ module _ (o o' t t' : Option (List ℕ)) (whole : List Sent) (ending : Ending) (
       ends = u.ends ∙ ap (λ (m : Script). m.ending) says;
     }
 
-  module _ (e : Ending) (says : left ≡ script [] e) where
+  module _ (e : InputEnd) (says : left ≡ script [] e) where
     ends_so : order_in policy count s left ≡ to_out (ends_text policy s ++ last_text count e)
     ends_so = ap (λ m. order_in policy count s m) says ∙ order_end policy count s e
 
@@ -112,7 +112,7 @@ module _ (a : Accepted) (m : Script) (recs : List Rec) (recs_are : recs ≡ boot
   world_prefix o o' t t' t'' w f = subst (λ x. SendsPrefix o o' t t'' x) (sym by_script) (sends_after o o' t t' t'' (head_text (session_of a m)) (order_in a.policy 0 (boot a.world) m) (subst (λ (x : List ℕ). Appends t t' x) head_is w) (subst (λ (x : State). SendsPrefix o o' t' t'' (order_in a.policy 0 x m)) s_is f))
 
   -- the head went out, and all of it
-  pub world_whole : (r : Result Ending Fault) (o o' t t' t'' : Option (List ℕ)) (ending : Ending) → Appends t t' (header_text a.policy a.world.bound ++ flat_map (rec_text a.policy 0) recs) → IfOk r (λ e. Finishes o o' t' t'' (order_in a.policy 0 s m) e ending) → IfOk r (λ e. Finishes o o' t t'' (order_by (Some a) m) e ending)
+  pub world_whole : (r : Result InputEnd Fault) (o o' t t' t'' : Option (List ℕ)) (ending : InputEnd) → Appends t t' (header_text a.policy a.world.bound ++ flat_map (rec_text a.policy 0) recs) → IfOk r (λ e. Finishes o o' t' t'' (order_in a.policy 0 s m) e ending) → IfOk r (λ e. Finishes o o' t t'' (order_by (Some a) m) e ending)
   world_whole (Ok e) o o' t t' t'' ending w f = record {
     all = subst (λ x. Sends o o' t t'' x) (sym by_script) (sends_more o o o' t t' t'' (to_trail (head_text (session_of a m))) _ (sends_trail o t t' (head_text (session_of a m)) (subst (λ (x : List ℕ). Appends t t' x) head_is w)) (subst (λ (x : State). Sends o o' t' t'' (order_in a.policy 0 x m)) s_is f.all));
     ends = f.ends;

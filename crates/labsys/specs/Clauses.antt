@@ -7,12 +7,12 @@ use Rattle.lab_lattice.specs.Label.{Label}
 use Rattle.aud_record.specs.Written.{rec_text, header_text}
 use Rattle.kern_model.specs.declared.records.Rec.{Rec}
 use Rattle.kern_model.specs.Boot.{boot}
-use Rattle.kern_model.specs.Run.{Played, run}
+use Rattle.kern_model.specs.Run.{CallRecord, run}
 use Rattle.kern_model.specs.Lineage.{caps_of, OnlyDrops, GrowsByExec}
 use Rattle.kern_model.specs.Isolation.{part, part_script, answers, alone, up_to}
-use Rattle.kern_model.specs.Fronts.{IsFront, Agree}
-use Rattle.labsys.specs.declared.status.Ending.{Ending}
-use Rattle.labsys.specs.declared.status.Ending.TheVariants.{Whole, Refused as IsRefused, TooMuch}
+use Rattle.kern_model.specs.Prefixes.{IsPrefix, Agree}
+use Rattle.labsys.specs.declared.status.InputEnd.{InputEnd}
+use Rattle.labsys.specs.declared.status.InputEnd.TheVariants.{Whole, Refused as IsRefused, TooMuch}
 use Rattle.labsys.specs.declared.status.Fault.{Fault}
 use Rattle.labsys.specs.declared.status.Fault.TheVariants.{Read, Write, Trail, NoMemory as Memory}
 use Rattle.labsys.specs.declared.status.Status.{Status}
@@ -61,7 +61,7 @@ pub record TakesAtMost (most : ℕ) (left now : Option (List ℕ)) : Type 0 wher
 -- ---- statuses
 
 -- the status of a run that ended so
-abbrev pub status_of : Result Ending Fault → Status
+abbrev pub status_of : Result InputEnd Fault → Status
 status_of (Ok Whole) = Done
 status_of (Ok (IsRefused n part why)) = Refused
 status_of (Ok TooMuch) = TooLong
@@ -81,25 +81,25 @@ OnWhole s P = Unit {0}
 
 -- where the reply lines of the first calls stand in out, the head of the trail and their records stand in trail
 abbrev pub Covered : Session → List ℕ → List ℕ → Type 0
-Covered s out trail = (m : ℕ) → m + 1 ≤ length (bytes_of s) → IsFront (replies_of (take (m + 1) (bytes_of s))) out
-    → IsFront (head_text s ++ records_of (take (m + 1) (bytes_of s))) trail
+Covered s out trail = (m : ℕ) → m + 1 ≤ length (bytes_of s) → IsPrefix (replies_of (take (m + 1) (bytes_of s))) out
+    → IsPrefix (head_text s ++ records_of (take (m + 1) (bytes_of s))) trail
 
 -- where the trail goes on after the records of the first calls, their replies stand in out
 abbrev pub RepliesFirst : Session → List ℕ → List ℕ → Type 0
 RepliesFirst s out trail = (m : ℕ) → m ≤ length (bytes_of s) → length (head_text s ++ records_of (take m (bytes_of s))) < length trail
-    → IsFront (replies_of (take m (bytes_of s))) out
+    → IsPrefix (replies_of (take m (bytes_of s))) out
 
 -- how many whole reply lines stand in out
 pub record Written (calls : List CallBytes) (out : List ℕ) : Type 0 where
   pub count : ℕ
   pub few : count ≤ length calls
-  pub begins : IsFront (replies_of (take count calls)) out
+  pub begins : IsPrefix (replies_of (take count calls)) out
   pub no_more : count + 1 ≤ length calls → length out < length (replies_of (take (count + 1) calls))
 
 -- ---- records and capability sets
 
 -- the records of calls from the n-th on, each with the number of its call
-abbrev pub numbered_from : ℕ → List Played → List (ℕ × Rec)
+abbrev pub numbered_from : ℕ → List CallRecord → List (ℕ × Rec)
 numbered_from n [] = []
 numbered_from n (p ∷ ps) = map (λ (r : Rec). (n, r)) p.recs ++ numbered_from (n + 1) ps
 
@@ -122,31 +122,31 @@ out_with s recs = replies_of (bytes_of s)
 
 -- each end line has the capability sets that the records give, and where out goes on after the replies they all stand in the trail
 pub record Printed (s : Session) (out trail : List ℕ) : Type 0 where
-  pub by_records : IsFront out (out_with s (recs_in (numbered_recs s)))
+  pub by_records : IsPrefix out (out_with s (recs_in (numbered_recs s)))
   pub recorded : length (replies_of (bytes_of s)) < length out → trail ≡ trail_with s (numbered_recs s)
 
 -- the trail has a prefix of the records; in all of them `cap_set_proc` makes nothing permitted that was not, and permitted sets grow by exec alone
 pub record Dropped (s : Session) (trail : List ℕ) : Type 0 where
-  pub begins : IsFront trail (trail_with s (numbered_recs s))
+  pub begins : IsPrefix trail (trail_with s (numbered_recs s))
   pub drops : OnlyDrops s.bound (recs_in (numbered_recs s))
   pub grows : GrowsByExec s.bound (recs_in (numbered_recs s))
 
 -- ---- isolation
 
 -- the calls of an accepted world's script, as the table plays them
-abbrev pub run_of : Accepted → Script → List Played
+abbrev pub run_of : Accepted → Script → List CallRecord
 run_of a script = run (boot a.world) script.items
 
 -- up to the first call with a record that crosses l, the written replies to Low tags are the first that the call table gives
 -- to the Low items on the part of the world alone
 pub record Isolated (l : Label) (a : Accepted) (script : Script) (out : List ℕ) : Type 0 where
   pub written : Written (bytes_of (session_of a script)) out
-  pub told : (m : ℕ) → m ≤ written.count → m ≤ length (up_to l (run_of a script)) → IsFront (answers l (take m (run_of a script))) (alone l a.world script.items)
+  pub reported : (m : ℕ) → m ≤ written.count → m ≤ length (up_to l (run_of a script)) → IsPrefix (answers l (take m (run_of a script))) (alone l a.world script.items)
 
 -- all reply lines stand in out, and where no call crosses l those to Low tags are all that the table gives there
 pub record IsolatedWhole (l : Label) (a : Accepted) (script : Script) (out : List ℕ) : Type 0 where
-  pub written : IsFront (replies_of (bytes_of (session_of a script))) out
-  pub told : up_to l (run_of a script) ≡ run_of a script → answers l (run_of a script) ≡ alone l a.world script.items
+  pub written : IsPrefix (replies_of (bytes_of (session_of a script))) out
+  pub reported : up_to l (run_of a script) ≡ run_of a script → answers l (run_of a script) ≡ alone l a.world script.items
 
 -- two inputs that look the same to l: one policy, one part of the worlds, one part of the scripts
 pub record SameBelow (l : Label) (a : Accepted) (script : Script) (b : Accepted) (script' : Script) : Type 0 where
@@ -162,5 +162,5 @@ pub record TwoInputs (l : Label) (a : Accepted) (script : Script) (b : Accepted)
 
 -- all reply lines stand in out, and where neither run crosses l those to Low tags are the other run's
 pub record TwoWhole (l : Label) (a : Accepted) (script : Script) (b : Accepted) (script' : Script) (out : List ℕ) : Type 0 where
-  pub written : IsFront (replies_of (bytes_of (session_of a script))) out
+  pub written : IsPrefix (replies_of (bytes_of (session_of a script))) out
   pub equal : up_to l (run_of a script) ≡ run_of a script → up_to l (run_of b script') ≡ run_of b script' → answers l (run_of a script) ≡ answers l (run_of b script')

@@ -5,8 +5,8 @@ use Rattle.std.specs.declared.alloc.Global.{Global}
 use Rattle.lab_text.specs.Names.{same_bytes}
 use Rattle.labsys.specs.declared.command.Command.{Command}
 use Rattle.labsys.specs.declared.command.Command.TheVariants.{Play}
-use Rattle.labsys.specs.declared.status.Ending.{Ending}
-use Rattle.labsys.specs.declared.status.Ending.TheVariants.{Whole, Refused as IsRefused, TooMuch}
+use Rattle.labsys.specs.declared.status.InputEnd.{InputEnd}
+use Rattle.labsys.specs.declared.status.InputEnd.TheVariants.{Whole, Refused as IsRefused, TooMuch}
 use Rattle.labsys.specs.declared.status.Status.{Status}
 use Rattle.labsys.specs.declared.status.Status.TheVariants.{Done, Refused, TooLong}
 use Rattle.labsys.specs.Input.{input_of}
@@ -23,7 +23,7 @@ command_of (word ∷ file ∷ []) = cond (same_bytes (string_bytes word) (codes 
 command_of words = None
 
 -- the status of an input that was played to its end
-abbrev pub ends_with : Ending → Status
+abbrev pub ends_with : InputEnd → Status
 ends_with Whole = Done
 ends_with (IsRefused n part why) = Refused
 ends_with TooMuch = TooLong

@@ -15,8 +15,8 @@ exit_code NoMemory = 6
 exit_code TooLong = 7
 
 -- whether the last line of the output tells how the run ended
-abbrev pub is_told : Status → Bool
-is_told Done = true
-is_told Refused = true
-is_told TooLong = true
-is_told _ = false
+abbrev pub is_reported : Status → Bool
+is_reported Done = true
+is_reported Refused = true
+is_reported TooLong = true
+is_reported _ = false

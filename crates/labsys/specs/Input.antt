@@ -15,14 +15,14 @@ use Rattle.script_text.specs.declared.line.Line.{Line}
 use Rattle.script_text.specs.declared.line.Line.TheVariants as line
 use Rattle.script_text.specs.declared.fault.LineError.{LineError}
 use Rattle.script_text.specs.declared.fault.LineError.TheVariants as line_error
-use Rattle.script_text.specs.Line.{line_said}
+use Rattle.script_text.specs.Line.{parse_line}
 use Rattle.world_text.specs.declared.fault.WorldFault.{WorldFault}
 use Rattle.world_text.specs.declared.fault.WorldFault.TheVariants as fault
 use Rattle.world_text.specs.declared.world.WorldText.{WorldText}
 use Rattle.world_text.specs.Reading as world
 use Rattle.world_text.specs.Reading.{read_text}
-use Rattle.labsys.specs.declared.status.Ending.{Ending}
-use Rattle.labsys.specs.declared.status.Ending.TheVariants.{Whole, Refused, TooMuch}
+use Rattle.labsys.specs.declared.status.InputEnd.{InputEnd}
+use Rattle.labsys.specs.declared.status.InputEnd.TheVariants.{Whole, Refused, TooMuch}
 use Rattle.labsys.specs.declared.status.Part.{Part}
 use Rattle.labsys.specs.declared.status.Part.TheVariants as part
 use Rattle.labsys.specs.declared.status.Refusal.{Refusal}
@@ -35,25 +35,25 @@ Accepted = WorldText
 -- the items of a script up to the first refused line, and how the input ends
 pub record Script : Type 0 where
   pub items : List ScriptItem
-  pub ending : Ending
+  pub ending : InputEnd
 
 pub record Input : Type 0 where
   pub accepted : Option Accepted
   pub script : Script
 
-abbrev pub script : List ScriptItem → Ending → Script
+abbrev pub script : List ScriptItem → InputEnd → Script
 script items ending = record { items = items; ending = ending }
 
 -- no world is accepted
-abbrev pub no_world : Ending → Input
+abbrev pub no_world : InputEnd → Input
 no_world ending = record { accepted = None; script = script [] ending }
 
 -- a line that passes the place of the limit is judged for its length alone
-abbrev pub cut_off : ℕ → Part → Refusal → List ℕ → Ending
+abbrev pub cut_off : ℕ → Part → Refusal → List ℕ → InputEnd
 cut_off n p why last = cond (nat_lt 2048 (length last)) (Refused n p why) TooMuch
 
 -- how an input ends inside its world at a last piece that is no line; `over` where it goes on past the limit
-abbrev pub ends_at : Bool → ℕ → Part → Refusal → List ℕ → Ending
+abbrev pub ends_at : Bool → ℕ → Part → Refusal → List ℕ → InputEnd
 ends_at over n p why last = cond over (cut_off n p why last) (Refused n p why)
 
 -- ---- the script
@@ -82,7 +82,7 @@ abbrev pub unended : List ℕ → Refusal
 unended last = cond (nat_lt 2048 (length last)) refusal.TooLong refusal.Syntax
 
 -- how a script ends at its last piece, which is no line; one that passes the place of the limit is judged for its length alone
-abbrev pub last_piece : Bool → ℕ → List ℕ → Ending
+abbrev pub last_piece : Bool → ℕ → List ℕ → InputEnd
 last_piece false n [] = Whole
 last_piece false n last = Refused n part.Script (unended last)
 last_piece true n last = cut_off n part.Script refusal.TooLong last
@@ -91,7 +91,7 @@ last_piece true n last = cut_off n part.Script refusal.TooLong last
 unfoldable pub script_from : Bool → PolicyNames → ℕ → List (List ℕ) → Script
 script_from over policy n [] = script [] Whole
 script_from over policy n (last ∷ []) = script [] (last_piece over n last)
-script_from over policy n (line ∷ next ∷ ls) = after_line (line_said policy line) n (script_from over policy (n + 1) (next ∷ ls))
+script_from over policy n (line ∷ next ∷ ls) = after_line (parse_line policy line) n (script_from over policy (n + 1) (next ∷ ls))
 
 -- ---- the world
 

@@ -5,8 +5,8 @@ use Rattle.std.specs.declared.option.Option.{Option}
 use Rattle.std.specs.Io.KnownBytes.{Appends, Consumes, IsAtEnd}
 use Rattle.io_ends.specs.declared.whole.Whole.{Whole}
 use Rattle.io_ends.specs.Whole.{IsWhole}
-use Rattle.labsys.specs.declared.status.Ending.{Ending}
-use Rattle.labsys.specs.declared.status.Ending.TheVariants.{Whole as AllRead}
+use Rattle.labsys.specs.declared.status.InputEnd.{InputEnd}
+use Rattle.labsys.specs.declared.status.InputEnd.TheVariants.{Whole as AllRead}
 use Rattle.labsys.specs.declared.status.Fault.{Fault}
 use Rattle.kern_model.specs.State.{State}
 use Rattle.kern_model.specs.Run.{run, state_after_run}
@@ -44,7 +44,7 @@ pub record SendsPrefix (out out' trail trail' : Option (List ℕ)) (order : List
   pub sends : Sends out out' trail trail' sent
 
 -- all that was to go out did, and the input ended so
-pub record Finishes (out out' trail trail' : Option (List ℕ)) (order : List Sent) (ending is : Ending) : Type 0 where
+pub record Finishes (out out' trail trail' : Option (List ℕ)) (order : List Sent) (ending is : InputEnd) : Type 0 where
   pub all : Sends out out' trail trail' order
   pub ends : ending ≡ is
 
@@ -61,7 +61,7 @@ pub record Takes (result : Result Whole Fault) (left now : Option (List ℕ)) : 
   pub shows : IfOk result (λ w. IsWhole w got 16777216 now)
 
 -- what a run took, and what went out: a prefix of the order of all the input's bytes
-pub record Plays (result : Result Ending Fault) (left left' out out' trail trail' : Option (List ℕ)) : Type 0 where
+pub record RunDid (result : Result InputEnd Fault) (left left' out out' trail trail' : Option (List ℕ)) : Type 0 where
   pub taken : List ℕ
   pub took : Consumes left left' taken
   pub few : length taken ≤ 16777217

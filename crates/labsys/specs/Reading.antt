@@ -10,7 +10,7 @@ use Rattle.kern_model.specs.World.{IsWorld}
 use Rattle.world_text.specs.declared.world.WorldText.{WorldText}
 use Rattle.script_text.specs.declared.fault.LineError.{LineError}
 use Rattle.script_text.specs.declared.fault.LineError.TheVariants as line_error
-use Rattle.labsys.specs.declared.status.Ending.{Ending}
+use Rattle.labsys.specs.declared.status.InputEnd.{InputEnd}
 use Rattle.labsys.specs.declared.status.Refusal.{Refusal}
 use Rattle.labsys.specs.declared.reading.Halt.{Halt}
 use Rattle.labsys.specs.declared.reading.Halt.TheVariants as halt
@@ -43,7 +43,7 @@ pub record SkipsLine (over : Bool) (policy : PolicyNames) (n : ℕ) (text : List
   pub shorter : length rest < length text
 
 -- a script ends here
-abbrev pub Ends : Bool → PolicyNames → ℕ → List ℕ → Ending → Type 0
+abbrev pub Ends : Bool → PolicyNames → ℕ → List ℕ → InputEnd → Type 0
 Ends over policy n text ending = script_from over policy n (pieces 10 text) ≡ script [] ending
 
 -- the word for a fault of a line; want of memory is none

@@ -5,10 +5,10 @@ use Rattle.cap_bits.specs.CapSet.{CapSet}
 use Rattle.kern_model.specs.declared.records.Rec.{Rec}
 use Rattle.kern_model.specs.State.{State}
 use Rattle.kern_model.specs.Boot.{boot, boot_recs}
-use Rattle.kern_model.specs.Run.{Played, run, state_after_run}
+use Rattle.kern_model.specs.Run.{CallRecord, run, state_after_run}
 use Rattle.lab_text.specs.Policy.{PolicyNames}
 use Rattle.aud_record.specs.Written.{rec_text, header_text}
-use Rattle.labsys.specs.declared.status.Ending.{Ending}
+use Rattle.labsys.specs.declared.status.InputEnd.{InputEnd}
 use Rattle.labsys.specs.Input.{Accepted, Script}
 use Rattle.labsys.specs.Texts.{reply_text, ends_text, last_text}
 
@@ -17,9 +17,9 @@ pub record Session : Type 0 where
   pub policy : PolicyNames
   pub bound : CapSet
   pub boot_recs : List Rec
-  pub calls : List Played
+  pub calls : List CallRecord
   pub last_state : State
-  pub ending : Ending
+  pub ending : InputEnd
 
 -- what is played of an accepted world and its script
 abbrev pub session_of : Accepted → Script → Session
@@ -38,11 +38,11 @@ pub record CallBytes : Type 0 where
   pub reply : List ℕ
 
 -- the bytes of the n-th call
-abbrev pub call_bytes : PolicyNames → ℕ → Played → CallBytes
+abbrev pub call_bytes : PolicyNames → ℕ → CallRecord → CallBytes
 call_bytes policy n p = record { recs = flat_map (rec_text policy n) p.recs; reply = reply_text policy p }
 
 -- the bytes of calls from the n-th on
-unfoldable pub bytes_from : PolicyNames → ℕ → List Played → List CallBytes
+unfoldable pub bytes_from : PolicyNames → ℕ → List CallRecord → List CallBytes
 bytes_from policy n [] = []
 bytes_from policy n (p ∷ ps) = call_bytes policy n p ∷ bytes_from policy (n + 1) ps
 

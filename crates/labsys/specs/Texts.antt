@@ -13,18 +13,18 @@ use Rattle.lab_text.specs.Policy.{PolicyNames}
 use Rattle.lab_text.specs.Text.{label_text}
 use Rattle.kern_model.specs.declared.numbers.Pid.{Pid}
 use Rattle.kern_model.specs.State.{State, Process}
-use Rattle.kern_model.specs.Run.{Played}
-use Rattle.script_text.specs.Reply.{reply_said}
-use Rattle.labsys.specs.declared.status.Ending.{Ending}
-use Rattle.labsys.specs.declared.status.Ending.TheVariants.{Whole, Refused, TooMuch}
+use Rattle.kern_model.specs.Run.{CallRecord}
+use Rattle.script_text.specs.Reply.{reply_line}
+use Rattle.labsys.specs.declared.status.InputEnd.{InputEnd}
+use Rattle.labsys.specs.declared.status.InputEnd.TheVariants.{Whole, Refused, TooMuch}
 use Rattle.labsys.specs.declared.status.Part.{Part}
 use Rattle.labsys.specs.declared.status.Part.TheVariants as part
 use Rattle.labsys.specs.declared.status.Refusal.{Refusal}
 use Rattle.labsys.specs.declared.status.Refusal.TheVariants as refusal
 
 -- the reply line of a call that was played
-unfoldable pub reply_text : PolicyNames → Played → List ℕ
-reply_text policy p = reply_said policy p.who p.head p.reply
+unfoldable pub reply_text : PolicyNames → CallRecord → List ℕ
+reply_text policy p = reply_line policy p.who p.head p.reply
 
 -- the end line of a process that lives: `end PID LABEL "CAPS"`
 unfoldable pub life_text : PolicyNames → Pid → Label → CapState → List ℕ
@@ -68,7 +68,7 @@ refusal_text refusal.BadLabel = codes "bad_label"
 refusal_text refusal.BadCaps = codes "bad_caps"
 
 -- the last line: `done COUNT`, `refused LINE PART WORD` or `too long`
-unfoldable pub last_text : ℕ → Ending → List ℕ
+unfoldable pub last_text : ℕ → InputEnd → List ℕ
 last_text count Whole = codes "done " ++ (decimal count ++ 10 ∷ [])
 last_text count (Refused n part why) = codes "refused " ++ (decimal n ++ 32 ∷ (part_text part ++ 32 ∷ (refusal_text why ++ 10 ∷ [])))
 last_text count TooMuch = codes "too long\n"

@@ -11,7 +11,7 @@ mod texts;
 pub use command::Command;
 use io_ends::{FileSink, FileSource};
 pub use running::run;
-pub use status::{Ending, Fault, Part, Refusal, Status};
+pub use status::{Fault, InputEnd, Part, Refusal, Status};
 use std::alloc::{AllocError, Global};
 use std::env;
 use std::io::{self, ErrorKind};

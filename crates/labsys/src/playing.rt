@@ -17,11 +17,11 @@ ghost use Rattle.labsys.specs.Texts.{end_text, label_in, caps_in, ends_text, las
 ghost use Rattle.labsys.specs.Session.{call_bytes};
 ghost use Rattle.labsys.specs.Order.{call_order, order_by, order_of};
 ghost use Rattle.labsys.specs.Counts.{CountsOnce, counts};
-ghost use Rattle.labsys.specs.Playing.{AppendsPrefix, Sends, SendsPrefix, Finishes, Takes, Plays, order_in};
+ghost use Rattle.labsys.specs.Playing.{AppendsPrefix, Sends, SendsPrefix, Finishes, Takes, RunDid, order_in};
 
 use crate::reading::{Halt, Next, ReadWorld, next_item, read_world};
 use crate::texts::{end_line, last_line};
-use crate::{Ending, Fault};
+use crate::{Fault, InputEnd};
 use aud_record::{header_text, rec_text};
 use cap_bits::CapSet;
 use io_ends::{LineFault, Sink, Source, Whole, read_whole, write_whole};
@@ -104,7 +104,7 @@ fn play_item<K: Sink, T: Sink>(
 }
 
 // The end line of a process, where it lives.
-fn tell_end<K: Sink>(
+fn report_end<K: Sink>(
     alloc: Global,
     kernel: &Kernel,
     policy: &Policy,
@@ -126,7 +126,7 @@ fn tell_end<K: Sink>(
 
 // The end lines of all that live.
 #[tactic(auto, unfolding(crate::specs::Texts::ends_text))]
-fn tell_ends<K: Sink>(
+fn report_ends<K: Sink>(
     alloc: Global,
     kernel: &Kernel,
     policy: &Policy,
@@ -138,13 +138,18 @@ fn tell_ends<K: Sink>(
 {
     let numbers = kernel.live()?;
     for who in numbers.items() {
-        tell_end(alloc, kernel, policy, who, out)?;
+        report_end(alloc, kernel, policy, who, out)?;
     }
     Ok(())
 }
 
 // The last line.
-fn tell_last<K: Sink>(alloc: Global, count: u64, ending: Ending, out: &mut K) -> Result<(), Fault>
+fn report_last<K: Sink>(
+    alloc: Global,
+    count: u64,
+    ending: InputEnd,
+    out: &mut K,
+) -> Result<(), Fault>
     ensures ok { OnOk result (Appends (K.held out.old) (K.held out.new) (last_text count ending)) }
     ensures prefix { AppendsPrefix (K.held out.old) (K.held out.new) (last_text count ending) }
     ensures counts { (s t : ℕ) → CountsOnce result (counts s (K.faults out.old) t) (counts s (K.faults out.new) t) }
@@ -159,15 +164,15 @@ fn finish<K: Sink>(
     kernel: &Kernel,
     policy: &Policy,
     count: u64,
-    ending: Ending,
+    ending: InputEnd,
     out: &mut K,
 ) -> Result<(), Fault>
     ensures ok { OnOk result (Appends (K.held out.old) (K.held out.new) (ends_text policy.now (state_of kernel.now) ++ last_text count ending)) }
     ensures prefix { AppendsPrefix (K.held out.old) (K.held out.new) (ends_text policy.now (state_of kernel.now) ++ last_text count ending) }
     ensures counts { (s t : ℕ) → CountsOnce result (counts s (K.faults out.old) t) (counts s (K.faults out.new) t) }
 {
-    tell_ends(alloc, kernel, policy, out)?;
-    tell_last(alloc, count, ending, out)
+    report_ends(alloc, kernel, policy, out)?;
+    report_last(alloc, count, ending, out)
 }
 
 // Plays a script from its first line on, which has this number, to its end.
@@ -180,7 +185,7 @@ fn play_script<K: Sink, T: Sink>(
     over: bool,
     out: &mut K,
     trail: &mut T,
-) -> Result<Ending, Fault>
+) -> Result<InputEnd, Fault>
     requires small { first + length script.now ≤ 2 ^ 60 }
     requires top { (state_of kernel.old).top ≡ top_of policy.now }
     ensures whole { IfOk result (λ e. Finishes (K.held out.old) (K.held out.new) (T.held trail.old) (T.held trail.new) (order_in policy.now 0 (state_of kernel.old) (script_from over policy.now first (pieces 10 script.now))) e (script_from over policy.now first (pieces 10 script.now)).ending) }
@@ -234,7 +239,7 @@ fn play_world<K: Sink, T: Sink>(
     over: bool,
     out: &mut K,
     trail: &mut T,
-) -> Result<Ending, Fault>
+) -> Result<InputEnd, Fault>
     requires world { IsWorld read.now.read.world }
     requires top { read.now.read.world.top ≡ top_of read.now.read.policy }
     requires small { read.now.number + length read.now.script.now ≤ 2 ^ 60 }
@@ -265,12 +270,16 @@ fn play_world<K: Sink, T: Sink>(
 }
 
 // Without a world the last line is all that is written.
-fn end_without_world<K: Sink>(alloc: Global, ending: Ending, out: &mut K) -> Result<Ending, Fault>
+fn end_without_world<K: Sink>(
+    alloc: Global,
+    ending: InputEnd,
+    out: &mut K,
+) -> Result<InputEnd, Fault>
     ensures ok { IfOk result (λ e. Appends (K.held out.old) (K.held out.new) (last_text 0 ending) × (e ≡ ending)) }
     ensures prefix { AppendsPrefix (K.held out.old) (K.held out.new) (last_text 0 ending) }
     ensures counts { (s t : ℕ) → CountsOnce result (counts s (K.faults out.old) t) (counts s (K.faults out.new) t) }
 {
-    tell_last(alloc, 0, ending, out)?;
+    report_last(alloc, 0, ending, out)?;
     Ok(ending)
 }
 
@@ -281,7 +290,7 @@ fn play_text<K: Sink, T: Sink>(
     over: bool,
     out: &mut K,
     trail: &mut T,
-) -> Result<Ending, Fault>
+) -> Result<InputEnd, Fault>
     requires { length text.now ≤ 16777216 }
     ensures whole { IfOk result (λ e. Finishes (K.held out.old) (K.held out.new) (T.held trail.old) (T.held trail.new) (order_of (read_input over text.now)) e (read_input over text.now).script.ending) }
     ensures prefix { SendsPrefix (K.held out.old) (K.held out.new) (T.held trail.old) (T.held trail.new) (order_of (read_input over text.now)) }
@@ -313,8 +322,8 @@ pub fn play<S: Source, K: Sink, T: Sink>(
     source: &mut S,
     out: &mut K,
     trail: &mut T,
-) -> Result<Ending, Fault>
-    ensures plays { Plays result (S.left source.old) (S.left source.new) (K.held out.old) (K.held out.new) (T.held trail.old) (T.held trail.new) }
+) -> Result<InputEnd, Fault>
+    ensures plays { RunDid result (S.left source.old) (S.left source.new) (K.held out.old) (K.held out.new) (T.held trail.old) (T.held trail.new) }
     ensures counts { CountsOnce result (counts (S.faults source.old) (K.faults out.old) (T.faults trail.old)) (counts (S.faults source.new) (K.faults out.new) (T.faults trail.new)) }
 {
     let whole = take_all(alloc, source)?;

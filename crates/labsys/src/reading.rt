@@ -4,14 +4,14 @@ ghost use Rattle.labsys.specs.Input.{ends_at, has_fifo, last_piece};
 ghost use Rattle.labsys.specs.Reading.{Reads, ReadsNone, IsRefusal, Follows};
 ghost use Rattle.labsys.specs.declared.reading.Halt.TheVariants as halt;
 
-use crate::{Ending, Part, Refusal};
+use crate::{InputEnd, Part, Refusal};
 use fs_path::next_line;
 use kern_core::built;
 use kern_model::{Body, Call, NoMemory, Pid, World};
 use lab_text::Policy;
 use script_text::{Line, LineError, read_line};
 use std::alloc::Global;
-use world_text::{Front, WorldText, read_front};
+use world_text::{Prefix, WorldText, read_prefix};
 
 const MAX_LINE: usize = 2048;
 
@@ -19,7 +19,7 @@ const MAX_LINE: usize = 2048;
 #[derive(Clone, Copy, Debug, PartialEq, Eq)]
 pub enum Halt {
     /// The input ends so, inside its world.
-    Ended(Ending),
+    Ended(InputEnd),
     /// Memory ran out.
     NoMemory,
 }
@@ -42,13 +42,13 @@ pub struct ReadWorld<'a> {
 }
 
 // How an input ends at its last piece, which is no line; `over` where it goes on past the limit.
-fn ends_at(over: bool, number: u64, part: Part, why: Refusal, last: &[u8]) -> Ending
+fn ends_at(over: bool, number: u64, part: Part, why: Refusal, last: &[u8]) -> InputEnd
     ensures { result ≡ ends_at over number part why last.now }
 {
     if over && last.len() <= MAX_LINE {
-        return Ending::TooMuch;
+        return InputEnd::TooMuch;
     }
-    Ending::Refused(number, part, why)
+    InputEnd::Refused(number, part, why)
 }
 
 // Whether a world has a FIFO.
@@ -66,10 +66,10 @@ fn has_fifo(world: &World) -> bool
 pub fn read_world(alloc: Global, text: &[u8], over: bool) -> Result<ReadWorld<'_>, Halt>
     ensures { MatchResult result (λ world. Reads over text.now world.read world.number world.script.now) (λ halt. ReadsNone over text.now halt) }
 {
-    match read_front(alloc, text)? {
-        Front::World(read, number, script) => {
+    match read_prefix(alloc, text)? {
+        Prefix::World(read, number, script) => {
             if has_fifo(&read.world) {
-                let ending = Ending::Refused(0, Part::World, Refusal::NotBuilt);
+                let ending = InputEnd::Refused(0, Part::World, Refusal::NotBuilt);
                 return Err(Halt::Ended(ending));
             }
             Ok(ReadWorld {
@@ -78,11 +78,11 @@ pub fn read_world(alloc: Global, text: &[u8], over: bool) -> Result<ReadWorld<'_
                 number,
             })
         }
-        Front::Refused(number, fault) => {
-            let ending = Ending::Refused(number, Part::World, fault.into());
+        Prefix::Refused(number, fault) => {
+            let ending = InputEnd::Refused(number, Part::World, fault.into());
             Err(Halt::Ended(ending))
         }
-        Front::Ended(number, last) => Err(Halt::Ended(ends_at(
+        Prefix::Ended(number, last) => Err(Halt::Ended(ends_at(
             over,
             number,
             Part::World,
@@ -93,11 +93,11 @@ pub fn read_world(alloc: Global, text: &[u8], over: bool) -> Result<ReadWorld<'_
 }
 
 // How a script ends at its last piece, which is no line and is not empty where the input ends there.
-fn last_ending(over: bool, number: u64, last: &[u8]) -> Ending
+fn last_ending(over: bool, number: u64, last: &[u8]) -> InputEnd
     ensures { result ≡ last_piece over number last.now }
 {
     if last.is_empty() && !over {
-        return Ending::Whole;
+        return InputEnd::Whole;
     }
     let why = if last.len() > MAX_LINE {
         Refusal::TooLong
@@ -130,7 +130,7 @@ pub enum Next<'a> {
     /// A line that says nothing, and the text behind it.
     Blank(&'a [u8]),
     /// The end.
-    Ended(Ending),
+    Ended(InputEnd),
 }
 
 /// What is next in a script, whose line has this number; `over` where the input goes on past the limit.
@@ -150,13 +150,13 @@ pub fn next_item<'a>(
         Ok(Line::Blank) => Ok(Next::Blank(rest)),
         Ok(Line::One { who, call }) => {
             if !built(&call) {
-                let refused = Ending::Refused(number, Part::Script, Refusal::NotBuilt);
+                let refused = InputEnd::Refused(number, Part::Script, Refusal::NotBuilt);
                 return Ok(Next::Ended(refused));
             }
             Ok(Next::Item(who, call, rest))
         }
         Err(fault) => {
-            let refused = Ending::Refused(number, Part::Script, refusal_of(fault)?);
+            let refused = InputEnd::Refused(number, Part::Script, refusal_of(fault)?);
             Ok(Next::Ended(refused))
         }
     }

@@ -10,17 +10,17 @@ ghost use Rattle.labsys.specs.Clauses.{status_of, OnWhole, TakesAtMost, WhereRep
 
 use crate::command::command_of;
 use crate::playing::play;
-use crate::{Command, Ending, Fault, Status};
+use crate::{Command, Fault, InputEnd, Status};
 use io_ends::{Sink, Source};
 use std::alloc::Global;
 
-fn status_of(played: Result<Ending, Fault>) -> Status
+fn status_of(played: Result<InputEnd, Fault>) -> Status
     ensures { result ≡ status_of played }
 {
     match played {
-        Ok(Ending::Whole) => Status::Done,
-        Ok(Ending::Refused(..)) => Status::Refused,
-        Ok(Ending::TooMuch) => Status::TooLong,
+        Ok(InputEnd::Whole) => Status::Done,
+        Ok(InputEnd::Refused(..)) => Status::Refused,
+        Ok(InputEnd::TooMuch) => Status::TooLong,
         Err(Fault::Read) => Status::ReadFault,
         Err(Fault::Write) => Status::WriteFault,
         Err(Fault::Trail) => Status::TrailFault,

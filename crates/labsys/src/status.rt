@@ -1,6 +1,6 @@
 // How inputs and runs end.
 ghost use Rattle.std.specs.Prelude.{◌≡◌, is_none};
-ghost use Rattle.labsys.specs.Exit.{is_told};
+ghost use Rattle.labsys.specs.Exit.{is_reported};
 
 use kern_model::NoMemory;
 use world_text::WorldFault;
@@ -64,7 +64,7 @@ impl From<WorldFault> for Refusal {
 
 /// How an input ends.
 #[derive(Clone, Copy, Debug, PartialEq, Eq)]
-pub enum Ending {
+pub enum InputEnd {
     /// All of its lines were accepted.
     Whole,
     /// This line was refused, counted from 1.
@@ -121,7 +121,7 @@ impl From<NoMemory> for Fault {
 impl Status {
     /// What the program prints of it to standard error: words that no clause fixes, and nothing where the output tells.
     pub fn complaint(self) -> Option<&'static str>
-        ensures { is_none result ≡ is_told self }
+        ensures { is_none result ≡ is_reported self }
     {
         match self {
             Status::Done | Status::Refused | Status::TooLong => None,

@@ -166,7 +166,7 @@ fn a_read_that_fails_leaves_nothing(rt: HostRuntime) -> Result<(), Fail> {
 }
 
 #[test]
-fn a_write_that_fails_comes_behind_the_records(rt: HostRuntime) -> Result<(), Fail> {
+fn a_write_that_fails_comes_after_the_records(rt: HostRuntime) -> Result<(), Fail> {
     let rows: [(u64, &[&[u8]]); 3] = [(1, &[]), (2, &[REPLY]), (3, &[REPLY, END])];
     for (call, out) in rows {
         let fails = Fails {

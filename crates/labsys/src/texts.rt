@@ -2,7 +2,7 @@
 ghost use Rattle.std.specs.Prelude.{◌≡◌, IfOk};
 ghost use Rattle.labsys.specs.Texts.{life_text, part_text, refusal_text, last_text};
 
-use crate::{Ending, Part, Refusal};
+use crate::{InputEnd, Part, Refusal};
 use cap_bits::CapState;
 use cap_clause::cap_to_text;
 use fs_path::{put_number, put_quoted};
@@ -72,16 +72,16 @@ pub fn end_line(
 
 /// The last line, after so many calls.
 #[tactic(auto, unfolding(crate::specs::Texts::last_text))]
-pub fn last_line(alloc: Global, count: u64, ending: Ending) -> Result<Vec<u8>, NoMemory>
+pub fn last_line(alloc: Global, count: u64, ending: InputEnd) -> Result<Vec<u8>, NoMemory>
     ensures { IfOk result (λ text. text.items ≡ last_text count ending) }
 {
     let mut text = Vec::new(alloc);
     match ending {
-        Ending::Whole => {
+        InputEnd::Whole => {
             text.extend_from_slice(b"done ")?;
             put_number(alloc, &mut text, count)?;
         }
-        Ending::Refused(line, part, why) => {
+        InputEnd::Refused(line, part, why) => {
             text.extend_from_slice(b"refused ")?;
             put_number(alloc, &mut text, line)?;
             text.push(b' ')?;
@@ -89,7 +89,7 @@ pub fn last_line(alloc: Global, count: u64, ending: Ending) -> Result<Vec<u8>, N
             text.push(b' ')?;
             text.extend_from_slice(why.word())?;
         }
-        Ending::TooMuch => text.extend_from_slice(b"too long")?,
+        InputEnd::TooMuch => text.extend_from_slice(b"too long")?,
     }
     text.push(b'\n')?;
     Ok(text)

@@ -22,12 +22,12 @@ use Rattle.kern_model.specs.declared.calls.OpenFlags.{OpenFlags}
 use Rattle.kern_model.specs.declared.numbers.Pid.{Pid}
 use Rattle.lab_lattice.specs.Label.{Label, dominates}
 use Rattle.lab_text.specs.Policy.{PolicyNames, top_of}
-use Rattle.lab_text.proofs.Said.{said_valid}
-use Rattle.lab_text.specs.Text.{label_said}
+use Rattle.lab_text.proofs.Parsed.{parsed_valid}
+use Rattle.lab_text.specs.Text.{parse_label}
 use Rattle.script_text.specs.Argument.{process, pid_by, label as a_label, tag as a_tag, pid as a_pid, up_to as a_number_up_to, mode as a_mode, permissions as a_permission, offset as an_offset, signed, flags as some_flags, flags_in, is_in_order, numbered}
 use Rattle.kern_model.specs.Named.{call_named}
-use Rattle.script_text.specs.Calls.{call_said, none_said, one_said, two_said, three_said}
-use Rattle.script_text.specs.Line.{MayBePlayed, bytes_in, item_by, item_said, line_said, words_said}
+use Rattle.script_text.specs.Calls.{parse_call, none_parsed, one_parsed, two_parsed, three_parsed}
+use Rattle.script_text.specs.Line.{MayBePlayed, bytes_in, item_by, parse_item, parse_line, parse_words}
 use Rattle.script_text.specs.Reading.{Reading, both, made}
 use Rattle.script_text.specs.declared.line.Line.{Line}
 use Rattle.script_text.specs.declared.line.Line.TheVariants as line
@@ -139,10 +139,10 @@ with_mode f is = by_flag f.c is.as_asked
 module _ (policy : PolicyNames) where
   label_fine : (w : List ℕ) (l : Label) → a_label policy w ≡ Ok l → dominates (top_of policy) l ≡ true
   unfolding a_label
-  label_fine w l h = said_valid policy w l (there (label_said policy w) _ l h)
+  label_fine w l h = parsed_valid policy w l (there (parse_label policy w) _ l h)
 
   process_fine : (parts : List ℕ × List ℕ) (who : Pid) → process policy parts ≡ Some who → is_number (top_of policy) who ≡ true
-  process_fine parts who h = by_parts (numeral 10 10 1 4095 parts.0) (label_said policy parts.1) (numeral_within 10 10 1 4095 parts.0) (said_valid policy parts.1) h
+  process_fine parts who h = by_parts (numeral 10 10 1 4095 parts.0) (parse_label policy parts.1) (numeral_within 10 10 1 4095 parts.0) (parsed_valid policy parts.1) h
     where
       by_parts : (o : Option ℕ) (l : Option Label) → ((n : ℕ) → o ≡ Some n → (nat_le 1 n ≡ true) × (nat_le n 4095 ≡ true)) → ((x : Label) → l ≡ Some x → dominates (top_of policy) x ≡ true)
           → option_and_then (λ n. option_map (λ at. record { label = at; n = n }) l) o ≡ Some who → is_number (top_of policy) who ≡ true
@@ -185,8 +185,8 @@ module _ (policy : PolicyNames) where
       let others = both_are b c args.1 is.1 in
       p args.0 args.1.0 args.1.1 is.0 others.0 others.1)
 
-  none_fine : (n : CallName) (c : Call) → none_said n ≡ Ok c → MayBeMade c
-  unfolding none_said is_call
+  none_fine : (n : CallName) (c : Call) → none_parsed n ≡ Ok c → MayBeMade c
+  unfolding none_parsed is_call
   none_fine name.Pipe c h = let e : call.Pipe ≡ c = cc in subst MayBeMade e refl
   none_fine name.Fork c h = let e : call.Fork ≡ c = cc in subst MayBeMade e refl
   none_fine name.Wait c h = let e : call.Wait ≡ c = cc in subst MayBeMade e refl
@@ -197,8 +197,8 @@ module _ (policy : PolicyNames) where
   none_fine name.MacGetProc c h = let e : call.MacGetProc ≡ c = cc in subst MayBeMade e refl
   none_fine _ c h = absurd (cc)
 
-  one_fine : (n : CallName) (w : List ℕ) (c : Call) → one_said policy n w ≡ Ok c → MayBeMade c
-  unfolding one_said is_call
+  one_fine : (n : CallName) (w : List ℕ) (c : Call) → one_parsed policy n w ≡ Ok c → MayBeMade c
+  unfolding one_parsed is_call
   one_fine name.Close w c h = from_made MayBeMade call.Close _ c h (λ fd _. refl)
   one_fine name.Dup w c h = from_made MayBeMade call.Dup _ c h (λ fd _. refl)
   one_fine name.Fstat w c h = from_made MayBeMade call.Fstat _ c h (λ fd _. refl)
@@ -222,8 +222,8 @@ module _ (policy : PolicyNames) where
   one_fine name.AudSwitch w c h = from_made MayBeMade call.AudSwitch _ c h (λ on _. refl)
   one_fine _ w c h = absurd (cc)
 
-  two_fine : (n : CallName) (v w : List ℕ) (c : Call) → two_said policy n v w ≡ Ok c → MayBeMade c
-  unfolding two_said is_call
+  two_fine : (n : CallName) (v w : List ℕ) (c : Call) → two_parsed policy n v w ≡ Ok c → MayBeMade c
+  unfolding two_parsed is_call
   two_fine name.OpenPath v w c h = from_two (λ path flags. call.OpenPath path flags None) _ _ c h (λ path flags _ f. let is = flags_fine false w flags f in and_from _ _ is.fit (without_mode flags is))
   two_fine name.Read v w c h = from_two call.Read _ _ c h (λ fd n _ n_is. number_fine 65536 w n n_is)
   two_fine name.Write v w c h = from_two call.Write _ _ c h (λ fd bytes _ _. refl)
@@ -239,14 +239,14 @@ module _ (policy : PolicyNames) where
   two_fine name.Kill v w c h = from_two call.Kill _ _ c h (λ target signal t _. pid_fine v target t)
   two_fine _ v w c h = absurd (cc)
 
-  three_fine : (n : CallName) (u v w : List ℕ) (c : Call) → three_said n u v w ≡ Ok c → MayBeMade c
-  unfolding three_said is_call
+  three_fine : (n : CallName) (u v w : List ℕ) (c : Call) → three_parsed n u v w ≡ Ok c → MayBeMade c
+  unfolding three_parsed is_call
   three_fine name.OpenPath u v w c h = from_three (λ path flags mode. call.OpenPath path flags (Some mode)) _ _ _ c h (λ path flags mode _ f m. let is = flags_fine true v flags f in and_from _ _ is.fit (and_from _ _ (with_mode flags is) (mode_fine w mode m)))
   three_fine name.Lseek u v w c h = from_three call.Lseek _ _ _ c h (λ fd from offset _ _ o. offset_fine w offset o)
   three_fine name.Chown u v w c h = from_three call.Chown _ _ _ c h (λ path user group _ _ _. refl)
   three_fine _ u v w c h = absurd (cc)
 
-  call_fine : (n : CallName) (ws : List (List ℕ)) (c : Call) → call_said policy n ws ≡ Ok c → MayBeMade c
+  call_fine : (n : CallName) (ws : List (List ℕ)) (c : Call) → parse_call policy n ws ≡ Ok c → MayBeMade c
   call_fine n [] c h = none_fine n c h
   call_fine n (w ∷ []) c h = one_fine n w c h
   call_fine n (v ∷ w ∷ []) c h = two_fine n v w c h
@@ -255,8 +255,8 @@ module _ (policy : PolicyNames) where
 
   -- ---- lines
 
-  item_fine : (ws : List LineWord) (l : Line) → item_said policy ws ≡ Ok l → MayBePlayed (top_of policy) l
-  unfolding item_said
+  item_fine : (ws : List LineWord) (l : Line) → parse_item policy ws ≡ Ok l → MayBePlayed (top_of policy) l
+  unfolding parse_item
   item_fine [] l h = absurd (cc)
   item_fine (tag ∷ []) l h = absurd (cc)
   item_fine (tag ∷ call ∷ ws) l h = by_quotes (tag.quoted || call.quoted) h
@@ -272,18 +272,18 @@ module _ (policy : PolicyNames) where
       by_quotes false h = by_name (call_named call.bytes) h
 
   -- what a line says may be played
-  pub said_played : (text : List ℕ) (l : Line) → line_said policy text ≡ Ok l → MayBePlayed (top_of policy) l
-  unfolding line_said
-  said_played text l h = by_length (nat_lt 2048 (length text)) h
+  pub parsed_played : (text : List ℕ) (l : Line) → parse_line policy text ≡ Ok l → MayBePlayed (top_of policy) l
+  unfolding parse_line
+  parsed_played text l h = by_length (nat_lt 2048 (length text)) h
     where
-      by_words : (o : Option (List LineWord)) → words_said policy o ≡ Ok l → MayBePlayed (top_of policy) l
+      by_words : (o : Option (List LineWord)) → parse_words policy o ≡ Ok l → MayBePlayed (top_of policy) l
       by_words None h = absurd (cc)
       by_words (Some ws) h = item_fine ws l h
 
-      by_blank : (v : Bool) → cond v (Ok line.Blank) (words_said policy (words_of text)) ≡ Ok l → MayBePlayed (top_of policy) l
+      by_blank : (v : Bool) → cond v (Ok line.Blank) (parse_words policy (words_of text)) ≡ Ok l → MayBePlayed (top_of policy) l
       by_blank true h = let e : line.Blank ≡ l = cc in subst (MayBePlayed (top_of policy)) e tt
       by_blank false h = by_words (words_of text) h
 
-      by_length : (v : Bool) → cond v (Err error.TooLong) (cond (is_blank text) (Ok line.Blank) (words_said policy (words_of text))) ≡ Ok l → MayBePlayed (top_of policy) l
+      by_length : (v : Bool) → cond v (Err error.TooLong) (cond (is_blank text) (Ok line.Blank) (parse_words policy (words_of text))) ≡ Ok l → MayBePlayed (top_of policy) l
       by_length true h = absurd (cc)
       by_length false h = by_blank (is_blank text) h

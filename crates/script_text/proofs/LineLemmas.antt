@@ -7,19 +7,19 @@ use Rattle.lab_text.specs.Policy.{PolicyNames, top_of}
 use Rattle.script_text.specs.declared.line.Line.{Line}
 use Rattle.script_text.specs.declared.line.Line.TheVariants as line
 use Rattle.script_text.specs.declared.fault.LineError.TheVariants as error
-use Rattle.script_text.specs.Line.{MayBePlayed, item_said, line_said, words_said}
-use Rattle.script_text.proofs.LineLaws.{said_played}
+use Rattle.script_text.specs.Line.{MayBePlayed, parse_item, parse_line, parse_words}
+use Rattle.script_text.proofs.LineLaws.{parsed_played}
 use Rattle.script_text.specs.Reading.{Reading, Answers}
 
 -- a line that is not too long says what its words say
-line_by_words : (policy : PolicyNames) (text : List ℕ) (words : List LineWord) → length text ≤ 2048 → is_blank text ≡ false → words_of text ≡ Some words → line_said policy text ≡ item_said policy words
-unfolding line_said
+line_by_words : (policy : PolicyNames) (text : List ℕ) (words : List LineWord) → length text ≤ 2048 → is_blank text ≡ false → words_of text ≡ Some words → parse_line policy text ≡ parse_item policy words
+unfolding parse_line
 line_by_words policy text words short some is =
-    ap (λ v. cond v (Err error.TooLong) (cond (is_blank text) (Ok line.Blank) (words_said policy (words_of text)))) (le-ltb 2048 (length text) short)
-    ∙ ap (λ v. cond v (Ok line.Blank) (words_said policy (words_of text))) some ∙ ap (words_said policy) is
+    ap (λ v. cond v (Err error.TooLong) (cond (is_blank text) (Ok line.Blank) (parse_words policy (words_of text)))) (le-ltb 2048 (length text) short)
+    ∙ ap (λ v. cond v (Ok line.Blank) (parse_words policy (words_of text))) some ∙ ap (parse_words policy) is
 
 -- what is answered for a line may be played
 pub answer_played : (policy : PolicyNames) (text : List ℕ) (words : List LineWord) (r : Reading Line) → length text ≤ 2048 → is_blank text ≡ false → words_of text ≡ Some words
-    → Answers (item_said policy words) r → IfOk r (MayBePlayed (top_of policy))
-answer_played policy text words (Ok l) short some is answer = said_played policy text l (line_by_words policy text words short some is ∙ answer)
+    → Answers (parse_item policy words) r → IfOk r (MayBePlayed (top_of policy))
+answer_played policy text words (Ok l) short some is answer = parsed_played policy text l (line_by_words policy text words short some is ∙ answer)
 answer_played policy text words (Err e) short some is answer = tt

@@ -4,11 +4,11 @@ use Rattle.std.specs.Bool.{beq}
 use Rattle.std.specs.List.{filter, list_any, starts_with}
 use Rattle.std.specs.Option.{ok_or, option_and_then, option_map}
 use Rattle.cap_bits.specs.declared.state.CapState.{CapState}
-use Rattle.cap_clause.specs.Said.{caps_said}
+use Rattle.cap_clause.specs.Parsed.{parse_caps}
 use Rattle.cap_clause.specs.declared.error.CapTextError.{CapTextError}
 use Rattle.fs_path.specs.Lines.{cut}
 use Rattle.fs_path.specs.Path.{PathValue}
-use Rattle.fs_path.specs.PathText.{path_fault, path_said}
+use Rattle.fs_path.specs.PathText.{path_fault, parse_path}
 use Rattle.fs_path.specs.declared.path.PathError.{PathError}
 use Rattle.fs_path.specs.Options.{keep_if}
 use Rattle.fs_path.specs.Values.{numeral, number_of, mode_of}
@@ -22,41 +22,41 @@ use Rattle.kern_model.specs.declared.numbers.Pid.{Pid}
 use Rattle.lab_lattice.specs.Label.{Label}
 use Rattle.lab_text.specs.Names.{same_bytes}
 use Rattle.lab_text.specs.Policy.{PolicyNames}
-use Rattle.lab_text.specs.Text.{label_said}
+use Rattle.lab_text.specs.Text.{parse_label}
 use Rattle.script_text.specs.declared.fault.LineError.TheVariants as error
 use Rattle.script_text.specs.Reading.{Reading}
 
 -- what a word of the right form says
 abbrev pub formed : {X : Type 0} → Option X → Reading X
-formed said = ok_or said error.Syntax
+formed parsed = ok_or parsed error.Syntax
 
 -- ---- paths, labels and capabilities
 
 abbrev pub path_by : Option PathError → PathValue → Reading PathValue
-path_by None said = Ok said
-path_by (Some fault) said = Err error.BadPath
+path_by None parsed = Ok parsed
+path_by (Some fault) parsed = Err error.BadPath
 
 -- a path
 unfoldable pub path : List ℕ → Reading PathValue
-path word = path_by (path_fault word) (path_said word)
+path word = path_by (path_fault word) (parse_path word)
 
 -- a label
 unfoldable pub label : PolicyNames → List ℕ → Reading Label
-label policy word = ok_or (label_said policy word) error.BadLabel
+label policy word = ok_or (parse_label policy word) error.BadLabel
 
 abbrev pub caps_by : Result CapState CapTextError → Reading CapState
-caps_by (Ok said) = Ok said
+caps_by (Ok parsed) = Ok parsed
 caps_by (Err fault) = Err error.BadCaps
 
 -- capability sets
 unfoldable pub caps : List ℕ → Reading CapState
-caps word = caps_by (caps_said word)
+caps word = caps_by (parse_caps word)
 
 -- ---- numbers of processes
 
 -- the number of a process, from 1 to 4,095, of what stands before and behind `@`
 abbrev pub process : PolicyNames → List ℕ × List ℕ → Option Pid
-process policy parts = option_and_then (λ n. option_map (λ at. record { label = at; n = n }) (label_said policy parts.1)) (numeral 10 10 1 4095 parts.0)
+process policy parts = option_and_then (λ n. option_map (λ at. record { label = at; n = n }) (parse_label policy parts.1)) (numeral 10 10 1 4095 parts.0)
 
 -- a tag: `n@label`
 unfoldable pub tag : PolicyNames → List ℕ → Reading Pid

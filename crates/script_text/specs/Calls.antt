@@ -20,70 +20,70 @@ abbrev pub three : {A B C : Type 0} → (A → B → C → Call) → Reading A �
 three make a b c = made (λ args. make args.0 args.1.0 args.1.1) (both a (both b c))
 
 -- the calls without arguments
-unfoldable pub none_said : CallName → Reading Call
-none_said name.Pipe = Ok call.Pipe
-none_said name.Fork = Ok call.Fork
-none_said name.Wait = Ok call.Wait
-none_said name.Getpid = Ok call.Getpid
-none_said name.Getppid = Ok call.Getppid
-none_said name.Getids = Ok call.Getids
-none_said name.CapGetProc = Ok call.CapGetProc
-none_said name.MacGetProc = Ok call.MacGetProc
-none_said _ = Err error.Syntax
+unfoldable pub none_parsed : CallName → Reading Call
+none_parsed name.Pipe = Ok call.Pipe
+none_parsed name.Fork = Ok call.Fork
+none_parsed name.Wait = Ok call.Wait
+none_parsed name.Getpid = Ok call.Getpid
+none_parsed name.Getppid = Ok call.Getppid
+none_parsed name.Getids = Ok call.Getids
+none_parsed name.CapGetProc = Ok call.CapGetProc
+none_parsed name.MacGetProc = Ok call.MacGetProc
+none_parsed _ = Err error.Syntax
 
 -- the calls with one argument
-unfoldable pub one_said : PolicyNames → CallName → List ℕ → Reading Call
-one_said policy name.Close w = made call.Close (argument.number w)
-one_said policy name.Dup w = made call.Dup (argument.number w)
-one_said policy name.Fstat w = made call.Fstat (argument.number w)
-one_said policy name.Rmdir w = made call.Rmdir (argument.path w)
-one_said policy name.Unlink w = made call.Unlink (argument.path w)
-one_said policy name.Readdir w = made call.Readdir (argument.path w)
-one_said policy name.Stat w = made call.Stat (argument.path w)
-one_said policy name.Chdir w = made call.Chdir (argument.path w)
-one_said policy name.Umask w = made call.Umask (argument.permissions w)
-one_said policy name.CapGetFile w = made call.CapGetFile (argument.path w)
-one_said policy name.CapGetFd w = made call.CapGetFd (argument.number w)
-one_said policy name.MacGetFile w = made call.MacGetFile (argument.path w)
-one_said policy name.MacGetFd w = made call.MacGetFd (argument.number w)
-one_said policy name.Exec w = made call.Exec (argument.path w)
-one_said policy name.Exit w = made call.Exit (argument.up_to 255 w)
-one_said policy name.Setuid w = made call.Setuid (argument.number w)
-one_said policy name.Setgid w = made call.Setgid (argument.number w)
-one_said policy name.CapSetProc w = made call.CapSetProc (argument.caps w)
-one_said policy name.MacSetProc w = made call.MacSetProc (argument.label policy w)
-one_said policy name.AudWrite w = made call.AudWrite (argument.bytes w)
-one_said policy name.AudSwitch w = made call.AudSwitch (argument.switch w)
-one_said policy _ w = Err error.Syntax
+unfoldable pub one_parsed : PolicyNames → CallName → List ℕ → Reading Call
+one_parsed policy name.Close w = made call.Close (argument.number w)
+one_parsed policy name.Dup w = made call.Dup (argument.number w)
+one_parsed policy name.Fstat w = made call.Fstat (argument.number w)
+one_parsed policy name.Rmdir w = made call.Rmdir (argument.path w)
+one_parsed policy name.Unlink w = made call.Unlink (argument.path w)
+one_parsed policy name.Readdir w = made call.Readdir (argument.path w)
+one_parsed policy name.Stat w = made call.Stat (argument.path w)
+one_parsed policy name.Chdir w = made call.Chdir (argument.path w)
+one_parsed policy name.Umask w = made call.Umask (argument.permissions w)
+one_parsed policy name.CapGetFile w = made call.CapGetFile (argument.path w)
+one_parsed policy name.CapGetFd w = made call.CapGetFd (argument.number w)
+one_parsed policy name.MacGetFile w = made call.MacGetFile (argument.path w)
+one_parsed policy name.MacGetFd w = made call.MacGetFd (argument.number w)
+one_parsed policy name.Exec w = made call.Exec (argument.path w)
+one_parsed policy name.Exit w = made call.Exit (argument.up_to 255 w)
+one_parsed policy name.Setuid w = made call.Setuid (argument.number w)
+one_parsed policy name.Setgid w = made call.Setgid (argument.number w)
+one_parsed policy name.CapSetProc w = made call.CapSetProc (argument.caps w)
+one_parsed policy name.MacSetProc w = made call.MacSetProc (argument.label policy w)
+one_parsed policy name.AudWrite w = made call.AudWrite (argument.bytes w)
+one_parsed policy name.AudSwitch w = made call.AudSwitch (argument.switch w)
+one_parsed policy _ w = Err error.Syntax
 
 -- the calls with two arguments
-unfoldable pub two_said : PolicyNames → CallName → List ℕ → List ℕ → Reading Call
-two_said policy name.OpenPath v w = two (λ path flags. call.OpenPath path flags None) (argument.path v) (argument.flags false w)
-two_said policy name.Read v w = two call.Read (argument.number v) (argument.up_to 65536 w)
-two_said policy name.Write v w = two call.Write (argument.number v) (argument.bytes w)
-two_said policy name.Mkfifo v w = two call.Mkfifo (argument.path v) (argument.mode w)
-two_said policy name.Mkdir v w = two call.Mkdir (argument.path v) (argument.mode w)
-two_said policy name.Link v w = two call.Link (argument.path v) (argument.path w)
-two_said policy name.Rename v w = two call.Rename (argument.path v) (argument.path w)
-two_said policy name.Chmod v w = two call.Chmod (argument.path v) (argument.mode w)
-two_said policy name.CapSetFile v w = two call.CapSetFile (argument.path v) (argument.caps w)
-two_said policy name.CapSetFd v w = two call.CapSetFd (argument.number v) (argument.caps w)
-two_said policy name.MacSetFile v w = two call.MacSetFile (argument.path v) (argument.label policy w)
-two_said policy name.MacSetFd v w = two call.MacSetFd (argument.number v) (argument.label policy w)
-two_said policy name.Kill v w = two call.Kill (argument.pid policy v) (argument.signal w)
-two_said policy _ v w = Err error.Syntax
+unfoldable pub two_parsed : PolicyNames → CallName → List ℕ → List ℕ → Reading Call
+two_parsed policy name.OpenPath v w = two (λ path flags. call.OpenPath path flags None) (argument.path v) (argument.flags false w)
+two_parsed policy name.Read v w = two call.Read (argument.number v) (argument.up_to 65536 w)
+two_parsed policy name.Write v w = two call.Write (argument.number v) (argument.bytes w)
+two_parsed policy name.Mkfifo v w = two call.Mkfifo (argument.path v) (argument.mode w)
+two_parsed policy name.Mkdir v w = two call.Mkdir (argument.path v) (argument.mode w)
+two_parsed policy name.Link v w = two call.Link (argument.path v) (argument.path w)
+two_parsed policy name.Rename v w = two call.Rename (argument.path v) (argument.path w)
+two_parsed policy name.Chmod v w = two call.Chmod (argument.path v) (argument.mode w)
+two_parsed policy name.CapSetFile v w = two call.CapSetFile (argument.path v) (argument.caps w)
+two_parsed policy name.CapSetFd v w = two call.CapSetFd (argument.number v) (argument.caps w)
+two_parsed policy name.MacSetFile v w = two call.MacSetFile (argument.path v) (argument.label policy w)
+two_parsed policy name.MacSetFd v w = two call.MacSetFd (argument.number v) (argument.label policy w)
+two_parsed policy name.Kill v w = two call.Kill (argument.pid policy v) (argument.signal w)
+two_parsed policy _ v w = Err error.Syntax
 
 -- the calls with three arguments
-unfoldable pub three_said : CallName → List ℕ → List ℕ → List ℕ → Reading Call
-three_said name.OpenPath u v w = three (λ path flags mode. call.OpenPath path flags (Some mode)) (argument.path u) (argument.flags true v) (argument.mode w)
-three_said name.Lseek u v w = three call.Lseek (argument.number u) (argument.whence v) (argument.offset w)
-three_said name.Chown u v w = three call.Chown (argument.path u) (argument.number v) (argument.number w)
-three_said _ u v w = Err error.Syntax
+unfoldable pub three_parsed : CallName → List ℕ → List ℕ → List ℕ → Reading Call
+three_parsed name.OpenPath u v w = three (λ path flags mode. call.OpenPath path flags (Some mode)) (argument.path u) (argument.flags true v) (argument.mode w)
+three_parsed name.Lseek u v w = three call.Lseek (argument.number u) (argument.whence v) (argument.offset w)
+three_parsed name.Chown u v w = three call.Chown (argument.path u) (argument.number v) (argument.number w)
+three_parsed _ u v w = Err error.Syntax
 
 -- the call of a name and its arguments, or their first fault
-abbrev pub call_said : PolicyNames → CallName → List (List ℕ) → Reading Call
-call_said policy name [] = none_said name
-call_said policy name (w ∷ []) = one_said policy name w
-call_said policy name (v ∷ w ∷ []) = two_said policy name v w
-call_said policy name (u ∷ v ∷ w ∷ []) = three_said name u v w
-call_said policy name _ = Err error.Syntax
+abbrev pub parse_call : PolicyNames → CallName → List (List ℕ) → Reading Call
+parse_call policy name [] = none_parsed name
+parse_call policy name (w ∷ []) = one_parsed policy name w
+parse_call policy name (v ∷ w ∷ []) = two_parsed policy name v w
+parse_call policy name (u ∷ v ∷ w ∷ []) = three_parsed name u v w
+parse_call policy name _ = Err error.Syntax

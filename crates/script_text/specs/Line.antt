@@ -12,7 +12,7 @@ use Rattle.script_text.specs.declared.line.Line.TheVariants as line
 use Rattle.script_text.specs.declared.fault.LineError.TheVariants as error
 use Rattle.script_text.specs.Reading.{Reading, both, made}
 use Rattle.script_text.specs.Argument as argument
-use Rattle.script_text.specs.Calls.{call_said}
+use Rattle.script_text.specs.Calls.{parse_call}
 
 -- the bytes of words
 abbrev pub bytes_in : List LineWord → List (List ℕ)
@@ -21,24 +21,24 @@ bytes_in words = map (λ (w : LineWord). w.bytes) words
 -- the call of a tag, where its name is one
 abbrev pub item_by : PolicyNames → List ℕ → List (List ℕ) → Option CallName → Reading Line
 item_by policy tag arguments None = Err error.Syntax
-item_by policy tag arguments (Some call) = made (λ item. line.One item.0 item.1) (both (argument.tag policy tag) (call_said policy call arguments))
+item_by policy tag arguments (Some call) = made (λ item. line.One item.0 item.1) (both (argument.tag policy tag) (parse_call policy call arguments))
 
 -- `TAG CALL ARGUMENTS`, of which tag and call stand bare
-unfoldable pub item_said : PolicyNames → List LineWord → Reading Line
-item_said policy (tag ∷ call ∷ arguments) =
+unfoldable pub parse_item : PolicyNames → List LineWord → Reading Line
+parse_item policy (tag ∷ call ∷ arguments) =
     cond (tag.quoted || call.quoted) (Err error.Syntax) (item_by policy tag.bytes (bytes_in arguments) (call_named call.bytes))
-item_said policy _ = Err error.Syntax
+parse_item policy _ = Err error.Syntax
 
-abbrev pub words_said : PolicyNames → Option (List LineWord) → Reading Line
-words_said policy None = Err error.Syntax
-words_said policy (Some words) = item_said policy words
+abbrev pub parse_words : PolicyNames → Option (List LineWord) → Reading Line
+parse_words policy None = Err error.Syntax
+parse_words policy (Some words) = parse_item policy words
 
 -- what a line says, or its first fault
-unfoldable pub line_said : PolicyNames → List ℕ → Reading Line
-line_said policy text =
+unfoldable pub parse_line : PolicyNames → List ℕ → Reading Line
+parse_line policy text =
     cond (nat_lt 2048 (length text)) (Err error.TooLong)
     (cond (is_blank text) (Ok line.Blank)
-    (words_said policy (words_of text)))
+    (parse_words policy (words_of text)))
 
 -- what a line says may be played where top is the highest label
 abbrev pub MayBePlayed : Label → Line → Type 0

@@ -34,10 +34,10 @@ made make (Err e) = Err e
 
 -- a cause for which something else than a value was said, or that memory ran out
 abbrev pub IsCause : {X : Type 0} → Reading X → LineError → Type 0
-IsCause said (error.NoMemory m) = Unit {0}
-IsCause said e = said ≡ Err e
+IsCause parsed (error.NoMemory m) = Unit {0}
+IsCause parsed e = parsed ≡ Err e
 
 -- an answer is what was said, unless memory ran out
 abbrev pub Answers : {X : Type 0} → Reading X → Reading X → Type 0
-Answers said (Ok x) = said ≡ Ok x
-Answers said (Err e) = IsCause said e
+Answers parsed (Ok x) = parsed ≡ Ok x
+Answers parsed (Err e) = IsCause parsed e

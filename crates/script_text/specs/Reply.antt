@@ -56,8 +56,8 @@ outcome_words policy (reply.Denied errno check place) = errno_word errno ∷ che
 outcome_words policy (reply.Refused errno) = errno_word errno ∷ []
 
 -- the reply line: the tag, the word of the call and what it came to
-unfoldable pub reply_said : PolicyNames → Pid → List ℕ → Reply → List ℕ
-reply_said policy who word reply = line_text (pid_text policy who ∷ word ∷ outcome_words policy reply) ++ 10 ∷ []
+unfoldable pub reply_line : PolicyNames → Pid → List ℕ → Reply → List ℕ
+reply_line policy who word reply = line_text (pid_text policy who ∷ word ∷ outcome_words policy reply) ++ 10 ∷ []
 
 -- ---- as it is written
 

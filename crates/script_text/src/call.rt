@@ -1,7 +1,7 @@
 // Calls by their words and arguments.
 ghost use Rattle.std.specs.Prelude.{◌≡◌, IsOkAnd, MatchResult};
 ghost use Rattle.script_text.specs.Reading.{Answers, both};
-ghost use Rattle.script_text.specs.Calls.{call_said, none_said, one_said, two_said, three_said};
+ghost use Rattle.script_text.specs.Calls.{parse_call, none_parsed, one_parsed, two_parsed, three_parsed};
 ghost use Rattle.script_text.specs.Line.{bytes_in};
 
 use crate::LineError;
@@ -16,9 +16,9 @@ use lab_text::Policy;
 use std::alloc::Global;
 
 // The calls without arguments.
-#[tactic(auto, unfolding(crate::specs::Calls::none_said))]
+#[tactic(auto, unfolding(crate::specs::Calls::none_parsed))]
 fn call_of_none(name: CallName) -> Result<Call, LineError>
-    ensures { result ≡ none_said name }
+    ensures { result ≡ none_parsed name }
 {
     match name {
         CallName::Pipe => Ok(Call::Pipe),
@@ -34,14 +34,14 @@ fn call_of_none(name: CallName) -> Result<Call, LineError>
 }
 
 // The calls with one argument.
-#[tactic(auto, unfolding(crate::specs::Calls::one_said, crate::specs::Reading::made))]
+#[tactic(auto, unfolding(crate::specs::Calls::one_parsed, crate::specs::Reading::made))]
 fn call_of_one(
     alloc: Global,
     policy: &Policy,
     name: CallName,
     word: &LineWord,
 ) -> Result<Call, LineError>
-    ensures { Answers (one_said policy.now name word.now.bytes) result }
+    ensures { Answers (one_parsed policy.now name word.now.bytes) result }
 {
     match name {
         CallName::Close => number(word).map(Call::Close),
@@ -82,7 +82,7 @@ fn two<A: Drop, B: Drop, F: FnOnce(A, B) -> Call>(
 }
 
 // The calls with two arguments.
-#[tactic(auto, unfolding(crate::specs::Calls::two_said, crate::specs::Reading::made, crate::specs::Reading::both))]
+#[tactic(auto, unfolding(crate::specs::Calls::two_parsed, crate::specs::Reading::made, crate::specs::Reading::both))]
 fn call_of_two(
     alloc: Global,
     policy: &Policy,
@@ -90,7 +90,7 @@ fn call_of_two(
     first: &LineWord,
     second: &LineWord,
 ) -> Result<Call, LineError>
-    ensures { Answers (two_said policy.now name first.now.bytes second.now.bytes) result }
+    ensures { Answers (two_parsed policy.now name first.now.bytes second.now.bytes) result }
 {
     match name {
         CallName::OpenPath => two(
@@ -115,7 +115,7 @@ fn call_of_two(
 }
 
 // The calls with three arguments.
-#[tactic(auto, unfolding(crate::specs::Calls::three_said, crate::specs::Reading::made, crate::specs::Reading::both))]
+#[tactic(auto, unfolding(crate::specs::Calls::three_parsed, crate::specs::Reading::made, crate::specs::Reading::both))]
 fn call_of_three(
     alloc: Global,
     name: CallName,
@@ -123,7 +123,7 @@ fn call_of_three(
     second: &LineWord,
     third: &LineWord,
 ) -> Result<Call, LineError>
-    ensures { Answers (three_said name first.now.bytes second.now.bytes third.now.bytes) result }
+    ensures { Answers (three_parsed name first.now.bytes second.now.bytes third.now.bytes) result }
 {
     match name {
         CallName::OpenPath => {
@@ -161,7 +161,7 @@ pub fn call_of(
     name: CallName,
     words: &[LineWord],
 ) -> Result<Call, LineError>
-    ensures { Answers (call_said policy.now name (bytes_in words.now)) result }
+    ensures { Answers (parse_call policy.now name (bytes_in words.now)) result }
 {
     match words {
         [] => call_of_none(name),

@@ -2,7 +2,7 @@
 ghost use Rattle.std.specs.Prelude.{◌≡◌, IfOk, IfErr};
 ghost use Rattle.lab_text.specs.Policy.{top_of};
 ghost use Rattle.script_text.specs.Reading.{Answers, IsCause};
-ghost use Rattle.script_text.specs.Line.{item_said, line_said, MayBePlayed};
+ghost use Rattle.script_text.specs.Line.{parse_item, parse_line, MayBePlayed};
 
 use crate::call::call_of;
 use crate::fault::both;
@@ -24,9 +24,9 @@ pub enum Line {
 }
 
 // What the words of a line say.
-#[tactic(auto, unfolding(crate::specs::Line::item_said, crate::specs::Reading::made, crate::specs::Reading::both))]
+#[tactic(auto, unfolding(crate::specs::Line::parse_item, crate::specs::Reading::made, crate::specs::Reading::both))]
 fn item_of(alloc: Global, policy: &Policy, words: &[LineWord]) -> Result<Line, LineError>
-    ensures { Answers (item_said policy.now words.now) result }
+    ensures { Answers (parse_item policy.now words.now) result }
 {
     let [tag, name, arguments @ ..] = words else {
         return Err(LineError::Syntax);
@@ -41,11 +41,11 @@ fn item_of(alloc: Global, policy: &Policy, words: &[LineWord]) -> Result<Line, L
 }
 
 /// What a line of a script says, which is judged without its line feed.
-#[tactic(auto, unfolding(crate::specs::Line::line_said))]
+#[tactic(auto, unfolding(crate::specs::Line::parse_line))]
 pub fn read_line(alloc: Global, policy: &Policy, line: &[u8]) -> Result<Line, LineError>
-    ensures said { IfOk result (λ said. line_said policy.now line.now ≡ Ok said) }
+    ensures parsed { IfOk result (λ parsed. parse_line policy.now line.now ≡ Ok parsed) }
     ensures item { IfOk result (MayBePlayed (top_of policy.now)) }
-    ensures cause { IfErr result (IsCause (line_said policy.now line.now)) }
+    ensures cause { IfErr result (IsCause (parse_line policy.now line.now)) }
 {
     if line.len() > MAX_LINE {
         return Err(LineError::TooLong);

@@ -4,7 +4,7 @@ ghost use Rattle.std.specs.Fmt.{decimal};
 ghost use Rattle.fs_path.specs.Values.{mode_text};
 ghost use Rattle.fs_path.specs.Words.{quoted_text};
 ghost use Rattle.lab_text.specs.Text.{label_text};
-ghost use Rattle.script_text.specs.Reply.{answer_words, ids_words, outcome_words, pid_text, reply_said, stat_words, with_words};
+ghost use Rattle.script_text.specs.Reply.{answer_words, ids_words, outcome_words, pid_text, reply_line, stat_words, with_words};
 
 use crate::NoMemory;
 use cap_clause::cap_to_text;
@@ -180,7 +180,7 @@ fn put_outcome(
 }
 
 /// The reply line of a call, with its line feed; `word` stands for the call.
-#[tactic(auto, using(crate::proofs::ReplyLemmas::line_written), unfolding(crate::specs::Reply::reply_said))]
+#[tactic(auto, using(crate::proofs::ReplyLemmas::line_written), unfolding(crate::specs::Reply::reply_line))]
 pub fn reply_text(
     alloc: Global,
     policy: &Policy,
@@ -188,7 +188,7 @@ pub fn reply_text(
     word: &[u8],
     reply: &Reply,
 ) -> Result<Vec<u8>, NoMemory>
-    ensures { IfOk result (λ text. text.items ≡ reply_said policy.now who.now word.now reply.now) }
+    ensures { IfOk result (λ text. text.items ≡ reply_line policy.now who.now word.now reply.now) }
 {
     let mut text = Vec::new(alloc);
     put_numbered(alloc, &mut text, policy, u64::from(who.n), &who.label)?;

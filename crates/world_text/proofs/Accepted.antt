@@ -15,7 +15,7 @@ use Rattle.fs_path.specs.Options.{keep_if, then}
 use Rattle.fs_path.specs.Lines.{pieces}
 use Rattle.fs_path.specs.Path.{PathValue, HasForm}
 use Rattle.fs_path.proofs.PathLaws.{path_form}
-use Rattle.fs_path.specs.PathText.{path_fault, path_said}
+use Rattle.fs_path.specs.PathText.{path_fault, parse_path}
 use Rattle.fs_path.proofs.ValueRanges.{mode_range, groups_few}
 use Rattle.fs_path.specs.Values.{number_of, mode_of, groups_of}
 use Rattle.fs_path.proofs.WordSizes.{words_fit}
@@ -23,8 +23,8 @@ use Rattle.fs_path.specs.Words.{words_of, is_blank}
 use Rattle.lab_lattice.specs.Label.{Label, dominates, bottom, dominates_both, dominates_bottom}
 use Rattle.lab_text.specs.Names.{Names, same_bytes, is_label_name, are_distinct}
 use Rattle.lab_text.specs.Policy.{PolicyNames, names_fault, MakePolicy, top_of}
-use Rattle.lab_text.specs.Text.{label_said}
-use Rattle.lab_text.proofs.Said.{said_valid}
+use Rattle.lab_text.specs.Text.{parse_label}
+use Rattle.lab_text.proofs.Parsed.{parsed_valid}
 use Rattle.kern_model.specs.declared.objects.Body.{Body}
 use Rattle.kern_model.specs.declared.objects.Body.TheVariants as body
 use Rattle.kern_model.specs.declared.world.WorldObject.{WorldObject}
@@ -34,14 +34,14 @@ use Rattle.kern_model.specs.Rules.{same_label}
 use Rattle.kern_model.specs.World.{IsWorld, IsWorldObject, IsWorldProc, IsPlaced, ArePlaced, given, parent_names, objects_at, procs_at, same_names}
 use Rattle.world_text.specs.declared.fault.WorldFault.{WorldFault}
 use Rattle.world_text.specs.declared.fault.WorldFault.TheVariants.{Syntax}
-use Rattle.world_text.specs.declared.stage.Stage.{Stage}
-use Rattle.world_text.specs.declared.stage.Stage.TheVariants as at
-use Rattle.world_text.specs.declared.stage.Said.{Said}
-use Rattle.world_text.specs.declared.stage.Said.TheVariants.{Refuses, GoesOn, Begins}
+use Rattle.world_text.specs.declared.expecting.Expecting.{Expecting}
+use Rattle.world_text.specs.declared.expecting.Expecting.TheVariants as at
+use Rattle.world_text.specs.declared.expecting.Parsed.{Parsed}
+use Rattle.world_text.specs.declared.expecting.Parsed.TheVariants.{Refuses, GoesOn, Begins}
 use Rattle.world_text.specs.declared.world.WorldText.{WorldText}
 use Rattle.world_text.specs.Tree.{Tree}
 use Rattle.world_text.specs.Placing.{is_directory, is_above, directory_of, is_root, object_fault, process_fault}
-use Rattle.world_text.specs.Stage.{world_of, unless, refuse_or, with_form, or_else, by_keyword, format_said, levels_said, categories_said, bound_said, set_of, caps_of, path_of, label_form, may_start, proc_caps_of, Placed, object_said, made, tree_said, Owned, ids_of, process_said, proc_said, placed_of, owned_of, dir_said, file_said, fifo_said, proc_line_said, script_said, tree_line_said, words_said, line_said}
+use Rattle.world_text.specs.Expecting.{world_of, unless, refuse_or, with_form, or_else, by_keyword, parse_format, parse_levels, parse_categories, parse_bound, set_of, caps_of, path_of, label_form, may_start, proc_caps_of, ObjectFields, parse_object, made, parse_tree, ProcFields, ids_of, parse_process, parse_proc, object_fields_of, proc_fields_of, parse_dir, parse_file, parse_fifo, parse_proc_line, parse_script, parse_tree_line, parse_words, parse_line}
 use Rattle.world_text.specs.Reading.{Reading, Accepted, Refused, Ended, after, reading, read_text}
 
 -- ---- what holds of a reading as far as it has come
@@ -70,47 +70,47 @@ record SoundLevels (levels : Names) : Type 0 where
   few : nat_lt 16 (length levels) ≡ false
   apart : are_distinct levels ≡ true
 
-abbrev SoundStage : Stage → Type 0
-SoundStage at.Format = Unit {0}
-SoundStage at.Levels = Unit {0}
-SoundStage (at.Categories levels) = SoundLevels levels
-SoundStage (at.Bound policy) = MakePolicy policy
-SoundStage (at.Tree policy bound t) = MakePolicy policy × SoundTree policy t
+abbrev SoundExpecting : Expecting → Type 0
+SoundExpecting at.Format = Unit {0}
+SoundExpecting at.Levels = Unit {0}
+SoundExpecting (at.Categories levels) = SoundLevels levels
+SoundExpecting (at.Bound policy) = MakePolicy policy
+SoundExpecting (at.Tree policy bound t) = MakePolicy policy × SoundTree policy t
 
 record SoundWorld (w : WorldText) : Type 0 where
   world : IsWorld w.world
   top : w.world.top ≡ top_of w.policy
   policy : MakePolicy w.policy
 
-record SoundSaid (said : Said) : Type 0 where
-  stage_is : (stage : Stage) → said ≡ GoesOn stage → SoundStage stage
-  world_is : (w : WorldText) → said ≡ Begins w → SoundWorld w
+record SoundParsed (parsed : Parsed) : Type 0 where
+  expecting_is : (expecting : Expecting) → parsed ≡ GoesOn expecting → SoundExpecting expecting
+  world_is : (w : WorldText) → parsed ≡ Begins w → SoundWorld w
 
-refuses : (fault : WorldFault) → SoundSaid (Refuses fault)
-refuses fault = record { stage_is = λ stage e. absurd cc; world_is = λ w e. absurd cc }
+refuses : (fault : WorldFault) → SoundParsed (Refuses fault)
+refuses fault = record { expecting_is = λ expecting e. absurd cc; world_is = λ w e. absurd cc }
 
-goes_on : (stage : Stage) → SoundStage stage → SoundSaid (GoesOn stage)
-goes_on stage h = record {
-  stage_is = λ other e. let same : stage ≡ other = cc in subst SoundStage same h;
+goes_on : (expecting : Expecting) → SoundExpecting expecting → SoundParsed (GoesOn expecting)
+goes_on expecting h = record {
+  expecting_is = λ other e. let same : expecting ≡ other = cc in subst SoundExpecting same h;
   world_is = λ w e. absurd cc;
 }
 
-begins : (w : WorldText) → SoundWorld w → SoundSaid (Begins w)
+begins : (w : WorldText) → SoundWorld w → SoundParsed (Begins w)
 begins w h = record {
-  stage_is = λ stage e. absurd cc;
+  expecting_is = λ expecting e. absurd cc;
   world_is = λ other e. let same : w ≡ other = cc in subst (λ w. SoundWorld w) same h;
 }
 
-unless_sound : (b : Bool) (fault : WorldFault) (said : Said) → (b ≡ false → SoundSaid said) → SoundSaid (unless b fault said)
-unless_sound true fault said h = refuses fault
-unless_sound false fault said h = h refl
+unless_sound : (b : Bool) (fault : WorldFault) (parsed : Parsed) → (b ≡ false → SoundParsed parsed) → SoundParsed (unless b fault parsed)
+unless_sound true fault parsed h = refuses fault
+unless_sound false fault parsed h = h refl
 
 -- a fault is told, or what comes is sound
-first_sound : (b : Bool) (fault : WorldFault) (rest : Option WorldFault) (said : Said) → (b ≡ false → SoundSaid (refuse_or rest said)) → SoundSaid (refuse_or (cond b (Some fault) rest) said)
-first_sound true fault rest said h = refuses fault
-first_sound false fault rest said h = h refl
+first_sound : (b : Bool) (fault : WorldFault) (rest : Option WorldFault) (parsed : Parsed) → (b ≡ false → SoundParsed (refuse_or rest parsed)) → SoundParsed (refuse_or (cond b (Some fault) rest) parsed)
+first_sound true fault rest parsed h = refuses fault
+first_sound false fault rest parsed h = h refl
 
-form_sound : {X : Type 0} (o : Option X) (fault : WorldFault) (k : X → Said) → ((x : X) → o ≡ Some x → SoundSaid (k x)) → SoundSaid (with_form o fault k)
+form_sound : {X : Type 0} (o : Option X) (fault : WorldFault) (k : X → Parsed) → ((x : X) → o ≡ Some x → SoundParsed (k x)) → SoundParsed (with_form o fault k)
 form_sound None fault k h = refuses fault
 form_sound (Some x) fault k h = h x refl
 
@@ -125,11 +125,11 @@ names_fit : (ws : List LineWord) → AllFit ws → NamesFit (map (λ (w : LineWo
 names_fit [] fit = tt
 names_fit (w ∷ ws) fit = (fit.0, names_fit ws fit.1)
 
-keyword_sound : (keyword : List ℕ) (ws : List LineWord) (said : Names → Said) (other : Said) → AllFit ws → ((names : Names) → NamesFit names → SoundSaid (said names)) → SoundSaid other → SoundSaid (by_keyword keyword ws said other)
-keyword_sound keyword [] said other fit h k = k
-keyword_sound keyword (w ∷ ws) said other fit h k = by_word (not w.quoted && same_bytes w.bytes keyword)
+keyword_sound : (keyword : List ℕ) (ws : List LineWord) (parsed : Names → Parsed) (other : Parsed) → AllFit ws → ((names : Names) → NamesFit names → SoundParsed (parsed names)) → SoundParsed other → SoundParsed (by_keyword keyword ws parsed other)
+keyword_sound keyword [] parsed other fit h k = k
+keyword_sound keyword (w ∷ ws) parsed other fit h k = by_word (not w.quoted && same_bytes w.bytes keyword)
   where
-    by_word : (b : Bool) → SoundSaid (or_else (option_map said (cond b (Some (map (λ (w : LineWord). w.bytes) ws)) None)) other)
+    by_word : (b : Bool) → SoundParsed (or_else (option_map parsed (cond b (Some (map (λ (w : LineWord). w.bytes) ws)) None)) other)
     by_word true = h _ (names_fit ws fit.1)
     by_word false = k
 
@@ -139,11 +139,11 @@ none_is (Some x) h = absurd (cc)
 
 -- ---- head lines
 
-format_sound : (names : Names) → SoundSaid (format_said names)
+format_sound : (names : Names) → SoundParsed (parse_format names)
 format_sound (w ∷ []) = unless_sound _ _ _ (λ _. goes_on at.Levels tt)
 format_sound _ = refuses Syntax
 
-levels_sound : (names : Names) → SoundSaid (levels_said names)
+levels_sound : (names : Names) → SoundParsed (parse_levels names)
 levels_sound names =
     unless_sound (length names == 0 || not (list_all is_label_name names)) _ _ (λ form.
     unless_sound (nat_lt 16 (length names)) _ _ (λ few.
@@ -151,7 +151,7 @@ levels_sound names =
     let parts = or_parts (length names == 0) (not (list_all is_label_name names)) form in
     goes_on (at.Categories names) (record { some = parts.0; are_names = not-false _ parts.1; few = few; apart = not-false _ apart }))))
 
-categories_sound : (levels names : Names) → SoundLevels levels → SoundSaid (categories_said levels names)
+categories_sound : (levels names : Names) → SoundLevels levels → SoundParsed (parse_categories levels names)
 unfolding names_fault
 categories_sound levels names h =
     unless_sound (not (list_all is_label_name names)) _ _ (λ form.
@@ -162,7 +162,7 @@ categories_sound levels names h =
     let are_apart : not (are_distinct levels && are_distinct names) ≡ false = ap not (and_from _ _ h.apart (not-false _ apart)) in
     goes_on (at.Bound (record { levels = levels; cats = names })) (cond-false _ _ _ h.some ∙ cond-false _ _ _ counts ∙ cond-false _ _ _ are_names ∙ cond-false _ _ _ are_apart))))
 
-bound_sound : (policy : PolicyNames) (names : Names) → MakePolicy policy → SoundSaid (bound_said policy names)
+bound_sound : (policy : PolicyNames) (names : Names) → MakePolicy policy → SoundParsed (parse_bound policy names)
 bound_sound policy (w ∷ []) h = form_sound (set_of w) _ _ (λ known _. form_sound known _ _ (λ bound _. goes_on (at.Tree policy bound (record { objects = []; procs = [] })) (h, nothing)))
   where
     nothing : SoundTree policy (record { objects = []; procs = [] })
@@ -240,7 +240,7 @@ rooted_more : (objects : List WorldObject) (o : WorldObject) → AreRooted objec
 rooted_more [] o rooted new parent root order = (first_is o o.path.names refl parent root, tt)
 rooted_more (first ∷ others) o rooted new parent root order = (rooted.0, placed_more (first ∷ []) others o rooted.1 (placed_is first others o o.path.names refl rooted.0.no_names new parent order))
 
-object_sound : (policy : PolicyNames) (bound : CapSet) (t : Tree) (o : WorldObject) → MakePolicy policy → SoundTree policy t → IsWorldObject (top_of policy) o → SoundSaid (object_said policy bound t o)
+object_sound : (policy : PolicyNames) (bound : CapSet) (t : Tree) (o : WorldObject) → MakePolicy policy → SoundTree policy t → IsWorldObject (top_of policy) o → SoundParsed (parse_object policy bound t o)
 unfolding object_fault
 object_sound policy bound t o h s is =
     first_sound _ _ _ _ (λ new. first_sound _ _ _ _ (λ parent. first_sound _ _ _ _ (λ root. first_sound _ _ _ _ (λ order. first_sound _ _ _ _ (λ fewer.
@@ -256,7 +256,7 @@ object_sound policy bound t o h s is =
     ))))))
 
 -- what the words of a tree line stand for is in its ranges
-record IsFormed (p : Placed) : Type 0 where
+record IsFormed (p : ObjectFields) : Type 0 where
   absolute : p.path.absolute ≡ true
   path : HasForm p.path.absolute p.path.names
   mode : is_mode p.mode ≡ true
@@ -268,36 +268,36 @@ none_there (Some x) h = absurd (cc)
 path_formed : (word : List ℕ) (path : PathValue) → path_of word ≡ Some path → (path.absolute ≡ true) × HasForm path.absolute path.names
 path_formed word path is =
     let kept = cond_some _ _ _ is in
-    let parts = and_parts (is_none (path_fault word)) (path_said word).absolute kept.0 in
+    let parts = and_parts (is_none (path_fault word)) (parse_path word).absolute kept.0 in
     let fine : path_fault word ≡ None = none_there (path_fault word) parts.0 in
     (ap (λ (p : PathValue). p.absolute) (sym kept.1) ∙ parts.1, subst (λ (p : PathValue). HasForm p.absolute p.names) kept.1 (path_form word fine))
 
 mode_formed : (word : List ℕ) (mode : ℕ) → mode_of word ≡ Some mode → is_mode mode ≡ true
 mode_formed word mode is = let range = mode_range word mode is in and_from _ _ (lt-ltb mode 4096 range.0) (ap (λ n. n == 0) range.1)
 
-placed_formed : (path mode uid gid label : List ℕ) (p : Placed) → placed_of path mode uid gid label ≡ Some p → IsFormed p
-unfolding placed_of
+placed_formed : (path mode uid gid label : List ℕ) (p : ObjectFields) → object_fields_of path mode uid gid label ≡ Some p → IsFormed p
+unfolding object_fields_of
 placed_formed path mode uid gid label p is =
     option_and_then_some _ (path_of path) p is (λ a a_is rest. option_and_then_some _ (mode_of mode) p rest (λ m m_is rest.
     option_and_then_some _ (number_of uid) p rest (λ u _ rest. option_and_then_some _ (number_of gid) p rest (λ g _ rest. option_and_then_some _ (label_form label) p rest (λ l _ last.
     let same : record { path = a; mode = m; owner = u; group = g; label = l } ≡ p = same_Some _ _ last in
     let formed = path_formed path a a_is in
     record {
-      absolute = ap (λ (q : Placed). q.path.absolute) (sym same) ∙ formed.0;
-      path = subst (λ (q : Placed). HasForm q.path.absolute q.path.names) same formed.1;
-      mode = ap (λ (q : Placed). is_mode q.mode) (sym same) ∙ mode_formed mode m m_is;
+      absolute = ap (λ (q : ObjectFields). q.path.absolute) (sym same) ∙ formed.0;
+      path = subst (λ (q : ObjectFields). HasForm q.path.absolute q.path.names) same formed.1;
+      mode = ap (λ (q : ObjectFields). is_mode q.mode) (sym same) ∙ mode_formed mode m m_is;
     })))))
 
-tree_sound : (policy : PolicyNames) (bound : CapSet) (t : Tree) (form : Option Placed) (caps : Option (Option CapState)) (b : Body) → MakePolicy policy → SoundTree policy t
-    → ((p : Placed) → form ≡ Some p → IsFormed p) → length (bytes_of b) ≤ 65536 → (b ≡ body.Pipe → ⊥)
-    → ((c : CapState) → caps ≡ Some (Some c) → is_file (kind_of b) ≡ false → c ≡ no_flags) → SoundSaid (tree_said policy bound t form caps b)
+tree_sound : (policy : PolicyNames) (bound : CapSet) (t : Tree) (form : Option ObjectFields) (caps : Option (Option CapState)) (b : Body) → MakePolicy policy → SoundTree policy t
+    → ((p : ObjectFields) → form ≡ Some p → IsFormed p) → length (bytes_of b) ≤ 65536 → (b ≡ body.Pipe → ⊥)
+    → ((c : CapState) → caps ≡ Some (Some c) → is_file (kind_of b) ≡ false → c ≡ no_flags) → SoundParsed (parse_tree policy bound t form caps b)
 tree_sound policy bound t form caps b h s formed few no_pipe plain =
-    form_sound form _ _ (λ p p_is. form_sound caps _ _ (λ known is. form_sound (label_said policy p.label) _ _ (λ label said. form_sound known _ _ (λ c found.
+    form_sound form _ _ (λ p p_is. form_sound caps _ _ (λ known is. form_sound (parse_label policy p.label) _ _ (λ label parsed. form_sound known _ _ (λ c found.
     object_sound policy bound t (made p c label b) h s (record {
       absolute = (formed p p_is).absolute;
       path = (formed p p_is).path;
       mode = (formed p p_is).mode;
-      below = said_valid policy p.label label said;
+      below = parsed_valid policy p.label label parsed;
       few = few;
       no_pipe = no_pipe;
       only_file = plain c (is ∙ ap Some found);
@@ -317,7 +317,7 @@ caps_within word c is = by_known (caps_of word) is
     by_known None e = absurd (cc)
     by_known (Some known) e = by_test known (may_start known) refl e
 
-process_sound : (policy : PolicyNames) (bound : CapSet) (t : Tree) (w : WorldProc) → MakePolicy policy → SoundTree policy t → IsWorldProc (top_of policy) w → SoundSaid (process_said policy bound t w)
+process_sound : (policy : PolicyNames) (bound : CapSet) (t : Tree) (w : WorldProc) → MakePolicy policy → SoundTree policy t → IsWorldProc (top_of policy) w → SoundParsed (parse_process policy bound t w)
 unfolding process_fault
 process_sound policy bound t w h s is =
     first_sound (length t.objects == 0) _ _ _ (λ _. first_sound (nat_le 4095 (procs_at w.label t.procs)) _ _ _ (λ fewer.
@@ -332,22 +332,22 @@ process_sound policy bound t w h s is =
       },
     )))
 
-owned_few : (label uid gid groups : List ℕ) (o : Owned) → owned_of label uid gid groups ≡ Some o → length o.groups ≤ 16
-unfolding owned_of
+owned_few : (label uid gid groups : List ℕ) (o : ProcFields) → proc_fields_of label uid gid groups ≡ Some o → length o.groups ≤ 16
+unfolding proc_fields_of
 owned_few label uid gid groups o is =
     option_and_then_some _ (label_form label) o is (λ l _ rest. option_and_then_some _ (number_of uid) o rest (λ u _ rest. option_and_then_some _ (number_of gid) o rest (λ g _ rest.
     option_and_then_some _ (groups_of groups) o rest (λ gs gs_is last.
     let same : record { label = l; user = u; group = g; groups = gs } ≡ o = same_Some _ _ last in
-    subst (λ (q : Owned). length q.groups ≤ 16) same (groups_few groups gs gs_is)))))
+    subst (λ (q : ProcFields). length q.groups ≤ 16) same (groups_few groups gs gs_is)))))
 
-proc_sound : (policy : PolicyNames) (bound : CapSet) (t : Tree) (form : Option Owned) (word : List ℕ) → MakePolicy policy → SoundTree policy t → ((o : Owned) → form ≡ Some o → length o.groups ≤ 16)
-    → SoundSaid (proc_said policy bound t form (proc_caps_of word))
+proc_sound : (policy : PolicyNames) (bound : CapSet) (t : Tree) (form : Option ProcFields) (word : List ℕ) → MakePolicy policy → SoundTree policy t → ((o : ProcFields) → form ≡ Some o → length o.groups ≤ 16)
+    → SoundParsed (parse_proc policy bound t form (proc_caps_of word))
 proc_sound policy bound t form word h s few =
-    form_sound form _ _ (λ o o_is. form_sound (proc_caps_of word) _ _ (λ known is. form_sound (label_said policy o.label) _ _ (λ label said. form_sound known _ _ (λ c found.
+    form_sound form _ _ (λ o o_is. form_sound (proc_caps_of word) _ _ (λ known is. form_sound (parse_label policy o.label) _ _ (λ label parsed. form_sound known _ _ (λ c found.
     process_sound policy bound t (record { label = label; ids = ids_of o; caps = c }) h s (record {
       ids = record { ruid = refl; suid = refl; rgid = refl; sgid = refl };
       few = few o o_is;
-      below = said_valid policy o.label label said;
+      below = parsed_valid policy o.label label parsed;
       within = caps_within word c (is ∙ ap Some found);
     })))))
 
@@ -356,23 +356,23 @@ proc_sound policy bound t form word h s few =
 flags_none : (c : CapState) → Some (Some no_flags) ≡ Some (Some c) → c ≡ no_flags
 flags_none c e = cc
 
-dir_sound : (policy : PolicyNames) (bound : CapSet) (t : Tree) (names : Names) → MakePolicy policy → SoundTree policy t → SoundSaid (dir_said policy bound t names)
-dir_sound policy bound t (path ∷ mode ∷ uid ∷ gid ∷ label ∷ []) h s = tree_sound policy bound t (placed_of path mode uid gid label) (Some (Some no_flags)) body.Dir h s (placed_formed path mode uid gid label) (omega arith) (λ e. absurd (cc)) (λ c is _. flags_none c is)
+dir_sound : (policy : PolicyNames) (bound : CapSet) (t : Tree) (names : Names) → MakePolicy policy → SoundTree policy t → SoundParsed (parse_dir policy bound t names)
+dir_sound policy bound t (path ∷ mode ∷ uid ∷ gid ∷ label ∷ []) h s = tree_sound policy bound t (object_fields_of path mode uid gid label) (Some (Some no_flags)) body.Dir h s (placed_formed path mode uid gid label) (omega arith) (λ e. absurd (cc)) (λ c is _. flags_none c is)
 dir_sound policy bound t _ h s = refuses Syntax
 
-file_sound : (policy : PolicyNames) (bound : CapSet) (t : Tree) (names : Names) → MakePolicy policy → SoundTree policy t → NamesFit names → SoundSaid (file_said policy bound t names)
+file_sound : (policy : PolicyNames) (bound : CapSet) (t : Tree) (names : Names) → MakePolicy policy → SoundTree policy t → NamesFit names → SoundParsed (parse_file policy bound t names)
 file_sound policy bound t (path ∷ mode ∷ uid ∷ gid ∷ label ∷ bytes ∷ []) h s fit =
-    tree_sound policy bound t (placed_of path mode uid gid label) (Some (Some no_flags)) (body.File bytes) h s (placed_formed path mode uid gid label) fit.1.1.1.1.1.0 (λ e. absurd (cc)) (λ c is _. flags_none c is)
+    tree_sound policy bound t (object_fields_of path mode uid gid label) (Some (Some no_flags)) (body.File bytes) h s (placed_formed path mode uid gid label) fit.1.1.1.1.1.0 (λ e. absurd (cc)) (λ c is _. flags_none c is)
 file_sound policy bound t (path ∷ mode ∷ uid ∷ gid ∷ label ∷ bytes ∷ caps ∷ []) h s fit =
-    tree_sound policy bound t (placed_of path mode uid gid label) (caps_of caps) (body.File bytes) h s (placed_formed path mode uid gid label) fit.1.1.1.1.1.0 (λ e. absurd (cc)) (λ c is no_file. absurd (cc))
+    tree_sound policy bound t (object_fields_of path mode uid gid label) (caps_of caps) (body.File bytes) h s (placed_formed path mode uid gid label) fit.1.1.1.1.1.0 (λ e. absurd (cc)) (λ c is no_file. absurd (cc))
 file_sound policy bound t _ h s fit = refuses Syntax
 
-fifo_sound : (policy : PolicyNames) (bound : CapSet) (t : Tree) (names : Names) → MakePolicy policy → SoundTree policy t → SoundSaid (fifo_said policy bound t names)
-fifo_sound policy bound t (path ∷ mode ∷ uid ∷ gid ∷ label ∷ []) h s = tree_sound policy bound t (placed_of path mode uid gid label) (Some (Some no_flags)) body.Fifo h s (placed_formed path mode uid gid label) (omega arith) (λ e. absurd (cc)) (λ c is _. flags_none c is)
+fifo_sound : (policy : PolicyNames) (bound : CapSet) (t : Tree) (names : Names) → MakePolicy policy → SoundTree policy t → SoundParsed (parse_fifo policy bound t names)
+fifo_sound policy bound t (path ∷ mode ∷ uid ∷ gid ∷ label ∷ []) h s = tree_sound policy bound t (object_fields_of path mode uid gid label) (Some (Some no_flags)) body.Fifo h s (placed_formed path mode uid gid label) (omega arith) (λ e. absurd (cc)) (λ c is _. flags_none c is)
 fifo_sound policy bound t _ h s = refuses Syntax
 
-proc_line_sound : (policy : PolicyNames) (bound : CapSet) (t : Tree) (names : Names) → MakePolicy policy → SoundTree policy t → SoundSaid (proc_line_said policy bound t names)
-proc_line_sound policy bound t (label ∷ uid ∷ gid ∷ groups ∷ caps ∷ []) h s = proc_sound policy bound t (owned_of label uid gid groups) caps h s (owned_few label uid gid groups)
+proc_line_sound : (policy : PolicyNames) (bound : CapSet) (t : Tree) (names : Names) → MakePolicy policy → SoundTree policy t → SoundParsed (parse_proc_line policy bound t names)
+proc_line_sound policy bound t (label ∷ uid ∷ gid ∷ groups ∷ caps ∷ []) h s = proc_sound policy bound t (proc_fields_of label uid gid groups) caps h s (owned_few label uid gid groups)
 proc_line_sound policy bound t _ h s = refuses Syntax
 
 -- a sound tree with objects makes a world
@@ -396,11 +396,11 @@ tree_world policy bound (first ∷ others) procs h s some = record {
   policy = h;
 }
 
-script_sound : (policy : PolicyNames) (bound : CapSet) (t : Tree) (names : Names) → MakePolicy policy → SoundTree policy t → SoundSaid (script_said policy bound t names)
+script_sound : (policy : PolicyNames) (bound : CapSet) (t : Tree) (names : Names) → MakePolicy policy → SoundTree policy t → SoundParsed (parse_script policy bound t names)
 script_sound policy bound t [] h s = unless_sound _ _ _ (λ some. begins (world_of policy bound t) (tree_world policy bound t.objects t.procs h s some))
 script_sound policy bound t _ h s = refuses Syntax
 
-tree_line_sound : (policy : PolicyNames) (bound : CapSet) (t : Tree) (ws : List LineWord) → MakePolicy policy → SoundTree policy t → AllFit ws → SoundSaid (tree_line_said policy bound t ws)
+tree_line_sound : (policy : PolicyNames) (bound : CapSet) (t : Tree) (ws : List LineWord) → MakePolicy policy → SoundTree policy t → AllFit ws → SoundParsed (parse_tree_line policy bound t ws)
 tree_line_sound policy bound t ws h s fit =
     keyword_sound _ ws _ _ fit (λ names _. dir_sound policy bound t names h s)
     (keyword_sound _ ws _ _ fit (λ names fits. file_sound policy bound t names h s fits)
@@ -409,8 +409,8 @@ tree_line_sound policy bound t ws h s fit =
     (keyword_sound _ ws _ _ fit (λ names _. script_sound policy bound t names h s)
     (refuses Syntax)))))
 
-words_sound : (stage : Stage) (ws : List LineWord) → SoundStage stage → AllFit ws → SoundSaid (words_said stage ws)
-unfolding words_said
+words_sound : (expecting : Expecting) (ws : List LineWord) → SoundExpecting expecting → AllFit ws → SoundParsed (parse_words expecting ws)
+unfolding parse_words
 words_sound at.Format ws h fit = keyword_sound _ ws _ _ fit (λ names _. format_sound names) (refuses Syntax)
 words_sound at.Levels ws h fit = keyword_sound _ ws _ _ fit (λ names _. levels_sound names) (refuses Syntax)
 words_sound (at.Categories levels) ws h fit = keyword_sound _ ws _ _ fit (λ names _. categories_sound levels names h) (refuses Syntax)
@@ -425,13 +425,13 @@ line_fits line ws short is = wider ws (words_fit line ws is)
     wider [] fit = tt
     wider (w ∷ ws) fit = let le = fit.0 in (omega arith, wider ws fit.1)
 
-line_sound : (stage : Stage) (line : List ℕ) → SoundStage stage → SoundSaid (line_said stage line)
-unfolding line_said
-line_sound stage line h =
-    unless_sound (nat_lt 2048 (length line)) _ _ (λ short. by_blank (is_blank line) (form_sound (words_of line) _ _ (λ ws is. words_sound stage ws h (line_fits line ws (ltb-false _ _ short) is))))
+line_sound : (expecting : Expecting) (line : List ℕ) → SoundExpecting expecting → SoundParsed (parse_line expecting line)
+unfolding parse_line
+line_sound expecting line h =
+    unless_sound (nat_lt 2048 (length line)) _ _ (λ short. by_blank (is_blank line) (form_sound (words_of line) _ _ (λ ws is. words_sound expecting ws h (line_fits line ws (ltb-false _ _ short) is))))
   where
-    by_blank : (b : Bool) → SoundSaid (with_form (words_of line) Syntax (words_said stage)) → SoundSaid (cond b (GoesOn stage) (with_form (words_of line) Syntax (words_said stage)))
-    by_blank true s = goes_on stage h
+    by_blank : (b : Bool) → SoundParsed (with_form (words_of line) Syntax (parse_words expecting)) → SoundParsed (cond b (GoesOn expecting) (with_form (words_of line) Syntax (parse_words expecting)))
+    by_blank true s = goes_on expecting h
     by_blank false s = s
 
 -- ---- texts
@@ -450,20 +450,20 @@ refused m n fault = record { world_is = λ w k script e. absurd cc; number_is = 
 further : (m : ℕ) (r : Reading) → SoundReading (m + 1) r → SoundReading m r
 further m r h = record { world_is = h.world_is; number_is = λ w n script e. let past = h.number_is w n script e in omega arith }
 
-after_sound : (said : Said) (n : ℕ) (rest : List (List ℕ)) (more : Stage → Reading) → SoundSaid said → ((stage : Stage) → SoundStage stage → SoundReading n (more stage)) → SoundReading n (after said n rest more)
+after_sound : (parsed : Parsed) (n : ℕ) (rest : List (List ℕ)) (more : Expecting → Reading) → SoundParsed parsed → ((expecting : Expecting) → SoundExpecting expecting → SoundReading n (more expecting)) → SoundReading n (after parsed n rest more)
 after_sound (Refuses fault) n rest more h k = refused n n fault
-after_sound (GoesOn stage) n rest more h k = k stage (h.stage_is stage refl)
+after_sound (GoesOn expecting) n rest more h k = k expecting (h.expecting_is expecting refl)
 after_sound (Begins world) n rest more h k = record {
   world_is = λ w m script e. let same : world ≡ w = cc in subst (λ w. SoundWorld w) same (h.world_is world refl);
   number_is = λ w m script e. let same : n + 1 ≡ m = cc in omega arith;
 }
 
-reading_sound : (n : ℕ) (stage : Stage) (ls : List (List ℕ)) → SoundStage stage → SoundReading n (reading n stage ls)
+reading_sound : (n : ℕ) (expecting : Expecting) (ls : List (List ℕ)) → SoundExpecting expecting → SoundReading n (reading n expecting ls)
 unfolding reading
-reading_sound n stage [] h = ended n n []
-reading_sound n stage (last ∷ []) h = ended n n last
-reading_sound n stage (line ∷ next ∷ ls) h =
-    after_sound (line_said stage line) n (next ∷ ls) _ (line_sound stage line h) (λ stage h. further n _ (reading_sound (n + 1) stage (next ∷ ls) h))
+reading_sound n expecting [] h = ended n n []
+reading_sound n expecting (last ∷ []) h = ended n n last
+reading_sound n expecting (line ∷ next ∷ ls) h =
+    after_sound (parse_line expecting line) n (next ∷ ls) _ (line_sound expecting line h) (λ expecting h. further n _ (reading_sound (n + 1) expecting (next ∷ ls) h))
 
 text_sound : (text : List ℕ) → SoundReading 1 (read_text text)
 text_sound text = reading_sound 1 at.Format (pieces 10 text) tt

@@ -1,11 +1,11 @@
 pub mod RangeLemmas
-pub mod DraftLemmas
+pub mod BuilderLemmas
 pub mod PlacingLemmas
 pub mod LineLemmas
 pub mod WordLemmas
 pub mod ReadingLemmas
 pub mod Accepted
-pub mod WrittenAgain
+pub mod WrittenRoundTrip
 pub mod WrittenForms
 pub mod WrittenValues
 pub mod WrittenWords

@@ -8,7 +8,7 @@ use Rattle.cap_bits.specs.CapSet.{CapSet}
 use Rattle.lab_lattice.specs.Label.{Label}
 use Rattle.lab_text.specs.Names.{Names, is_label_name, are_distinct}
 use Rattle.lab_text.specs.Policy.{PolicyNames, names_fault}
-use Rattle.lab_text.specs.Text.{LabelWords, label_words, label_of, label_said, unknown_in}
+use Rattle.lab_text.specs.Text.{LabelWords, label_words, label_of, parse_label, unknown_in}
 use Rattle.lab_text.specs.declared.policy.PolicyError.{PolicyError}
 use Rattle.lab_text.specs.declared.policy.PolicyError.TheVariants as error
 use Rattle.lab_text.specs.declared.text.LabelError.{LabelError}
@@ -16,42 +16,42 @@ use Rattle.kern_model.specs.declared.world.WorldObject.{WorldObject}
 use Rattle.kern_model.specs.declared.world.WorldProc.{WorldProc}
 use Rattle.world_text.specs.declared.fault.WorldFault.{WorldFault}
 use Rattle.world_text.specs.declared.fault.WorldFault.TheVariants.{Syntax, Repeated, TooMany}
-use Rattle.world_text.specs.declared.stage.Stage.TheVariants as at
-use Rattle.world_text.specs.declared.stage.Said.{Said}
-use Rattle.world_text.specs.declared.stage.Said.TheVariants.{Refuses, GoesOn}
+use Rattle.world_text.specs.declared.expecting.Expecting.TheVariants as at
+use Rattle.world_text.specs.declared.expecting.Parsed.{Parsed}
+use Rattle.world_text.specs.declared.expecting.Parsed.TheVariants.{Refuses, GoesOn}
 use Rattle.world_text.specs.Tree.{Tree}
-use Rattle.world_text.specs.Stage.{unless, refuse_or, levels_said, categories_said, label_form, object_said, process_said}
+use Rattle.world_text.specs.Expecting.{unless, refuse_or, parse_levels, parse_categories, label_form, parse_object, parse_process}
 use Rattle.world_text.specs.Lines.{fault_for, Makes}
 use Rattle.world_text.specs.Placing.{object_fault, process_fault}
 
 -- what is said where names may make no policy
-abbrev pub told : Option PolicyError → Said → Said
-told None said = said
-told (Some e) said = Refuses (fault_for e)
+abbrev pub reported : Option PolicyError → Parsed → Parsed
+reported None parsed = parsed
+reported (Some e) parsed = Refuses (fault_for e)
 
 abbrev first_error : (empty many named apart : Bool) → Option PolicyError
 first_error empty many named apart = cond empty (Some error.Empty) (cond many (Some error.TooMany) (cond (not named) (Some error.BadName) (cond (not apart) (Some error.Repeated) None)))
 
-levels_told : (names : Names) → list_all is_label_name names ≡ true → levels_said names ≡ told (names_fault names []) (GoesOn (at.Categories names))
+levels_reported : (names : Names) → list_all is_label_name names ≡ true → parse_levels names ≡ reported (names_fault names []) (GoesOn (at.Categories names))
 unfolding names_fault
-levels_told names e = by_tests (GoesOn (at.Categories names)) (length names == 0) (list_all is_label_name names) (nat_lt 16 (length names)) (are_distinct names) e
+levels_reported names e = by_tests (GoesOn (at.Categories names)) (length names == 0) (list_all is_label_name names) (nat_lt 16 (length names)) (are_distinct names) e
   where
-    by_tests : (s : Said) (empty named many apart : Bool) → named ≡ true
-        → unless (empty || not named) Syntax (unless many TooMany (unless (not apart) Repeated s)) ≡ told (first_error empty (many || false) (named && true) (apart && true)) s
+    by_tests : (s : Parsed) (empty named many apart : Bool) → named ≡ true
+        → unless (empty || not named) Syntax (unless many TooMany (unless (not apart) Repeated s)) ≡ reported (first_error empty (many || false) (named && true) (apart && true)) s
     by_tests s empty false many apart e = absurd (cc)
     by_tests s true true many apart e = refl
     by_tests s false true true apart e = refl
     by_tests s false true false true e = refl
     by_tests s false true false false e = refl
 
-categories_told : (levels names : Names) → names_fault levels [] ≡ None → list_all is_label_name names ≡ true
-    → categories_said levels names ≡ told (names_fault levels names) (GoesOn (at.Bound (record { levels = levels; cats = names })))
+categories_reported : (levels names : Names) → names_fault levels [] ≡ None → list_all is_label_name names ≡ true
+    → parse_categories levels names ≡ reported (names_fault levels names) (GoesOn (at.Bound (record { levels = levels; cats = names })))
 unfolding names_fault
-categories_told levels names h e =
+categories_reported levels names h e =
     by_tests (GoesOn (at.Bound (record { levels = levels; cats = names }))) (length levels == 0) (nat_lt 16 (length levels)) (list_all is_label_name levels) (are_distinct levels) (list_all is_label_name names) (nat_lt 64 (length names)) (are_distinct names) h e
   where
-    by_tests : (s : Said) (empty many named apart named2 many2 apart2 : Bool) → first_error empty (many || false) (named && true) (apart && true) ≡ None → named2 ≡ true
-        → unless (not named2) Syntax (unless many2 TooMany (unless (not apart2) Repeated s)) ≡ told (first_error empty (many || many2) (named && named2) (apart && apart2)) s
+    by_tests : (s : Parsed) (empty many named apart named2 many2 apart2 : Bool) → first_error empty (many || false) (named && true) (apart && true) ≡ None → named2 ≡ true
+        → unless (not named2) Syntax (unless many2 TooMany (unless (not apart2) Repeated s)) ≡ reported (first_error empty (many || many2) (named && named2) (apart && apart2)) s
     by_tests s true many named apart named2 many2 apart2 h e = absurd (cc)
     by_tests s false true named apart named2 many2 apart2 h e = absurd (cc)
     by_tests s false false false apart named2 many2 apart2 h e = absurd (cc)
@@ -61,9 +61,9 @@ categories_told levels names h e =
     by_tests s false false true true true false true h e = refl
     by_tests s false false true true true false false h e = refl
 
-told_fault : (o : Option PolicyError) (s : Said) (fault : WorldFault) → option_map fault_for o ≡ Some fault → Refuses fault ≡ told o s
-told_fault None s fault e = absurd (cc)
-told_fault (Some x) s fault e = ap Refuses (sym (same_Some (fault_for x) fault e))
+reported_fault : (o : Option PolicyError) (s : Parsed) (fault : WorldFault) → option_map fault_for o ≡ Some fault → Refuses fault ≡ reported o s
+reported_fault None s fault e = absurd (cc)
+reported_fault (Some x) s fault e = ap Refuses (sym (same_Some (fault_for x) fault e))
 
 made_fault : (levels cats : Names) (r : Result PolicyNames WorldFault) (fault : WorldFault) → Makes levels cats r → r ≡ Err fault → option_map fault_for (names_fault levels cats) ≡ Some fault
 made_fault levels cats (Ok p) fault h e = absurd (cc)
@@ -79,32 +79,32 @@ pub record AreRead (names words items : Names) : Type 0 where
   pub lent : items ≡ names
   pub named : list_all is_label_name items ≡ true
 
-pub levels_named : (names words items : Names) (r : Result PolicyNames WorldFault) (p : PolicyNames) → AreRead names words items → Makes items [] r → r ≡ Ok p → GoesOn (at.Categories names) ≡ levels_said words
+pub levels_named : (names words items : Names) (r : Result PolicyNames WorldFault) (p : PolicyNames) → AreRead names words items → Makes items [] r → r ≡ Ok p → GoesOn (at.Categories names) ≡ parse_levels words
 levels_named names words items r p h makes is =
-    sym (ap levels_said (sym h.read ∙ sym h.lent) ∙ levels_told items h.named ∙ ap (λ o. told o (GoesOn (at.Categories items))) (made_policy items [] r p makes is).1 ∙ ap (λ (ns : Names). GoesOn (at.Categories ns)) h.lent)
+    sym (ap parse_levels (sym h.read ∙ sym h.lent) ∙ levels_reported items h.named ∙ ap (λ o. reported o (GoesOn (at.Categories items))) (made_policy items [] r p makes is).1 ∙ ap (λ (ns : Names). GoesOn (at.Categories ns)) h.lent)
 
-pub levels_refused : (names words items : Names) (r : Result PolicyNames WorldFault) (fault : WorldFault) → AreRead names words items → Makes items [] r → r ≡ Err fault → Refuses fault ≡ levels_said words
+pub levels_refused : (names words items : Names) (r : Result PolicyNames WorldFault) (fault : WorldFault) → AreRead names words items → Makes items [] r → r ≡ Err fault → Refuses fault ≡ parse_levels words
 levels_refused names words items r fault h makes is =
-    told_fault (names_fault items []) (GoesOn (at.Categories items)) fault (made_fault items [] r fault makes is) ∙ sym (ap levels_said (sym h.read ∙ sym h.lent) ∙ levels_told items h.named)
+    reported_fault (names_fault items []) (GoesOn (at.Categories items)) fault (made_fault items [] r fault makes is) ∙ sym (ap parse_levels (sym h.read ∙ sym h.lent) ∙ levels_reported items h.named)
 
 pub categories_named : (levels names words items : Names) (r : Result PolicyNames WorldFault) (p : PolicyNames) → names_fault levels [] ≡ None → AreRead names words items → Makes levels items r → r ≡ Ok p
-    → GoesOn (at.Bound p) ≡ categories_said levels words
+    → GoesOn (at.Bound p) ≡ parse_categories levels words
 categories_named levels names words items r p fine h makes is =
     let made = made_policy levels items r p makes is in
     ap (λ (q : PolicyNames). GoesOn (at.Bound q)) made.0
-    ∙ sym (ap (categories_said levels) (sym h.read ∙ sym h.lent) ∙ categories_told levels items fine h.named ∙ ap (λ o. told o (GoesOn (at.Bound (record { levels = levels; cats = items })))) made.1)
+    ∙ sym (ap (parse_categories levels) (sym h.read ∙ sym h.lent) ∙ categories_reported levels items fine h.named ∙ ap (λ o. reported o (GoesOn (at.Bound (record { levels = levels; cats = items })))) made.1)
 
 pub categories_refused : (levels names words items : Names) (r : Result PolicyNames WorldFault) (fault : WorldFault) → names_fault levels [] ≡ None → AreRead names words items → Makes levels items r → r ≡ Err fault
-    → Refuses fault ≡ categories_said levels words
+    → Refuses fault ≡ parse_categories levels words
 categories_refused levels names words items r fault fine h makes is =
-    told_fault (names_fault levels items) (GoesOn (at.Bound (record { levels = levels; cats = items }))) fault (made_fault levels items r fault makes is)
-    ∙ sym (ap (categories_said levels) (sym h.read ∙ sym h.lent) ∙ categories_told levels items fine h.named)
+    reported_fault (names_fault levels items) (GoesOn (at.Bound (record { levels = levels; cats = items }))) fault (made_fault levels items r fault makes is)
+    ∙ sym (ap (parse_categories levels) (sym h.read ∙ sym h.lent) ∙ categories_reported levels items fine h.named)
 
 -- ---- labels
 
 -- a text that says a label has the form of one
-pub has_form : (p : PolicyNames) (text : List ℕ) (label : Label) → label_said p text ≡ Some label → label_form text ≡ Some text
-unfolding label_said
+pub has_form : (p : PolicyNames) (text : List ℕ) (label : Label) → parse_label p text ≡ Some label → label_form text ≡ Some text
+unfolding parse_label
 has_form p text label e = by_words (label_words text) refl e
   where
     by_words : (w : Option LabelWords) → label_words text ≡ w → option_and_then (label_of p) w ≡ Some label → label_form text ≡ Some text
@@ -121,16 +121,16 @@ unknown_has_form p text why e = by_words (label_words text) refl e
 
 -- ---- what is said with a fault, and without one
 
-pub object_refused : (p : PolicyNames) (bound : CapSet) (t : Tree) (o : WorldObject) (fault : WorldFault) → Some fault ≡ object_fault t o → Refuses fault ≡ object_said p bound t o
+pub object_refused : (p : PolicyNames) (bound : CapSet) (t : Tree) (o : WorldObject) (fault : WorldFault) → Some fault ≡ object_fault t o → Refuses fault ≡ parse_object p bound t o
 object_refused p bound t o fault e = ap (λ f. refuse_or f (GoesOn (at.Tree p bound (record t { objects = t.objects ++ o ∷ [] })))) e
 
-pub object_put : (p : PolicyNames) (bound : CapSet) (t u : Tree) (o : WorldObject) → None ≡ object_fault t o → u ≡ record t { objects = t.objects ++ o ∷ [] } → GoesOn (at.Tree p bound u) ≡ object_said p bound t o
+pub object_put : (p : PolicyNames) (bound : CapSet) (t u : Tree) (o : WorldObject) → None ≡ object_fault t o → u ≡ record t { objects = t.objects ++ o ∷ [] } → GoesOn (at.Tree p bound u) ≡ parse_object p bound t o
 object_put p bound t u o e is =
     ap (λ (v : Tree). GoesOn (at.Tree p bound v)) is ∙ ap (λ f. refuse_or f (GoesOn (at.Tree p bound (record t { objects = t.objects ++ o ∷ [] })))) e
 
-pub process_refused : (p : PolicyNames) (bound : CapSet) (t : Tree) (w : WorldProc) (fault : WorldFault) → Some fault ≡ process_fault t w → Refuses fault ≡ process_said p bound t w
+pub process_refused : (p : PolicyNames) (bound : CapSet) (t : Tree) (w : WorldProc) (fault : WorldFault) → Some fault ≡ process_fault t w → Refuses fault ≡ parse_process p bound t w
 process_refused p bound t w fault e = ap (λ f. refuse_or f (GoesOn (at.Tree p bound (record t { procs = t.procs ++ w ∷ [] })))) e
 
-pub process_put : (p : PolicyNames) (bound : CapSet) (t u : Tree) (w : WorldProc) → None ≡ process_fault t w → u ≡ record t { procs = t.procs ++ w ∷ [] } → GoesOn (at.Tree p bound u) ≡ process_said p bound t w
+pub process_put : (p : PolicyNames) (bound : CapSet) (t u : Tree) (w : WorldProc) → None ≡ process_fault t w → u ≡ record t { procs = t.procs ++ w ∷ [] } → GoesOn (at.Tree p bound u) ≡ parse_process p bound t w
 process_put p bound t u w e is =
     ap (λ (v : Tree). GoesOn (at.Tree p bound v)) is ∙ ap (λ f. refuse_or f (GoesOn (at.Tree p bound (record t { procs = t.procs ++ w ∷ [] })))) e

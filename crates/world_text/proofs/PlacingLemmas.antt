@@ -9,13 +9,13 @@ use Rattle.kern_model.specs.declared.world.WorldProc.{WorldProc}
 use Rattle.kern_model.specs.Kinds.{kind_of}
 use Rattle.kern_model.specs.Kinds.{is_dir}
 use Rattle.kern_model.specs.World.{given, objects_at, procs_at}
-use Rattle.world_text.specs.declared.draft.Standing.{Standing}
+use Rattle.world_text.specs.declared.builder.PathEntry.{PathEntry}
 use Rattle.world_text.specs.declared.fault.WorldFault.{WorldFault}
 use Rattle.world_text.specs.declared.fault.WorldFault.TheVariants.{Repeated, NoParent, LabelOrder, RootLabel, TooMany}
 use Rattle.world_text.specs.Tree.{Tree}
-use Rattle.world_text.specs.Standing.{standing_of, is_standing_dir, is_above_standing}
+use Rattle.world_text.specs.PathEntry.{path_entry_of, is_standing_dir, is_above_standing}
 use Rattle.world_text.specs.Placing.{is_directory, is_above, directory_of, is_root, object_fault, process_fault}
-use Rattle.world_text.proofs.DraftLemmas.{stands_as_dir, stands_above}
+use Rattle.world_text.proofs.BuilderLemmas.{stands_as_dir, stands_above}
 
 abbrev pub first_fault : (repeated parent wrong above full : Bool) → Option WorldFault
 first_fault repeated parent wrong above full =
@@ -25,12 +25,12 @@ abbrev pub wrong_root : WorldObject → Bool
 wrong_root o = is_root o.path.names && not (is_dir (kind_of o.body) && dominates bottom o.label)
 
 -- the faults are told by what stands at the object's directory
-pub fault_told : (t : Tree) (o : WorldObject) (d : Option Standing) (repeated parent wrong above full : Bool)
-    → d ≡ option_map standing_of (directory_of t.objects o.path.names)
+pub fault_reported : (t : Tree) (o : WorldObject) (d : Option PathEntry) (repeated parent wrong above full : Bool)
+    → d ≡ option_map path_entry_of (directory_of t.objects o.path.names)
     → is_some (given t.objects o.path.names) ≡ repeated → (is_root o.path.names || is_standing_dir d) ≡ parent → wrong_root o ≡ wrong → is_above_standing o.label d ≡ above → nat_le 65535 (objects_at o.label t.objects) ≡ full
     → first_fault repeated parent wrong above full ≡ object_fault t o
 unfolding object_fault
-fault_told t o d repeated parent wrong above full dir e f g h k = sym (λ i. first_fault (e i) (has_parent i) (g i) (is_over i) (k i))
+fault_reported t o d repeated parent wrong above full dir e f g h k = sym (λ i. first_fault (e i) (has_parent i) (g i) (is_over i) (k i))
   where
     has_parent : (is_root o.path.names || is_directory (directory_of t.objects o.path.names)) ≡ parent
     has_parent = ap (λ v. is_root o.path.names || v) (sym (ap is_standing_dir dir ∙ stands_as_dir (directory_of t.objects o.path.names))) ∙ f

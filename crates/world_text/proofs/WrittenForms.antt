@@ -18,29 +18,29 @@ use Rattle.world_text.specs.CanBeRead.{are_bytes, IsNumber, HasBytes, IsWrittenO
 use Rattle.world_text.specs.Written.{path_text}
 
 -- an absolute path whose text is bytes
-pub record IsSpelledPath (path : PathValue) : Type 0 where
+pub record IsCanonicalPath (path : PathValue) : Type 0 where
   pub absolute : path.absolute ≡ true
   pub form : HasForm path.absolute path.names
   pub bytes : are_bytes (path_text path.names) ≡ true
 
 -- a directory, a file or a FIFO
-abbrev pub IsSpelledBody : Body → Type 0
-IsSpelledBody body.Dir = Unit {0}
-IsSpelledBody (body.File bytes) = are_bytes bytes ≡ true
-IsSpelledBody body.Fifo = Unit {0}
-IsSpelledBody body.Pipe = ⊥
+abbrev pub IsCanonicalBody : Body → Type 0
+IsCanonicalBody body.Dir = Unit {0}
+IsCanonicalBody (body.File bytes) = are_bytes bytes ≡ true
+IsCanonicalBody body.Fifo = Unit {0}
+IsCanonicalBody body.Pipe = ⊥
 
 -- what the words of an object's line spell
-pub record IsSpelledObject (o : WorldObject) : Type 0 where
-  pub path : IsSpelledPath o.path
+pub record IsCanonicalObject (o : WorldObject) : Type 0 where
+  pub path : IsCanonicalPath o.path
   pub mode : o.attr.mode ≤ 4095
   pub not_sticky : (o.attr.mode / 512) % 2 ≡ 0
   pub owner : IsNumber o.attr.owner
   pub group : IsNumber o.attr.group
-  pub body : IsSpelledBody o.body
+  pub body : IsCanonicalBody o.body
 
 -- ids of one user and one group
-pub record IsSpelledIds (ids : Ids) : Type 0 where
+pub record IsCanonicalIds (ids : Ids) : Type 0 where
   pub user : IsNumber ids.euid
   pub group : IsNumber ids.egid
   pub ruid : ids.ruid ≡ ids.euid
@@ -50,14 +50,14 @@ pub record IsSpelledIds (ids : Ids) : Type 0 where
   pub groups : list_all (λ g. nat_le g 4294967295) ids.groups ≡ true
   pub few : length ids.groups ≤ 16
 
-body_spelled : (b : Body) → (b ≡ body.Pipe → ⊥) → HasBytes b → IsSpelledBody b
-body_spelled body.Dir no_pipe bytes = tt
-body_spelled (body.File xs) no_pipe bytes = bytes
-body_spelled body.Fifo no_pipe bytes = tt
-body_spelled body.Pipe no_pipe bytes = absurd (no_pipe refl)
+canonical_body : (b : Body) → (b ≡ body.Pipe → ⊥) → HasBytes b → IsCanonicalBody b
+canonical_body body.Dir no_pipe bytes = tt
+canonical_body (body.File xs) no_pipe bytes = bytes
+canonical_body body.Fifo no_pipe bytes = tt
+canonical_body body.Pipe no_pipe bytes = absurd (no_pipe refl)
 
-object_spelled : (top : Label) (o : WorldObject) → IsWorldObject top o → IsWrittenObject o → IsSpelledObject o
-object_spelled top o is written =
+canonical_object : (top : Label) (o : WorldObject) → IsWorldObject top o → IsWrittenObject o → IsCanonicalObject o
+canonical_object top o is written =
     let mode = and_parts _ _ is.mode in
     let low = ltb-true o.attr.mode 4096 mode.0 in
     record {
@@ -66,11 +66,11 @@ object_spelled top o is written =
       not_sticky = eqb-true _ _ mode.1;
       owner = written.owner;
       group = written.group;
-      body = body_spelled o.body is.no_pipe written.body;
+      body = canonical_body o.body is.no_pipe written.body;
     }
 
-ids_spelled : (top : Label) (p : WorldProc) → IsWorldProc top p → IsWrittenIds p.ids → IsSpelledIds p.ids
-ids_spelled top p is written = record {
+canonical_ids : (top : Label) (p : WorldProc) → IsWorldProc top p → IsWrittenIds p.ids → IsCanonicalIds p.ids
+canonical_ids top p is written = record {
   user = written.user;
   group = written.group;
   ruid = is.ids.ruid;
@@ -87,8 +87,8 @@ each P Q R f [] ps qs = tt
 each P Q R f (x ∷ xs) ps qs = (f x ps.0 qs.0, each P Q R f xs ps.1 qs.1)
 
 module _ (top : Label) (os : List WorldObject) (are : AllByRecursion (IsWorldObject top) os) where
-  pub objects_spelled : AllByRecursion IsWrittenObject os → AllByRecursion (λ (o : WorldObject). IsSpelledObject o) os
-  objects_spelled written = each (IsWorldObject top) _ (λ (o : WorldObject). IsSpelledObject o) (object_spelled top) os are written
+  pub canonical_objects : AllByRecursion IsWrittenObject os → AllByRecursion (λ (o : WorldObject). IsCanonicalObject o) os
+  canonical_objects written = each (IsWorldObject top) _ (λ (o : WorldObject). IsCanonicalObject o) (canonical_object top) os are written
 
   pub objects_below : AllByRecursion (λ (o : WorldObject). dominates top o.label ≡ true) os
   objects_below = each (IsWorldObject top) (IsWorldObject top) (λ (o : WorldObject). dominates top o.label ≡ true) (λ o is _. is.below) os are are
@@ -97,8 +97,8 @@ module _ (top : Label) (os : List WorldObject) (are : AllByRecursion (IsWorldObj
   objects_plain = each (IsWorldObject top) (IsWorldObject top) (λ (o : WorldObject). is_file (kind_of o.body) ≡ false → o.attr.caps ≡ no_flags) (λ o is _. is.only_file) os are are
 
 module _ (top : Label) (ps : List WorldProc) (are : AllByRecursion (IsWorldProc top) ps) where
-  pub procs_spelled : AllByRecursion (λ (p : WorldProc). IsWrittenIds p.ids) ps → AllByRecursion (λ (p : WorldProc). IsSpelledIds p.ids) ps
-  procs_spelled written = each (IsWorldProc top) _ (λ (p : WorldProc). IsSpelledIds p.ids) (ids_spelled top) ps are written
+  pub canonical_procs : AllByRecursion (λ (p : WorldProc). IsWrittenIds p.ids) ps → AllByRecursion (λ (p : WorldProc). IsCanonicalIds p.ids) ps
+  canonical_procs written = each (IsWorldProc top) _ (λ (p : WorldProc). IsCanonicalIds p.ids) (canonical_ids top) ps are written
 
   pub procs_below : AllByRecursion (λ (p : WorldProc). dominates top p.label ≡ true) ps
   procs_below = each (IsWorldProc top) (IsWorldProc top) (λ (p : WorldProc). dominates top p.label ≡ true) (λ p is _. is.below) ps are are

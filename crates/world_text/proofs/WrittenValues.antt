@@ -18,25 +18,25 @@ use Rattle.cap_bits.specs.Cap.{all_caps}
 use Rattle.cap_bits.specs.CapSet.{CapSet, is_within, has-no_caps}
 use Rattle.cap_bits.specs.State.{no_flags}
 use Rattle.cap_clause.specs.Written.{firsts_of, is_first, group_text, clauses_text, caps_text, set_text}
-use Rattle.cap_clause.proofs.WrittenAgain.{caps_again, caps_text_exact, set_again, caps_text_plain, set_text_bare, set_text_some}
+use Rattle.cap_clause.proofs.WrittenRoundTrip.{caps_round_trip, caps_text_exact, set_round_trip, caps_text_plain, set_text_bare, set_text_some}
 use Rattle.fs_path.specs.declared.path.PathError.{PathError}
 use Rattle.fs_path.specs.declared.path.PathError.TheVariants as error
-use Rattle.fs_path.proofs.Again.{word_spelling}
+use Rattle.fs_path.proofs.RoundTrip.{word_spelling}
 use Rattle.fs_path.specs.Name.{Name, is_name, is_name_byte, is_dots}
 use Rattle.fs_path.specs.Options.{keep_if, then}
 use Rattle.fs_path.specs.Path.{PathValue, HasForm, written_len}
-use Rattle.fs_path.specs.PathText.{is_slash, is_empty_or_dot, starts_badly, Component, placed, counts, names_of, component_fault, first_fault, components_of, path_fault, path_said}
+use Rattle.fs_path.specs.PathText.{is_slash, is_empty_or_dot, starts_badly, Component, placed, counts, names_of, component_fault, first_fault, components_of, path_fault, parse_path}
 use Rattle.fs_path.specs.Words.{is_plain, is_bare, is_bare_text, has_spelling, with_quotes_if_needed}
 use Rattle.lab_lattice.specs.Label.{Label}
 use Rattle.lab_text.proofs.Made.{any_before_end}
 use Rattle.lab_text.specs.Names.{Names, same_bytes, is_letter, is_name_part, is_label_name}
 use Rattle.lab_text.specs.Policy.{PolicyNames, MakePolicy, is_valid}
-use Rattle.lab_text.proofs.Said.{text_names, text_said}
-use Rattle.lab_text.specs.Text.{LabelWords, label_words, is_label_text, label_of, label_said, behind_mark, label_text}
-use Rattle.world_text.specs.Stage.{known_of, path_of, label_form, caps_of, may_start, proc_caps_of, set_of}
+use Rattle.lab_text.proofs.Parsed.{text_names, parse_text}
+use Rattle.lab_text.specs.Text.{LabelWords, label_words, is_label_text, label_of, parse_label, past_mark, label_text}
+use Rattle.world_text.specs.Expecting.{known_of, path_of, label_form, caps_of, may_start, proc_caps_of, set_of}
 use Rattle.world_text.specs.Written.{quoted, path_text}
 use Rattle.world_text.specs.CanBeRead.{are_bytes}
-use Rattle.world_text.proofs.WrittenForms.{IsSpelledPath}
+use Rattle.world_text.proofs.WrittenForms.{IsCanonicalPath}
 
 -- ---- names
 
@@ -73,16 +73,16 @@ name_counts n h = let parts = name_parts n h in by_bytes n parts.some parts.no_d
 -- ---- paths
 
 -- names, each behind a slash
-abbrev behind_slashes : List Name → List ℕ
-behind_slashes names = flat_map (λ (name : Name). 47 ∷ name) names
+abbrev after_slashes : List Name → List ℕ
+after_slashes names = flat_map (λ (name : Name). 47 ∷ name) names
 
-split_again : (n : Name) (ns : List Name) → list_all is_name (n ∷ ns) ≡ true → slice_split is_slash (n ++ behind_slashes ns) ≡ n ∷ ns
-split_again n [] h =
+split_round_trip : (n : Name) (ns : List Name) → list_all is_name (n ∷ ns) ≡ true → slice_split is_slash (n ++ after_slashes ns) ≡ n ∷ ns
+split_round_trip n [] h =
     let parts = and_parts (is_name n) true h in
     ap (slice_split is_slash) (append-nil n) ∙ slice_split_none is_slash n (no_slashes n (name_parts n parts.0).bytes)
-split_again n (m ∷ ms) h =
+split_round_trip n (m ∷ ms) h =
     let parts = and_parts (is_name n) (list_all is_name (m ∷ ms)) h in
-    slice_split_at is_slash n 47 (m ++ behind_slashes ms) (no_slashes n (name_parts n parts.0).bytes) refl ∙ ap (λ (ns : List Name). n ∷ ns) (split_again m ms parts.1)
+    slice_split_at is_slash n 47 (m ++ after_slashes ms) (no_slashes n (name_parts n parts.0).bytes) refl ∙ ap (λ (ns : List Name). n ∷ ns) (split_round_trip m ms parts.1)
 
 -- each name counts
 kept_all : (at : ℕ) (ns : List Name) → list_all is_name ns ≡ true → filter counts (placed at ns) ≡ placed at ns
@@ -96,10 +96,10 @@ names_placed : (at : ℕ) (ns : List Name) → names_of (placed at ns) ≡ ns
 names_placed at [] = refl
 names_placed at (n ∷ ns) = ap (λ (ms : List Name). n ∷ ms) (names_placed (at + length n + 1) ns)
 
-components_again : (names : List Name) → list_all is_name names ≡ true → components_of (path_text names) ≡ placed 1 names
+components_round_trip : (names : List Name) → list_all is_name names ≡ true → components_of (path_text names) ≡ placed 1 names
 unfolding components_of
-components_again [] h = refl
-components_again (n ∷ ns) h = ap (λ (ps : List (List ℕ)). filter counts (placed 1 ps)) (split_again n ns h) ∙ kept_all 1 (n ∷ ns) h
+components_round_trip [] h = refl
+components_round_trip (n ∷ ns) h = ap (λ (ps : List (List ℕ)). filter counts (placed 1 ps)) (split_round_trip n ns h) ∙ kept_all 1 (n ∷ ns) h
 
 no_zero : (a : ℕ) → is_name_byte a ≡ true → (0 == a && true) ≡ false
 no_zero a h = grind (arith, nat_tests)
@@ -136,10 +136,10 @@ names_fine count at (n ∷ ns) h few =
     let parts = and_parts (is_name n) (list_all is_name ns) h in
     ap (λ (o : Option PathError). option_or o (first_fault (count + 1) (placed (at + length n + 1) ns))) (name_fine count at n parts.0 (omega arith)) ∙ names_fine (count + 1) (at + length n + 1) ns parts.1 (omega arith)
 
-text_length : (ns : List Name) → length (behind_slashes ns) ≡ written_len ns
+text_length : (ns : List Name) → length (after_slashes ns) ≡ written_len ns
 text_length [] = refl
 text_length (n ∷ ns) =
-    let one = length-append n (behind_slashes ns) in
+    let one = length-append n (after_slashes ns) in
     let more = sum_by-cons (λ (name : Name). length name + 1) n ns in
     let rest = text_length ns in
     omega arith
@@ -156,28 +156,28 @@ unfolding path_fault
 path_fine names form h =
     let size = path_length names form in
     let some : (length (path_text names) == 0) ≡ false = ne_eqb (length (path_text names)) 0 (λ e. omega arith) in
-    cond-false _ _ _ some ∙ cond-false _ _ _ (le-ltb 1023 (length (path_text names)) size.1) ∙ ap (first_fault 0) (components_again names h) ∙ names_fine 0 1 names h (omega (arith, form.few))
+    cond-false _ _ _ some ∙ cond-false _ _ _ (le-ltb 1023 (length (path_text names)) size.1) ∙ ap (first_fault 0) (components_round_trip names h) ∙ names_fine 0 1 names h (omega (arith, form.few))
 
 starts_absolute : (names : List Name) → starts_with ◌==◌ (path_text names) (47 ∷ []) ≡ true
 starts_absolute [] = refl
 starts_absolute (n ∷ ns) = refl
 
-path_is : (names : List Name) → list_all is_name names ≡ true → path_said (path_text names) ≡ record { absolute = true; names = names }
-unfolding path_said
+path_is : (names : List Name) → list_all is_name names ≡ true → parse_path (path_text names) ≡ record { absolute = true; names = names }
+unfolding parse_path
 path_is names h =
-    let said = ap names_of (components_again names h) ∙ names_placed 1 names in
-    λ i. record { absolute = starts_absolute names i; names = said i }
+    let parsed = ap names_of (components_round_trip names h) ∙ names_placed 1 names in
+    λ i. record { absolute = starts_absolute names i; names = parsed i }
 
 -- a path's text says that path
-pub path_again : (p : PathValue) → IsSpelledPath p → path_of (path_text p.names) ≡ Some p
-path_again p h =
+pub path_round_trip : (p : PathValue) → IsCanonicalPath p → path_of (path_text p.names) ≡ Some p
+path_round_trip p h =
     let form : HasForm true p.names = subst (λ v. HasForm v p.names) h.absolute h.form in
-    let said = path_is p.names h.form.named in
+    let parsed = path_is p.names h.form.named in
     let same : p ≡ record { absolute = true; names = p.names } = ap (λ v. record { absolute = v; names = p.names }) h.absolute in
-    cond-true _ _ _ (and_from _ _ (ap is_none (path_fine p.names form h.form.named)) (ap (λ (q : PathValue). q.absolute) said)) ∙ ap Some (said ∙ sym same)
+    cond-true _ _ _ (and_from _ _ (ap is_none (path_fine p.names form h.form.named)) (ap (λ (q : PathValue). q.absolute) parsed)) ∙ ap Some (parsed ∙ sym same)
 
 -- a path's text can be written
-pub path_spelling : (p : PathValue) → IsSpelledPath p → has_spelling (with_quotes_if_needed (path_text p.names)) ≡ true
+pub path_spelling : (p : PathValue) → IsCanonicalPath p → has_spelling (with_quotes_if_needed (path_text p.names)) ≡ true
 path_spelling p h = word_spelling (path_text p.names) h.bytes
 
 -- ---- labels
@@ -200,19 +200,19 @@ label_name_bare (b ∷ bs) h =
     let letter = (and_parts (is_letter b) (nat_le (length bs) 30) parts.0).0 in
     and_from _ _ (lt-ltb 0 (length (b ∷ bs)) (omega arith)) (and_from _ _ (part_bare b (letter_part b letter)) (parts_bare bs parts.1))
 
-marked_bare : (mark : ℕ) (ns : Names) → is_bare mark ≡ true → list_all is_label_name ns ≡ true → list_all is_bare (behind_mark mark ns) ≡ true
+marked_bare : (mark : ℕ) (ns : Names) → is_bare mark ≡ true → list_all is_label_name ns ≡ true → list_all is_bare (past_mark mark ns) ≡ true
 marked_bare mark [] bare h = refl
 marked_bare mark (n ∷ ns) bare h =
     let parts = and_parts (is_label_name n) (list_all is_label_name ns) h in
     let name = (and_parts (nat_lt 0 (length n)) (list_all is_bare n) (label_name_bare n parts.0)).1 in
-    and_from (is_bare mark) _ bare (list_all-append is_bare n (behind_mark 44 ns) ∙ and_from _ _ name (marked_bare 44 ns refl parts.1))
+    and_from (is_bare mark) _ bare (list_all-append is_bare n (past_mark 44 ns) ∙ and_from _ _ name (marked_bare 44 ns refl parts.1))
 
-names_bare : (n : List ℕ) (ns : Names) → is_label_name n ≡ true → list_all is_label_name ns ≡ true → is_bare_text (n ++ behind_mark 58 ns) ≡ true
+names_bare : (n : List ℕ) (ns : Names) → is_label_name n ≡ true → list_all is_label_name ns ≡ true → is_bare_text (n ++ past_mark 58 ns) ≡ true
 names_bare n ns name names =
     let parts = and_parts (nat_lt 0 (length n)) (list_all is_bare n) (label_name_bare n name) in
     let some = ltb-true 0 (length n) parts.0 in
-    let size = length-append n (behind_mark 58 ns) in
-    and_from _ _ (lt-ltb 0 (length (n ++ behind_mark 58 ns)) (omega arith)) (list_all-append is_bare n (behind_mark 58 ns) ∙ and_from _ _ parts.1 (marked_bare 58 ns refl names))
+    let size = length-append n (past_mark 58 ns) in
+    and_from _ _ (lt-ltb 0 (length (n ++ past_mark 58 ns)) (omega arith)) (list_all-append is_bare n (past_mark 58 ns) ∙ and_from _ _ parts.1 (marked_bare 58 ns refl names))
 
 -- the text of a valid label stands bare
 pub label_bare : (p : PolicyNames) (label : Label) → MakePolicy p → is_valid p label ≡ true → is_bare_text (label_text p label) ≡ true
@@ -220,23 +220,23 @@ label_bare p label h valid =
     let names = text_names p label h valid in
     ap is_bare_text names.text_is ∙ names_bare names.level names.cats names.level_name names.cat_names
 
-said_form : (p : PolicyNames) (text : List ℕ) (label : Label) → label_said p text ≡ Some label → is_label_text text ≡ true
-unfolding label_said
-said_form p text label h = by_words (label_words text) h
+parsed_form : (p : PolicyNames) (text : List ℕ) (label : Label) → parse_label p text ≡ Some label → is_label_text text ≡ true
+unfolding parse_label
+parsed_form p text label h = by_words (label_words text) h
   where
     by_words : (o : Option LabelWords) → option_and_then (label_of p) o ≡ Some label → is_some o ≡ true
     by_words None h = absurd (cc)
     by_words (Some w) h = refl
 
 -- the text of a valid label has the form of one
-pub label_again : (p : PolicyNames) (label : Label) → MakePolicy p → is_valid p label ≡ true → label_form (label_text p label) ≡ Some (label_text p label)
-label_again p label h valid = cond-true _ _ _ (said_form p (label_text p label) label (text_said p label h valid))
+pub label_round_trip : (p : PolicyNames) (label : Label) → MakePolicy p → is_valid p label ≡ true → label_form (label_text p label) ≡ Some (label_text p label)
+label_round_trip p label h valid = cond-true _ _ _ (parsed_form p (label_text p label) label (parse_text p label h valid))
 
 -- ---- capabilities
 
 -- the text of a state says that state
 pub caps_known : (caps : CapState) → caps_of (caps_text caps) ≡ Some (Some caps)
-caps_known caps = ap known_of (caps_again caps)
+caps_known caps = ap known_of (caps_round_trip caps)
 
 -- and it is one that a process may have, where what is effective is permitted
 pub proc_caps_known : (caps : CapState) → is_within caps.e caps.p ≡ true → proc_caps_of (caps_text caps) ≡ Some (Some caps)
@@ -267,7 +267,7 @@ caps_spelling caps = plain_bytes (caps_text caps) (caps_text_plain caps)
 
 -- the text of a bound says that bound
 pub bound_known : (bound : CapSet) → set_of (set_text bound) ≡ Some (Some bound)
-bound_known bound = ap known_of (set_again bound)
+bound_known bound = ap known_of (set_round_trip bound)
 
 -- it stands bare
 pub bound_bare : (bound : CapSet) → is_bare_text (set_text bound) ≡ true

@@ -6,12 +6,12 @@ use Rattle.std.proofs.lemmas.Bool.{and_parts, and_from, not-true, le-leb, le-ltb
 use Rattle.std.proofs.lemmas.Bool.Decides.{nat_tests}
 use Rattle.std.proofs.lemmas.List.Folds.{list_all-append}
 use Rattle.fs_path.specs.declared.words.LineWord.{LineWord}
-use Rattle.fs_path.proofs.Again.{line_again}
+use Rattle.fs_path.proofs.RoundTrip.{line_round_trip}
 use Rattle.fs_path.specs.Lines.{onto_first, pieces}
-use Rattle.fs_path.specs.Words.{is_space, is_plain, is_bare, is_bare_text, is_blank, hex_digit, item_text, quoted_text, has_spelling, spelling, behind_spaces, line_text, says_nothing}
+use Rattle.fs_path.specs.Words.{is_space, is_plain, is_bare, is_bare_text, is_blank, hex_digit, item_text, quoted_text, has_spelling, spelling, after_spaces, line_text, says_nothing}
 use Rattle.world_text.specs.declared.fault.WorldFault.TheVariants.{Syntax}
-use Rattle.world_text.specs.declared.stage.Stage.{Stage}
-use Rattle.world_text.specs.Stage.{with_form, words_said, line_said}
+use Rattle.world_text.specs.declared.expecting.Expecting.{Expecting}
+use Rattle.world_text.specs.Expecting.{with_form, parse_words, parse_line}
 use Rattle.world_text.specs.Written.{bare, line_of}
 
 -- ---- line feeds
@@ -60,17 +60,17 @@ word_high w can = by_quotes w.quoted can
     by_quotes true can = quoted_high w.bytes
     by_quotes false can = all_bare_high w.bytes (and_parts (nat_lt 0 (length w.bytes)) (list_all is_bare w.bytes) can).1
 
-behind_high : (ws : List LineWord) → list_all has_spelling ws ≡ true → list_all is_high (behind_spaces (map spelling ws)) ≡ true
-behind_high [] can = refl
-behind_high (w ∷ ws) can =
+after_high : (ws : List LineWord) → list_all has_spelling ws ≡ true → list_all is_high (after_spaces (map spelling ws)) ≡ true
+after_high [] can = refl
+after_high (w ∷ ws) can =
     let parts = and_parts (has_spelling w) (list_all has_spelling ws) can in
-    list_all-append is_high (spelling w) (behind_spaces (map spelling ws)) ∙ and_from _ _ (word_high w parts.0) (behind_high ws parts.1)
+    list_all-append is_high (spelling w) (after_spaces (map spelling ws)) ∙ and_from _ _ (word_high w parts.0) (after_high ws parts.1)
 
 line_high : (ws : List LineWord) → list_all has_spelling ws ≡ true → list_all is_high (line_text (map spelling ws)) ≡ true
 line_high [] can = refl
 line_high (w ∷ ws) can =
     let parts = and_parts (has_spelling w) (list_all has_spelling ws) can in
-    list_all-append is_high (spelling w) (behind_spaces (map spelling ws)) ∙ and_from _ _ (word_high w parts.0) (behind_high ws parts.1)
+    list_all-append is_high (spelling w) (after_spaces (map spelling ws)) ∙ and_from _ _ (word_high w parts.0) (after_high ws parts.1)
 
 no_feed : (b : ℕ) → is_high b ≡ true → (b == 10) ≡ false
 no_feed b h = grind (arith, nat_tests)
@@ -87,13 +87,13 @@ first_piece (b ∷ bs) rest high =
 abbrev pub written_pieces : List (List LineWord) → List (List ℕ)
 written_pieces lines = map (λ words. line_text (map spelling words)) lines ++ [] ∷ []
 
-pub pieces_again : (lines : List (List LineWord)) → list_all (list_all has_spelling) lines ≡ true → pieces 10 (flat_map line_of lines) ≡ written_pieces lines
+pub pieces_round_trip : (lines : List (List LineWord)) → list_all (list_all has_spelling) lines ≡ true → pieces 10 (flat_map line_of lines) ≡ written_pieces lines
 unfolding line_of pieces
-pieces_again [] can = refl
-pieces_again (words ∷ lines) can =
+pieces_round_trip [] can = refl
+pieces_round_trip (words ∷ lines) can =
     let parts = and_parts (list_all has_spelling words) (list_all (list_all has_spelling) lines) can in
     ap (pieces 10) (append_assoc (line_text (map spelling words)) (10 ∷ []) (flat_map line_of lines)) ∙ first_piece (line_text (map spelling words)) (flat_map line_of lines) (line_high words parts.0)
-    ∙ ap (λ (ls : List (List ℕ)). line_text (map spelling words) ∷ ls) (pieces_again lines parts.1)
+    ∙ ap (λ (ls : List (List ℕ)). line_text (map spelling words) ∷ ls) (pieces_round_trip lines parts.1)
 
 -- ---- lines
 
@@ -110,9 +110,9 @@ not_blank (b ∷ bs) rest begins =
     ap (λ v. says_nothing (drop (cond v (1 + prefix_len is_space (bs ++ rest)) 0) (b ∷ (bs ++ rest)))) (not-true (is_space b) parts.0) ∙ not-true (b == 35) parts.1
 
 -- a line that is written says what its words say
-pub line_is : (stage : Stage) (key : List ℕ) (ws : List LineWord) → begins_line key ≡ true → list_all has_spelling (bare key ∷ ws) ≡ true
-    → length (line_text (map spelling (bare key ∷ ws))) ≤ 2048 → line_said stage (line_text (map spelling (bare key ∷ ws))) ≡ words_said stage (bare key ∷ ws)
-unfolding line_said
-line_is stage key ws begins can short =
-    cond-false _ _ _ (le-ltb 2048 _ short) ∙ cond-false _ _ _ (not_blank key (behind_spaces (map spelling ws)) begins)
-    ∙ ap (λ (o : Option (List LineWord)). with_form o Syntax (words_said stage)) (line_again (bare key ∷ ws) can)
+pub line_is : (expecting : Expecting) (key : List ℕ) (ws : List LineWord) → begins_line key ≡ true → list_all has_spelling (bare key ∷ ws) ≡ true
+    → length (line_text (map spelling (bare key ∷ ws))) ≤ 2048 → parse_line expecting (line_text (map spelling (bare key ∷ ws))) ≡ parse_words expecting (bare key ∷ ws)
+unfolding parse_line
+line_is expecting key ws begins can short =
+    cond-false _ _ _ (le-ltb 2048 _ short) ∙ cond-false _ _ _ (not_blank key (after_spaces (map spelling ws)) begins)
+    ∙ ap (λ (o : Option (List LineWord)). with_form o Syntax (parse_words expecting)) (line_round_trip (bare key ∷ ws) can)

@@ -1,7 +1,7 @@
 pub mod Tree
 pub mod Placing
-pub mod Stage
-pub mod Standing
+pub mod Expecting
+pub mod PathEntry
 pub mod Lines
 pub mod Written
 pub mod CanBeRead

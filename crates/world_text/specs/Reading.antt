@@ -5,15 +5,15 @@ use Rattle.world_text.specs.declared.fault.WorldFault.{WorldFault}
 use Rattle.world_text.specs.declared.fault.WorldFault.TheVariants as fault
 use Rattle.world_text.specs.declared.fault.WorldError.{WorldError}
 use Rattle.world_text.specs.declared.fault.WorldError.TheVariants as error
-use Rattle.world_text.specs.declared.reading.Front.{Front}
-use Rattle.world_text.specs.declared.reading.Front.TheVariants as front
+use Rattle.world_text.specs.declared.reading.Prefix.{Prefix}
+use Rattle.world_text.specs.declared.reading.Prefix.TheVariants as prefix
 use Rattle.world_text.specs.declared.world.WorldText.{WorldText}
-use Rattle.world_text.specs.declared.stage.Stage.{Stage}
-use Rattle.world_text.specs.declared.stage.Stage.TheVariants as at
-use Rattle.world_text.specs.declared.stage.Said.{Said}
-use Rattle.world_text.specs.declared.stage.Said.TheVariants.{Refuses, GoesOn, Begins}
+use Rattle.world_text.specs.declared.expecting.Expecting.{Expecting}
+use Rattle.world_text.specs.declared.expecting.Expecting.TheVariants as at
+use Rattle.world_text.specs.declared.expecting.Parsed.{Parsed}
+use Rattle.world_text.specs.declared.expecting.Parsed.TheVariants.{Refuses, GoesOn, Begins}
 use Rattle.world_text.specs.CanBeRead.{IsWorldText, HasShortLines}
-use Rattle.world_text.specs.Stage.{line_said}
+use Rattle.world_text.specs.Expecting.{parse_line}
 use Rattle.world_text.specs.Written.{next_number}
 
 -- how the reading of a world ends
@@ -25,16 +25,16 @@ pub data Reading : Type 0 where
   -- before the script: of the line of this number no more is there than these bytes, without a line feed
   Ended : (n : ℕ) (last : List ℕ) → Reading
 
-abbrev pub after : Said → ℕ → List (List ℕ) → (Stage → Reading) → Reading
+abbrev pub after : Parsed → ℕ → List (List ℕ) → (Expecting → Reading) → Reading
 after (Refuses fault) n rest more = Refused n fault
-after (GoesOn stage) n rest more = more stage
+after (GoesOn expecting) n rest more = more expecting
 after (Begins world) n rest more = Accepted world (n + 1) rest
 
 -- the pieces of a text between line feeds, from line n on; the last has no line feed behind it
-unfoldable pub reading : ℕ → Stage → List (List ℕ) → Reading
-reading n stage [] = Ended n []
-reading n stage (last ∷ []) = Ended n last
-reading n stage (line ∷ next ∷ ls) = after (line_said stage line) n (next ∷ ls) (λ stage. reading (n + 1) stage (next ∷ ls))
+unfoldable pub reading : ℕ → Expecting → List (List ℕ) → Reading
+reading n expecting [] = Ended n []
+reading n expecting (last ∷ []) = Ended n last
+reading n expecting (line ∷ next ∷ ls) = after (parse_line expecting line) n (next ∷ ls) (λ expecting. reading (n + 1) expecting (next ∷ ls))
 
 -- what a text says
 abbrev pub read_text : List ℕ → Reading
@@ -68,23 +68,23 @@ IsNotRead r (error.NoMemory _) = Unit {0}
 IsNotRead r e = error_of r ≡ Some e
 
 -- what the front of a text says, as it is answered
-abbrev pub IsFront : Reading → Front → Type 0
-IsFront (Accepted world n script) (front.World w m rest) = (world ≡ w) × (n ≡ m) × (script ≡ pieces 10 rest.now)
-IsFront (Refused n fault) (front.Refused m why) = (n ≡ m) × (fault ≡ why)
-IsFront (Ended n last) (front.Ended m rest) = (n ≡ m) × (last ≡ rest.now)
-IsFront _ _ = ⊥
+abbrev pub IsPrefix : Reading → Prefix → Type 0
+IsPrefix (Accepted world n script) (prefix.World w m rest) = (world ≡ w) × (n ≡ m) × (script ≡ pieces 10 rest.now)
+IsPrefix (Refused n fault) (prefix.Refused m why) = (n ≡ m) × (fault ≡ why)
+IsPrefix (Ended n last) (prefix.Ended m rest) = (n ≡ m) × (last ≡ rest.now)
+IsPrefix _ _ = ⊥
 
 -- each line before a script has a byte at least, its line feed
-abbrev pub IsWithin : ℕ → Front → Type 0
-IsWithin size (front.World w n rest) = length rest.now + n ≤ size + 1
+abbrev pub IsWithin : ℕ → Prefix → Type 0
+IsWithin size (prefix.World w n rest) = length rest.now + n ≤ size + 1
 IsWithin size _ = Unit {0}
 
 -- what is accepted is a world
-abbrev pub IsAcceptedWorld : Front → Type 0
-IsAcceptedWorld (front.World w n rest) = IsWorldText w
+abbrev pub IsAcceptedWorld : Prefix → Type 0
+IsAcceptedWorld (prefix.World w n rest) = IsWorldText w
 IsAcceptedWorld _ = Unit {0}
 
 -- a text is read, and another one, which is its world written, is read as the same world where its lines are short
 abbrev pub RoundTrips : Reading → Reading → Type 0
-RoundTrips (Accepted world n script) again = HasShortLines world → again ≡ Accepted world (next_number world) ([] ∷ [])
-RoundTrips _ again = ⊥
+RoundTrips (Accepted world n script) round_trip = HasShortLines world → round_trip ≡ Accepted world (next_number world) ([] ∷ [])
+RoundTrips _ round_trip = ⊥

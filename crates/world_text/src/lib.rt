@@ -1,11 +1,11 @@
 //! The text of a world: read line by line, the first fault named, and written in one form.
 #![tactic(auto)]
 
+mod builder;
 mod canonical;
-mod draft;
+mod expecting;
 mod fault;
 mod reading;
-mod stage;
 #[cfg(test)]
 mod tests;
 mod world;
@@ -13,6 +13,6 @@ mod writing;
 
 pub use canonical::canonical_text;
 pub use fault::{WorldError, WorldFault};
-pub use reading::{Front, read_front};
+pub use reading::{Prefix, read_prefix};
 pub use std::alloc::AllocError as NoMemory;
 pub use world::WorldText;

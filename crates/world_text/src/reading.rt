@@ -1,16 +1,16 @@
 // The reading of a world.
 ghost use Rattle.std.specs.Prelude.{IfOk, IfErr, length};
 ghost use Rattle.world_text.specs.CanBeRead.{IsWorldText};
-ghost use Rattle.world_text.specs.Reading.{read_text, IsFront, IsWithin, IsAcceptedWorld, IsRead, IsNotRead};
+ghost use Rattle.world_text.specs.Reading.{read_text, IsPrefix, IsWithin, IsAcceptedWorld, IsRead, IsNotRead};
 
-use crate::stage::{Said, Stage, line_said};
+use crate::expecting::{Expecting, Parsed, parse_line};
 use crate::{NoMemory, WorldError, WorldFault, WorldText};
 use fs_path::next_line;
 use std::alloc::Global;
 
 /// What a text says of a world, up to the first line of its script.
 #[derive(Debug, Drop)]
-pub enum Front<'a> {
+pub enum Prefix<'a> {
     /// A world, and the text of its script, which begins with the line of this number.
     World(WorldText, u64, &'a [u8]),
     /// The line with this number is refused.
@@ -20,24 +20,24 @@ pub enum Front<'a> {
 }
 
 /// What a text says of a world, up to the first line of its script.
-pub fn read_front(alloc: Global, text: &[u8]) -> Result<Front<'_>, NoMemory>
-    ensures front { IfOk result (IsFront (read_text text.now)) }
+pub fn read_prefix(alloc: Global, text: &[u8]) -> Result<Prefix<'_>, NoMemory>
+    ensures prefix { IfOk result (IsPrefix (read_text text.now)) }
     ensures number { IfOk result (IsWithin (length text.now)) }
     ensures world { IfOk result IsAcceptedWorld }
 {
-    let mut stage = Stage::Format;
+    let mut expecting = Expecting::Format;
     let mut rest = text;
     let mut number = 1;
-    while let Some((line, behind)) = next_line(rest) {
-        stage = match line_said(alloc, stage, line)? {
-            Said::Refuses(fault) => return Ok(Front::Refused(number, fault)),
-            Said::GoesOn(stage) => stage,
-            Said::Begins(world) => return Ok(Front::World(world, number + 1, behind)),
+    while let Some((line, after)) = next_line(rest) {
+        expecting = match parse_line(alloc, expecting, line)? {
+            Parsed::Refuses(fault) => return Ok(Prefix::Refused(number, fault)),
+            Parsed::GoesOn(expecting) => expecting,
+            Parsed::Begins(world) => return Ok(Prefix::World(world, number + 1, after)),
         };
-        rest = behind;
+        rest = after;
         number += 1;
     }
-    Ok(Front::Ended(number, rest))
+    Ok(Prefix::Ended(number, rest))
 }
 
 impl WorldText {
@@ -47,10 +47,10 @@ impl WorldText {
         ensures world { IfOk result IsWorldText }
         ensures none { IfErr result (IsNotRead (read_text text.now)) }
     {
-        match read_front(alloc, text)? {
-            Front::World(world, _, _) => Ok(world),
-            Front::Refused(number, fault) => Err(WorldError::at(number, fault)),
-            Front::Ended(number, _) => Err(WorldError::Syntax(number)),
+        match read_prefix(alloc, text)? {
+            Prefix::World(world, _, _) => Ok(world),
+            Prefix::Refused(number, fault) => Err(WorldError::at(number, fault)),
+            Prefix::Ended(number, _) => Err(WorldError::Syntax(number)),
         }
     }
 }

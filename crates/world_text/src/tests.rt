@@ -383,13 +383,13 @@ const WHOLE: &[u8] = b"# a world\n\
     script\n\
     1@conf:a mac_get_file /d\n";
 
-fn spelled(alloc: Global, before: &[&[u8]], text: Text) -> Result<Vec<u8>, Fail> {
-    let (front, part, times, back) = text;
+fn canonical(alloc: Global, before: &[&[u8]], text: Text) -> Result<Vec<u8>, Fail> {
+    let (prefix, part, times, back) = text;
     let mut bytes = Vec::new(alloc);
     for piece in before {
         bytes.extend_from_slice(piece)?;
     }
-    bytes.extend_from_slice(front)?;
+    bytes.extend_from_slice(prefix)?;
     for _ in 0..times {
         bytes.extend_from_slice(part)?;
     }
@@ -397,11 +397,11 @@ fn spelled(alloc: Global, before: &[&[u8]], text: Text) -> Result<Vec<u8>, Fail>
     Ok(bytes)
 }
 
-fn answered(front: &Front<'_>) -> Answer {
-    match front {
-        Front::World(_, number, _) => World(*number),
-        Front::Refused(number, fault) => Refused(*number, *fault),
-        Front::Ended(number, rest) => Ended(*number, rest.len()),
+fn answered(prefix: &Prefix<'_>) -> Answer {
+    match prefix {
+        Prefix::World(_, number, _) => World(*number),
+        Prefix::Refused(number, fault) => Refused(*number, *fault),
+        Prefix::Ended(number, rest) => Ended(*number, rest.len()),
     }
 }
 
@@ -417,9 +417,9 @@ fn cause(answer: Answer) -> Option<WorldError> {
 // The first of the texts that comes out otherwise, behind those that stand before each.
 fn other(alloc: Global, before: &[&[u8]], texts: &[(Text, Answer)]) -> Result<Option<usize>, Fail> {
     for (place, (text, wanted)) in texts.iter().enumerate() {
-        let text = spelled(alloc, before, *text)?;
-        let front = answered(&read_front(alloc, &text)?);
-        if front != *wanted || WorldText::read(alloc, &text).err() != cause(*wanted) {
+        let text = canonical(alloc, before, *text)?;
+        let prefix = answered(&read_prefix(alloc, &text)?);
+        if prefix != *wanted || WorldText::read(alloc, &text).err() != cause(*wanted) {
             return Ok(Some(place));
         }
     }
@@ -441,7 +441,7 @@ fn trees(rt: HostRuntime) -> Result<(), Fail> {
 // The file of the whole world, and the text of its label.
 #[test]
 fn whole(rt: HostRuntime) -> Result<(), Fail> {
-    let Front::World(text, number, script) = read_front(rt.alloc(), WHOLE)? else {
+    let Prefix::World(text, number, script) = read_prefix(rt.alloc(), WHOLE)? else {
         panic!(rt; "no world");
     };
     assert_eq!(rt; number, 14);
@@ -463,14 +463,14 @@ fn whole(rt: HostRuntime) -> Result<(), Fail> {
 // One object more than a label has numbers.
 #[test]
 fn many_objects(rt: HostRuntime) -> Result<(), Fail> {
-    let mut text = spelled(rt.alloc(), &[HEAD, ROOT], (b"", b"", 0, b""))?;
+    let mut text = canonical(rt.alloc(), &[HEAD, ROOT], (b"", b"", 0, b""))?;
     for n in 0..65_535_u32 {
         text.extend_from_slice(b"file /")?;
         text.extend_from_slice(n.to_string(rt.alloc())?.as_bytes())?;
         text.extend_from_slice(b" 0644 0 0 unc \"\"\n")?;
     }
-    let front = read_front(rt.alloc(), &text)?;
-    assert_eq!(rt; answered(&front), Refused(65_540, TooMany));
+    let prefix = read_prefix(rt.alloc(), &text)?;
+    assert_eq!(rt; answered(&prefix), Refused(65_540, TooMany));
     Ok(())
 }
 
@@ -503,7 +503,7 @@ const WRITTEN: &[u8] = b"world 1\n\
     script\n";
 
 #[test]
-fn written_again(rt: HostRuntime) -> Result<(), Fail> {
+fn written_round_trip(rt: HostRuntime) -> Result<(), Fail> {
     let alloc = rt.alloc();
     for text in [SPELLED, WRITTEN] {
         let written = WorldText::read(alloc, text)?.write()?;
@@ -524,12 +524,12 @@ const HIDDEN: &[u8] = b"world 1\n\
     script\n";
 
 #[test]
-fn hidden_file_again(rt: HostRuntime) -> Result<(), Fail> {
+fn hidden_file_round_trip(rt: HostRuntime) -> Result<(), Fail> {
     let alloc = rt.alloc();
     let written = canonical_text(alloc, HIDDEN)?;
     assert_eq!(rt; written.as_slice(), HIDDEN);
-    let again = WorldText::read(alloc, &written)?;
-    assert_eq!(rt; again.world.objects.items().len(), 3);
-    assert_eq!(rt; again.world.procs.items().len(), 1);
+    let round_trip = WorldText::read(alloc, &written)?;
+    assert_eq!(rt; round_trip.world.objects.items().len(), 3);
+    assert_eq!(rt; round_trip.world.procs.items().len(), 1);
     Ok(())
 }

@@ -4,7 +4,7 @@ ghost use Rattle.std.specs.Fmt.{decimal};
 ghost use Rattle.std.specs.List.{AllByRecursion, flat_map, list_all};
 ghost use Rattle.cap_clause.specs.Written.{caps_text};
 ghost use Rattle.fs_path.specs.Values.{mode_text, groups_text};
-ghost use Rattle.fs_path.specs.Words.{with_quotes_if_needed, spelling, quoted_text, behind_spaces};
+ghost use Rattle.fs_path.specs.Words.{with_quotes_if_needed, spelling, quoted_text, after_spaces};
 ghost use Rattle.lab_text.specs.Text.{label_text};
 ghost use Rattle.world_text.specs.CanBeRead.{are_bytes, IsNumber, HasBytes, IsWrittenObject, IsWrittenIds, IsWorldText, HasShortLines};
 ghost use Rattle.world_text.specs.Reading.{Accepted, read_text};
@@ -118,7 +118,7 @@ fn put_caps(alloc: Global, text: &mut Vec<u8>, caps: &CapState) -> Result<(), No
 
 // A capability text behind a space, where it is not `=`.
 fn put_some_caps(alloc: Global, text: &mut Vec<u8>, caps: &CapState) -> Result<(), NoMemory>
-    ensures { OnOk result (text.new.items ≡ text.old.items ++ behind_spaces (map spelling (caps_words caps.now))) }
+    ensures { OnOk result (text.new.items ≡ text.old.items ++ after_spaces (map spelling (caps_words caps.now))) }
 {
     let caps = cap_to_text(alloc, caps)?;
     if caps.as_slice() == b"=".as_slice() {
@@ -129,7 +129,7 @@ fn put_some_caps(alloc: Global, text: &mut Vec<u8>, caps: &CapState) -> Result<(
 
 // Names, each behind a space.
 fn put_names(text: &mut Vec<u8>, names: &[Word]) -> Result<(), NoMemory>
-    ensures { OnOk result (text.new.items ≡ text.old.items ++ behind_spaces names.now) }
+    ensures { OnOk result (text.new.items ≡ text.old.items ++ after_spaces names.now) }
 {
     for name in names {
         put_bare_word(text, name.bytes())?;
@@ -170,7 +170,7 @@ fn body_keyword(body: &Body) -> &'static [u8]
 
 // What a file holds.
 fn put_body(alloc: Global, text: &mut Vec<u8>, body: &Body, caps: &CapState) -> Result<(), NoMemory>
-    ensures text { OnOk result (text.new.items ≡ text.old.items ++ behind_spaces (map spelling (body_words body.now caps.now))) }
+    ensures text { OnOk result (text.new.items ≡ text.old.items ++ after_spaces (map spelling (body_words body.now caps.now))) }
     ensures in_range { OnOk result (HasBytes body.now) }
 {
     let Body::File(bytes) = body else {
@@ -273,7 +273,7 @@ impl WorldText {
     pub fn write(&self) -> Result<Vec<u8>, NoMemory>
         ensures text { IfOk result (λ text. text.items ≡ written self.now) }
         // Where its lines are short it is read again as the same world.
-        ensures again { IfOk result (λ text. IsWorldText self.now → HasShortLines self.now → read_text text.items ≡ Accepted self.now (next_number self.now) ([] ∷ [])) }
+        ensures round_trip { IfOk result (λ text. IsWorldText self.now → HasShortLines self.now → read_text text.items ≡ Accepted self.now (next_number self.now) ([] ∷ [])) }
     {
         // The names of its levels make a policy, which the clause `again` needs.
         let _names = self.policy.levels();

@@ -45,9 +45,9 @@ const FAULTS: [(Text, PathError); 16] = [
     ((b"", b"a/", 32, b"x\0"), PathError::TooDeep),
 ];
 
-fn spelled(alloc: Global, text: Text) -> Result<Vec<u8>, Fail> {
-    let (front, part, times, back) = text;
-    let mut bytes = Vec::from_slice(alloc, front)?;
+fn canonical(alloc: Global, text: Text) -> Result<Vec<u8>, Fail> {
+    let (prefix, part, times, back) = text;
+    let mut bytes = Vec::from_slice(alloc, prefix)?;
     for _ in 0..times {
         bytes.extend_from_slice(part)?;
     }
@@ -69,7 +69,7 @@ fn is_path(path: &Path, parts: Parts) -> bool {
 #[test]
 fn paths(rt: HostRuntime) -> Result<(), Fail> {
     for (text, parts) in PATHS {
-        let text = spelled(rt.alloc(), text)?;
+        let text = canonical(rt.alloc(), text)?;
         let path = Path::read(rt.alloc(), &text)?;
         assert!(rt; is_path(&path, parts), "{text:?}");
     }
@@ -79,7 +79,7 @@ fn paths(rt: HostRuntime) -> Result<(), Fail> {
 #[test]
 fn faults(rt: HostRuntime) -> Result<(), Fail> {
     for (text, fault) in FAULTS {
-        let text = spelled(rt.alloc(), text)?;
+        let text = canonical(rt.alloc(), text)?;
         assert_eq!(rt;
             Path::read(rt.alloc(), &text).err(),
             Some(fault),

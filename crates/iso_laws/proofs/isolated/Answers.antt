@@ -1,8 +1,8 @@
-use Rattle.iso_laws.proofs.Worlds.{isolated_front, isolated_whole}
+use Rattle.iso_laws.proofs.Worlds.{isolated_prefix, isolated_whole}
 use Rattle.iso_laws.proofs.isolated.Goals as goal
 
-pub returns-clause-front : goal.returns-clause-front
-returns-clause-front c = isolated_front
+pub returns-clause-prefix : goal.returns-clause-prefix
+returns-clause-prefix c = isolated_prefix
 
 pub returns-clause-whole : goal.returns-clause-whole
 returns-clause-whole c = isolated_whole

@@ -154,7 +154,7 @@ fn is_of_processes(policy: &Policy, call: &Call) -> bool {
     }
 }
 
-fn is_said(policy: &Policy, call: &Call) -> bool {
+fn is_parsed(policy: &Policy, call: &Call) -> bool {
     is_of_files(call)
         || is_of_the_tree(call)
         || is_of_attributes(policy, call)
@@ -176,7 +176,7 @@ fn calls(rt: HostRuntime) -> Result<(), Fail> {
         let call = call(rt.alloc(), &policy, line)?;
         let word = call.name().word();
         assert!(rt;
-            is_said(&policy, &call) && line.get(6..6 + word.len()) == Some(word),
+            is_parsed(&policy, &call) && line.get(6..6 + word.len()) == Some(word),
             "{line:?}"
         );
     }
@@ -189,8 +189,8 @@ const BLANK: [&[u8]; 4] = [b"", b"   ", b"# getpid", b"  #\t\"\xff"];
 fn blank_lines(rt: HostRuntime) -> Result<(), Fail> {
     let policy = small_policy(rt.alloc())?;
     for line in BLANK {
-        let said = read_line(rt.alloc(), &policy, line)?;
-        assert!(rt; matches!(said, Line::Blank));
+        let parsed = read_line(rt.alloc(), &policy, line)?;
+        assert!(rt; matches!(parsed, Line::Blank));
     }
     Ok(())
 }

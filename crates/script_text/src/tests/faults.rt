@@ -100,9 +100,9 @@ const FAULTS: [(&[u8], LineError); 74] = [
     (b"1@unc mac_set_fd 0 \"\"", BadLabel),
 ];
 
-fn spelled(alloc: Global, text: Text) -> Result<Vec<u8>, Fail> {
-    let (front, times, byte) = text;
-    let mut line = Vec::from_slice(alloc, front)?;
+fn canonical(alloc: Global, text: Text) -> Result<Vec<u8>, Fail> {
+    let (prefix, times, byte) = text;
+    let mut line = Vec::from_slice(alloc, prefix)?;
     for _ in 0..times {
         line.push(byte)?;
     }
@@ -113,7 +113,7 @@ fn spelled(alloc: Global, text: Text) -> Result<Vec<u8>, Fail> {
 fn long_lines(rt: HostRuntime) -> Result<(), Fail> {
     let policy = small_policy(rt.alloc())?;
     for (text, fault) in LONG {
-        let line = spelled(rt.alloc(), text)?;
+        let line = canonical(rt.alloc(), text)?;
         assert_eq!(rt; read_line(rt.alloc(), &policy, &line).err(), fault);
     }
     Ok(())

@@ -143,7 +143,7 @@ fn listed(rt: HostRuntime) -> Result<(), Fail> {
 }
 
 #[test]
-fn told(rt: HostRuntime) -> Result<(), Fail> {
+fn reported(rt: HostRuntime) -> Result<(), Fail> {
     let alloc = rt.alloc();
     let policy = small_policy(alloc)?;
     let stat = StatAnswer {

@@ -1,9 +1,9 @@
 use Rattle.std.proofs.Common.{◌≡◌, ◌++◌, ◌∙◌, ap, sym, map, List, ℕ}
 use Rattle.std.specs.Prelude.{◌==◌}
 use Rattle.std.specs.List.{join_with_byte}
-use Rattle.cap_clause.specs.Said.{caps_said}
+use Rattle.cap_clause.specs.Parsed.{parse_caps}
 use Rattle.cap_clause.specs.Written.{group_text, firsts_of, caps_text}
-use Rattle.cap_clause.proofs.WrittenAgain.{caps_again}
+use Rattle.cap_clause.proofs.WrittenRoundTrip.{caps_round_trip}
 use Rattle.cap_clause.proofs.WriteLemmas.{none_written, some_written}
 use Rattle.cap_clause.proofs.written.cap_to_text.Goals as goal
 use Rattle.cap_clause.proofs.written.cap_to_text.Goals.{Joined-is_empty, then-is_empty+in_ok-push, else-is_empty}
@@ -22,5 +22,5 @@ written c =
 pub returns-clause-text : goal.returns-clause-text
 returns-clause-text c = written (goal.at.returns-clause-text c).Joined-is_empty
 
-pub returns-clause-again : goal.returns-clause-again
-returns-clause-again c = ap caps_said (written (goal.at.returns-clause-again c).Joined-is_empty) ∙ caps_again c.args.state.now
+pub returns-clause-round_trip : goal.returns-clause-round_trip
+returns-clause-round_trip c = ap parse_caps (written (goal.at.returns-clause-round_trip c).Joined-is_empty) ∙ caps_round_trip c.args.state.now

@@ -10,7 +10,7 @@ cut_here : (c : After-cut) → IsCut (option_copied c.loop-rest.rest) c.cut.resu
 cut_here c = record {
   some = ap (λ (r : Option (Bor (List ℕ))). option_copied r) c.in-Some.is;
   before = c.cut.ensures.before;
-  behind = c.cut.ensures.behind;
+  after = c.cut.ensures.after;
 }
 
 pub returns-in_default-cat_named-clause-unknown : goal.returns-in_default-cat_named-clause-unknown

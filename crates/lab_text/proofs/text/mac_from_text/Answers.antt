@@ -2,8 +2,8 @@ use Rattle.std.proofs.Common.{sym, ◌∙◌, arith}
 use Rattle.std.specs.Option.{option_copied}
 use Rattle.std.proofs.lemmas.Result.{err_from_is_err_and}
 use Rattle.lab_text.specs.declared.text.LabelError.TheVariants as error
-use Rattle.lab_text.proofs.Said.{says_none, said_valid}
-use Rattle.lab_text.proofs.LabelLemmas.{IsRead, read_said, level_unknown, cat_unknown}
+use Rattle.lab_text.proofs.Parsed.{says_none, parsed_valid}
+use Rattle.lab_text.proofs.LabelLemmas.{IsRead, read_parsed, level_unknown, cat_unknown}
 use Rattle.lab_text.proofs.text.mac_from_text.Goals as goal
 use Rattle.lab_text.proofs.text.mac_from_text.Goals.{After-cut}
 
@@ -11,7 +11,7 @@ read : (c : After-cut) → IsRead c.args.text.now c.cut.result.0.now (option_cop
 read c = record {
   form = c.in_default.ensures;
   before = c.cut.ensures.before;
-  behind = c.cut.ensures.behind;
+  after = c.cut.ensures.after;
 }
 
 pub cats_named-requires : goal.cats_named-requires
@@ -42,11 +42,11 @@ returns-in_err-second-clause-none c =
     (says_none c.args.policy.now c.args.text.now c.in_err-second.field-0.0
     (cat_unknown (read (goal.at.returns-in_err-second-clause-none c).After-cut) c.args.policy.now c.in-Some-level_named.first c.in_err-second.field-0.0 (sym c.level_named.ensures ∙ c.in-Some-level_named.is) c.in_err-second.ensures.unknown))
 
-pub returns-clause-said : goal.returns-clause-said
-returns-clause-said c =
-    read_said (read (goal.at.returns-clause-said c).After-cut) c.args.policy.now c.in-Some-level_named.first c.in_ok-second.second (sym c.level_named.ensures ∙ c.in-Some-level_named.is) c.in_ok-second.ensures.cats
+pub returns-clause-parsed : goal.returns-clause-parsed
+returns-clause-parsed c =
+    read_parsed (read (goal.at.returns-clause-parsed c).After-cut) c.args.policy.now c.in-Some-level_named.first c.in_ok-second.second (sym c.level_named.ensures ∙ c.in-Some-level_named.is) c.in_ok-second.ensures.cats
 
 pub returns-clause-valid : goal.returns-clause-valid
 returns-clause-valid c =
-    said_valid c.args.policy.now c.args.text.now _
-    (read_said (read (goal.at.returns-clause-valid c).After-cut) c.args.policy.now c.in-Some-level_named.first c.in_ok-second.second (sym c.level_named.ensures ∙ c.in-Some-level_named.is) c.in_ok-second.ensures.cats)
+    parsed_valid c.args.policy.now c.args.text.now _
+    (read_parsed (read (goal.at.returns-clause-valid c).After-cut) c.args.policy.now c.in-Some-level_named.first c.in_ok-second.second (sym c.level_named.ensures ∙ c.in-Some-level_named.is) c.in_ok-second.ensures.cats)

@@ -5,10 +5,10 @@ use Rattle.world_text.specs.Written.{next_number}
 use Rattle.world_text.specs.declared.world.WorldText.{WorldText}
 use Rattle.world_text.proofs.canonical.canonical_text.Goals as goal
 
-goes_round : (r again : Reading) (w : WorldText) → IsRead r w → (HasShortLines w → again ≡ Accepted w (next_number w) ([] ∷ [])) → RoundTrips r again
-goes_round (Accepted world n script) again w is h = subst (λ (w : WorldText). HasShortLines w → again ≡ Accepted w (next_number w) ([] ∷ [])) (sym is) h
-goes_round (Refused n fault) again w is h = absurd is
-goes_round (Ended n last) again w is h = absurd is
+goes_round : (r round_trip : Reading) (w : WorldText) → IsRead r w → (HasShortLines w → round_trip ≡ Accepted w (next_number w) ([] ∷ [])) → RoundTrips r round_trip
+goes_round (Accepted world n script) round_trip w is h = subst (λ (w : WorldText). HasShortLines w → round_trip ≡ Accepted w (next_number w) ([] ∷ [])) (sym is) h
+goes_round (Refused n fault) round_trip w is h = absurd is
+goes_round (Ended n last) round_trip w is h = absurd is
 
 pub returns-clause-same : goal.returns-clause-same
-returns-clause-same c = goes_round (read_text c.args.text.now) (read_text c.in_ok-write.field-0.items) c.in_ok-world.world c.in_ok-world.ensures.read (c.in_ok-write.ensures.again c.in_ok-world.ensures.world)
+returns-clause-same c = goes_round (read_text c.args.text.now) (read_text c.in_ok-write.field-0.items) c.in_ok-world.world c.in_ok-world.ensures.read (c.in_ok-write.ensures.round_trip c.in_ok-world.ensures.world)

@@ -10,7 +10,7 @@ use Rattle.kern_model.specs.Valid.{IsValid}
 use Rattle.kern_model.specs.World.{objects_at}
 use Rattle.kern_core.specs.Starts.{RoomForObjects, CanStart}
 use Rattle.kern_core.specs.Kernel.{state_of}
-use Rattle.kern_core.specs.Tables.{held_by}
+use Rattle.kern_core.specs.Tables.{state_of_tables}
 use Rattle.kern_core.proofs.BootLemmas.{all_room, all_can, objects_keep}
 use Rattle.kern_core.proofs.KernelLemmas.{valid_started}
 use Rattle.kern_core.proofs.kernel.Kernel.boot.Goals as goal
@@ -23,19 +23,19 @@ boot_objects-requires c =
 pub boot_processes-requires : goal.boot_processes-requires
 boot_processes-requires c =
     let none_drawn : c.boot_objects.new.self.process_numbers ≡ map.empty =
-    ap (λ (s : State). s.process_numbers) c.in_ok-boot_objects.ensures ∙ objects_keep (held_by c.empty-tables.result) c.items.result.now ∙ ap (λ (s : State). s.process_numbers) c.empty-tables.ensures in
+    ap (λ (s : State). s.process_numbers) c.in_ok-boot_objects.ensures ∙ objects_keep (state_of_tables c.empty-tables.result) c.items.result.now ∙ ap (λ (s : State). s.process_numbers) c.empty-tables.ensures in
     subst (λ (m : FinMap label_cmp ℕ). CanStart m c.items-2.result.now) (sym none_drawn)
     (subst (λ (ws : List WorldProc). CanStart map.empty ws) (sym c.items-2.ensures) (all_can c.args.world.now c.requires.world))
 
 pub invariant_of-kernel : goal.invariant_of-kernel
 invariant_of-kernel c = record {
   valid = λ sound.
-      ∣ valid_started c.args.world.now c.requires.world (held_by c.empty-tables.result) (held_by c.boot_objects.new.self) (held_by c.boot_processes.new.self) c.items.result.now c.items-2.result.now
+      ∣ valid_started c.args.world.now c.requires.world (state_of_tables c.empty-tables.result) (state_of_tables c.boot_objects.new.self) (state_of_tables c.boot_processes.new.self) c.items.result.now c.items-2.result.now
       c.empty-tables.ensures c.items.ensures c.in_ok-boot_objects.ensures c.items-2.ensures c.in_ok-recs.ensures.state ∣₁;
 }
 
 pub returns-clause-valid : goal.returns-clause-valid
 unfolding state_of
 returns-clause-valid c =
-    valid_started c.args.world.now c.requires.world (held_by c.empty-tables.result) (held_by c.boot_objects.new.self) (held_by c.boot_processes.new.self) c.items.result.now c.items-2.result.now
+    valid_started c.args.world.now c.requires.world (state_of_tables c.empty-tables.result) (state_of_tables c.boot_objects.new.self) (state_of_tables c.boot_processes.new.self) c.items.result.now c.items-2.result.now
     c.empty-tables.ensures c.items.ensures c.in_ok-boot_objects.ensures c.items-2.ensures c.in_ok-recs.ensures.state

@@ -1,22 +1,22 @@
 use Rattle.std.proofs.Common.{◌∙◌, ◌+◌, ◌++◌, ap, drop, List}
 use Rattle.kern_model.specs.declared.records.Rec.{Rec}
 use Rattle.kern_model.specs.Boot.{started}
-use Rattle.kern_core.specs.Tables.{held_by}
+use Rattle.kern_core.specs.Tables.{state_of_tables}
 use Rattle.kern_core.proofs.BootLemmas.{can_first, process_room, processes_step, processes_can, started_step}
 use Rattle.kern_core.proofs.tables.Tables.boot_processes.Goals as goal
 
 pub boot_process-requires-clause-number : goal.boot_process-requires-clause-number
 boot_process-requires-clause-number c =
-    process_room (held_by c.loop-process.self) c.args.procs.now c.loop-process.process-index c.process-item.result c.loop-process-test.true c.process-item.is c.loop-process.invariant.can
+    process_room (state_of_tables c.loop-process.self) c.args.procs.now c.loop-process.process-index c.process-item.result c.loop-process-test.true c.process-item.is c.loop-process.invariant.can
 
 pub boot_process-requires-clause-within : goal.boot_process-requires-clause-within
 boot_process-requires-clause-within c =
-    (can_first (held_by c.loop-process.self) c.args.procs.now c.loop-process.process-index c.process-item.result c.loop-process-test.true c.process-item.is c.loop-process.invariant.can).within.0
+    (can_first (state_of_tables c.loop-process.self) c.args.procs.now c.loop-process.process-index c.process-item.result c.loop-process-test.true c.process-item.is c.loop-process.invariant.can).within.0
 
 pub loop-process-preserved : goal.loop-process-preserved
 loop-process-preserved c =
-    let s = held_by c.loop-process.self in
-    let t = held_by c.boot_process.new.self in
+    let s = state_of_tables c.loop-process.self in
+    let t = state_of_tables c.boot_process.new.self in
     let procs = c.args.procs.now in
     let recs = c.loop-process.recs in
     let index = c.loop-process.process-index in

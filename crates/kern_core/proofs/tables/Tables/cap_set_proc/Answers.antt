@@ -7,7 +7,7 @@ use Rattle.kern_model.specs.declared.records.Rec.TheVariants.{CapSetProc}
 use Rattle.kern_model.specs.Keys.{pid_cmp_total, pid_cmp_exact}
 use Rattle.kern_model.specs.Rules.{cap_of, cap_grow}
 use Rattle.kern_model.specs.State.{Process}
-use Rattle.kern_core.specs.Tables.{held_by}
+use Rattle.kern_core.specs.Tables.{state_of_tables}
 use Rattle.kern_core.proofs.CheckLemmas.{holds_where_passed}
 use Rattle.kern_core.proofs.LendLemmas.{at_some, insert_same}
 use Rattle.kern_core.proofs.PlayLemmas.{keeps_same, plays_own}
@@ -15,7 +15,7 @@ use Rattle.kern_core.proofs.tables.Tables.cap_set_proc.Goals as goal
 
 pub returns-in_err-must-clause-same : goal.returns-in_err-must-clause-same
 returns-in_err-must-clause-same c =
-    let s = held_by c.args.self.now in
+    let s = state_of_tables c.args.self.now in
     let p = c.in-Some.process.now in
     let left = at_some c.in-Some.is (c.get_mut.follows.holds p) ∙ insert_same pid_cmp_total pid_cmp_exact s.procs c.args.who.now p (sym c.in-Some.ensures.value) in
     let e = err_from_is_err_and c.from_residual.result c.from_residual.ensures.1 in
@@ -29,7 +29,7 @@ unreachable-requires-in-Err c =
 
 pub returns-clause-played : goal.returns-clause-played
 returns-clause-played c = λ p there.
-    let s = held_by c.args.self.now in
+    let s = state_of_tables c.args.self.now in
     let who = c.args.who.now in
     let caps = c.args.caps in
     let set : Process → Process = λ x. record x { caps = caps } in

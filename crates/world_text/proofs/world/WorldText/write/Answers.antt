@@ -4,7 +4,7 @@ use Rattle.std.proofs.lemmas.Grind.{flat_map-append}
 use Rattle.std.proofs.lemmas.List.Folds.{flat_map-map}
 use Rattle.fs_path.specs.declared.words.LineWord.{LineWord}
 use Rattle.world_text.specs.Reading.{read_text}
-use Rattle.world_text.proofs.WrittenAgain.{written_again}
+use Rattle.world_text.proofs.WrittenRoundTrip.{written_round_trip}
 use Rattle.world_text.specs.Written.{line_of, head_words, object_words, process_words, script_words, written}
 use Rattle.world_text.proofs.world.WorldText.write.Goals as goal
 
@@ -26,10 +26,10 @@ returns-clause-text c =
     c.in_ok-extend_from_slice.ensures.items ∙ gathered _ _ _ _ _ _ _ _ c.new-text.ensures.items c.in_ok-put_head.ensures objects procs
     ∙ sym (parts (head_words c.args.self.now.policy c.args.self.now.world.bound) (object_words c.args.self.now.policy) c.args.self.now.world.objects (process_words c.args.self.now.policy) c.args.self.now.world.procs script_words)
 
-pub returns-clause-again : goal.returns-clause-again
-returns-clause-again c = λ is short.
+pub returns-clause-round_trip : goal.returns-clause-round_trip
+returns-clause-round_trip c = λ is short.
     ap read_text (returns-clause-text c)
-    ∙ written_again c.args.self.now (record {
+    ∙ written_round_trip c.args.self.now (record {
       is = is;
       lines = short;
       policy = c.levels-names.ensures.policy;

@@ -1,0 +1,48 @@
+-- The record with which a text begins.
+use Rattle.std.specs.Prelude.{◌≡◌, ℕ, ◌+◌, ◌-◌, ◌^◌, true, false, List, length, Option, None, Some, Result, Ok, Err}
+use Rattle.fs_path.specs.Lines.{cut}
+use Rattle.lab_text.specs.Policy.{PolicyNames}
+use Rattle.kern_model.specs.declared.records.Rec.{Rec}
+use Rattle.kern_model.specs.Named.{named}
+use Rattle.aud_record.specs.Events.{event_word, all_events}
+use Rattle.aud_record.specs.Forms.{form_of, parse_form}
+use Rattle.aud_record.specs.Canonical.{canonical_number, canonical_pid}
+use Rattle.aud_record.specs.Words.{◌>>=◌, parse_word, parse_field}
+use Rattle.aud_record.specs.declared.fault.Fault.{Fault}
+use Rattle.aud_record.specs.declared.fault.Fault.TheVariants as fault
+use Rattle.aud_record.specs.declared.reading.ReadRec.{ReadRec}
+use Rattle.aud_record.specs.declared.reading.RecError.{RecError}
+use Rattle.aud_record.specs.declared.reading.RecError.TheVariants as error
+
+-- the number of a call and a record, where a line is their text, or the first fault from the left
+unfoldable pub parse_line : PolicyNames → List ℕ → Result (ℕ × Rec) Fault
+parse_line p line = do
+  call ← parse_word false (canonical_number (2 ^ 64)) line
+  kind ← parse_field true (named event_word all_events) call.1
+  who ← parse_field false (canonical_pid p) kind.1
+  r ← parse_form p (form_of kind.0 who.0) who.1
+  Ok (call.0, r)
+
+-- the place of a fault in a line of so many bytes
+abbrev pub placed : ℕ → Fault → RecError
+placed len (fault.Syntax left) = error.Syntax (len - left)
+placed len (fault.UnknownWord left) = error.UnknownWord (len - left)
+placed len (fault.NoMemory e) = error.NoMemory e
+
+-- what a line with so many bytes gives
+abbrev pub line_read : ℕ → Result (ℕ × Rec) Fault → Result ReadRec RecError
+line_read len (Ok x) = Ok (record { call = x.0; rec = x.1; used = len + 1 })
+line_read len (Err f) = Err (placed len f)
+
+abbrev pub read_by : PolicyNames → Option (List ℕ × List ℕ) → Result ReadRec RecError
+read_by p None = Err error.Truncated
+read_by p (Some parts) = line_read (length parts.0) (parse_line p parts.0)
+
+-- the record whose text a text begins with, or why there is none
+unfoldable pub parse_rec : PolicyNames → List ℕ → Result ReadRec RecError
+parse_rec p text = read_by p (cut 10 text)
+
+-- what a function answers is what a text says, unless memory ran out
+abbrev pub Answers : Result ReadRec RecError → Result ReadRec RecError → Type 0
+Answers (Err (error.NoMemory _)) parsed = Unit {0}
+Answers answer parsed = parsed ≡ answer

@@ -1,5 +1,0 @@
-use Rattle.iso_laws.proofs.Lineage.{caps_are_told}
-use Rattle.iso_laws.proofs.told_caps.Goals as goal
-
-pub returns : goal.returns
-returns c = caps_are_told

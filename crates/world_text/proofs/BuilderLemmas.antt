@@ -1,0 +1,132 @@
+-- One more object or process: what stands at paths, and counts at labels.
+use Rattle.std.proofs.Common.{◌≡◌, ℕ, ◌+◌, ◌-◌, ◌<◌, Bool, true, false, cond, List, [], ◌∷◌, ◌++◌, length, take, suc, refl, sym, ◌∙◌, ap, arith, Option, Some, None}
+use Rattle.std.specs.Prelude.{unwrap_or, count_by, is_some}
+use Rattle.std.specs.Option.{option_map, option_or}
+use Rattle.std.specs.Ordering.{nat_cmp, is_eq}
+use Rattle.std.specs.BTreeMap.{BTreeMap, get, is_at}
+use Rattle.std.specs.declared.cmp.Ordering.{Ordering}
+use Rattle.std.specs.declared.cmp.Ordering.TheVariants.{Less, Equal, Greater}
+use Rattle.std.specs.Cmp.{tied_itself, unsigned_Decides}
+use Rattle.std.specs.Cmp.Lexicographic.{slice_cmp, lists_ties, texts_ties, pointwise_decides}
+use Rattle.std.proofs.lemmas.Bool.{and_from, and_parts}
+use Rattle.std.proofs.lemmas.List.Sums.{sum_by-append}
+use Rattle.fs_path.specs.Name.{Name}
+use Rattle.lab_lattice.specs.Label.{Label, dominates, dominates_itself, dominates_both, label_cmp, label_cmp_total, label_cmp_exact}
+use Rattle.kern_model.specs.declared.world.WorldObject.{WorldObject}
+use Rattle.kern_model.specs.declared.world.WorldProc.{WorldProc}
+use Rattle.kern_model.specs.Rules.{same_label}
+use Rattle.kern_model.specs.World.{same_names, parent_names, given, objects_at, procs_at}
+use Rattle.world_text.specs.declared.builder.PathEntry.{PathEntry}
+use Rattle.world_text.specs.Placing.{directory_of, is_directory, is_above}
+use Rattle.world_text.specs.PathEntry.{path_entry_of, names_cmp, count_in, is_standing_dir, is_above_standing}
+
+-- ---- counts
+
+-- labels that compare equal are the same
+same_by_cmp : (a b : Label) → is_eq (label_cmp a b) ≡ same_label a b
+same_by_cmp a b = by_test (same_label a b) refl (label_cmp a b) refl
+  where
+    itself : same_label a a ≡ true
+    itself = and_from (dominates a a) (dominates a a) (dominates_itself a) (dominates_itself a)
+
+    by_test : (v : Bool) → same_label a b ≡ v → (o : Ordering) → label_cmp a b ≡ o → is_eq (label_cmp a b) ≡ same_label a b
+    by_test true f o e =
+        let parts = and_parts (dominates a b) (dominates b a) f in
+        ap (λ (x : Label). is_eq (label_cmp a x)) (sym (dominates_both a b parts.0 parts.1)) ∙ ap is_eq (tied_itself label_cmp_total a) ∙ sym f
+    by_test false f Less e = ap is_eq e ∙ sym f
+    by_test false f Greater e = ap is_eq e ∙ sym f
+    by_test false f Equal e = ap is_eq e ∙ sym itself ∙ ap (same_label a) (label_cmp_exact a b e)
+
+pub counted : (m n : BTreeMap Label ℕ) (k : Label) (v : ℕ) → ((q : Label) → get label_cmp n q ≡ cond (is_at (label_cmp k) q) (Some v) (get label_cmp m q)) → v ≡ count_in m k + 1
+    → (l : Label) → count_in n l ≡ count_in m l + cond (same_label k l) 1 0
+counted m n k v e is l =
+    ap (λ (o : Option ℕ). unwrap_or o 0) (e l) ∙ ap (λ t. unwrap_or (cond t (Some v) (get label_cmp m l)) 0) (same_by_cmp k l) ∙ by_test (same_label k l) refl
+  where
+    by_test : (t : Bool) → same_label k l ≡ t → unwrap_or (cond (same_label k l) (Some v) (get label_cmp m l)) 0 ≡ count_in m l + cond (same_label k l) 1 0
+    by_test true f =
+        let parts = and_parts (dominates k l) (dominates l k) f in
+        ap (λ t. unwrap_or (cond t (Some v) (get label_cmp m l)) 0) f ∙ is ∙ ap (λ (x : Label). count_in m x + 1) (dominates_both k l parts.0 parts.1) ∙ sym (ap (λ t. count_in m l + cond t 1 0) f)
+    by_test false f =
+        let zero : count_in m l ≡ count_in m l + 0 = omega arith in
+        ap (λ t. unwrap_or (cond t (Some v) (get label_cmp m l)) 0) f ∙ zero ∙ sym (ap (λ t. count_in m l + cond t 1 0) f)
+
+count_more : {X : Type 0} (p : X → Bool) (xs : List X) (x : X) → count_by p (xs ++ x ∷ []) ≡ count_by p xs + cond (p x) 1 0
+count_more {X} p xs x =
+    let alone : (n : ℕ) → 0 + n ≡ n = λ n. omega arith in
+    sum_by-append (λ (y : X). cond (p y) 1 0) xs (x ∷ []) ∙ ap (λ k. count_by p xs + k) (alone (cond (p x) 1 0))
+
+-- one more object is counted at its label
+pub objects_counted : (old new : BTreeMap Label ℕ) (objects more : List WorldObject) (o : WorldObject)
+    → ((l : Label) → count_in new l ≡ count_in old l + cond (same_label o.label l) 1 0) → more ≡ objects ++ o ∷ []
+    → ((l : Label) → count_in old l ≡ objects_at l objects) → (l : Label) → count_in new l ≡ objects_at l more
+objects_counted old new objects more o updates is before l =
+    updates l ∙ ap (λ k. k + cond (same_label o.label l) 1 0) (before l) ∙ sym (ap (objects_at l) is ∙ count_more (λ (x : WorldObject). same_label x.label l) objects o)
+
+-- one more process is counted at its label
+pub procs_counted : (old new : BTreeMap Label ℕ) (procs more : List WorldProc) (w : WorldProc)
+    → ((l : Label) → count_in new l ≡ count_in old l + cond (same_label w.label l) 1 0) → more ≡ procs ++ w ∷ []
+    → ((l : Label) → count_in old l ≡ procs_at l procs) → (l : Label) → count_in new l ≡ procs_at l more
+procs_counted old new procs more w updates is before l =
+    updates l ∙ ap (λ k. k + cond (same_label w.label l) 1 0) (before l) ∙ sym (ap (procs_at l) is ∙ count_more (λ (x : WorldProc). same_label x.label l) procs w)
+
+-- ---- what stands at paths
+
+names_tie : (a b : List Name) → same_names a b ≡ is_eq (names_cmp a b)
+names_tie a b = lists_ties (slice_cmp nat_cmp) texts_ties a b
+
+names_same : (a b : List Name) → same_names a b ≡ true → a ≡ b
+names_same a b = (pointwise_decides (pointwise_decides unsigned_Decides) a b).0
+
+either : (b : Bool) (o : WorldObject) (x y : Option WorldObject) → cond b (Some o) (option_or x y) ≡ option_or (cond b (Some o) x) y
+either true o x y = refl
+either false o x y = refl
+
+given_after : (os : List WorldObject) (o : WorldObject) (q : List Name) → given (os ++ o ∷ []) q ≡ option_or (given os q) (given (o ∷ []) q)
+given_after [] o q = refl
+given_after (p ∷ ps) o q = ap (λ w. cond (same_names p.path.names q) (Some p) w) (given_after ps o q) ∙ either (same_names p.path.names q) p (given ps q) (given (o ∷ []) q)
+
+or_none : (x : Option WorldObject) → option_or x None ≡ x
+or_none None = refl
+or_none (Some o) = refl
+
+-- one more object stands at its path, at which none stood
+pub stands_more : (old new : BTreeMap (List Name) PathEntry) (objects more : List WorldObject) (o : WorldObject) (names : List Name) (s : PathEntry)
+    → ((q : List Name) → get names_cmp new q ≡ cond (is_at (names_cmp names) q) (Some s) (get names_cmp old q)) → names ≡ o.path.names → s ≡ path_entry_of o → more ≡ objects ++ o ∷ []
+    → given objects o.path.names ≡ None → ((q : List Name) → get names_cmp old q ≡ option_map path_entry_of (given objects q)) → (q : List Name) → get names_cmp new q ≡ option_map path_entry_of (given more q)
+stands_more old new objects more o names s updates named is grown free before q =
+    updates q ∙ (λ i. cond (is_eq (names_cmp (named i) q)) (Some (is i)) (before q i)) ∙ ap (λ t. cond t (Some (path_entry_of o)) (option_map path_entry_of (given objects q))) (sym (names_tie o.path.names q))
+    ∙ by_test (same_names o.path.names q) refl ∙ sym (ap (option_map path_entry_of) (ap (λ (os : List WorldObject). given os q) grown ∙ given_after objects o q))
+  where
+    by_test : (v : Bool) → same_names o.path.names q ≡ v
+        → cond (same_names o.path.names q) (Some (path_entry_of o)) (option_map path_entry_of (given objects q)) ≡ option_map path_entry_of (option_or (given objects q) (cond (same_names o.path.names q) (Some o) None))
+    by_test true e =
+        let none : given objects q ≡ None = ap (given objects) (sym (names_same o.path.names q e)) ∙ free in
+        ap (λ t. cond t (Some (path_entry_of o)) (option_map path_entry_of (given objects q))) e
+        ∙ sym (λ i. option_map path_entry_of (option_or (none i) (cond (e i) (Some o) None)))
+    by_test false e =
+        ap (λ t. cond t (Some (path_entry_of o)) (option_map path_entry_of (given objects q))) e
+        ∙ sym (ap (λ t. option_map path_entry_of (option_or (given objects q) (cond t (Some o) None))) e ∙ ap (option_map path_entry_of) (or_none (given objects q)))
+
+-- ---- directories
+
+parent_taken : (n : Name) (ns : List Name) → parent_names (n ∷ ns) ≡ take (length ns) (n ∷ ns)
+parent_taken n [] = refl
+parent_taken n (m ∷ ns) = ap (λ ps. n ∷ ps) (parent_taken m ns)
+
+pub directory_stands : (os : List WorldObject) (names : List Name) → 0 < length names → directory_of os names ≡ given os (take (length names - 1) names)
+directory_stands os [] some = absurd (omega arith)
+directory_stands os (n ∷ ns) some =
+    let less : length ns ≡ suc (length ns) - 1 = omega arith in
+    ap (given os) (parent_taken n ns ∙ ap (λ k. take k (n ∷ ns)) less)
+
+pub stands_as_dir : (o : Option WorldObject) → is_standing_dir (option_map path_entry_of o) ≡ is_directory o
+stands_as_dir None = refl
+stands_as_dir (Some o) = refl
+
+pub stands_above : (l : Label) (o : Option WorldObject) → is_above_standing l (option_map path_entry_of o) ≡ is_above l o
+stands_above l None = refl
+stands_above l (Some o) = refl
+
+pub is_given : (o : Option WorldObject) → is_some (option_map path_entry_of o) ≡ is_some o
+is_given None = refl
+is_given (Some o) = refl

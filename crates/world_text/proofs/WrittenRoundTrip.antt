@@ -1,0 +1,437 @@
+-- What is written is read as the same world.
+use Rattle.std.specs.Prelude.{◌≡◌, ℕ, ◌+◌, ◌≤◌, ◌==◌, ◌||◌, not, nat_le, Bool, true, false, cond, List, [], ◌∷◌, ◌++◌, length, map, Option, Some, is_some, codes, count_by, refl}
+use Rattle.std.proofs.Common.{ap, sym, ◌∙◌, subst, append-nil, append_assoc, arith}
+use Rattle.std.specs.Fmt.{decimal}
+use Rattle.std.specs.List.{AllByRecursion, list_all}
+use Rattle.std.proofs.lemmas.Bool.{and_parts, and_from, and_left, and_right, or_from, or_right, lt-leb, le-ltb, ne_eqb, cond-true, cond-false}
+use Rattle.std.proofs.lemmas.List.Folds.{list_all-append}
+use Rattle.std.proofs.lemmas.List.Sums.{sum_by-append, sum_by-cons}
+use Rattle.std.proofs.lemmas.List.{length-append, length-map}
+use Rattle.cap_bits.specs.declared.state.CapState.{CapState}
+use Rattle.cap_bits.specs.CapSet.{CapSet, is_within}
+use Rattle.cap_bits.specs.State.{no_flags}
+use Rattle.cap_clause.specs.Written.{caps_text, set_text}
+use Rattle.fs_path.specs.declared.words.LineWord.{LineWord}
+use Rattle.fs_path.proofs.RoundTrip.{number_round_trip, mode_round_trip, groups_round_trip, decimal_bare, mode_bare, groups_bare}
+use Rattle.fs_path.specs.Name.{Name}
+use Rattle.fs_path.specs.Options.{then}
+use Rattle.fs_path.specs.Path.{PathValue}
+use Rattle.fs_path.specs.Values.{mode_text, groups_text}
+use Rattle.fs_path.specs.Words.{has_spelling, with_quotes_if_needed, spelling, line_text}
+use Rattle.lab_lattice.specs.Label.{Label, dominates, bottom, dominates_itself}
+use Rattle.lab_text.proofs.Made.{made}
+use Rattle.lab_text.specs.Names.{Names, same_bytes, is_label_name}
+use Rattle.lab_text.specs.Policy.{PolicyNames, MakePolicy, is_valid}
+use Rattle.lab_text.proofs.Parsed.{parse_text}
+use Rattle.lab_text.specs.Text.{label_text}
+use Rattle.kern_model.specs.declared.numbers.Ids.{Ids}
+use Rattle.kern_model.specs.declared.objects.Attr.{Attr}
+use Rattle.kern_model.specs.declared.objects.Body.{Body}
+use Rattle.kern_model.specs.declared.objects.Body.TheVariants as body
+use Rattle.kern_model.specs.declared.world.WorldObject.{WorldObject}
+use Rattle.kern_model.specs.declared.world.WorldProc.{WorldProc}
+use Rattle.kern_model.specs.Kinds.{kind_of}
+use Rattle.kern_model.specs.Kinds.{is_dir, is_file}
+use Rattle.kern_model.specs.Rules.{same_label}
+use Rattle.kern_model.specs.World.{IsPlaced, ArePlaced, given, parent_names, objects_at, procs_at, same_names}
+use Rattle.world_text.specs.declared.fault.WorldFault.{WorldFault}
+use Rattle.world_text.specs.declared.fault.WorldFault.TheVariants.{Syntax, UnknownName}
+use Rattle.world_text.specs.declared.expecting.Expecting.{Expecting}
+use Rattle.world_text.specs.declared.expecting.Expecting.TheVariants as at
+use Rattle.world_text.specs.declared.expecting.Parsed.{Parsed}
+use Rattle.world_text.specs.declared.expecting.Parsed.TheVariants.{GoesOn, Begins}
+use Rattle.world_text.specs.declared.world.WorldText.{WorldText}
+use Rattle.world_text.specs.Tree.{Tree}
+use Rattle.world_text.specs.Placing.{is_directory, is_above, directory_of, is_root, object_fault, process_fault}
+use Rattle.world_text.specs.Expecting.{world_of, refuse_or, with_form, caps_of, parse_levels, parse_categories, object_fields_of, proc_fields_of, ids_of, parse_object, parse_tree, parse_process, parse_words, parse_line}
+use Rattle.world_text.specs.Reading.{Accepted, after, reading, read_text}
+use Rattle.world_text.specs.Written.{bare, quoted, path_text, names_words, head_words, body_keyword, body_words, object_words, process_words, script_words, lines_of, next_number, written}
+use Rattle.world_text.specs.CanBeRead.{IsNumber, IsShort, CanBeRead}
+use Rattle.world_text.proofs.WrittenForms.{IsCanonicalBody, IsCanonicalObject, IsCanonicalIds, canonical_objects, objects_below, objects_plain, canonical_procs, procs_below, procs_within}
+use Rattle.world_text.proofs.WrittenWords.{written_pieces, pieces_round_trip, begins_line, line_is}
+use Rattle.world_text.proofs.WrittenValues.{path_round_trip, path_spelling, label_name_bare, label_bare, label_round_trip, caps_known, proc_caps_known, none_known, bound_known, caps_spelling, bound_bare}
+
+-- ---- a line and what follows it
+
+-- the text of a line, without its line feed
+abbrev text_of : List LineWord → List ℕ
+text_of words = line_text (map spelling words)
+
+-- the reading goes on behind a line
+step_on : (n : ℕ) (expecting next : Expecting) (words : List LineWord) (more : List (List LineWord)) → parse_line expecting (text_of words) ≡ GoesOn next
+    → reading n expecting (written_pieces (words ∷ more)) ≡ reading (n + 1) next (written_pieces more)
+unfolding reading
+step_on n expecting next words [] e = ap (λ (parsed : Parsed). after parsed n ([] ∷ []) (λ expecting. reading (n + 1) expecting ([] ∷ []))) e
+step_on n expecting next words (m ∷ ms) e = ap (λ (parsed : Parsed). after parsed n (written_pieces (m ∷ ms)) (λ expecting. reading (n + 1) expecting (written_pieces (m ∷ ms)))) e
+
+-- the world begins behind the last line
+step_last : (n : ℕ) (expecting : Expecting) (w : WorldText) (words : List LineWord) → parse_line expecting (text_of words) ≡ Begins w
+    → reading n expecting (written_pieces (words ∷ [])) ≡ Accepted w (n + 1) ([] ∷ [])
+unfolding reading
+step_last n expecting w words e = ap (λ (parsed : Parsed). after parsed n ([] ∷ []) (λ expecting. reading (n + 1) expecting ([] ∷ []))) e
+
+-- the line of each item puts it behind those before it
+abbrev EachAdds : {X : Type 0} → (X → List LineWord) → (List X → Expecting) → List X → List X → Type 0
+EachAdds words expecting done [] = Unit {0}
+EachAdds words expecting done (x ∷ xs) = (parse_line (expecting done) (text_of (words x)) ≡ GoesOn (expecting (done ++ x ∷ []))) × EachAdds words expecting (done ++ x ∷ []) xs
+
+steps_on : {X : Type 0} (words : X → List LineWord) (expecting : List X → Expecting) (n : ℕ) (done xs : List X) (more : List (List LineWord)) → EachAdds words expecting done xs
+    → reading n (expecting done) (written_pieces (map words xs ++ more)) ≡ reading (n + length xs) (expecting (done ++ xs)) (written_pieces more)
+steps_on words expecting n done [] more adds =
+    let same : n ≡ n + 0 = omega arith in
+    λ i. reading (same i) (expecting (sym (append-nil done) i)) (written_pieces more)
+steps_on {X = X} words expecting n done (x ∷ xs) more adds =
+    let same : n + 1 + length xs ≡ n + length (x ∷ xs) = omega arith in
+    step_on n (expecting done) (expecting (done ++ x ∷ [])) (words x) (map words xs ++ more) adds.0
+    ∙ steps_on words expecting (n + 1) (done ++ x ∷ []) xs more adds.1 ∙ (λ i. reading (same i) (expecting (append_assoc done (x ∷ []) xs i)) (written_pieces more))
+
+-- ---- head lines
+
+canonical_names : (names : Names) → map (λ (w : LineWord). w.bytes) (map bare names) ≡ names
+canonical_names [] = refl
+canonical_names (n ∷ ns) = ap (λ (ms : Names). n ∷ ms) (canonical_names ns)
+
+names_spelling : (names : Names) → list_all is_label_name names ≡ true → list_all has_spelling (map bare names) ≡ true
+names_spelling [] h = refl
+names_spelling (n ∷ ns) h =
+    let parts = and_parts (is_label_name n) (list_all is_label_name ns) h in
+    and_from _ _ (label_name_bare n parts.0) (names_spelling ns parts.1)
+
+format_line : parse_line at.Format (text_of (names_words (codes "world") (codes "1" ∷ []))) ≡ GoesOn at.Levels
+unfolding parse_words
+format_line = line_is at.Format (codes "world") (bare (codes "1") ∷ []) refl refl (omega arith)
+
+levels_line : (policy : PolicyNames) → MakePolicy policy → IsShort (names_words (codes "levels") policy.levels)
+    → parse_line at.Levels (text_of (names_words (codes "levels") policy.levels)) ≡ GoesOn (at.Categories policy.levels)
+unfolding parse_words
+levels_line policy h short =
+    let is = made policy h in
+    let some : (length policy.levels == 0) ≡ false = ne_eqb (length policy.levels) 0 (λ e. let some = is.some in omega arith) in
+    let form = or_from _ _ some (ap not is.level_names) in
+    line_is at.Levels (codes "levels") (map bare policy.levels) refl (names_spelling policy.levels is.level_names) short ∙ ap parse_levels (canonical_names policy.levels)
+    ∙ cond-false _ _ _ form ∙ cond-false _ _ _ (le-ltb 16 (length policy.levels) is.few_levels) ∙ cond-false _ _ _ (ap not is.levels_apart)
+
+categories_line : (policy : PolicyNames) → MakePolicy policy → IsShort (names_words (codes "categories") policy.cats)
+    → parse_line (at.Categories policy.levels) (text_of (names_words (codes "categories") policy.cats)) ≡ GoesOn (at.Bound policy)
+unfolding parse_words
+categories_line policy h short =
+    let is = made policy h in
+    line_is (at.Categories policy.levels) (codes "categories") (map bare policy.cats) refl (names_spelling policy.cats is.cat_names) short ∙ ap (parse_categories policy.levels) (canonical_names policy.cats)
+    ∙ cond-false _ _ _ (ap not is.cat_names) ∙ cond-false _ _ _ (le-ltb 64 (length policy.cats) is.few_cats) ∙ cond-false _ _ _ (ap not is.cats_apart)
+
+-- what stands in the tree so far
+abbrev tree_at : PolicyNames → CapSet → List WorldObject → List WorldProc → Expecting
+tree_at policy bound objects procs = at.Tree policy bound (record { objects = objects; procs = procs })
+
+bound_line : (policy : PolicyNames) (bound : CapSet) → IsShort (names_words (codes "bound") (set_text bound ∷ []))
+    → parse_line (at.Bound policy) (text_of (names_words (codes "bound") (set_text bound ∷ []))) ≡ GoesOn (tree_at policy bound [] [])
+unfolding parse_words
+bound_line policy bound short =
+    line_is (at.Bound policy) (codes "bound") (bare (set_text bound) ∷ []) refl (and_from _ _ (bound_bare bound) refl) short
+    ∙ ap (λ (o : Option (Option CapSet)). with_form o Syntax (λ known. with_form known UnknownName (λ bound. GoesOn (tree_at policy bound [] [])))) (bound_known bound)
+
+-- the reading comes to the tree
+head_read : (policy : PolicyNames) (bound : CapSet) (more : List (List LineWord)) → MakePolicy policy → IsShort (names_words (codes "levels") policy.levels)
+    → IsShort (names_words (codes "categories") policy.cats) → IsShort (names_words (codes "bound") (set_text bound ∷ []))
+    → reading 1 at.Format (written_pieces (head_words policy bound ++ more)) ≡ reading 5 (tree_at policy bound [] []) (written_pieces more)
+head_read policy bound more h levels cats bounded =
+    let after_cats = names_words (codes "bound") (set_text bound ∷ []) ∷ more in
+    let after_levels = names_words (codes "categories") policy.cats ∷ after_cats in
+    step_on 1 at.Format at.Levels (names_words (codes "world") (codes "1" ∷ [])) (names_words (codes "levels") policy.levels ∷ after_levels) format_line
+    ∙ step_on 2 at.Levels (at.Categories policy.levels) (names_words (codes "levels") policy.levels) after_levels (levels_line policy h levels)
+    ∙ step_on 3 (at.Categories policy.levels) (at.Bound policy) (names_words (codes "categories") policy.cats) after_cats (categories_line policy h cats)
+    ∙ step_on 4 (at.Bound policy) (tree_at policy bound [] []) (names_words (codes "bound") (set_text bound ∷ [])) more (bound_line policy bound bounded)
+
+-- ---- what is there
+
+then_some : {A X : Type 0} (o : Option A) (x : A) (k : A → Option X) → o ≡ Some x → then o k ≡ k x
+then_some {A} o x k e = ap (λ (o : Option A). then o k) e
+
+form_some : {X : Type 0} (o : Option X) (fault : WorldFault) (x : X) (k : X → Parsed) → o ≡ Some x → with_form o fault k ≡ k x
+form_some {X} o fault x k e = ap (λ (o : Option X). with_form o fault k) e
+
+number_spelling : (n : ℕ) → IsNumber n → has_spelling (bare (decimal n)) ≡ true
+number_spelling n small = decimal_bare n (omega arith)
+
+-- one more at a label leaves fewer than all before it
+room_left : {X : Type 0} (label : X → Label) (done : List X) (x : X) (more : List X) (most : ℕ) → ((l : Label) → count_by (λ y. same_label (label y) l) (done ++ x ∷ more) ≤ most)
+    → nat_le most (count_by (λ y. same_label (label y) (label x)) done) ≡ false
+room_left {X} label done x more most room =
+    let test : X → ℕ = λ y. cond (same_label (label y) (label x)) 1 0 in
+    let both = sum_by-append test done (x ∷ more) in
+    let next = sum_by-cons test x more in
+    let one : test x ≡ 1 = cond-true _ 1 0 (and_from _ _ (dominates_itself (label x)) (dominates_itself (label x))) in
+    let few = room (label x) in
+    lt-leb most (count_by (λ y. same_label (label y) (label x)) done) (omega arith)
+
+-- ---- tree lines
+
+placed_round_trip : (policy : PolicyNames) (o : WorldObject) → MakePolicy policy → is_valid policy o.label ≡ true → IsCanonicalObject o
+    → object_fields_of (path_text o.path.names) (mode_text o.attr.mode) (decimal o.attr.owner) (decimal o.attr.group) (label_text policy o.label)
+    ≡ Some (record { path = o.path; mode = o.attr.mode; owner = o.attr.owner; group = o.attr.group; label = label_text policy o.label })
+unfolding object_fields_of
+placed_round_trip policy o h valid is =
+    then_some _ _ _ (path_round_trip o.path is.path) ∙ then_some _ _ _ (mode_round_trip o.attr.mode is.mode is.not_sticky) ∙ then_some _ _ _ (number_round_trip o.attr.owner is.owner)
+    ∙ then_some _ _ _ (number_round_trip o.attr.group is.group) ∙ then_some _ _ _ (label_round_trip policy o.label h valid)
+
+tree_says : (policy : PolicyNames) (bound : CapSet) (t : Tree) (o : WorldObject) (caps : Option (Option CapState)) → MakePolicy policy → is_valid policy o.label ≡ true → IsCanonicalObject o → caps ≡ Some (Some o.attr.caps)
+    → parse_tree policy bound t (object_fields_of (path_text o.path.names) (mode_text o.attr.mode) (decimal o.attr.owner) (decimal o.attr.group) (label_text policy o.label)) caps o.body ≡ parse_object policy bound t o
+tree_says policy bound t o caps h valid is e =
+    form_some _ Syntax _ _ (placed_round_trip policy o h valid is) ∙ form_some caps Syntax (Some o.attr.caps) _ e ∙ form_some _ UnknownName o.label _ (parse_text policy o.label h valid)
+
+-- an object of these parts
+abbrev object_from : PathValue → Label → Attr → Body → WorldObject
+object_from path label attr b = record { path = path; label = label; attr = attr; body = b }
+
+-- the words of a file whose capability text is `=` or not
+abbrev file_words : PolicyNames → PathValue → Label → Attr → List ℕ → Bool → List LineWord
+file_words policy path label attr bytes none =
+    bare (codes "file") ∷ with_quotes_if_needed (path_text path.names) ∷ bare (mode_text attr.mode) ∷ bare (decimal attr.owner) ∷ bare (decimal attr.group) ∷ bare (label_text policy label)
+    ∷ quoted bytes ∷ cond none [] (quoted (caps_text attr.caps) ∷ [])
+
+object_says : (policy : PolicyNames) (bound : CapSet) (t : Tree) (path : PathValue) (label : Label) (attr : Attr) (b : Body) → MakePolicy policy → is_valid policy label ≡ true
+    → IsCanonicalObject (object_from path label attr b) → (is_file (kind_of b) ≡ false → attr.caps ≡ no_flags)
+    → parse_words (at.Tree policy bound t) (object_words policy (object_from path label attr b)) ≡ parse_object policy bound t (object_from path label attr b)
+unfolding parse_words object_words
+object_says policy bound t path label attr body.Dir h valid is plain = tree_says policy bound t (object_from path label attr body.Dir) (Some (Some no_flags)) h valid is (ap (λ (c : CapState). Some (Some c)) (sym (plain refl)))
+object_says policy bound t path label attr body.Fifo h valid is plain = tree_says policy bound t (object_from path label attr body.Fifo) (Some (Some no_flags)) h valid is (ap (λ (c : CapState). Some (Some c)) (sym (plain refl)))
+object_says policy bound t path label attr body.Pipe h valid is plain = absurd is.body
+object_says policy bound t path label attr (body.File bytes) h valid is plain = by_caps (same_bytes (caps_text attr.caps) (codes "=")) refl
+  where
+    file : WorldObject
+    file = object_from path label attr (body.File bytes)
+
+    by_caps : (none : Bool) → same_bytes (caps_text attr.caps) (codes "=") ≡ none → parse_words (at.Tree policy bound t) (file_words policy path label attr bytes (same_bytes (caps_text attr.caps) (codes "="))) ≡ parse_object policy bound t file
+    by_caps true e =
+        ap (λ v. parse_words (at.Tree policy bound t) (file_words policy path label attr bytes v)) e
+        ∙ tree_says policy bound t file (Some (Some no_flags)) h valid is (ap (λ (c : CapState). Some (Some c)) (sym (none_known attr.caps e)))
+    by_caps false e =
+        ap (λ v. parse_words (at.Tree policy bound t) (file_words policy path label attr bytes v)) e ∙ tree_says policy bound t file (caps_of (caps_text attr.caps)) h valid is (caps_known attr.caps)
+
+keyword_spelling : (b : Body) → has_spelling (bare (body_keyword b)) ≡ true
+keyword_spelling body.Dir = refl
+keyword_spelling (body.File bytes) = refl
+keyword_spelling body.Fifo = refl
+keyword_spelling body.Pipe = refl
+
+keyword_begins : (b : Body) → begins_line (body_keyword b) ≡ true
+keyword_begins body.Dir = refl
+keyword_begins (body.File bytes) = refl
+keyword_begins body.Fifo = refl
+keyword_begins body.Pipe = refl
+
+body_spelling : (b : Body) (caps : CapState) → IsCanonicalBody b → list_all has_spelling (body_words b caps) ≡ true
+body_spelling body.Dir caps h = refl
+body_spelling (body.File bytes) caps h =
+    and_from _ _ h (elim (same_bytes (caps_text caps) (codes "=")) as (λ v. list_all has_spelling (cond v [] (quoted (caps_text caps) ∷ [])) ≡ true) [ true ↦ refl | false ↦ and_from _ _ (caps_spelling caps) refl ])
+body_spelling body.Fifo caps h = refl
+body_spelling body.Pipe caps h = refl
+
+object_spelling : (policy : PolicyNames) (o : WorldObject) → MakePolicy policy → is_valid policy o.label ≡ true → IsCanonicalObject o → list_all has_spelling (object_words policy o) ≡ true
+unfolding object_words
+object_spelling policy o h valid is =
+    and_from _ _ (keyword_spelling o.body) (and_from _ _ (path_spelling o.path is.path) (and_from _ _ (mode_bare o.attr.mode) (and_from _ _ (number_spelling o.attr.owner is.owner)
+    (and_from _ _ (number_spelling o.attr.group is.group) (and_from _ _ (label_bare policy o.label h valid) (body_spelling o.body o.attr.caps is.body))))))
+
+object_line : (policy : PolicyNames) (bound : CapSet) (t : Tree) (o : WorldObject) → MakePolicy policy → is_valid policy o.label ≡ true → IsCanonicalObject o → (is_file (kind_of o.body) ≡ false → o.attr.caps ≡ no_flags)
+    → IsShort (object_words policy o) → parse_line (at.Tree policy bound t) (text_of (object_words policy o)) ≡ parse_object policy bound t o
+unfolding object_words
+object_line policy bound t o h valid is plain short =
+    line_is (at.Tree policy bound t) (body_keyword o.body) _ (keyword_begins o.body) (object_spelling policy o h valid is) short ∙ object_says policy bound t o.path o.label o.attr o.body h valid is plain
+
+-- the root goes first
+root_adds : (policy : PolicyNames) (bound : CapSet) (o : WorldObject) → o.path.names ≡ [] → o.body ≡ body.Dir → o.label ≡ bottom
+    → parse_object policy bound (record { objects = []; procs = [] }) o ≡ GoesOn (tree_at policy bound (o ∷ []) [])
+unfolding object_fault
+root_adds policy bound o no_names dir lowest =
+    ap (λ f. refuse_or f (GoesOn (tree_at policy bound (o ∷ []) []))) (
+    cond-false _ _ _ (ap (λ (ns : List Name). not (is_root ns || is_directory (directory_of [] ns))) no_names)
+    ∙ cond-false _ _ _ (and_right (is_root o.path.names) _ (ap not (and_from _ _ (ap (λ b. is_dir (kind_of b)) dir) (ap (dominates bottom) lowest ∙ dominates_itself bottom))))
+    ∙ cond-false _ _ _ (ap (λ (ns : List Name). not (is_above o.label (directory_of [] ns))) no_names))
+
+-- an object that is no root stands in the directory that was given
+below_root : (first : WorldObject) (rest : List WorldObject) (o : WorldObject) (p : IsPlaced (first ∷ rest) o) (names : List Name) → first.path.names ≡ [] → o.path.names ≡ names
+    → (is_root o.path.names ≡ false) × (directory_of (first ∷ rest) o.path.names ≡ Some p.parent)
+below_root first rest o p [] root e =
+    let first_given : given (first ∷ rest) [] ≡ Some first = ap (λ ns. cond (same_names ns []) (Some first) (given rest [])) root in
+    let new = sym (ap (given (first ∷ rest)) e) ∙ p.new in
+    absurd (cc)
+below_root first rest o p (n ∷ ns) root e =
+    (ap is_root e, ap (directory_of (first ∷ rest)) e ∙ sym (ap (λ ns. given (first ∷ rest) (parent_names ns)) e) ∙ p.parent_given)
+
+placed_adds : (policy : PolicyNames) (bound : CapSet) (first : WorldObject) (rest : List WorldObject) (o : WorldObject) → first.path.names ≡ [] → IsPlaced (first ∷ rest) o
+    → nat_le 65535 (objects_at o.label (first ∷ rest)) ≡ false
+    → parse_object policy bound (record { objects = first ∷ rest; procs = [] }) o ≡ GoesOn (tree_at policy bound (first ∷ (rest ++ o ∷ [])) [])
+unfolding object_fault
+placed_adds policy bound first rest o root p room =
+    let below = below_root first rest o p o.path.names root refl in
+    let dir = ap is_directory below.1 ∙ ap (λ b. is_dir (kind_of b)) p.parent_dir in
+    ap (λ f. refuse_or f (GoesOn (tree_at policy bound (first ∷ (rest ++ o ∷ [])) []))) (
+    cond-false _ _ _ (ap is_some p.new) ∙ cond-false _ _ _ (ap not (or_right (is_root o.path.names) _ dir)) ∙ cond-false _ _ _ (and_left _ _ below.0)
+    ∙ cond-false _ _ _ (ap not (ap (is_above o.label) below.1 ∙ p.order)) ∙ cond-false _ _ _ room)
+
+-- the lines of objects behind the root
+objects_add : (policy : PolicyNames) (bound : CapSet) (first : WorldObject) (rest os : List WorldObject) → MakePolicy policy → first.path.names ≡ [] → ArePlaced (first ∷ rest) os
+    → AllByRecursion (λ (o : WorldObject). is_valid policy o.label ≡ true) os → AllByRecursion (λ (o : WorldObject). IsCanonicalObject o) os
+    → AllByRecursion (λ (o : WorldObject). is_file (kind_of o.body) ≡ false → o.attr.caps ≡ no_flags) os → AllByRecursion IsShort (map (object_words policy) os)
+    → ((l : Label) → objects_at l (first ∷ (rest ++ os)) ≤ 65535) → EachAdds (object_words policy) (λ os. tree_at policy bound os []) (first ∷ rest) os
+objects_add policy bound first rest [] h root placed valid written plain short room = tt
+objects_add policy bound first rest (o ∷ os) h root placed valid written plain short room =
+    let left = room_left (λ (o : WorldObject). o.label) (first ∷ rest) o os 65535 room in
+    let more : (l : Label) → objects_at l (first ∷ ((rest ++ o ∷ []) ++ os)) ≤ 65535 = λ l. subst (λ (os : List WorldObject). objects_at l (first ∷ os) ≤ 65535) (sym (append_assoc rest (o ∷ []) os)) (room l) in (
+      object_line policy bound (record { objects = first ∷ rest; procs = [] }) o h valid.0 written.0 plain.0 short.0 ∙ placed_adds policy bound first rest o root placed.0 left,
+      objects_add policy bound first (rest ++ o ∷ []) os h root placed.1 valid.1 written.1 plain.1 short.1 more,
+    )
+
+-- the lines of the objects of a world
+tree_adds : (policy : PolicyNames) (bound : CapSet) (os : List WorldObject) (first : WorldObject) (others : List WorldObject) → MakePolicy policy → os ≡ first ∷ others
+    → first.path.names ≡ [] → first.body ≡ body.Dir → first.label ≡ bottom → ArePlaced (first ∷ []) others
+    → AllByRecursion (λ (o : WorldObject). is_valid policy o.label ≡ true) os → AllByRecursion (λ (o : WorldObject). IsCanonicalObject o) os
+    → AllByRecursion (λ (o : WorldObject). is_file (kind_of o.body) ≡ false → o.attr.caps ≡ no_flags) os → AllByRecursion IsShort (map (object_words policy) os)
+    → ((l : Label) → objects_at l os ≤ 65535) → EachAdds (object_words policy) (λ os. tree_at policy bound os []) [] os
+tree_adds policy bound [] first others h e no_names dir lowest placed valid written plain short room = tt
+tree_adds policy bound (o ∷ os) first others h e no_names dir lowest placed valid written plain short room =
+    let same : first ≡ o = cc in
+    let rest : others ≡ os = cc in
+    let root = sym (ap (λ (o : WorldObject). o.path.names) same) ∙ no_names in
+    let body = sym (ap (λ (o : WorldObject). o.body) same) ∙ dir in
+    let label = sym (ap (λ (o : WorldObject). o.label) same) ∙ lowest in
+    let after : ArePlaced (o ∷ []) os = subst (λ (os : List WorldObject). ArePlaced (o ∷ []) os) rest (subst (λ (o : WorldObject). ArePlaced (o ∷ []) others) same placed) in (
+      object_line policy bound (record { objects = []; procs = [] }) o h valid.0 written.0 plain.0 short.0 ∙ root_adds policy bound o root body label,
+      objects_add policy bound o [] os h root after valid.1 written.1 plain.1 short.1 room,
+    )
+
+-- ---- process lines
+
+owned_round_trip : (policy : PolicyNames) (p : WorldProc) → MakePolicy policy → is_valid policy p.label ≡ true → IsCanonicalIds p.ids
+    → proc_fields_of (label_text policy p.label) (decimal p.ids.euid) (decimal p.ids.egid) (groups_text p.ids.groups)
+    ≡ Some (record { label = label_text policy p.label; user = p.ids.euid; group = p.ids.egid; groups = p.ids.groups })
+unfolding proc_fields_of
+owned_round_trip policy p h valid is =
+    then_some _ _ _ (label_round_trip policy p.label h valid) ∙ then_some _ _ _ (number_round_trip p.ids.euid is.user) ∙ then_some _ _ _ (number_round_trip p.ids.egid is.group)
+    ∙ then_some _ _ _ (groups_round_trip p.ids.groups is.groups is.few)
+
+ids_round_trip : (ids : Ids) (label : List ℕ) → IsCanonicalIds ids → ids_of (record { label = label; user = ids.euid; group = ids.egid; groups = ids.groups }) ≡ ids
+ids_round_trip ids label is =
+    λ i. record { ruid = sym is.ruid i; euid = ids.euid; suid = sym is.suid i; rgid = sym is.rgid i; egid = ids.egid; sgid = sym is.sgid i; groups = ids.groups }
+
+process_says : (policy : PolicyNames) (bound : CapSet) (t : Tree) (p : WorldProc) → MakePolicy policy → is_valid policy p.label ≡ true → IsCanonicalIds p.ids → is_within p.caps.e p.caps.p ≡ true
+    → parse_words (at.Tree policy bound t) (process_words policy p) ≡ parse_process policy bound t p
+unfolding parse_words process_words
+process_says policy bound t p h valid is within =
+    form_some _ Syntax _ _ (owned_round_trip policy p h valid is) ∙ form_some _ Syntax (Some p.caps) _ (proc_caps_known p.caps within) ∙ form_some _ UnknownName p.label _ (parse_text policy p.label h valid)
+    ∙ ap (λ (ids : Ids). parse_process policy bound t (record { label = p.label; ids = ids; caps = p.caps })) (ids_round_trip p.ids (label_text policy p.label) is)
+
+process_spelling : (policy : PolicyNames) (p : WorldProc) → MakePolicy policy → is_valid policy p.label ≡ true → IsCanonicalIds p.ids → list_all has_spelling (process_words policy p) ≡ true
+unfolding process_words
+process_spelling policy p h valid is =
+    and_from _ _ (label_bare policy p.label h valid) (and_from _ _ (number_spelling p.ids.euid is.user) (and_from _ _ (number_spelling p.ids.egid is.group)
+    (and_from _ _ (groups_bare p.ids.groups is.groups) (and_from _ _ (caps_spelling p.caps) refl))))
+
+process_line : (policy : PolicyNames) (bound : CapSet) (t : Tree) (p : WorldProc) → MakePolicy policy → is_valid policy p.label ≡ true → IsCanonicalIds p.ids → is_within p.caps.e p.caps.p ≡ true
+    → IsShort (process_words policy p)
+    → parse_line (at.Tree policy bound t) (text_of (process_words policy p)) ≡ parse_process policy bound t p
+unfolding process_words
+process_line policy bound t p h valid is within short = line_is (at.Tree policy bound t) (codes "proc") _ refl (process_spelling policy p h valid is) short ∙ process_says policy bound t p h valid is within
+
+processes_add : (policy : PolicyNames) (bound : CapSet) (objects : List WorldObject) (done ps : List WorldProc) → MakePolicy policy → (length objects == 0) ≡ false
+    → AllByRecursion (λ (p : WorldProc). is_valid policy p.label ≡ true) ps → AllByRecursion (λ (p : WorldProc). IsCanonicalIds p.ids) ps → AllByRecursion (λ (p : WorldProc). is_within p.caps.e p.caps.p ≡ true) ps
+    → AllByRecursion IsShort (map (process_words policy) ps) → ((l : Label) → procs_at l (done ++ ps) ≤ 4095) → EachAdds (process_words policy) (tree_at policy bound objects) done ps
+unfolding process_fault
+processes_add policy bound objects done [] h some valid written within short room = tt
+processes_add policy bound objects done (p ∷ ps) h some valid written within short room =
+    let left = room_left (λ (p : WorldProc). p.label) done p ps 4095 room in
+    let more : (l : Label) → procs_at l ((done ++ p ∷ []) ++ ps) ≤ 4095 = λ l. subst (λ (ps : List WorldProc). procs_at l ps ≤ 4095) (sym (append_assoc done (p ∷ []) ps)) (room l) in (
+      process_line policy bound (record { objects = objects; procs = done }) p h valid.0 written.0 within.0 short.0
+          ∙ ap (λ f. refuse_or f (GoesOn (tree_at policy bound objects (done ++ p ∷ [])))) (cond-false _ _ _ some ∙ cond-false _ _ _ left),
+      processes_add policy bound objects (done ++ p ∷ []) ps h some valid.1 written.1 within.1 short.1 more,
+    )
+
+-- ---- the world
+
+script_line : (policy : PolicyNames) (bound : CapSet) (objects : List WorldObject) (procs : List WorldProc) → (length objects == 0) ≡ false
+    → parse_line (tree_at policy bound objects procs) (text_of script_words) ≡ Begins (world_of policy bound (record { objects = objects; procs = procs }))
+unfolding parse_words
+script_line policy bound objects procs some = line_is (tree_at policy bound objects procs) (codes "script") [] refl refl (omega arith) ∙ cond-false _ _ _ some
+
+all_parts : {X : Type 0} (P : X → Type 0) (xs ys : List X) → AllByRecursion P (xs ++ ys) → AllByRecursion P xs × AllByRecursion P ys
+all_parts P [] ys all = (tt, all)
+all_parts P (x ∷ xs) ys all = let parts = all_parts P xs ys all.1 in ((all.0, parts.0), parts.1)
+
+objects_spelling : (policy : PolicyNames) (os : List WorldObject) → MakePolicy policy → AllByRecursion (λ (o : WorldObject). is_valid policy o.label ≡ true) os
+    → AllByRecursion (λ (o : WorldObject). IsCanonicalObject o) os → list_all (list_all has_spelling) (map (object_words policy) os) ≡ true
+objects_spelling policy [] h valid written = refl
+objects_spelling policy (o ∷ os) h valid written = and_from _ _ (object_spelling policy o h valid.0 written.0) (objects_spelling policy os h valid.1 written.1)
+
+processes_spelling : (policy : PolicyNames) (ps : List WorldProc) → MakePolicy policy → AllByRecursion (λ (p : WorldProc). is_valid policy p.label ≡ true) ps
+    → AllByRecursion (λ (p : WorldProc). IsCanonicalIds p.ids) ps → list_all (list_all has_spelling) (map (process_words policy) ps) ≡ true
+processes_spelling policy [] h valid written = refl
+processes_spelling policy (p ∷ ps) h valid written = and_from _ _ (process_spelling policy p h valid.0 written.0) (processes_spelling policy ps h valid.1 written.1)
+
+head_spelling : (policy : PolicyNames) (bound : CapSet) → MakePolicy policy → list_all (list_all has_spelling) (head_words policy bound) ≡ true
+head_spelling policy bound h =
+    let is = made policy h in
+    and_from _ _ (names_spelling policy.levels is.level_names) (and_from _ _ (names_spelling policy.cats is.cat_names) (and_from _ _ (and_from _ _ (bound_bare bound) refl) refl))
+
+some_objects : (os : List WorldObject) (first : WorldObject) (others : List WorldObject) → os ≡ first ∷ others → (length os == 0) ≡ false
+some_objects [] first others e = absurd (cc)
+some_objects (o ∷ os) first others e = ne_eqb (length (o ∷ os)) 0 (λ z. omega arith)
+
+-- the text of a world is read as that world
+pub written_round_trip : (w : WorldText) → CanBeRead w → read_text (written w) ≡ Accepted w (next_number w) ([] ∷ [])
+unfolding written
+written_round_trip w h =
+    ap (reading 1 at.Format) (pieces_round_trip (lines_of w) canonical)
+    ∙ head_read w.policy w.world.bound (map (object_words w.policy) w.world.objects ++ (map (process_words w.policy) w.world.procs ++ script_words ∷ [])) h.policy h.lines.1.0 h.lines.1.1.0 h.lines.1.1.1.0
+    ∙ steps_on (object_words w.policy) (λ os. tree_at w.policy w.world.bound os []) 5 [] w.world.objects (map (process_words w.policy) w.world.procs ++ script_words ∷ [])
+    (tree_adds w.policy w.world.bound w.world.objects h.is.world.first h.is.world.others h.policy h.is.world.objects_are h.is.world.no_names h.is.world.root_body h.is.world.root_label h.is.world.others_placed
+    objects_valid written (objects_plain w.world.top w.world.objects h.is.world.objects) tails.0 h.is.world.room.objects)
+    ∙ steps_on (process_words w.policy) (tree_at w.policy w.world.bound w.world.objects) (5 + length w.world.objects) [] w.world.procs (script_words ∷ [])
+    (processes_add w.policy w.world.bound w.world.objects [] w.world.procs h.policy some procs_valid owned (procs_within w.world.top w.world.procs h.is.world.procs) ends.0 h.is.world.room.procs)
+    ∙ step_last (5 + length w.world.objects + length w.world.procs) (tree_at w.policy w.world.bound w.world.objects w.world.procs) world script_words (script_line w.policy w.world.bound w.world.objects w.world.procs some)
+    ∙ (λ i. Accepted (world_is i) (number i) ([] ∷ []))
+  where
+    objects_valid : AllByRecursion (λ (o : WorldObject). is_valid w.policy o.label ≡ true) w.world.objects
+    objects_valid = subst (λ (top : Label). AllByRecursion (λ (o : WorldObject). dominates top o.label ≡ true) w.world.objects) h.is.top (objects_below w.world.top w.world.objects h.is.world.objects)
+
+    procs_valid : AllByRecursion (λ (p : WorldProc). is_valid w.policy p.label ≡ true) w.world.procs
+    procs_valid = subst (λ (top : Label). AllByRecursion (λ (p : WorldProc). dominates top p.label ≡ true) w.world.procs) h.is.top (procs_below w.world.top w.world.procs h.is.world.procs)
+
+    written : AllByRecursion (λ (o : WorldObject). IsCanonicalObject o) w.world.objects
+    written = canonical_objects w.world.top w.world.objects h.is.world.objects h.objects
+
+    owned : AllByRecursion (λ (p : WorldProc). IsCanonicalIds p.ids) w.world.procs
+    owned = canonical_procs w.world.top w.world.procs h.is.world.procs h.procs
+
+    some : (length w.world.objects == 0) ≡ false
+    some = some_objects w.world.objects h.is.world.first h.is.world.others h.is.world.objects_are
+
+    tails : AllByRecursion IsShort (map (object_words w.policy) w.world.objects) × AllByRecursion IsShort (map (process_words w.policy) w.world.procs ++ script_words ∷ [])
+    tails = all_parts IsShort (map (object_words w.policy) w.world.objects) (map (process_words w.policy) w.world.procs ++ script_words ∷ []) h.lines.1.1.1.1
+
+    ends : AllByRecursion IsShort (map (process_words w.policy) w.world.procs) × AllByRecursion IsShort (script_words ∷ [])
+    ends = all_parts IsShort (map (process_words w.policy) w.world.procs) (script_words ∷ []) tails.1
+
+    canonical : list_all (list_all has_spelling) (lines_of w) ≡ true
+    canonical =
+        let objects = map (object_words w.policy) w.world.objects in
+        let procs = map (process_words w.policy) w.world.procs in
+        list_all-append (list_all has_spelling) (head_words w.policy w.world.bound) (objects ++ (procs ++ script_words ∷ [])) ∙ and_from _ _ (head_spelling w.policy w.world.bound h.policy)
+        (list_all-append (list_all has_spelling) objects (procs ++ script_words ∷ []) ∙ and_from _ _ (objects_spelling w.policy w.world.objects h.policy objects_valid written)
+        (list_all-append (list_all has_spelling) procs (script_words ∷ []) ∙ and_from _ _ (processes_spelling w.policy w.world.procs h.policy procs_valid owned) refl))
+
+    world : WorldText
+    world = world_of w.policy w.world.bound (record { objects = w.world.objects; procs = w.world.procs })
+
+    world_is : world ≡ w
+    world_is = ap (λ (top : Label). record { policy = w.policy; world = record { top = top; bound = w.world.bound; objects = w.world.objects; procs = w.world.procs } }) (sym h.is.top)
+
+    number : 5 + length w.world.objects + length w.world.procs + 1 ≡ next_number w
+    number =
+        let objects = map (object_words w.policy) w.world.objects in
+        let procs = map (process_words w.policy) w.world.procs in
+        let one = length-map w.world.objects (object_words w.policy) in
+        let two = length-map w.world.procs (process_words w.policy) in
+        let three = length-append objects (procs ++ script_words ∷ []) in
+        let four = length-append procs (script_words ∷ []) in
+        omega arith

@@ -1,6 +1,0 @@
-use Rattle.std.proofs.Common.{◌+◌, ap}
-use Rattle.world_text.proofs.DraftLemmas.{counted}
-use Rattle.world_text.proofs.draft.count_one.Goals as goal
-
-pub returns : goal.returns
-returns c = counted c.args.counts.now c.insert.new.self c.args.label.now (c.count_at-count.result + 1) c.in_ok-insert.ensures.updates.0 (ap (λ n. n + 1) c.count_at-count.ensures)

@@ -1,0 +1,10 @@
+use Rattle.std.proofs.Common.{◌∙◌, ap}
+use Rattle.std.proofs.lemmas.Result.{IfOk-weaker}
+use Rattle.world_text.specs.Expecting.{proc_caps_of}
+use Rattle.world_text.proofs.WordLemmas.{proc_read}
+use Rattle.world_text.proofs.expecting.parse_proc_line.Goals as goal
+
+pub returns : goal.returns
+returns c =
+    IfOk-weaker c.parse_proc.result _ _
+    (λ parsed h. h ∙ proc_read c.args.policy c.args.bound c.args.builder c.args.words.now c.index-words-4.result c.proc_caps_of-caps.result c.if-words-ne5.false (c.proc_caps_of-caps.ensures ∙ ap proc_caps_of c.items.ensures)) c.parse_proc.ensures

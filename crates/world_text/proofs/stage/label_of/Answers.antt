@@ -1,6 +1,0 @@
-use Rattle.std.proofs.Common.{sym}
-use Rattle.world_text.proofs.LineLemmas.{has_form}
-use Rattle.world_text.proofs.stage.label_of.Goals as goal
-
-pub returns-in-Ok : goal.returns-in-Ok
-returns-in-Ok c = (has_form c.args.policy.now c.args.word.now c.in-Ok.label c.in-Ok.ensures.said, sym c.in-Ok.ensures.said)

@@ -1,0 +1,281 @@
+// Objects and processes of a world as they are read.
+ghost use Rattle.std.specs.Prelude.{◌≡◌, ◌+◌, ◌<◌, ◌==◌, ◌&&◌, ◌||◌, not, [], ◌∷◌, ◌++◌, nat_le, is_some, IfOk, OnOk, cond, length, None};
+ghost use Rattle.std.specs.Option.{option_map};
+ghost use Rattle.lab_lattice.specs.Label.{Label, bottom, dominates};
+ghost use Rattle.kern_model.specs.Kinds.{kind_of};
+ghost use Rattle.kern_model.specs.Kinds.{is_dir};
+ghost use Rattle.kern_model.specs.Rules.{same_label};
+ghost use Rattle.kern_model.specs.World.{given, objects_at, procs_at};
+ghost use Rattle.world_text.specs.PathEntry.{path_entry_of, count_in, is_standing_dir, is_above_standing};
+ghost use Rattle.world_text.specs.Placing.{directory_of, is_root, object_fault, process_fault};
+
+use crate::{NoMemory, WorldFault};
+use fs_path::{List, Name, NameList, Path};
+use kern_model::{Body, ObjectList, ProcList, WorldObject, WorldProc};
+use lab_lattice::{Label, Lattice, bottom};
+use std::alloc::Global;
+use std::collections::BTreeMap;
+use std::marker::Model;
+
+const MAX_OBJECTS: u32 = 65_535;
+
+const MAX_PROCS: u32 = 4_095;
+
+/// How many there are at each label.
+type Counts = BTreeMap<Label, u32>;
+
+fn count_at(counts: &Counts, label: &Label) -> u32
+    ensures { result ≡ count_in counts.now label.now }
+{
+    counts.get(label).copied().unwrap_or(0)
+}
+
+// Counts one more.
+fn count_one(counts: &mut Counts, label: &Label) -> Result<(), NoMemory>
+    requires { count_in counts.old label.now < 65535 }
+    ensures { OnOk result ((l : Label) → count_in counts.new l ≡ count_in counts.old l + cond (same_label label.now l) 1 0) }
+{
+    let count = count_at(counts, label);
+    counts.insert(*label, count + 1)?;
+    Ok(())
+}
+
+/// What stands at a path.
+#[derive(Clone, Copy)]
+pub struct PathEntry {
+    /// Whether it is a directory.
+    pub is_dir: bool,
+    pub label: Label,
+}
+
+fn is_dir(body: &Body) -> bool
+    ensures { result ≡ is_dir (kind_of body.now) }
+{
+    matches!(body, Body::Dir)
+}
+
+fn path_entry_of(object: &WorldObject) -> PathEntry
+    ensures { result ≡ path_entry_of object.now }
+{
+    PathEntry {
+        is_dir: is_dir(&object.body),
+        label: object.label,
+    }
+}
+
+fn is_standing_dir(standing: &Option<PathEntry>) -> bool
+    ensures { result ≡ is_standing_dir standing.now }
+{
+    match standing {
+        Some(standing) => standing.is_dir,
+        None => false,
+    }
+}
+
+fn is_above_standing(label: &Label, standing: &Option<PathEntry>) -> bool
+    ensures { result ≡ is_above_standing label.now standing.now }
+{
+    match standing {
+        Some(standing) => label.dominates(&standing.label),
+        None => true,
+    }
+}
+
+fn is_root(path: &Path) -> bool
+    ensures { result ≡ is_root path.now.names }
+{
+    path.components().is_empty()
+}
+
+// Whether an object is the root, or a directory stands where its directory is to be.
+fn has_parent(object: &WorldObject, directory: &Option<PathEntry>) -> bool
+    ensures { result ≡ (is_root object.now.path.names || is_standing_dir directory.now) }
+{
+    is_root(&object.path) || is_standing_dir(directory)
+}
+
+// Whether an object may be the root: a directory of the lowest label.
+fn may_be_root(object: &WorldObject) -> bool
+    ensures { result ≡ (is_dir (kind_of object.now.body) && dominates bottom object.now.label) }
+{
+    is_dir(&object.body) && bottom().dominates(&object.label)
+}
+
+// Whether an object is the root, but may not be.
+fn is_wrong_root(object: &WorldObject) -> bool
+    ensures { result ≡ (is_root object.now.path.names && not (is_dir (kind_of object.now.body) && dominates bottom object.now.label)) }
+{
+    is_root(&object.path) && !may_be_root(object)
+}
+
+fn copy_names(alloc: Global, names: &[Name]) -> Result<NameList, NoMemory>
+    ensures { IfOk result (λ copies. copies ≡ names.now) }
+{
+    let mut copies = List::new(alloc);
+    for name in names {
+        copies.push(name.copy()?)?;
+    }
+    Ok(copies)
+}
+
+/// Objects and processes in the order of their lines. Beside them stand what is at each path and how many there are at
+/// each label, so that neither is looked for or counted anew for each line.
+#[derive(Drop)]
+pub struct WorldBuilder {
+    objects: ObjectList,
+    procs: ProcList,
+    index: BTreeMap<NameList, PathEntry>,
+    object_counts: Counts,
+    proc_counts: Counts,
+}
+
+impl Model for WorldBuilder {
+    ghost use Rattle.world_text.specs.Tree.{Tree};
+    ghost use Rattle.world_text.specs.PathEntry.{IsIndexed};
+    ghost use Rattle.std.specs.Coded.{codes};
+    ghost use Rattle.std.specs.FinSet as set;
+    ghost use Rattle.cap_bits.specs.Cap.{cap_cmp, cap_code};
+    ghost use Rattle.lab_lattice.specs.Label.{label_code};
+
+    ghost Value = { Tree };
+
+    ghost coded = { Prim.hlevel (codes, set.code {R = cap_cmp} cap_code, label_code) };
+
+    ghost view = { λ d. record { objects = d.objects; procs = d.procs } };
+
+    ghost invariant = { λ d. IsIndexed (record { objects = d.objects; procs = d.procs }) d.index d.object_counts d.proc_counts };
+}
+
+impl WorldBuilder {
+    /// No object and no process.
+    pub fn new(alloc: Global) -> WorldBuilder
+        ensures { result ≡ record { objects = []; procs = [] } }
+    {
+        WorldBuilder {
+            objects: List::new(alloc),
+            procs: List::new(alloc),
+            index: BTreeMap::new(alloc),
+            object_counts: BTreeMap::new(alloc),
+            proc_counts: BTreeMap::new(alloc),
+        }
+    }
+
+    /// Whether there is no object.
+    pub fn is_empty(&self) -> bool
+        ensures { result ≡ (length self.now.objects == 0) }
+    {
+        self.objects.items().is_empty()
+    }
+
+    // What stands at a path of these names.
+    fn standing(&self, names: &NameList) -> Option<PathEntry>
+        ensures { result ≡ option_map path_entry_of (given self.now.objects names.now) }
+    {
+        self.index.get(names).copied()
+    }
+
+    // Whether an object with this path was given.
+    fn is_given(&self, path: &Path) -> bool
+        ensures { result ≡ is_some (given self.now.objects path.now.names) }
+    {
+        self.standing(&path.names).is_some()
+    }
+
+    // What stands where the path's directory is to be; the root has none.
+    fn directory_of(&self, alloc: Global, path: &Path) -> Result<Option<PathEntry>, NoMemory>
+        ensures { IfOk result (λ directory. directory ≡ option_map path_entry_of (directory_of self.now.objects path.now.names)) }
+    {
+        let names = path.components();
+        if names.is_empty() {
+            return Ok(None);
+        }
+        let parent = copy_names(alloc, &names[..names.len() - 1])?;
+        Ok(self.standing(&parent))
+    }
+
+    // Whether no number of the label is left for an object.
+    fn is_full_of_objects(&self, label: &Label) -> bool
+        ensures { result ≡ nat_le 65535 (objects_at label.now self.now.objects) }
+    {
+        count_at(&self.object_counts, label) >= MAX_OBJECTS
+    }
+
+    // Whether no number of the label is left for a process.
+    fn is_full_of_procs(&self, label: &Label) -> bool
+        ensures { result ≡ nat_le 4095 (procs_at label.now self.now.procs) }
+    {
+        count_at(&self.proc_counts, label) >= MAX_PROCS
+    }
+
+    /// Why an object can't go behind those before it, if it can't.
+    pub fn object_fault(
+        &self,
+        alloc: Global,
+        object: &WorldObject,
+    ) -> Result<Option<WorldFault>, NoMemory>
+        ensures { IfOk result (λ fault. fault ≡ object_fault self.now object.now) }
+    {
+        if self.is_given(&object.path) {
+            return Ok(Some(WorldFault::Repeated));
+        }
+        let directory = self.directory_of(alloc, &object.path)?;
+        if !has_parent(object, &directory) {
+            return Ok(Some(WorldFault::NoParent));
+        }
+        if is_wrong_root(object) {
+            return Ok(Some(WorldFault::RootLabel));
+        }
+        if !is_above_standing(&object.label, &directory) {
+            return Ok(Some(WorldFault::LabelOrder));
+        }
+        if self.is_full_of_objects(&object.label) {
+            return Ok(Some(WorldFault::TooMany));
+        }
+        Ok(None)
+    }
+
+    /// Why a process can't go behind those before it, if it can't.
+    #[tactic(auto, unfolding(crate::specs::Placing::process_fault))]
+    pub fn process_fault(&self, process: &WorldProc) -> Option<WorldFault>
+        ensures { result ≡ process_fault self.now process.now }
+    {
+        if self.is_empty() {
+            return Some(WorldFault::NoParent);
+        }
+        if self.is_full_of_procs(&process.label) {
+            return Some(WorldFault::TooMany);
+        }
+        None
+    }
+
+    /// With one more object.
+    pub fn with_object(self, alloc: Global, object: WorldObject) -> Result<WorldBuilder, NoMemory>
+        requires { object_fault self object ≡ None }
+        ensures { IfOk result (λ builder. builder ≡ record self { objects = self.objects ++ object ∷ [] }) }
+    {
+        let mut builder = self;
+        let names = copy_names(alloc, object.path.components())?;
+        builder.index.insert(names, path_entry_of(&object))?;
+        count_one(&mut builder.object_counts, &object.label)?;
+        builder.objects.push(object)?;
+        Ok(builder)
+    }
+
+    /// With one more process.
+    pub fn with_process(self, process: WorldProc) -> Result<WorldBuilder, NoMemory>
+        requires { process_fault self process ≡ None }
+        ensures { IfOk result (λ builder. builder ≡ record self { procs = self.procs ++ process ∷ [] }) }
+    {
+        let mut builder = self;
+        count_one(&mut builder.proc_counts, &process.label)?;
+        builder.procs.push(process)?;
+        Ok(builder)
+    }
+
+    /// The objects and the processes.
+    pub fn into_lists(self) -> (ObjectList, ProcList)
+        ensures { result ≡ (self.objects, self.procs) }
+    {
+        (self.objects, self.procs)
+    }
+}
