@@ -1,15 +1,14 @@
 #!/bin/sh
-# Refuses a crate above the labels' own two that looks into a label. `worked_calls` computes with labels: it may unfold `label_at`.
-# A test may make labels of their parts.
+# Refuses a crate above the labels' own two that looks into a label. A test may make labels of their parts.
 cd "$(dirname "$0")/../crates" || exit 1
 above=$(ls | grep -v -e '^lab_lattice$' -e '^lab_text$')
 allowed='lab_lattice\.specs\.Label\.|lab_lattice::\{?(Label|Lattice|bottom)(, (Label|Lattice|bottom))*\}?;|lab_lattice::bottom\(\)'
-opening='\b(bottom|dominates|label_cmp|label_at|open_pair)\b'
+opening='\b(bottom|dominates|label_cmp)\b'
 found=$(for crate in $above; do
-    grep -rnE 'lab_lattice(\.specs|::)' --include='*.rt' --include='*.antt' "$crate/src" "$crate"/specs "$crate"/proofs 2>/dev/null
+    grep -rnE 'lab_lattice(\.specs|\.proofs|::)' --include='*.rt' --include='*.antt' "$crate/src" "$crate"/specs "$crate"/proofs 2>/dev/null
 done | grep -vE "$allowed|^[a-z_]+/src/tests[./]"; for crate in $above; do
     grep -rnE "^ *unfolding.*$opening|unfolding\(.*lab_lattice|unfold .*$opening.* in " --include='*.rt' --include='*.antt' "$crate/src" "$crate"/specs "$crate"/proofs 2>/dev/null
-done | grep -vE '^worked_calls/specs/[A-Za-z]+\.antt:[0-9]+:unfolding label_at( |$)')
+done)
 if [ -n "$found" ]; then
     echo "a label's inside is named:"
     echo "$found"

@@ -78,18 +78,18 @@ pub fn two_worlds()
 {}
 
 /// The capability sets of each process that lives at the end of a run are those that the records tell. For every call.
-pub fn reported_caps()
+pub fn caps_by_records()
     ensures { (w : World) (items : List ScriptItem) (who : Pid) (p : Process) → map.get (state_after_run (boot w) items).procs who ≡ Some p → p.caps ≡ caps_of w.bound (all_recs w items) who }
 {}
 
 /// What `cap_set_proc` makes permitted was permitted, by the records before its own. For every call.
-pub fn reported_drops()
+pub fn drops_by_records()
     ensures { (w : World) (items : List ScriptItem) → OnlyDrops w.bound (all_recs w items) }
 {}
 
 /// Permitted sets grow by exec alone: each capability that the records tell to be permitted to a process was permitted to
 /// an ancestor at its start, or a program gave it to an ancestor. For every call.
-pub fn reported_growth()
+pub fn growth_by_records()
     ensures { (w : World) (items : List ScriptItem) → GrowsByExec w.bound (all_recs w items) }
 {}
 

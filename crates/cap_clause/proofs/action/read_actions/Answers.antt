@@ -10,7 +10,7 @@ begins : (c : After-split_at) → IsAction c.loop-operator.left.now c.in-Some.op
 begins c = record {
   first = sym c.in-Some.ensures.first;
   flags_are = subst (λ bytes. IsPrefix is_flag bytes c.split_at.result.0.now c.split_at.result.1.now) c.in-Some.ensures.after
-      (prefix_of is_flag c.flags_len.result c.in-Some.after.now c.split_at.result.0.now c.split_at.result.1.now c.flags_len.ensures.count c.split_at.ensures.prefix c.split_at.ensures.back);
+      (prefix_of is_flag c.flags_len.result c.in-Some.after.now c.split_at.result.0.now c.split_at.result.1.now c.flags_len.ensures.count c.split_at.ensures.front c.split_at.ensures.back);
 }
 
 pub returns-in_default : goal.returns-in_default

@@ -10,7 +10,7 @@ use Rattle.cap_clause.proofs.clause.cap_from_text.Goals as goal
 use Rattle.cap_clause.proofs.clause.cap_from_text.Goals.{After-split_at}
 
 cut : (c : After-split_at) → IsPrefix (λ b. not (is_blank b)) c.loop-left.left.now c.split_at.result.0.now c.split_at.result.1.now
-cut c = prefix_of (λ b. not (is_blank b)) c.clause_len.result c.loop-left.left.now c.split_at.result.0.now c.split_at.result.1.now c.clause_len.ensures.count c.split_at.ensures.prefix c.split_at.ensures.back
+cut c = prefix_of (λ b. not (is_blank b)) c.clause_len.result c.loop-left.left.now c.split_at.result.0.now c.split_at.result.1.now c.clause_len.ensures.count c.split_at.ensures.front c.split_at.ensures.back
 
 pub returns-then-is_empty : goal.returns-then-is_empty
 returns-then-is_empty c = record { parsed = sym (no_clause c.args.text.now c.past_blanks-left.result.now c.past_blanks-left.ensures (sym c.is_empty.ensures ∙ c.if-is_empty.true)) }

@@ -7,7 +7,7 @@ use Rattle.cap_clause.proofs.clause.read_clause.Goals as goal
 use Rattle.cap_clause.proofs.clause.read_clause.Goals.{After-split_at}
 
 cut : (c : After-split_at) → IsClause c.args.clause.now c.split_at.result.0.now c.split_at.result.1.now
-cut c = prefix_of (λ b. not (is_operator b)) c.list_len.result c.args.clause.now c.split_at.result.0.now c.split_at.result.1.now c.list_len.ensures.count c.split_at.ensures.prefix c.split_at.ensures.back
+cut c = prefix_of (λ b. not (is_operator b)) c.list_len.result c.args.clause.now c.split_at.result.0.now c.split_at.result.1.now c.list_len.ensures.count c.split_at.ensures.front c.split_at.ensures.back
 
 pub returns-in_err-caps : goal.returns-in_err-caps
 returns-in_err-caps c =

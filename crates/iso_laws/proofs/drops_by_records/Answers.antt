@@ -1,5 +1,5 @@
 use Rattle.iso_laws.proofs.Drops.{drops_are_reported}
-use Rattle.iso_laws.proofs.reported_drops.Goals as goal
+use Rattle.iso_laws.proofs.drops_by_records.Goals as goal
 
 pub returns : goal.returns
 returns c = drops_are_reported
