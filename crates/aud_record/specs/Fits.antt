@@ -32,11 +32,15 @@ abbrev pub rest_labels : Rec → List Label
 rest_labels (rec.Boot who label caps) = label ∷ []
 rest_labels (rec.Fork who child) = child.label ∷ []
 rest_labels (rec.Exec who file file_caps caps) = file.label ∷ []
+rest_labels (rec.Exit who ending) = []
+rest_labels (rec.CapSetProc who caps) = []
 rest_labels (rec.CapSetFile who file caps) = file.label ∷ []
 rest_labels (rec.MacSetProc who old new) = old ∷ new ∷ []
 rest_labels (rec.MacSetFile who object old new) = object.label ∷ old ∷ new ∷ []
 rest_labels (rec.Exercise who label cap check thing thing_label new_label place) = label ∷ label_of thing ∷ thing_label ∷ label_if new_label
-rest_labels _ = []
+rest_labels (rec.Deny who call errno check place) = []
+rest_labels (rec.Switch who on) = []
+rest_labels (rec.Note who bytes) = []
 
 -- each label of a record is valid in the policy, those of its numbers too
 unfoldable pub has_valid_labels : PolicyNames → Rec → Bool
@@ -66,15 +70,18 @@ are_bytes bytes = list_all (λ b. nat_lt b 256) bytes
 
 -- the numbers and bytes after the number of the process are in the ranges of their types
 abbrev pub RestInRange : Rec → Type 0
+RestInRange (rec.Boot who label caps) = Unit {0}
 RestInRange (rec.Fork who child) = child.n < 2 ^ 16
 RestInRange (rec.Exec who file file_caps caps) = file.n < 2 ^ 16
 RestInRange (rec.Exit who ending) = EndingInRange ending
+RestInRange (rec.CapSetProc who caps) = Unit {0}
 RestInRange (rec.CapSetFile who file caps) = file.n < 2 ^ 16
+RestInRange (rec.MacSetProc who old new) = Unit {0}
 RestInRange (rec.MacSetFile who object old new) = object.n < 2 ^ 16
 RestInRange (rec.Exercise who label cap check thing thing_label new_label place) = (count_of thing < 2 ^ 16) × PlaceInRange place
 RestInRange (rec.Deny who call errno check place) = PlaceInRange place
+RestInRange (rec.Switch who on) = Unit {0}
 RestInRange (rec.Note who bytes) = are_bytes bytes ≡ true
-RestInRange _ = Unit {0}
 
 -- the number of a call, and the numbers and bytes of its record, are in the ranges of their types, as those of every value in a program are
 pub record IsInRange (call : ℕ) (r : Rec) : Type 0 where
