@@ -14,7 +14,8 @@ use Rattle.cap_bits.specs.Cap.{cap_name, cap_named, cap_named_by, all_caps}
 use Rattle.cap_bits.specs.CapSet.{CapSet, has, no_caps, all_of_caps, with_cap, union_of, same_cap, same_cap-decides, same_sets, same_sets-decides, has-no_caps, has-union_of, has-with_cap, same_caps}
 use Rattle.cap_bits.specs.declared.cap.Cap.{Cap}
 use Rattle.cap_bits.specs.declared.cap.Cap.TheVariants.{Chown, DacExecute, DacReadSearch, DacWrite, Fowner, Fsetid, Kill, LinkDir, Setfcap, Setgid, Setuid, MacDowngrade, MacRead, MacRelabelSubj, MacUpgrade, MacWrite, AuditControl, AuditWrite}
-use Rattle.cap_clause.specs.Clauses.{is_comma, placed, first_fault, unless_fault, caps_named, piece_fault, with_piece, caps_listed, parse_list}
+use Rattle.fs_path.specs.Split.{placed}
+use Rattle.cap_clause.specs.Clauses.{first_fault, unless_fault, caps_named, piece_fault, with_piece, caps_listed, parse_list}
 use Rattle.cap_clause.proofs.Groups.{every_cap}
 use Rattle.cap_clause.proofs.Steps.{all_weaker, item_fine, without}
 use Rattle.cap_clause.specs.Written.{caps_of, list_text}
@@ -25,6 +26,9 @@ use Rattle.cap_clause.specs.declared.error.CapTextError.TheVariants as error
 -- a byte of a written name: a letter in lower case, or `_`
 abbrev pub is_name_byte : ℕ → Bool
 is_name_byte b = (nat_le 97 b && nat_le b 122) || b == 95
+
+abbrev is_comma : ℕ → Bool
+is_comma b = b == 44
 
 -- a byte of a written list: one of a name, or a comma
 abbrev pub is_list_byte : ℕ → Bool

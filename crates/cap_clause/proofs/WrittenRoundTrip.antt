@@ -12,7 +12,8 @@ use Rattle.cap_bits.specs.declared.cap.Cap.{Cap}
 use Rattle.cap_bits.specs.declared.state.CapState.{CapState}
 use Rattle.cap_bits.specs.declared.state.Flag.{Flag}
 use Rattle.cap_bits.specs.declared.state.Flag.TheVariants.{Effective, Inheritable, Permitted}
-use Rattle.cap_clause.specs.Clauses.{is_blank, is_operator, flag_of, is_flag, placed, are_some, has_bytes, clauses_of, pieces_of, caps_listed, first_fault_or, unless_fault, first_operator, operated, all_flags, clause_fault, with_clause, parse_list, first_fault, piece_fault}
+use Rattle.fs_path.specs.Split.{placed}
+use Rattle.cap_clause.specs.Clauses.{is_blank, is_operator, flag_of, is_flag, are_some, has_bytes, clauses_of, pieces_of, caps_listed, first_fault_or, unless_fault, first_operator, operated, all_flags, clause_fault, with_clause, parse_list, first_fault, piece_fault}
 use Rattle.cap_clause.proofs.Groups.{same_from, has-group_of, assigned, assigned_none, groups_round_trip}
 use Rattle.cap_clause.proofs.ListRoundTrip.{is_name_byte, is_list_byte, name_byte_range, joined_all, split_joined, list_bytes, ListsSome, lists_some, among_caps, list_round_trip, BeginsAsList, list_begins}
 use Rattle.cap_clause.specs.Reading.{parse_actions, parse_clause}
