@@ -6,7 +6,9 @@ use Rattle.std.specs.Str.{str_eq_ignore_ascii_case}
 use Rattle.std.proofs.lemmas.Bool.{and_from, cond-false, eqb-true, le-leb, ne_eqb, not_from_false, or_cases, or_from}
 use Rattle.std.proofs.lemmas.List.{append-nil}
 use Rattle.std.proofs.lemmas.List.Folds.{list_all-append}
-use Rattle.cap_bits.specs.CapSet.{CapSet, no_caps, all_of_caps, same_cap, same_sets, same_sets-decides, has-no_caps, same_caps}
+use Rattle.cap_bits.specs.CapSet.{CapSet, no_caps, all_of_caps, same_cap, same_sets}
+use Rattle.cap_bits.proofs.CapSets.{has-no_caps}
+use Rattle.cap_bits.specs.Laws.{same_sets-decides, same_caps}
 use Rattle.cap_bits.specs.State.{no_flags, has_flag}
 use Rattle.cap_bits.specs.declared.cap.Cap.{Cap}
 use Rattle.cap_bits.specs.declared.state.CapState.{CapState}

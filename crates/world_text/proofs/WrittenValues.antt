@@ -15,7 +15,8 @@ use Rattle.std.proofs.lemmas.List.{length-append}
 use Rattle.cap_bits.specs.declared.cap.Cap.{Cap}
 use Rattle.cap_bits.specs.declared.state.CapState.{CapState}
 use Rattle.cap_bits.specs.Cap.{all_caps}
-use Rattle.cap_bits.specs.CapSet.{CapSet, is_within, has-no_caps}
+use Rattle.cap_bits.specs.CapSet.{CapSet, is_within}
+use Rattle.cap_bits.proofs.CapSets.{has-no_caps}
 use Rattle.cap_bits.specs.State.{no_flags}
 use Rattle.cap_clause.specs.Written.{firsts_of, is_first, group_text, clauses_text, caps_text, set_text}
 use Rattle.cap_clause.proofs.WrittenRoundTrip.{caps_round_trip, caps_text_exact, set_round_trip, caps_text_plain, set_text_bare, set_text_some}
