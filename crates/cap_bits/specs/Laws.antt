@@ -20,6 +20,8 @@ use Rattle.std.proofs.lemmas.Nat.{shr-shr}
 use Rattle.std.proofs.Math.Nat.{pow-suc}
 use Rattle.cap_bits.specs.Word.{in_word, caps_of_word, word_of_bits, word_of_caps}
 
+-- ---- capabilities
+
 pub same_number : (a b : Cap) → cap_number a ≡ cap_number b → a ≡ b
 same_number a b e = sym (cap_at-number a) ∙ ap cap_at e ∙ cap_at-number b
 
@@ -30,6 +32,8 @@ cap_cmp_total = on_total cap_number nat_cmp_total
 pub cap_cmp_exact : IsAntisymmetric cap_cmp
 unfolding cap_cmp
 cap_cmp_exact a b e = same_number a b (exact_unsigned (cap_number a) (cap_number b) e)
+
+-- ---- sets of capabilities
 
 listed : (cap : Cap) → list_any (eq_by_cmp cap_cmp cap) all_caps ≡ true
 unfolding cap_cmp
@@ -83,6 +87,8 @@ same_sets-decides a b = (
 
 pub same_sets-equiv : IsEquivalence same_sets
 same_sets-equiv = decided same_sets same_sets-decides
+
+-- ---- sets as the bits of a number
 
 pub has-caps_of_word : (word : ℕ) (cap : Cap) → has (caps_of_word word) cap ≡ in_word word cap
 unfolding caps_of_word

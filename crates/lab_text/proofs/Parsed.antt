@@ -11,7 +11,8 @@ use Rattle.std.proofs.lemmas.List.Folds.{list_all_at}
 use Rattle.std.proofs.lemmas.List.Elements.{All-nil, All-cons}
 use Rattle.std.proofs.lemmas.List.Splits.{slice_split_none, slice_split_at}
 use Rattle.std.proofs.lemmas.Option.{same_Some}
-use Rattle.lab_lattice.specs.Cats.{CatSet, has_cat, cats_cover, has-cover, cover-has, same_cats}
+use Rattle.lab_lattice.specs.Cats.{CatSet, has_cat, cats_cover}
+use Rattle.lab_lattice.specs.Laws.{has-cover, cover-has, same_cats}
 use Rattle.lab_lattice.specs.Label.{Label}
 use Rattle.lab_lattice.specs.Level.{level_covers}
 use Rattle.lab_lattice.specs.Pair.{pair_parts, covers_first, covers_second}
