@@ -19,7 +19,7 @@ use Rattle.cap_clause.specs.Parsed.{parse_caps}
 use Rattle.cap_clause.specs.Written.{caps_text}
 use Rattle.cap_clause.proofs.WrittenRoundTrip.{caps_round_trip, caps_text_plain}
 use Rattle.fs_path.proofs.RoundTrip.{decimal_bare}
-use Rattle.fs_path.specs.Lines.{cut}
+use Rattle.fs_path.specs.Split.{split_once}
 use Rattle.fs_path.specs.Options.{keep_if}
 use Rattle.fs_path.specs.Words.{is_bare, is_plain, is_bare_text, quoted_text}
 use Rattle.lab_lattice.specs.Label.{Label}
@@ -49,7 +49,7 @@ use Rattle.aud_record.proofs.ListedLaws.{event_round_trip, cap_round_trip}
 use Rattle.aud_record.proofs.Numbers.{same_itself, same_is, kept_is, number_is, number_round_trip}
 use Rattle.aud_record.proofs.Quoted.{unquoted_bytes, quoted_unquoted, plain_small}
 use Rattle.aud_record.specs.Canonical.{canonical_number, canonical_label, canonical_numbered, canonical_pid, canonical_oid, after_prefix, canonical_thing, canonical_new_label, canonical_step, canonical_place, unquoted, canonical_bytes, canonical_caps, canonical_choice}
-use Rattle.aud_record.proofs.WordLaws.{lacks, lacks-append, cut_round_trip, cut_is, IsWord}
+use Rattle.aud_record.proofs.WordLaws.{lacks, lacks-append, split_round_trip, split_is, IsWord}
 use Rattle.aud_record.specs.Written.{pid_text, oid_text, caps_word, thing_text, new_label_text}
 use Rattle.aud_record.specs.declared.event.Event.{Event}
 use Rattle.aud_record.specs.declared.event.Event.TheVariants as event
@@ -146,9 +146,9 @@ digits_lack at n high = decimal_by_steps (λ n ds. lacks at ds ≡ true) (λ n s
 
 numbered_is : (p : PolicyNames) (word : List ℕ) (n : ℕ) (label : Label) → canonical_numbered p word ≡ Some (n, label) → Spells word (numbered_text p n label) (numbered_fits p n label)
 unfolding canonical_numbered numbered_text
-numbered_is p word n label h = by_cut (cut 64 word) refl h
+numbered_is p word n label h = by_split (split_once 64 word) refl h
   where
-    by_label : (prefix rest : List ℕ) (m : ℕ) (o : Option Label) → cut 64 word ≡ Some (prefix, rest) → canonical_number (2 ^ 16) prefix ≡ Some m → canonical_label p rest ≡ o → option_map {U = ℕ × Label} (λ l. (m, l)) o ≡ Some (n, label)
+    by_label : (prefix rest : List ℕ) (m : ℕ) (o : Option Label) → split_once 64 word ≡ Some (prefix, rest) → canonical_number (2 ^ 16) prefix ≡ Some m → canonical_label p rest ≡ o → option_map {U = ℕ × Label} (λ l. (m, l)) o ≡ Some (n, label)
         → Spells word (decimal n ++ 64 ∷ label_text p label) (numbered_fits p n label)
     by_label prefix rest m None parted number parsed h = absurd (cc)
     by_label prefix rest m (Some l) parted number parsed h =
@@ -156,20 +156,20 @@ numbered_is p word n label h = by_cut (cut 64 word) refl h
         let first = number_is (2 ^ 16) m prefix number in
         let second = label_is p rest l parsed in
         record {
-          text_is = cut_is 64 word prefix rest parted ∙ (λ i. first.text i ++ 64 ∷ second.text_is i) ∙ (λ i. decimal (parts.0 i) ++ 64 ∷ label_text p (parts.1 i));
+          text_is = split_is 64 word prefix rest parted ∙ (λ i. first.text i ++ 64 ∷ second.text_is i) ∙ (λ i. decimal (parts.0 i) ++ 64 ∷ label_text p (parts.1 i));
           fit = sym (λ i. numbered_fits p (parts.0 i) (parts.1 i)) ∙ and_from (nat_lt m (2 ^ 16)) (is_valid p l) (lt-ltb m (2 ^ 16) first.small) second.fit;
         }
 
-    by_number : (prefix rest : List ℕ) (o : Option ℕ) → cut 64 word ≡ Some (prefix, rest) → canonical_number (2 ^ 16) prefix ≡ o → option_and_then {U = ℕ × Label} (λ n. option_map (λ label. (n, label)) (canonical_label p rest)) o ≡ Some (n, label)
+    by_number : (prefix rest : List ℕ) (o : Option ℕ) → split_once 64 word ≡ Some (prefix, rest) → canonical_number (2 ^ 16) prefix ≡ o → option_and_then {U = ℕ × Label} (λ n. option_map (λ label. (n, label)) (canonical_label p rest)) o ≡ Some (n, label)
         → Spells word (decimal n ++ 64 ∷ label_text p label) (numbered_fits p n label)
     by_number prefix rest None parted number h = absurd (cc)
     by_number prefix rest (Some m) parted number h = by_label prefix rest m (canonical_label p rest) parted number refl h
 
-    by_cut : (o : Option (List ℕ × List ℕ)) → cut 64 word ≡ o
+    by_split : (o : Option (List ℕ × List ℕ)) → split_once 64 word ≡ o
         → option_and_then {U = ℕ × Label} (λ (parts : List ℕ × List ℕ). option_and_then (λ n. option_map (λ label. (n, label)) (canonical_label p parts.1)) (canonical_number (2 ^ 16) parts.0)) o ≡ Some (n, label)
         → Spells word (decimal n ++ 64 ∷ label_text p label) (numbered_fits p n label)
-    by_cut None parted h = absurd (cc)
-    by_cut (Some (prefix, rest)) parted h = by_number prefix rest (canonical_number (2 ^ 16) prefix) parted refl h
+    by_split None parted h = absurd (cc)
+    by_split (Some (prefix, rest)) parted h = by_number prefix rest (canonical_number (2 ^ 16) prefix) parted refl h
 
 numbered_round_trip : (p : PolicyNames) (n : ℕ) (label : Label) → MakePolicy p → numbered_fits p n label ≡ true → canonical_numbered p (numbered_text p n label) ≡ Some (n, label)
 unfolding canonical_numbered numbered_text
@@ -177,7 +177,7 @@ numbered_round_trip p n label h fits =
     let parts = and_parts (nat_lt n (2 ^ 16)) (is_valid p label) fits in
     let small = ltb-true n (2 ^ 16) parts.0 in
     ap (option_and_then {U = ℕ × Label} (λ (parts : List ℕ × List ℕ). option_and_then (λ n. option_map (λ label. (n, label)) (canonical_label p parts.1)) (canonical_number (2 ^ 16) parts.0)))
-    (cut_round_trip 64 (decimal n) (label_text p label) (digits_lack 64 n (omega arith) (omega arith)))
+    (split_round_trip 64 (decimal n) (label_text p label) (digits_lack 64 n (omega arith) (omega arith)))
     ∙ ap (option_and_then {U = ℕ × Label} (λ n. option_map (λ label. (n, label)) (canonical_label p (label_text p label)))) (number_round_trip (2 ^ 16) n small (omega arith))
     ∙ ap (option_map {U = ℕ × Label} (λ label. (n, label))) (label_round_trip p label h parts.1)
 

@@ -4,7 +4,8 @@ use Rattle.std.specs.Bool.{then_some}
 use Rattle.std.specs.Str.{str_to_ascii_lowercase}
 use Rattle.std.proofs.Common.{ap, sym, ◌∙◌}
 use Rattle.std.proofs.lemmas.Bool.{both_ways}
-use Rattle.cap_bits.specs.Cap.{cap_name, cap_named, cap_named_by, all_caps}
+use Rattle.cap_bits.specs.Cap.{cap_name, cap_named, all_caps}
+use Rattle.cap_bits.proofs.Names.{cap_named_by}
 use Rattle.cap_bits.specs.declared.cap.Cap.{Cap}
 use Rattle.cap_bits.specs.declared.cap.Cap.TheVariants as cap
 use Rattle.lab_text.specs.Names.{same_bytes}

@@ -5,7 +5,7 @@ use Rattle.std.specs.Fmt.{decimal}
 use Rattle.std.proofs.lemmas.Bool.{and_parts, and_from}
 use Rattle.std.proofs.lemmas.List.{append-nil, length-append, take_at, drop_at}
 use Rattle.fs_path.proofs.RoundTrip.{decimal_bare}
-use Rattle.fs_path.specs.Lines.{cut}
+use Rattle.fs_path.specs.Split.{split_once}
 use Rattle.fs_path.specs.Words.{is_apart, after_spaces, line_text}
 use Rattle.lab_text.specs.Policy.{PolicyNames, MakePolicy}
 use Rattle.kern_model.specs.declared.numbers.Pid.{Pid}
@@ -20,7 +20,7 @@ use Rattle.aud_record.proofs.KindLaws.{form_wide, of_kind, made_by}
 use Rattle.aud_record.proofs.Numbers.{number_is, number_round_trip}
 use Rattle.aud_record.specs.Parsed.{parse_line, line_read, read_by, parse_rec}
 use Rattle.aud_record.specs.Canonical.{canonical_number, canonical_pid}
-use Rattle.aud_record.proofs.WordLaws.{lacks, lacks-append, cut_round_trip, cut_is, word_lacks}
+use Rattle.aud_record.proofs.WordLaws.{lacks, lacks-append, split_round_trip, split_is, word_lacks}
 use Rattle.aud_record.specs.Words.{◌>>=◌, parse_word, parse_field}
 use Rattle.aud_record.specs.Written.{rest_words, rec_words, line_of, rec_text, pid_text}
 use Rattle.aud_record.specs.declared.event.Event.{Event}
@@ -91,7 +91,7 @@ pub rec_round_trip : (p : PolicyNames) (call : ℕ) (r : Rec) (rest : List ℕ) 
 unfolding parse_rec rec_text line_of
 rec_round_trip p call r rest h small fits =
     let line = line_text_of p call r in
-    ap (λ t. read_by p (cut 10 t)) (append_assoc line (10 ∷ []) rest) ∙ ap (read_by p) (cut_round_trip 10 line rest (line_lacks p call r h small fits)) ∙ ap (line_read (length line)) (line_round_trip p call r h small fits)
+    ap (λ t. read_by p (split_once 10 t)) (append_assoc line (10 ∷ []) rest) ∙ ap (read_by p) (split_round_trip 10 line rest (line_lacks p call r h small fits)) ∙ ap (line_read (length line)) (line_round_trip p call r h small fits)
     ∙ ap (λ (n : ℕ). Ok (record { call = call; rec = r; used = n })) (sym (length-append line (10 ∷ [])))
 
 -- ---- what is read is written so
@@ -143,20 +143,20 @@ pub record IsRead (p : PolicyNames) (text : List ℕ) (read : ReadRec) : Type 0 
 
 pub rec_is : (p : PolicyNames) (text : List ℕ) (read : ReadRec) → parse_rec p text ≡ Ok read → IsRead p text read
 unfolding parse_rec rec_text line_of
-rec_is p text read h = by_cut (cut 10 text) refl h
+rec_is p text read h = by_split (split_once 10 text) refl h
   where
-    by_line : (line rest : List ℕ) (parsed : Result (ℕ × Rec) Fault) → cut 10 text ≡ Some (line, rest) → parse_line p line ≡ parsed → line_read (length line) parsed ≡ Ok read → IsRead p text read
+    by_line : (line rest : List ℕ) (parsed : Result (ℕ × Rec) Fault) → split_once 10 text ≡ Some (line, rest) → parse_line p line ≡ parsed → line_read (length line) parsed ≡ Ok read → IsRead p text read
     by_line line rest (Err e) parted parsed h = absurd (cc)
     by_line line rest (Ok (call, r)) parted parsed h =
         let same : record { call = call; rec = r; used = length line + 1 } ≡ read = cc in
         let is = line_is p line call r parsed in
-        let whole : text ≡ (line ++ 10 ∷ []) ++ rest = cut_is 10 text line rest parted ∙ sym (append_assoc line (10 ∷ []) rest) in
+        let whole : text ≡ (line ++ 10 ∷ []) ++ rest = split_is 10 text line rest parted ∙ sym (append_assoc line (10 ∷ []) rest) in
         let size = length-append line (10 ∷ []) in
         subst (IsRead p text) same (record { small = is.small; fit = is.fit; prefix = ap (take (length line + 1)) whole ∙ take_at (line ++ 10 ∷ []) rest (length line + 1) size ∙ ap (λ l. l ++ 10 ∷ []) is.text })
 
-    by_cut : (o : Option (List ℕ × List ℕ)) → cut 10 text ≡ o → read_by p o ≡ Ok read → IsRead p text read
-    by_cut None parted h = absurd (cc)
-    by_cut (Some (line, rest)) parted h = by_line line rest (parse_line p line) parted refl h
+    by_split : (o : Option (List ℕ × List ℕ)) → split_once 10 text ≡ o → read_by p o ≡ Ok read → IsRead p text read
+    by_split None parted h = absurd (cc)
+    by_split (Some (line, rest)) parted h = by_line line rest (parse_line p line) parted refl h
 
 -- ---- no line begins another
 

@@ -6,7 +6,7 @@ use Rattle.std.proofs.lemmas.Bool.{and_parts, and_from, and_right, or_parts, con
 use Rattle.std.proofs.lemmas.Option.{some_pair_parts}
 use Rattle.std.proofs.lemmas.List.{length-append, take_at, drop_at}
 use Rattle.std.proofs.lemmas.List.Folds.{list_all-append}
-use Rattle.fs_path.specs.Lines.{cut}
+use Rattle.fs_path.specs.Split.{split_once}
 use Rattle.fs_path.specs.Words.{is_space, is_plain, is_bare, is_bare_text, is_apart, hex_digit, item_text, quoted_text, onto_piece}
 use Rattle.aud_record.specs.Words.{quoted_len, word_len, first_word, after_word}
 
@@ -19,30 +19,30 @@ lacks at text = list_all (λ b. not (b == at)) text
 pub lacks-append : (at : ℕ) (a b : List ℕ) → lacks at a ≡ true → lacks at b ≡ true → lacks at (a ++ b) ≡ true
 lacks-append at a b first second = list_all-append (λ b. not (b == at)) a b ∙ and_from (lacks at a) (lacks at b) first second
 
--- a text is cut at the first such byte
-pub cut_round_trip : (at : ℕ) (prefix rest : List ℕ) → lacks at prefix ≡ true → cut at (prefix ++ at ∷ rest) ≡ Some (prefix, rest)
-unfolding cut
-cut_round_trip at [] rest none = ap (λ v. cond v (Some ([], rest)) (onto_piece at (cut at rest))) (same at)
+-- a text is split at the first such byte
+pub split_round_trip : (at : ℕ) (prefix rest : List ℕ) → lacks at prefix ≡ true → split_once at (prefix ++ at ∷ rest) ≡ Some (prefix, rest)
+unfolding split_once
+split_round_trip at [] rest none = ap (λ v. cond v (Some ([], rest)) (onto_piece at (split_once at rest))) (same at)
   where
     same : (n : ℕ) → (n == n) ≡ true
     same n = eq-eqb n n refl
-cut_round_trip at (b ∷ bs) rest none =
+split_round_trip at (b ∷ bs) rest none =
     let parts = and_parts (not (b == at)) (lacks at bs) none in
-    ap (λ v. cond v (Some ([], bs ++ at ∷ rest)) (onto_piece b (cut at (bs ++ at ∷ rest)))) (not-true (b == at) parts.0) ∙ ap (onto_piece b) (cut_round_trip at bs rest parts.1)
+    ap (λ v. cond v (Some ([], bs ++ at ∷ rest)) (onto_piece b (split_once at (bs ++ at ∷ rest)))) (not-true (b == at) parts.0) ∙ ap (onto_piece b) (split_round_trip at bs rest parts.1)
 
--- what a cut parts
-pub cut_is : (at : ℕ) (text prefix rest : List ℕ) → cut at text ≡ Some (prefix, rest) → text ≡ prefix ++ at ∷ rest
-unfolding cut
-cut_is at [] prefix rest h = absurd (cc)
-cut_is at (b ∷ bs) prefix rest h = by_test (b == at) refl (λ f r e. cut_is at bs f r e) h
+-- the parts of a text that was split
+pub split_is : (at : ℕ) (text prefix rest : List ℕ) → split_once at text ≡ Some (prefix, rest) → text ≡ prefix ++ at ∷ rest
+unfolding split_once
+split_is at [] prefix rest h = absurd (cc)
+split_is at (b ∷ bs) prefix rest h = by_test (b == at) refl (λ f r e. split_is at bs f r e) h
   where
     by_rest : (o : Option (List ℕ × List ℕ)) → ((f r : List ℕ) → o ≡ Some (f, r) → bs ≡ f ++ at ∷ r) → onto_piece b o ≡ Some (prefix, rest) → b ∷ bs ≡ prefix ++ at ∷ rest
     by_rest None more h = absurd (cc)
     by_rest (Some (f, r)) more h = let parts = some_pair_parts (b ∷ f) prefix r rest h in ap (λ t. b ∷ t) (more f r refl) ∙ (λ i. parts.0 i ++ at ∷ parts.1 i)
 
-    by_test : (v : Bool) → (b == at) ≡ v → ((f r : List ℕ) → cut at bs ≡ Some (f, r) → bs ≡ f ++ at ∷ r) → cond v (Some ([], bs)) (onto_piece b (cut at bs)) ≡ Some (prefix, rest) → b ∷ bs ≡ prefix ++ at ∷ rest
+    by_test : (v : Bool) → (b == at) ≡ v → ((f r : List ℕ) → split_once at bs ≡ Some (f, r) → bs ≡ f ++ at ∷ r) → cond v (Some ([], bs)) (onto_piece b (split_once at bs)) ≡ Some (prefix, rest) → b ∷ bs ≡ prefix ++ at ∷ rest
     by_test true e more h = let parts = some_pair_parts [] prefix bs rest h in (λ i. eqb-true b at e i ∷ bs) ∙ (λ i. parts.0 i ++ at ∷ parts.1 i)
-    by_test false e more h = by_rest (cut at bs) more h
+    by_test false e more h = by_rest (split_once at bs) more h
 
 -- ---- items between quotes
 

@@ -6,7 +6,7 @@ use Rattle.std.specs.Result.{result_ok}
 use Rattle.std.specs.Str.Parse.{digits_value}
 use Rattle.cap_bits.specs.declared.state.CapState.{CapState}
 use Rattle.cap_clause.specs.Parsed.{parse_caps}
-use Rattle.fs_path.specs.Lines.{cut}
+use Rattle.fs_path.specs.Split.{split_once}
 use Rattle.fs_path.specs.Options.{keep_if}
 use Rattle.fs_path.specs.Words.{words_of, quoted_text}
 use Rattle.fs_path.specs.declared.words.LineWord.{LineWord}
@@ -33,7 +33,7 @@ canonical_label p word = option_and_then (λ label. keep_if (is_valid p label &&
 -- the number and the label in `n@label`
 unfoldable pub canonical_numbered : PolicyNames → List ℕ → Option (ℕ × Label)
 canonical_numbered p word =
-    option_and_then (λ (parts : List ℕ × List ℕ). option_and_then (λ n. option_map (λ label. (n, label)) (canonical_label p parts.1)) (canonical_number (2 ^ 16) parts.0)) (cut 64 word)
+    option_and_then (λ (parts : List ℕ × List ℕ). option_and_then (λ n. option_map (λ label. (n, label)) (canonical_label p parts.1)) (canonical_number (2 ^ 16) parts.0)) (split_once 64 word)
 
 abbrev pub canonical_pid : PolicyNames → List ℕ → Option Pid
 canonical_pid p word = option_map (λ (x : ℕ × Label). record { label = x.1; n = x.0 }) (canonical_numbered p word)

@@ -1,6 +1,6 @@
 -- The record with which a text begins.
 use Rattle.std.specs.Prelude.{◌≡◌, ℕ, ◌+◌, ◌-◌, ◌^◌, true, false, List, length, Option, None, Some, Result, Ok, Err}
-use Rattle.fs_path.specs.Lines.{cut}
+use Rattle.fs_path.specs.Split.{split_once}
 use Rattle.lab_text.specs.Policy.{PolicyNames}
 use Rattle.kern_model.specs.declared.records.Rec.{Rec}
 use Rattle.kern_model.specs.Named.{named}
@@ -40,7 +40,7 @@ read_by p (Some parts) = line_read (length parts.0) (parse_line p parts.0)
 
 -- the record whose text a text begins with, or why there is none
 unfoldable pub parse_rec : PolicyNames → List ℕ → Result ReadRec RecError
-parse_rec p text = read_by p (cut 10 text)
+parse_rec p text = read_by p (split_once 10 text)
 
 -- what a function answers is what a text says, unless memory ran out
 abbrev pub Answers : Result ReadRec RecError → Result ReadRec RecError → Type 0

@@ -8,7 +8,7 @@ ghost use Rattle.aud_record.specs.Canonical.{canonical_number, canonical_label, 
 use crate::NoMemory;
 use cap_bits::{Cap, CapState};
 use cap_clause::{cap_from_text, cap_to_text};
-use fs_path::{ByteList, cut, put_quoted, words_of};
+use fs_path::{ByteList, put_quoted, split_once, words_of};
 use kern_model::{Oid, Pid, Place, Thing};
 use lab_lattice::Label;
 use lab_text::{Policy, mac_from_text, mac_to_text};
@@ -73,7 +73,7 @@ fn canonical_numbered(
 ) -> Result<Option<(u16, Label)>, NoMemory>
     ensures { IfOk result (λ parsed. parsed ≡ canonical_numbered policy.now word.now) }
 {
-    let Some((digits, after)) = cut(word, b'@') else {
+    let Some((digits, after)) = split_once(word, b'@') else {
         return Ok(None);
     };
     let Some(n) = canonical_u16(alloc, digits)? else {

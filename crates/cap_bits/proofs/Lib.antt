@@ -1,2 +1,5 @@
-mod Words
-mod Names
+pub mod Caps
+pub mod Names
+pub mod CapSets
+pub mod States
+pub mod Words

@@ -8,9 +8,12 @@ use Rattle.std.proofs.lemmas.Bool.Decides.{nat_tests, Decides-eqb, same_from_dec
 use Rattle.std.proofs.lemmas.Nat.{and_le_l, or_lt, one_shl, pow_below}
 use Rattle.std.proofs.lemmas.Nat.Bits.{bit_at-lt, bit_at-zero, bit_at_and, bit_at_or, bit_at_not, bit_at_ones, bit_at_set_same, bit_at_set_other, bit_at_clear_same, bit_at_clear_other}
 use Rattle.cap_bits.specs.declared.cap.Cap.{Cap}
-use Rattle.cap_bits.specs.Cap.{cap_number, few_caps}
-use Rattle.cap_bits.specs.Word.{in_word, caps_of_word, word_of_caps, word_back, has-caps_of_word}
-use Rattle.cap_bits.specs.CapSet.{CapSet, has, no_caps, all_of_caps, with_cap, without_cap, union_of, meet_of, minus_of, is_within, same_cap-number, has-no_caps, has-all_of_caps, has-with_cap, has-without_cap, has-union_of, has-meet_of, has-minus_of, has-within, within-has, same_caps, same_sets, same_sets-decides}
+use Rattle.cap_bits.specs.Cap.{cap_number}
+use Rattle.cap_bits.proofs.Caps.{few_caps}
+use Rattle.cap_bits.specs.Word.{in_word, caps_of_word, word_of_caps}
+use Rattle.cap_bits.specs.Laws.{word_back, has-caps_of_word, has-all_of_caps, has-within, within-has, same_caps, same_sets-decides}
+use Rattle.cap_bits.specs.CapSet.{CapSet, has, no_caps, all_of_caps, with_cap, without_cap, union_of, meet_of, minus_of, is_within, same_sets}
+use Rattle.cap_bits.proofs.CapSets.{same_cap-number, has-no_caps, has-with_cap, has-without_cap, has-union_of, has-meet_of, has-minus_of}
 
 -- a number stands for the set whose members its bits are
 caps_by_bits : (word : ℕ) (s : CapSet) → ((q : Cap) → in_word word q ≡ has s q) → caps_of_word word ≡ s

@@ -1,4 +1,5 @@
 pub mod Cap
 pub mod CapSet
-pub mod Word
 pub mod State
+pub mod Word
+pub mod Laws

@@ -1,7 +1,8 @@
 // Sets of capabilities.
 ghost use Rattle.std.specs.Prelude.{◌≡◌};
 ghost use Rattle.std.specs.Cmp.{partial_equiv_from_equiv};
-ghost use Rattle.cap_bits.specs.CapSet.{no_caps, all_of_caps, has, with_cap, without_cap, union_of, meet_of, minus_of, is_within, same_sets, same_sets-equiv};
+ghost use Rattle.cap_bits.specs.CapSet.{no_caps, all_of_caps, has, with_cap, without_cap, union_of, meet_of, minus_of, is_within, same_sets};
+ghost use Rattle.cap_bits.specs.Laws.{same_sets-equiv};
 
 use crate::Cap;
 use std::marker::Model;
@@ -19,7 +20,8 @@ impl Model for CapSet {
     ghost use Rattle.std.specs.Prelude.{◌<◌, ◌^◌};
     ghost use Rattle.std.specs.FinSet as set;
     ghost use Rattle.cap_bits.specs.Cap.{cap_cmp, cap_code};
-    ghost use Rattle.cap_bits.specs.Word.{caps_of_word, word_of_caps, word_back};
+    ghost use Rattle.cap_bits.specs.Word.{caps_of_word, word_of_caps};
+    ghost use Rattle.cap_bits.specs.Laws.{word_back};
 
     ghost Value = { set.FinSet cap_cmp };
 

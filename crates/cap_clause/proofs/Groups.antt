@@ -7,8 +7,11 @@ use Rattle.std.specs.List.{filter, list_any}
 use Rattle.std.proofs.Math.Bool.{and-true}
 use Rattle.std.proofs.lemmas.Bool.{and_from, and_parts, ltb-true, or_left, or_right}
 use Rattle.std.proofs.lemmas.Map.Views.{any-filter_same}
-use Rattle.cap_bits.specs.Cap.{cap_number, all_caps, cap_cmp_exact, cap_cmp_total}
-use Rattle.cap_bits.specs.CapSet.{CapSet, has, all_of_caps, same_cap, same_cap-decides, has-no_caps, has-all_of_caps, has-union_of, has-minus_of, same_caps}
+use Rattle.cap_bits.specs.Cap.{cap_number, all_caps}
+use Rattle.cap_bits.specs.Laws.{cap_cmp_exact, cap_cmp_total}
+use Rattle.cap_bits.specs.CapSet.{CapSet, has, all_of_caps, same_cap}
+use Rattle.cap_bits.proofs.CapSets.{same_cap-decides, has-no_caps, has-union_of, has-minus_of}
+use Rattle.cap_bits.specs.Laws.{has-all_of_caps, same_caps}
 use Rattle.cap_bits.specs.State.{no_flags, has_flag, same_flag}
 use Rattle.cap_bits.specs.declared.cap.Cap.{Cap}
 use Rattle.cap_bits.specs.declared.state.CapState.{CapState}

@@ -1,4 +1,3 @@
-pub mod ListLemmas
 pub mod ReadLemmas
 pub mod WriteLemmas
 pub mod Groups

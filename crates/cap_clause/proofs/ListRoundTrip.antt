@@ -10,11 +10,15 @@ use Rattle.std.proofs.lemmas.Bool.{and_from, and_parts, cond-false, eqb-true, le
 use Rattle.std.proofs.lemmas.List.Folds.{list_all-append}
 use Rattle.std.proofs.lemmas.List.Splits.{slice_split_at, slice_split_none}
 use Rattle.std.proofs.lemmas.Map.Views.{any-filter_same}
-use Rattle.cap_bits.specs.Cap.{cap_name, cap_named, cap_named_by, all_caps}
-use Rattle.cap_bits.specs.CapSet.{CapSet, has, no_caps, all_of_caps, with_cap, union_of, same_cap, same_cap-decides, same_sets, same_sets-decides, has-no_caps, has-union_of, has-with_cap, same_caps}
+use Rattle.cap_bits.specs.Cap.{cap_name, cap_named, all_caps}
+use Rattle.cap_bits.proofs.Names.{cap_named_by}
+use Rattle.cap_bits.specs.CapSet.{CapSet, has, no_caps, all_of_caps, with_cap, union_of, same_cap, same_sets}
+use Rattle.cap_bits.proofs.CapSets.{same_cap-decides, has-no_caps, has-union_of, has-with_cap}
+use Rattle.cap_bits.specs.Laws.{same_sets-decides, same_caps}
 use Rattle.cap_bits.specs.declared.cap.Cap.{Cap}
 use Rattle.cap_bits.specs.declared.cap.Cap.TheVariants.{Chown, DacExecute, DacReadSearch, DacWrite, Fowner, Fsetid, Kill, LinkDir, Setfcap, Setgid, Setuid, MacDowngrade, MacRead, MacRelabelSubj, MacUpgrade, MacWrite, AuditControl, AuditWrite}
-use Rattle.cap_clause.specs.Clauses.{is_comma, placed, first_fault, unless_fault, caps_named, piece_fault, with_piece, caps_listed, parse_list}
+use Rattle.fs_path.specs.Split.{placed}
+use Rattle.cap_clause.specs.Clauses.{first_fault, unless_fault, caps_named, piece_fault, with_piece, caps_listed, parse_list}
 use Rattle.cap_clause.proofs.Groups.{every_cap}
 use Rattle.cap_clause.proofs.Steps.{all_weaker, item_fine, without}
 use Rattle.cap_clause.specs.Written.{caps_of, list_text}
@@ -25,6 +29,9 @@ use Rattle.cap_clause.specs.declared.error.CapTextError.TheVariants as error
 -- a byte of a written name: a letter in lower case, or `_`
 abbrev pub is_name_byte : ℕ → Bool
 is_name_byte b = (nat_le 97 b && nat_le b 122) || b == 95
+
+abbrev is_comma : ℕ → Bool
+is_comma b = b == 44
 
 -- a byte of a written list: one of a name, or a comma
 abbrev pub is_list_byte : ℕ → Bool

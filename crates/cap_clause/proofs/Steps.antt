@@ -11,7 +11,8 @@ use Rattle.std.proofs.lemmas.List.Elements.{All-nil, All-cons}
 use Rattle.std.proofs.lemmas.List.Splits.{slice_split_at, slice_split_none}
 use Rattle.cap_bits.specs.CapSet.{CapSet, all_of_caps}
 use Rattle.cap_bits.specs.declared.state.CapState.{CapState}
-use Rattle.cap_clause.specs.Clauses.{is_blank, operator_of, is_operator, flag_of, is_flag, Placed, placed, has_bytes, clauses_of, pieces_of, first_fault, first_fault_or, unless_fault, piece_fault, caps_listed, Action, actions_in, needs_flag, action_fault, with_action, operated, first_operator, list_in, actions_fault, clause_fault_by, clause_fault, with_clause}
+use Rattle.fs_path.specs.Split.{Piece, placed}
+use Rattle.cap_clause.specs.Clauses.{is_blank, operator_of, is_operator, flag_of, is_flag, has_bytes, clauses_of, pieces_of, first_fault, first_fault_or, unless_fault, piece_fault, caps_listed, Action, actions_in, needs_flag, action_fault, with_action, operated, first_operator, list_in, actions_fault, clause_fault_by, clause_fault, with_clause}
 use Rattle.cap_clause.specs.Reading.{parse_actions, parse_clause}
 use Rattle.cap_clause.specs.declared.action.Operator.{Operator}
 use Rattle.cap_clause.specs.declared.action.Operator.TheVariants.{Assign, Raise, Lower}
@@ -239,7 +240,7 @@ one_at_least missing at b bs operator is =
     ∙ sym (ap (λ (o : Option Operator). first_fault action_fault (actions_by at bs o)) is)
 
 -- a clause's actions, of which there must be one
-abbrev actions_meant : Placed → CapSet → CapState → Result CapState CapTextError
+abbrev actions_meant : Piece → CapSet → CapState → Result CapState CapTextError
 actions_meant clause caps s = unless_fault (actions_fault clause) (fold (with_action caps) s (actions_in clause.at clause.bytes))
 
 meant_after : (at : ℕ) (caps : CapSet) (list actions : List ℕ) (s : CapState) → list_all (λ b. not (is_operator b)) list ≡ true → Stops (λ b. not (is_operator b)) actions
@@ -321,15 +322,15 @@ fault_in None v e is = absurd (cc)
 fault_in (Some f) v e is = cc
 
 -- what a clause and the next ones make of a state
-abbrev pub parse_clauses : List Placed → CapState → Result CapState CapTextError
+abbrev pub parse_clauses : List Piece → CapState → Result CapState CapTextError
 parse_clauses clauses s = unless_fault (first_fault clause_fault clauses) (fold with_clause s clauses)
 
-pub clause_taken : (clause : Placed) (clauses : List Placed) (s after : CapState) → parse_clause s clause ≡ Ok after → parse_clauses (clause ∷ clauses) s ≡ parse_clauses clauses after
+pub clause_taken : (clause : Piece) (clauses : List Piece) (s after : CapState) → parse_clause s clause ≡ Ok after → parse_clauses (clause ∷ clauses) s ≡ parse_clauses clauses after
 unfolding parse_clause
 clause_taken clause clauses s after is =
     let fine = no_fault_in _ _ after is in
     item_fine clause_fault with_clause s clause clauses fine.0 ∙ ap (parse_clauses clauses) fine.1
 
-pub clause_refused : (clause : Placed) (clauses : List Placed) (s : CapState) (e : CapTextError) → parse_clause s clause ≡ Err e → parse_clauses (clause ∷ clauses) s ≡ Err e
+pub clause_refused : (clause : Piece) (clauses : List Piece) (s : CapState) (e : CapTextError) → parse_clause s clause ≡ Err e → parse_clauses (clause ∷ clauses) s ≡ Err e
 unfolding parse_clause
 clause_refused clause clauses s e is = item_fault clause_fault with_clause s clause clauses e (fault_in _ _ e is)

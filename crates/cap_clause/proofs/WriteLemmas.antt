@@ -7,8 +7,10 @@ use Rattle.std.proofs.Math.Bool.{and-true}
 use Rattle.std.proofs.lemmas.Bool.{eq-eqb, eqb-true}
 use Rattle.std.proofs.lemmas.List.{append-nil, append_assoc, drop_more, drop_all, nil_from_length}
 use Rattle.std.proofs.lemmas.List.Folds.{list_any_more}
-use Rattle.cap_bits.specs.Cap.{cap_number, cap_name, all_caps, cap_at, cap_at-number, few_caps}
-use Rattle.cap_bits.specs.CapSet.{CapSet, has, union_of, minus_of, has-union_of, has-minus_of}
+use Rattle.cap_bits.specs.Cap.{cap_number, cap_name, all_caps, cap_at, cap_at-number}
+use Rattle.cap_bits.proofs.Caps.{few_caps}
+use Rattle.cap_bits.specs.CapSet.{CapSet, has, union_of, minus_of}
+use Rattle.cap_bits.proofs.CapSets.{has-union_of, has-minus_of}
 use Rattle.cap_bits.specs.State.{has_flag}
 use Rattle.cap_bits.specs.declared.cap.Cap.{Cap}
 use Rattle.cap_bits.specs.declared.cap.Cap.TheVariants.{Chown, DacExecute, DacReadSearch, DacWrite, Fowner, Fsetid, Kill, LinkDir, Setfcap, Setgid, Setuid, MacDowngrade, MacRead, MacRelabelSubj, MacUpgrade, MacWrite, AuditControl, AuditWrite}

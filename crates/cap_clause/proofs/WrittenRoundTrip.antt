@@ -6,13 +6,16 @@ use Rattle.std.specs.Str.{str_eq_ignore_ascii_case}
 use Rattle.std.proofs.lemmas.Bool.{and_from, cond-false, eqb-true, le-leb, ne_eqb, not_from_false, or_cases, or_from}
 use Rattle.std.proofs.lemmas.List.{append-nil}
 use Rattle.std.proofs.lemmas.List.Folds.{list_all-append}
-use Rattle.cap_bits.specs.CapSet.{CapSet, no_caps, all_of_caps, same_cap, same_sets, same_sets-decides, has-no_caps, same_caps}
+use Rattle.cap_bits.specs.CapSet.{CapSet, no_caps, all_of_caps, same_cap, same_sets}
+use Rattle.cap_bits.proofs.CapSets.{has-no_caps}
+use Rattle.cap_bits.specs.Laws.{same_sets-decides, same_caps}
 use Rattle.cap_bits.specs.State.{no_flags, has_flag}
 use Rattle.cap_bits.specs.declared.cap.Cap.{Cap}
 use Rattle.cap_bits.specs.declared.state.CapState.{CapState}
 use Rattle.cap_bits.specs.declared.state.Flag.{Flag}
 use Rattle.cap_bits.specs.declared.state.Flag.TheVariants.{Effective, Inheritable, Permitted}
-use Rattle.cap_clause.specs.Clauses.{is_blank, is_operator, flag_of, is_flag, placed, are_some, has_bytes, clauses_of, pieces_of, caps_listed, first_fault_or, unless_fault, first_operator, operated, all_flags, clause_fault, with_clause, parse_list, first_fault, piece_fault}
+use Rattle.fs_path.specs.Split.{placed}
+use Rattle.cap_clause.specs.Clauses.{is_blank, is_operator, flag_of, is_flag, are_some, has_bytes, clauses_of, pieces_of, caps_listed, first_fault_or, unless_fault, first_operator, operated, all_flags, clause_fault, with_clause, parse_list, first_fault, piece_fault}
 use Rattle.cap_clause.proofs.Groups.{same_from, has-group_of, assigned, assigned_none, groups_round_trip}
 use Rattle.cap_clause.proofs.ListRoundTrip.{is_name_byte, is_list_byte, name_byte_range, joined_all, split_joined, list_bytes, ListsSome, lists_some, among_caps, list_round_trip, BeginsAsList, list_begins}
 use Rattle.cap_clause.specs.Reading.{parse_actions, parse_clause}

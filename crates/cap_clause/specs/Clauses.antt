@@ -3,6 +3,7 @@ use Rattle.std.specs.Prelude.{ℕ, ◌+◌, ◌==◌, ◌||◌, ◌&&◌, nat_lt
 use Rattle.std.specs.List.{before_first, cons_option, filter, filter_map, prefix_len, slice_split}
 use Rattle.std.specs.Option.{option_map, option_or}
 use Rattle.std.specs.Str.{str_eq_ignore_ascii_case}
+use Rattle.fs_path.specs.Split.{Piece, pieces, placed}
 use Rattle.cap_bits.specs.Cap.{cap_named}
 use Rattle.cap_bits.specs.CapSet.{CapSet, no_caps, all_of_caps, with_cap, union_of, minus_of}
 use Rattle.cap_bits.specs.declared.state.CapState.{CapState}
@@ -18,10 +19,6 @@ use Rattle.cap_clause.specs.declared.error.CapTextError.TheVariants as error
 -- whether a byte stands between clauses: a space or a tab
 abbrev pub is_blank : ℕ → Bool
 is_blank b = b == 32 || b == 9
-
--- whether a byte stands between the names of a list
-abbrev pub is_comma : ℕ → Bool
-is_comma b = b == 44
 
 -- the operator that a byte is: `=`, `+` or `-`
 abbrev pub operator_of : ℕ → Option Operator
@@ -41,32 +38,22 @@ is_flag b = is_some (flag_of b)
 
 -- ---- pieces
 
--- bytes of a text, and the place of the first of them
-pub record Placed : Type 0 where
-  pub at : ℕ
-  pub bytes : List ℕ
-
--- pieces that stand with one byte between them, the first of them at a place
-abbrev pub placed : ℕ → List (List ℕ) → List Placed
-placed at [] = []
-placed at (piece ∷ pieces) = record { at = at; bytes = piece } ∷ placed (at + length piece + 1) pieces
-
 -- whether there are bytes
 abbrev pub are_some : List ℕ → Bool
 are_some [] = false
 are_some (b ∷ bs) = true
 
 -- whether a piece has bytes
-abbrev pub has_bytes : Placed → Bool
+abbrev pub has_bytes : Piece → Bool
 has_bytes piece = are_some piece.bytes
 
 -- the clauses of a text that begins at a place: the pieces between blanks that are not empty
-unfoldable pub clauses_of : ℕ → List ℕ → List Placed
+unfoldable pub clauses_of : ℕ → List ℕ → List Piece
 clauses_of at text = filter has_bytes (placed at (slice_split is_blank text))
 
 -- the pieces between commas of a list that begins at a place
-abbrev pub pieces_of : ℕ → List ℕ → List Placed
-pieces_of at list = placed at (slice_split is_comma list)
+abbrev pub pieces_of : ℕ → List ℕ → List Piece
+pieces_of at list = placed at (pieces 44 list)
 
 -- ---- faults
 
@@ -92,15 +79,15 @@ unfoldable pub caps_named : List ℕ → Option CapSet
 caps_named word = cond (str_eq_ignore_ascii_case (codes "all") word) (Some all_of_caps) (option_map (λ cap. with_cap no_caps cap) (cap_named word))
 
 -- the fault of a piece: it is no name
-abbrev pub piece_fault : Placed → Option CapTextError
+abbrev pub piece_fault : Piece → Option CapTextError
 piece_fault piece = cond (is_some (caps_named piece.bytes)) None (Some (error.UnknownName piece.at))
 
 -- capabilities, and those that a piece names
-abbrev pub with_piece : CapSet → Placed → CapSet
+abbrev pub with_piece : CapSet → Piece → CapSet
 with_piece caps piece = union_of caps (unwrap_or (caps_named piece.bytes) no_caps)
 
 -- the capabilities that pieces name
-abbrev pub caps_listed : List Placed → CapSet
+abbrev pub caps_listed : List Piece → CapSet
 caps_listed pieces = fold with_piece no_caps pieces
 
 -- what a list that begins at a place stands for, or its first fault
@@ -168,28 +155,28 @@ first_operator [] = None
 first_operator (b ∷ bs) = operator_of b
 
 -- the pieces of a clause's list, which stands before its first operator
-abbrev pub list_in : Placed → List Placed
+abbrev pub list_in : Piece → List Piece
 list_in clause = pieces_of clause.at (before_first is_operator clause.bytes)
 
 -- the first fault of a clause's actions, of which there must be one
-abbrev pub actions_fault : Placed → Option CapTextError
+abbrev pub actions_fault : Piece → Option CapTextError
 actions_fault clause = first_fault_or (error.NoOperator (clause.at + length clause.bytes)) action_fault (actions_in clause.at clause.bytes)
 
 -- the first fault of a clause, by the operator with which it begins: `=` may stand first, without a list, and no other
-abbrev pub clause_fault_by : Option Operator → Placed → Option CapTextError
+abbrev pub clause_fault_by : Option Operator → Piece → Option CapTextError
 clause_fault_by None clause = option_or (first_fault piece_fault (list_in clause)) (actions_fault clause)
 clause_fault_by (Some Assign) clause = actions_fault clause
 clause_fault_by (Some Raise) clause = Some (error.NoNames clause.at)
 clause_fault_by (Some Lower) clause = Some (error.NoNames clause.at)
 
 -- the first fault of a clause
-unfoldable pub clause_fault : Placed → Option CapTextError
+unfoldable pub clause_fault : Piece → Option CapTextError
 clause_fault clause = clause_fault_by (first_operator clause.bytes) clause
 
 -- the capabilities that a clause is about: those that it lists, or all where it has no list
-abbrev pub caps_in : Placed → CapSet
+abbrev pub caps_in : Piece → CapSet
 caps_in clause = cond (is_some (first_operator clause.bytes)) all_of_caps (caps_listed (list_in clause))
 
 -- what a clause makes of a state: its actions, one after another
-unfoldable pub with_clause : CapState → Placed → CapState
+unfoldable pub with_clause : CapState → Piece → CapState
 with_clause s clause = fold (with_action (caps_in clause)) s (actions_in clause.at clause.bytes)

@@ -1,23 +1,13 @@
 -- How a text is read from the left.
-use Rattle.std.specs.Prelude.{ℕ, ◌+◌, cond, List, [], length, Option, None, Some, Result, Ok, Err, fold, is_some}
-use Rattle.std.specs.List.{slice_split}
+use Rattle.std.specs.Prelude.{ℕ, cond, List, Option, None, Some, Result, Ok, Err, fold, is_some}
+use Rattle.fs_path.specs.Split.{Piece}
 use Rattle.cap_bits.specs.CapSet.{CapSet, all_of_caps}
 use Rattle.cap_bits.specs.declared.state.CapState.{CapState}
-use Rattle.cap_clause.specs.Clauses.{is_comma, Placed, first_fault, unless_fault, parse_list, actions_in, action_fault, with_action, first_operator, clause_fault, with_clause}
+use Rattle.cap_clause.specs.Clauses.{first_fault, unless_fault, parse_list, actions_in, action_fault, with_action, first_operator, clause_fault, with_clause}
 use Rattle.cap_clause.specs.declared.action.Operator.{Operator}
 use Rattle.cap_clause.specs.declared.action.Operator.TheVariants.{Assign, Raise, Lower}
 use Rattle.cap_clause.specs.declared.error.CapTextError.{CapTextError}
 use Rattle.cap_clause.specs.declared.error.CapTextError.TheVariants as error
-
--- the pieces between commas in what is left of a list, if anything is
-abbrev pub pieces_in : Option (List ℕ) → List (List ℕ)
-pieces_in None = []
-pieces_in (Some text) = slice_split is_comma text
-
--- how many bytes a comma and what stands behind it have, where there is one
-abbrev pub bytes_left : Option (List ℕ) → ℕ
-bytes_left None = 0
-bytes_left (Some text) = length text + 1
 
 -- what actions make of a state where the first of them stands first, or the first fault
 unfoldable pub parse_actions : ℕ → CapSet → List ℕ → CapState → Result CapState CapTextError
@@ -34,5 +24,5 @@ parse_prefix at list (Some Raise) = Err (error.NoNames at)
 parse_prefix at list (Some Lower) = Err (error.NoNames at)
 
 -- what a clause makes of a state, or its first fault
-unfoldable pub parse_clause : CapState → Placed → Result CapState CapTextError
+unfoldable pub parse_clause : CapState → Piece → Result CapState CapTextError
 parse_clause s clause = unless_fault (clause_fault clause) (with_clause s clause)

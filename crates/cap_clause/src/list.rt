@@ -1,33 +1,12 @@
 // Lists of capabilities, and the texts of sets.
-ghost use Rattle.std.specs.Prelude.{◌≡◌, ◌+◌, ◌==◌, ◌<◌, ◌^◌, ◌∷◌, position, length};
-ghost use Rattle.std.specs.List.{slice_split};
-ghost use Rattle.std.specs.Option.{option_copied};
+ghost use Rattle.std.specs.Prelude.{◌≡◌, ◌+◌, ◌<◌, ◌^◌, length};
 ghost use Rattle.std.specs.Str.{str_eq_ignore_ascii_case};
-ghost use Rattle.cap_clause.specs.Clauses.{is_comma, caps_named, parse_list};
-ghost use Rattle.cap_clause.specs.Reading.{pieces_in, bytes_left};
+ghost use Rattle.cap_clause.specs.Clauses.{caps_named, parse_list};
 ghost use Rattle.cap_clause.specs.Parsed.{parse_set};
 
 use crate::CapTextError;
 use cap_bits::{Cap, CapSet};
-
-// The place of the first comma.
-fn comma_in(text: &[u8]) -> Option<usize>
-    ensures { result ≡ position is_comma text.now }
-{
-    text.iter().position(|byte| *byte == b',')
-}
-
-// What stands before the first comma, and what stands behind it, if there is one.
-#[tactic(auto, using(crate::proofs::ListLemmas::cut_at, crate::proofs::ListLemmas::cut_none))]
-fn cut(text: &[u8]) -> (&[u8], Option<&[u8]>)
-    ensures pieces { slice_split is_comma text.now ≡ result.0.now ∷ pieces_in (option_copied result.1) }
-    ensures fewer { length result.0.now + bytes_left (option_copied result.1) ≡ length text.now }
-{
-    match comma_in(text) {
-        Some(place) => (&text[..place], Some(&text[place + 1..])),
-        None => (text, None),
-    }
-}
+use fs_path::first_piece;
 
 // Whether a word is this one, in any case of its ASCII letters.
 fn is_word(own: &[u8], word: &[u8]) -> bool
@@ -58,7 +37,7 @@ pub fn caps_listed(start: usize, list: &[u8]) -> Result<CapSet, CapTextError>
     let mut at = start;
     let mut left = Some(list);
     while let Some(text) = left {
-        let (piece, more) = cut(text);
+        let (piece, more) = first_piece(text, b',');
         let Some(named) = caps_named(piece) else {
             return Err(CapTextError::UnknownName(at));
         };

@@ -1,6 +1,5 @@
 pub mod NameLemmas
-pub mod LineLemmas
-pub mod PathLemmas
+pub mod SplitLemmas
 pub mod ValueLemmas
 pub mod WordLemmas
 pub mod RoundTrip

@@ -1,7 +1,7 @@
 -- What the path has that a text without a fault stands for.
 use Rattle.std.specs.Prelude.{◌≡◌, ℕ, suc, ◌+◌, ◌≤◌, ◌<◌, Bool, true, false, not, cond, ◌==◌, ◌&&◌, List, [], ◌∷◌, length, refl, Option, None, Some}
 use Rattle.std.proofs.Common.{sym, ◌∙◌, ap, arith}
-use Rattle.std.specs.List.{filter, list_all, onto_first, position, prefix_len, slice_split, starts_with}
+use Rattle.std.specs.List.{filter, list_all, onto_first, position, prefix_len, starts_with}
 use Rattle.std.specs.Option.{option_map, option_or}
 use Rattle.std.proofs.lemmas.Bool.Decides.{nat_tests}
 use Rattle.std.proofs.lemmas.Bool.{ltb-false, leb-false, le-leb, and_from, and_parts, or_parts}
@@ -9,7 +9,8 @@ use Rattle.std.proofs.lemmas.List.Sums.{sum_by-cons}
 use Rattle.std.proofs.lemmas.List.{length-map}
 use Rattle.fs_path.specs.Name.{Name, is_name, is_dots}
 use Rattle.fs_path.specs.Path.{HasForm, written_len}
-use Rattle.fs_path.specs.PathText.{is_slash, has_no_slash, is_empty_or_dot, starts_badly, Component, placed, counts, names_of, component_fault, first_fault, components_of, path_fault, parse_path}
+use Rattle.fs_path.specs.Split.{Piece, pieces, placed}
+use Rattle.fs_path.specs.PathText.{is_slash, has_no_slash, is_empty_or_dot, starts_badly, counts, names_of, component_fault, first_fault, components_of, path_fault, parse_path}
 
 -- ---- pieces
 
@@ -17,18 +18,18 @@ onto_no_slash : (x : ℕ) (ps : List (List ℕ)) → is_slash x ≡ false → li
 onto_no_slash x [] e h = ap (λ v. not v && true && true) e
 onto_no_slash x (p ∷ ps) e h = ap (λ v. not v && has_no_slash p && list_all has_no_slash ps) e ∙ h
 
-no_slash_in_pieces : (text : List ℕ) → list_all has_no_slash (slice_split is_slash text) ≡ true
+no_slash_in_pieces : (text : List ℕ) → list_all has_no_slash (pieces 47 text) ≡ true
 no_slash_in_pieces [] = refl
 no_slash_in_pieces (x ∷ xs) = by_head (is_slash x) refl (no_slash_in_pieces xs)
   where
-    by_head : (v : Bool) → is_slash x ≡ v → list_all has_no_slash (slice_split is_slash xs) ≡ true
-        → list_all has_no_slash (cond v ([] ∷ slice_split is_slash xs) (onto_first x (slice_split is_slash xs))) ≡ true
+    by_head : (v : Bool) → is_slash x ≡ v → list_all has_no_slash (pieces 47 xs) ≡ true
+        → list_all has_no_slash (cond v ([] ∷ pieces 47 xs) (onto_first x (pieces 47 xs))) ≡ true
     by_head true e h = h
-    by_head false e h = onto_no_slash x (slice_split is_slash xs) e h
+    by_head false e h = onto_no_slash x (pieces 47 xs) e h
 
 -- no slash stands in a text's first piece
-pub no_slash_before : (text piece : List ℕ) (pieces : List (List ℕ)) → slice_split is_slash text ≡ piece ∷ pieces → has_no_slash piece ≡ true
-no_slash_before text piece pieces e = (and_parts (has_no_slash piece) (list_all has_no_slash pieces) (sym (ap (list_all has_no_slash) e) ∙ no_slash_in_pieces text)).0
+pub no_slash_before : (text piece : List ℕ) (more : List (List ℕ)) → pieces 47 text ≡ piece ∷ more → has_no_slash piece ≡ true
+no_slash_before text piece more e = (and_parts (has_no_slash piece) (list_all has_no_slash more) (sym (ap (list_all has_no_slash) e) ∙ no_slash_in_pieces text)).0
 
 written_onto : (x n : ℕ) (ps : List (List ℕ)) → written_len ps ≡ n + 1 → written_len (onto_first x ps) ≡ n + 2
 written_onto x n [] h = absurd (omega arith)
@@ -38,21 +39,21 @@ written_onto x n (p ∷ ps) h =
     omega arith
 
 -- pieces with a slash before each take one byte more than the text
-pub written_pieces : (text : List ℕ) → written_len (slice_split is_slash text) ≡ length text + 1
+pub written_pieces : (text : List ℕ) → written_len (pieces 47 text) ≡ length text + 1
 written_pieces [] = refl
 written_pieces (x ∷ xs) = by_head (is_slash x) (written_pieces xs)
   where
-    by_head : (v : Bool) → written_len (slice_split is_slash xs) ≡ length xs + 1
-        → written_len (cond v ([] ∷ slice_split is_slash xs) (onto_first x (slice_split is_slash xs))) ≡ length (x ∷ xs) + 1
-    by_head true h = let more = sum_by-cons (λ (name : Name). length name + 1) [] (slice_split is_slash xs) in omega arith
-    by_head false h = let more = written_onto x (length xs) (slice_split is_slash xs) h in omega arith
+    by_head : (v : Bool) → written_len (pieces 47 xs) ≡ length xs + 1
+        → written_len (cond v ([] ∷ pieces 47 xs) (onto_first x (pieces 47 xs))) ≡ length (x ∷ xs) + 1
+    by_head true h = let more = sum_by-cons (λ (name : Name). length name + 1) [] (pieces 47 xs) in omega arith
+    by_head false h = let more = written_onto x (length xs) (pieces 47 xs) h in omega arith
 
 -- those that count take no more
 written_kept : (at : ℕ) (ps : List (List ℕ)) → written_len (names_of (filter counts (placed at ps))) ≤ written_len ps
 written_kept at [] = omega arith
 written_kept at (p ∷ ps) = by_head (counts (record { at = at; bytes = p })) (written_kept (at + length p + 1) ps)
   where
-    left : List Component
+    left : List Piece
     left = filter counts (placed (at + length p + 1) ps)
 
     by_head : (v : Bool) → written_len (names_of left) ≤ written_len ps → written_len (names_of (cond v (record { at = at; bytes = p } ∷ left) left)) ≤ written_len (p ∷ ps)
@@ -82,7 +83,7 @@ record HasNoFault (count : ℕ) (bytes : List ℕ) : Type 0 where
   few : count < 32
   whole : position (λ b. b == 0) bytes ≡ None
 
-no_fault : (count : ℕ) (c : Component) → component_fault count c ≡ None → HasNoFault count c.bytes
+no_fault : (count : ℕ) (c : Piece) → component_fault count c ≡ None → HasNoFault count c.bytes
 unfolding component_fault
 no_fault count c h =
     let long = cond_none _ _ _ h in
@@ -136,7 +137,7 @@ all_names count at (p ∷ ps) clear h =
     let parts = and_parts (has_no_slash p) (list_all has_no_slash ps) clear in
     by_head (is_empty_or_dot p) refl parts.0 (λ n k. all_names n (at + length p + 1) ps parts.1 k) h
   where
-    left : List Component
+    left : List Piece
     left = filter counts (placed (at + length p + 1) ps)
 
     by_head : (v : Bool) → is_empty_or_dot p ≡ v → has_no_slash p ≡ true → ((n : ℕ) → first_fault n left ≡ None → list_all is_name (names_of left) ≡ true)
@@ -147,7 +148,7 @@ all_names count at (p ∷ ps) clear h =
         let none = or_none _ _ h in
         and_from _ _ (is_name_without_fault count at p e clear none.0) (rest (count + 1) none.1)
 
-few_components : (count : ℕ) (cs : List Component) → count ≤ 32 → first_fault count cs ≡ None → count + length cs ≤ 32
+few_components : (count : ℕ) (cs : List Piece) → count ≤ 32 → first_fault count cs ≡ None → count + length cs ≤ 32
 few_components count [] few h = omega arith
 few_components count (c ∷ cs) few h =
     let none = or_none _ _ h in
@@ -171,7 +172,7 @@ fine text h =
 -- each name of the path is one
 path_names : (text : List ℕ) → path_fault text ≡ None → list_all is_name (parse_path text).names ≡ true
 unfolding parse_path components_of
-path_names text h = all_names 0 0 (slice_split is_slash text) (no_slash_in_pieces text) (fine text h).none
+path_names text h = all_names 0 0 (pieces 47 text) (no_slash_in_pieces text) (fine text h).none
 
 same_slash : (x : ℕ) → (x == 47) ≡ false → (47 == x && true) ≡ false
 same_slash x e = let other : (47 == x) ≡ false = grind (arith, nat_tests) in ap (λ v. v && true) other
@@ -184,14 +185,14 @@ written_text (x ∷ xs) = by_head (x == 47) refl
   where
     by_head : (v : Bool) → (x == 47) ≡ v → written_len (names_of (components_of (x ∷ xs))) ≤ suc (length xs) + cond (47 == x && true) 0 1
     by_head true e =
-        let is : slice_split is_slash (x ∷ xs) ≡ [] ∷ slice_split is_slash xs = ap (λ v. cond v ([] ∷ slice_split is_slash xs) (onto_first x (slice_split is_slash xs))) e in
+        let is : pieces 47 (x ∷ xs) ≡ [] ∷ pieces 47 xs = ap (λ v. cond v ([] ∷ pieces 47 xs) (onto_first x (pieces 47 xs))) e in
         let same = ap (λ (ps : List (List ℕ)). written_len (names_of (filter counts (placed 0 ps)))) is in
-        let kept = written_kept 1 (slice_split is_slash xs) in
+        let kept = written_kept 1 (pieces 47 xs) in
         let all = written_pieces xs in
         omega arith
     by_head false e =
         let none = ap (λ v. cond {A = ℕ} v 0 1) (same_slash x e) in
-        let kept = written_kept 0 (slice_split is_slash (x ∷ xs)) in
+        let kept = written_kept 0 (pieces 47 (x ∷ xs)) in
         let all = written_pieces (x ∷ xs) in
         omega arith
 
@@ -201,7 +202,7 @@ unfolding parse_path
 path_form text h =
     let good = fine text h in
     let few = few_components 0 (components_of text) (omega arith) good.none in
-    let same = length-map (components_of text) (λ (c : Component). c.bytes) in
+    let same = length-map (components_of text) (λ (c : Piece). c.bytes) in
     let written = written_text text in
     record { few = omega arith; named = path_names text h; short = by_start (starts_with ◌==◌ text (47 ∷ [])) (omega (arith, good.short)) written }
   where

@@ -1,10 +1,11 @@
 -- The text of a path: names with slashes between them.
 use Rattle.std.specs.Prelude.{◌≡◌, ℕ, ◌+◌, ◌==◌, ◌||◌, not, nat_le, nat_lt, Bool, cond, List, [], ◌∷◌, length, map, Option, None, Some}
 use Rattle.std.specs.Cmp.Lexicographic.{pointwise}
-use Rattle.std.specs.List.{filter, list_all, position, slice_split, starts_with}
+use Rattle.std.specs.List.{filter, list_all, position, starts_with}
 use Rattle.std.specs.Option.{option_map, option_or}
 use Rattle.fs_path.specs.Name.{Name}
 use Rattle.fs_path.specs.Path.{PathValue}
+use Rattle.fs_path.specs.Split.{Piece, pieces, placed}
 use Rattle.fs_path.specs.declared.path.PathError.{PathError}
 use Rattle.fs_path.specs.declared.path.PathError.TheVariants as error
 
@@ -18,30 +19,20 @@ are_same = pointwise ◌==◌
 
 -- ---- components
 
--- bytes of a text, and the place of the first of them
-pub record Component : Type 0 where
-  pub at : ℕ
-  pub bytes : List ℕ
-
--- pieces that stand with one byte between them, the first of them at a place
-abbrev pub placed : ℕ → List (List ℕ) → List Component
-placed at [] = []
-placed at (piece ∷ pieces) = record { at = at; bytes = piece } ∷ placed (at + length piece + 1) pieces
-
 -- whether bytes are none, or `.`
 abbrev pub is_empty_or_dot : List ℕ → Bool
 is_empty_or_dot bytes = are_same bytes [] || are_same bytes (46 ∷ [])
 
 -- a component that counts: neither empty nor `.`
-abbrev pub counts : Component → Bool
+abbrev pub counts : Piece → Bool
 counts c = not (is_empty_or_dot c.bytes)
 
 -- the components of a text: what stands between slashes and counts
-unfoldable pub components_of : List ℕ → List Component
-components_of text = filter counts (placed 0 (slice_split is_slash text))
+unfoldable pub components_of : List ℕ → List Piece
+components_of text = filter counts (placed 0 (pieces 47 text))
 
 -- the bytes of components, in order
-abbrev pub names_of : List Component → List Name
+abbrev pub names_of : List Piece → List Name
 names_of cs = map (λ c. c.bytes) cs
 
 -- ---- faults
@@ -52,7 +43,7 @@ starts_badly bytes = are_same bytes (46 ∷ 46 ∷ []) || starts_with ◌==◌ b
 
 -- the fault of a component, before which `count` others count: at its first byte that it is too long, then a byte 0 or
 -- `..`, then that it is one too many; behind its first byte a byte 0
-unfoldable pub component_fault : ℕ → Component → Option PathError
+unfoldable pub component_fault : ℕ → Piece → Option PathError
 component_fault count c =
     cond (nat_lt 63 (length c.bytes)) (Some (error.NameTooLong c.at))
     (cond (starts_badly c.bytes) (Some (error.BadByte c.at))
@@ -60,7 +51,7 @@ component_fault count c =
     (option_map (λ i. error.BadByte (c.at + i)) (position (λ b. b == 0) c.bytes))))
 
 -- the first fault of components, before which `count` others count
-abbrev pub first_fault : ℕ → List Component → Option PathError
+abbrev pub first_fault : ℕ → List Piece → Option PathError
 first_fault count [] = None
 first_fault count (c ∷ cs) = option_or (component_fault count c) (first_fault (count + 1) cs)
 
@@ -88,15 +79,10 @@ parse_path text = record { absolute = starts_with ◌==◌ text (47 ∷ []); nam
 
 -- ---- reading from the left
 
--- the pieces between slashes in what is left of a text, if anything is
-abbrev pub pieces_in : Option (List ℕ) → List (List ℕ)
-pieces_in None = []
-pieces_in (Some text) = slice_split is_slash text
-
 -- whether no byte is `/`
 abbrev pub has_no_slash : List ℕ → Bool
 has_no_slash bytes = list_all (λ b. not (is_slash b)) bytes
 
 -- one component, if it counts
-abbrev pub kept : ℕ → List ℕ → List Component
+abbrev pub kept : ℕ → List ℕ → List Piece
 kept at bytes = filter counts (record { at = at; bytes = bytes } ∷ [])

@@ -1,19 +1,19 @@
 //! Names and paths of the file tree, the words of lines, and the lists that the crates above keep.
 #![tactic(auto)]
 
-mod lines;
 mod list;
 mod name;
 mod path;
+mod split;
 #[cfg(test)]
 mod tests;
 mod values;
 mod words;
 
-pub use lines::{cut, next_line};
 pub use list::{ByteList, List};
 pub use name::Name;
 pub use path::{NameList, Path, PathError};
+pub use split::{first_piece, next_line, split_once};
 pub use std::alloc::AllocError as NoMemory;
 pub use values::{groups_of, mode_of, number_of, numeral, put_groups, put_mode, put_number};
 pub use words::{LineWord, is_blank, put_quoted, put_word, words_of};

@@ -1,13 +1,12 @@
 // Paths.
 ghost use Rattle.std.specs.Prelude.{◌≡◌, ◌+◌, ◌==◌, ◌<◌, ◌≤◌, ◌^◌, ◌∷◌, ◌++◌, [], IfOk, IfErr, OnOk, None, true, cond, length};
-ghost use Rattle.std.specs.List.{list_all, slice_split};
-ghost use Rattle.std.specs.Option.{option_copied};
+ghost use Rattle.std.specs.List.{list_all};
 ghost use Rattle.fs_path.specs.Name.{is_name};
 ghost use Rattle.fs_path.specs.Path.{written_len};
-ghost use Rattle.fs_path.specs.PathText.{is_slash, names_of, components_of, is_empty_or_dot, starts_badly, component_fault, first_fault, path_fault, parse_path, Says, IsNoPath, pieces_in, has_no_slash, kept};
+ghost use Rattle.fs_path.specs.PathText.{names_of, components_of, is_empty_or_dot, starts_badly, component_fault, first_fault, path_fault, parse_path, Says, IsNoPath, has_no_slash, kept};
 
-use crate::lines::place_of;
 use crate::name::MAX_NAME;
+use crate::split::{find_byte, first_piece};
 use crate::{List, Name, NoMemory};
 use std::alloc::Global;
 use std::marker::Model;
@@ -67,17 +66,6 @@ impl From<NoMemory> for PathError {
     }
 }
 
-// What stands before the first `/`, and what stands behind it, if there is one.
-#[tactic(auto, using(crate::proofs::PathLemmas::cut_at, crate::proofs::PathLemmas::cut_none))]
-fn cut(text: &[u8]) -> (&[u8], Option<&[u8]>)
-    ensures { slice_split is_slash text.now ≡ result.0.now ∷ pieces_in (option_copied result.1) }
-{
-    match place_of(text, b'/') {
-        Some(place) => (&text[..place], Some(&text[place + 1..])),
-        None => (text, None),
-    }
-}
-
 fn is_empty_or_dot(bytes: &[u8]) -> bool
     ensures { result ≡ is_empty_or_dot bytes.now }
 {
@@ -106,7 +94,7 @@ fn component_fault(count: usize, at: usize, bytes: &[u8]) -> Option<PathError>
     if count >= MAX_NAMES {
         return Some(PathError::TooDeep);
     }
-    let place = place_of(bytes, 0)?;
+    let place = find_byte(bytes, 0)?;
     Some(PathError::BadByte(at + place))
 }
 
@@ -146,7 +134,7 @@ fn read_names(alloc: Global, text: &[u8]) -> Result<NameList, PathError>
     let mut at = 0;
     let mut left = Some(text);
     while let Some(rest) = left {
-        let (component, more) = cut(rest);
+        let (component, more) = first_piece(rest, b'/');
         take_component(alloc, &mut names, at, component)?;
         at += component.len() + 1;
         left = more;

@@ -4,7 +4,7 @@ use Rattle.std.proofs.Common.{sym, ◌∙◌, ap, subst}
 use Rattle.std.proofs.lemmas.Bool.{and_parts, true≢false}
 use Rattle.std.specs.FinMap as map
 use Rattle.std.specs.FinSet.{contains-is_subset, contains-intersection}
-use Rattle.cap_bits.specs.Cap.{cap_cmp_total}
+use Rattle.cap_bits.specs.Laws.{cap_cmp_total}
 use Rattle.cap_bits.specs.declared.cap.Cap.TheVariants as cap
 use Rattle.cap_bits.specs.CapSet.{CapSet, is_within, meet_of}
 use Rattle.cap_bits.specs.declared.state.CapState.{CapState}

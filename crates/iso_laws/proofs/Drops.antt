@@ -6,7 +6,8 @@ use Rattle.std.proofs.Common.{sym, ◌∙◌, ap, subst}
 use Rattle.std.proofs.lemmas.Bool.{and_parts}
 use Rattle.std.proofs.lemmas.Cmp.{eq_by_cmp_equiv}
 use Rattle.std.specs.FinMap as map
-use Rattle.cap_bits.specs.CapSet.{CapSet, is_within, has-within}
+use Rattle.cap_bits.specs.CapSet.{CapSet, is_within}
+use Rattle.cap_bits.specs.Laws.{has-within}
 use Rattle.cap_bits.specs.declared.cap.Cap.{Cap}
 use Rattle.cap_bits.specs.declared.state.CapState.{CapState}
 use Rattle.cap_bits.specs.State.{no_flags}

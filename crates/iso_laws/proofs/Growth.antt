@@ -3,7 +3,9 @@ use Rattle.std.specs.Prelude.{◌≡◌, Bool, true, false, ◌&&◌, ◌||◌, 
 use Rattle.std.proofs.Common.{sym, ◌∙◌, ap, subst, append_assoc}
 use Rattle.std.specs.List.{flat_map}
 use Rattle.std.proofs.lemmas.Bool.{true≢false}
-use Rattle.cap_bits.specs.CapSet.{CapSet, has, has-union_of, has-meet_of, within-has, meet_of}
+use Rattle.cap_bits.specs.CapSet.{CapSet, has, meet_of}
+use Rattle.cap_bits.proofs.CapSets.{has-union_of, has-meet_of}
+use Rattle.cap_bits.specs.Laws.{within-has}
 use Rattle.cap_bits.specs.declared.cap.Cap.{Cap}
 use Rattle.cap_bits.specs.declared.state.CapState.{CapState}
 use Rattle.cap_bits.specs.State.{no_flags}

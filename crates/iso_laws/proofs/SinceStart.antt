@@ -7,7 +7,8 @@ use Rattle.std.proofs.lemmas.Bool.{true≢false}
 use Rattle.std.proofs.lemmas.Cmp.{eq_by_cmp_equiv}
 use Rattle.std.specs.FinMap as map
 use Rattle.std.specs.FinMap.{get-empty}
-use Rattle.cap_bits.specs.CapSet.{CapSet, has, has-no_caps}
+use Rattle.cap_bits.specs.CapSet.{CapSet, has}
+use Rattle.cap_bits.proofs.CapSets.{has-no_caps}
 use Rattle.cap_bits.specs.declared.cap.Cap.{Cap}
 use Rattle.cap_bits.specs.declared.state.CapState.{CapState}
 use Rattle.cap_bits.specs.State.{no_flags}

@@ -1,15 +1,22 @@
 -- What operations on a number's bits do to the categories that it stands for.
 use Rattle.std.proofs.Common.{◌≡◌, ℕ, ◌*◌, ◌/◌, ◌%◌, ◌^◌, ◌<◌, ◌≤◌, true, false, ap, sym, ◌∙◌, arith, bit_and, bit_or}
-use Rattle.std.specs.Prelude.{◌||◌, ◌&&◌, ◌==◌, nat_eq, nat_lt}
+use Rattle.std.specs.Prelude.{◌||◌, ◌&&◌, ◌==◌, nat_eq, nat_lt, min}
 use Rattle.std.specs.Ordering.{nat_cmp}
 use Rattle.std.specs.Cmp.{both_ways}
 use Rattle.std.proofs.lemmas.Bool.{and_left}
 use Rattle.std.proofs.lemmas.Bool.Decides.{nat_tests, Decides-eqb, same_from_decides}
 use Rattle.std.proofs.lemmas.Nat.{and_le_l, or_lt, one_shl, pow_below}
-use Rattle.std.proofs.lemmas.Nat.Bits.{bit_at-zero, shr_and_one}
-use Rattle.lab_lattice.specs.Bits.{in_word, in-power, in-or, in-and}
-use Rattle.lab_lattice.specs.Cats.{CatSet, has_cat, no_cats, one_cat, cats_cover, cats_join, cats_meet, cats_number, cats_cmp, same_sets, same_sets-decides, has-no_cats, has-one_cat, has-cats_join, has-cats_meet, same_cats, cover_itself, cover_both, cats_meet_first, cats_meet_second, cats_meet_over}
-use Rattle.lab_lattice.specs.Word.{cats_of_word, has-cats_of_word, has-short_word, word_back}
+use Rattle.std.proofs.lemmas.Nat.Bits.{bit_at-zero, shr_and_one, bit_at-lt, bit_at_and}
+use Rattle.lab_lattice.specs.Word.{in_word, cats_of_word}
+use Rattle.lab_lattice.specs.Laws.{in-power, in-or, same_sets-decides, has-no_cats, has-one_cat, has-cats_join, has-cats_meet, same_cats, cover_itself, cover_both, cats_meet_first, cats_meet_second, cats_meet_over, has-cats_of_word, has-short_word, word_back}
+use Rattle.lab_lattice.specs.Cats.{CatSet, has_cat, no_cats, one_cat, cats_cover, cats_join, cats_meet, cats_number, cats_cmp, same_sets}
+use Rattle.std.specs.Int.{bit_at}
+
+both : (x y : ℕ) → x < 2 → y < 2 → (min x y == 1) ≡ (x == 1 && y == 1)
+both x y p q = grind (arith, nat_tests)
+
+in-and : (a b q : ℕ) → in_word (bit_and a b) q ≡ (in_word a q && in_word b q)
+in-and a b q = ap (λ x. x == 1) (bit_at_and a b q) ∙ both (bit_at a q) (bit_at b q) (bit_at-lt a q) (bit_at-lt b q)
 
 -- a short number stands for the set whose members its bits are
 cats_by_bits : (word : ℕ) (s : CatSet) → word < 2 ^ 64 → ((q : ℕ) → in_word word q ≡ has_cat s q) → cats_of_word word ≡ s

@@ -10,8 +10,9 @@ use Rattle.std.proofs.Common.{sym, ◌∙◌, arith}
 use Rattle.std.proofs.lemmas.Bool.{true≢false}
 use Rattle.std.proofs.lemmas.Bool.Decides.{nat_tests}
 use Rattle.lab_lattice.specs.declared.pair.Pair.{Pair}
-use Rattle.lab_lattice.specs.Level.{level_covers, level_itself, level_through, level_both}
-use Rattle.lab_lattice.specs.Cats.{CatSet, cats_code, no_cats, cats_cover, cats_cmp, cats_cmp_total, cats_cmp_exact, has-no_cats, has-cover, cover_itself, cover_through, cover_both}
+use Rattle.lab_lattice.specs.Level.{level_covers}
+use Rattle.lab_lattice.specs.Laws.{level_itself, level_through, level_both, cats_cmp_total, cats_cmp_exact, has-no_cats, has-cover, cover_itself, cover_through, cover_both}
+use Rattle.lab_lattice.specs.Cats.{CatSet, cats_code, no_cats, cats_cover, cats_cmp}
 use Rattle.lab_lattice.specs.Pair.{pair_covers, pair_cmp, pair_parts, pair_itself, pair_through, pair_both, pair_cmp_total, pair_cmp_exact}
 
 -- a label is a level, a number from 0, and a set of categories

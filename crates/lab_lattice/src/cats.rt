@@ -2,7 +2,8 @@
 ghost use Rattle.std.specs.Prelude.{◌≡◌, ◌<◌, ◌↔◌, IsSome, IfSome, refl};
 ghost use Rattle.std.specs.Cmp.{partial_equiv_from_equiv, po};
 ghost use Rattle.std.specs.Ordering.{as_partial_cmp};
-ghost use Rattle.lab_lattice.specs.Cats.{no_cats, one_cat, has_cat, same_sets, same_sets-equiv, same_sets-ties, cats_cmp, cats_cmp_total};
+ghost use Rattle.lab_lattice.specs.Cats.{no_cats, one_cat, has_cat, same_sets, cats_cmp};
+ghost use Rattle.lab_lattice.specs.Laws.{same_sets-equiv, same_sets-ties, cats_cmp_total};
 
 use crate::Lattice;
 use std::cmp::Ordering;
@@ -21,7 +22,8 @@ pub struct Cats {
 impl Model for Cats {
     ghost use Rattle.std.specs.Prelude.{◌<◌, ◌^◌};
     ghost use Rattle.lab_lattice.specs.Cats.{CatSet, cats_code, cats_number};
-    ghost use Rattle.lab_lattice.specs.Word.{cats_of_word, word_back};
+    ghost use Rattle.lab_lattice.specs.Word.{cats_of_word};
+    ghost use Rattle.lab_lattice.specs.Laws.{word_back};
 
     ghost Value = { CatSet };
 
@@ -65,7 +67,8 @@ impl Cats {
 }
 
 impl Lattice for Cats {
-    ghost use Rattle.lab_lattice.specs.Cats.{cats_cover, cats_join, cats_meet, cover_itself, cover_through, cover_both, cats_join_first, cats_join_second, cats_join_under, cats_meet_first, cats_meet_second, cats_meet_over};
+    ghost use Rattle.lab_lattice.specs.Cats.{cats_cover, cats_join, cats_meet};
+    ghost use Rattle.lab_lattice.specs.Laws.{cover_itself, cover_through, cover_both, cats_join_first, cats_join_second, cats_join_under, cats_meet_first, cats_meet_second, cats_meet_over};
 
     ghost covers = { cats_cover };
 

@@ -55,7 +55,8 @@ impl Level {
 }
 
 impl Lattice for Level {
-    ghost use Rattle.lab_lattice.specs.Level.{level_covers, level_join, level_meet, level_itself, level_through, level_both, join_first, join_second, join_under, meet_first, meet_second, meet_over};
+    ghost use Rattle.lab_lattice.specs.Level.{level_covers, level_join, level_meet};
+    ghost use Rattle.lab_lattice.specs.Laws.{level_itself, level_through, level_both, join_first, join_second, join_under, meet_first, meet_second, meet_over};
 
     ghost covers = { level_covers };
 

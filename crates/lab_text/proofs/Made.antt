@@ -7,6 +7,7 @@ use Rattle.std.proofs.lemmas.Bool.Decides.{nat_tests}
 use Rattle.std.proofs.lemmas.Cmp.{nat_list_eq_equiv}
 use Rattle.std.proofs.lemmas.List.Folds.{list_any_at}
 use Rattle.std.proofs.lemmas.List.Sums.{position_or_len_is}
+use Rattle.fs_path.proofs.SplitLemmas.{any_before_end}
 use Rattle.lab_text.specs.Names.{Names, same_bytes, is_label_name, are_distinct, place_of}
 use Rattle.lab_text.specs.Policy.{PolicyNames, names_fault, MakePolicy}
 use Rattle.lab_text.specs.declared.policy.PolicyError.{PolicyError}
@@ -53,38 +54,6 @@ made p h =
     }
 
 -- ---- places
-
--- an item passes a test where the first place is within the list
-pub any_before_end : {X : Type 0} (p : X → Bool) (xs : List X) → list_any p xs ≡ nat_lt (position_or_len p xs) (length xs)
-any_before_end p [] = refl
-any_before_end p (x ∷ xs) = elim (p x) as (λ v. (v || list_any p xs) ≡ nat_lt (cond (not v) (1 + position_or_len p xs) 0) (suc (length xs))) [
-  | true ↦ first (length xs)
-  | false ↦ any_before_end p xs ∙ later (position_or_len p xs) (length xs)
-]
-  where
-    first : (n : ℕ) → true ≡ nat_lt 0 (suc n)
-    first n = grind (arith, nat_tests)
-
-    later : (k n : ℕ) → nat_lt k n ≡ nat_lt (1 + k) (suc n)
-    later k n = grind (arith, nat_tests)
-
--- what a place says
-pub position_found : {X : Type 0} (p : X → Bool) (xs : List X) (i : ℕ) → position p xs ≡ Some i → (i < length xs) × (position_or_len p xs ≡ i) × (list_any p xs ≡ true)
-position_found p xs i h = by_place (nat_lt (position_or_len p xs) (length xs)) refl h
-  where
-    by_place : (v : Bool) → nat_lt (position_or_len p xs) (length xs) ≡ v → cond v (Some (position_or_len p xs)) None ≡ Some i → (i < length xs) × (position_or_len p xs ≡ i) × (list_any p xs ≡ true)
-    by_place true lt h =
-        let same : position_or_len p xs ≡ i = cc in
-        let below = ltb-true (position_or_len p xs) (length xs) lt in
-        (omega arith, same, any_before_end p xs ∙ lt)
-    by_place false lt h = absurd (cc)
-
-pub position_missing : {X : Type 0} (p : X → Bool) (xs : List X) → position p xs ≡ None → (length xs ≤ position_or_len p xs) × (list_any p xs ≡ false)
-position_missing p xs h = by_place (nat_lt (position_or_len p xs) (length xs)) refl h
-  where
-    by_place : (v : Bool) → nat_lt (position_or_len p xs) (length xs) ≡ v → cond v (Some (position_or_len p xs)) None ≡ None → (length xs ≤ position_or_len p xs) × (list_any p xs ≡ false)
-    by_place true lt h = absurd (cc)
-    by_place false lt h = (ltb-false (position_or_len p xs) (length xs) lt, any_before_end p xs ∙ lt)
 
 -- a name that is not in the list has no place
 pub unlisted_unplaced : (names : Names) (word : List ℕ) → list_any (same_bytes word) names ≡ false → place_of names word ≡ None

@@ -10,37 +10,12 @@ use Rattle.std.proofs.Math.Bool.{or-false}
 use Rattle.std.proofs.lemmas.List.{take_all, take_rest}
 use Rattle.std.proofs.lemmas.Option.{same_Some}
 use Rattle.std.proofs.lemmas.List.Splits.{slice_split_first, slice_split-cons_no}
-use Rattle.lab_lattice.specs.Cats.{CatSet, has_cat, no_cats, one_cat, cats_join, has-no_cats, has-one_cat, has-cats_join, same_cats}
+use Rattle.lab_lattice.specs.Cats.{CatSet, has_cat, no_cats, one_cat, cats_join}
+use Rattle.lab_lattice.specs.Laws.{has-no_cats, has-one_cat, has-cats_join, same_cats}
+use Rattle.fs_path.specs.Split.{pieces, pieces_of_rest}
+use Rattle.fs_path.proofs.SplitLemmas.{position_found, position_missing}
 use Rattle.lab_text.specs.Names.{Names, same_bytes, place_of}
 use Rattle.lab_text.specs.Text.{is_comma, places_of, first_unknown}
-use Rattle.lab_text.specs.Scan.{names_after, first_after}
-use Rattle.lab_text.proofs.Made.{any_before_end, position_found, position_missing}
-
--- ---- cuts
-
-pub cut_after : (p : ℕ → Bool) (t : List ℕ) (n : ℕ) → position p t ≡ Some n → Some (take (length t - (n + 1)) (drop (n + 1) t)) ≡ first_after p t
-cut_after p t n h =
-    let found = position_found p t n h in
-    ap Some (take_rest t (n + 1) ∙ ap (λ k. drop (k + 1) t) (sym found.1)) ∙ ap (λ v. cond v (Some (after_first p t)) None) (sym found.2)
-
-pub uncut_after : (p : ℕ → Bool) (t : List ℕ) → position p t ≡ None → None ≡ first_after p t
-uncut_after p t h = ap (λ v. cond v (Some (after_first p t)) None) (sym (position_missing p t h).1)
-
-uncut_split : (t : List ℕ) → list_any is_comma t ≡ false → slice_split is_comma t ≡ t ∷ []
-uncut_split [] h = refl
-uncut_split (b ∷ bs) h =
-    let both = or_parts (is_comma b) (list_any is_comma bs) h in
-    slice_split-cons_no is_comma b bs both.0 ∙ ap (onto_first b) (uncut_split bs both.1)
-
--- the first name in a comma list, and those behind it
-names_cut : (t : List ℕ) → slice_split is_comma t ≡ before_first is_comma t ∷ names_after (first_after is_comma t)
-names_cut t = by_comma (list_any is_comma t) refl
-  where
-    by_comma : (v : Bool) → list_any is_comma t ≡ v → slice_split is_comma t ≡ before_first is_comma t ∷ names_after (cond v (Some (after_first is_comma t)) None)
-    by_comma true h = slice_split_first is_comma t 0 (ltb-true (position_or_len is_comma t) (length t) (sym (any_before_end is_comma t) ∙ h))
-    by_comma false h =
-        uncut_split t h
-        ∙ ap (λ n. n ∷ []) (sym (take_all (position_or_len is_comma t) t (ltb-false (position_or_len is_comma t) (length t) (sym (any_before_end is_comma t) ∙ h))))
 
 -- ---- categories
 
@@ -113,27 +88,26 @@ unknown_here known at w ws h = by_place (place_of known w) refl h
     by_place None e h = ap (λ v. cond v (first_unknown known (at + length w + 1) ws) (Some at)) (position_missing (same_bytes w) known e).1
     by_place (Some i) e h = absurd (cc)
 
--- a name that was cut off, and what is left behind it
-pub record IsCut (rest : Option (List ℕ)) (word : List ℕ) (more : Option (List ℕ)) (text : List ℕ) : Type 0 where
+-- the first name of a comma list, and the rest of the list
+pub record IsSplit (rest : Option (List ℕ)) (word : List ℕ) (more : Option (List ℕ)) (text : List ℕ) : Type 0 where
   pub some : rest ≡ Some text
-  pub before : word ≡ before_first is_comma text
-  pub after : more ≡ first_after is_comma text
+  pub first : pieces 44 text ≡ word ∷ pieces_of_rest 44 more
 
-names_left : {rest more : Option (List ℕ)} {word text : List ℕ} → IsCut rest word more text → names_after rest ≡ word ∷ names_after more
-names_left {text = text} h = ap names_after h.some ∙ names_cut text ∙ sym (λ i. h.before i ∷ names_after (h.after i))
+names_left : {rest more : Option (List ℕ)} {word text : List ℕ} → IsSplit rest word more text → pieces_of_rest 44 rest ≡ word ∷ pieces_of_rest 44 more
+names_left h = ap (pieces_of_rest 44) h.some ∙ h.first
 
-pub gathered_more : {rest more : Option (List ℕ)} {word text : List ℕ} → IsCut rest word more text → (known : Names) (cats cat new : CatSet) → option_map one_cat (place_of known word) ≡ Some cat → new ≡ cats_join cats cat
-    → gathered known cats (names_after rest) ≡ gathered known new (names_after more)
-gathered_more {more = more} {word = word} cut known cats cat new h is = ap (gathered known cats) (names_left cut) ∙ gathered_step known cats cat new word (names_after more) h is
+pub gathered_more : {rest more : Option (List ℕ)} {word text : List ℕ} → IsSplit rest word more text → (known : Names) (cats cat new : CatSet) → option_map one_cat (place_of known word) ≡ Some cat → new ≡ cats_join cats cat
+    → gathered known cats (pieces_of_rest 44 rest) ≡ gathered known new (pieces_of_rest 44 more)
+gathered_more {more = more} {word = word} split known cats cat new h is = ap (gathered known cats) (names_left split) ∙ gathered_step known cats cat new word (pieces_of_rest 44 more) h is
 
-pub unknown_more : {rest more : Option (List ℕ)} {word text : List ℕ} → IsCut rest word more text → (known : Names) (at : ℕ) (cat : CatSet) → option_map one_cat (place_of known word) ≡ Some cat
-    → first_unknown known at (names_after rest) ≡ first_unknown known (at + (length word + 1)) (names_after more)
-unknown_more {more = more} {word = word} cut known at cat h = ap (first_unknown known at) (names_left cut) ∙ unknown_step known at cat word (names_after more) h
+pub unknown_more : {rest more : Option (List ℕ)} {word text : List ℕ} → IsSplit rest word more text → (known : Names) (at : ℕ) (cat : CatSet) → option_map one_cat (place_of known word) ≡ Some cat
+    → first_unknown known at (pieces_of_rest 44 rest) ≡ first_unknown known (at + (length word + 1)) (pieces_of_rest 44 more)
+unknown_more {more = more} {word = word} split known at cat h = ap (first_unknown known at) (names_left split) ∙ unknown_step known at cat word (pieces_of_rest 44 more) h
 
-pub unknown_now : {rest more : Option (List ℕ)} {word text : List ℕ} → IsCut rest word more text → (known : Names) (at : ℕ) → option_map one_cat (place_of known word) ≡ None
-    → first_unknown known at (names_after rest) ≡ Some at
-unknown_now {more = more} {word = word} cut known at h = ap (first_unknown known at) (names_left cut) ∙ unknown_here known at word (names_after more) h
+pub unknown_now : {rest more : Option (List ℕ)} {word text : List ℕ} → IsSplit rest word more text → (known : Names) (at : ℕ) → option_map one_cat (place_of known word) ≡ None
+    → first_unknown known at (pieces_of_rest 44 rest) ≡ Some at
+unknown_now {more = more} {word = word} split known at h = ap (first_unknown known at) (names_left split) ∙ unknown_here known at word (pieces_of_rest 44 more) h
 
-pub gathered_end : (known : Names) (cats : CatSet) (all rest : Option (List ℕ)) → gathered known no_cats (names_after all) ≡ gathered known cats (names_after rest) → rest ≡ None
-    → option_map set.from_list (places_of known (names_after all)) ≡ Some cats
-gathered_end known cats all rest same none = gathered_all known (names_after all) ∙ same ∙ ap (λ o. gathered known cats (names_after o)) none
+pub gathered_end : (known : Names) (cats : CatSet) (all rest : Option (List ℕ)) → gathered known no_cats (pieces_of_rest 44 all) ≡ gathered known cats (pieces_of_rest 44 rest) → rest ≡ None
+    → option_map set.from_list (places_of known (pieces_of_rest 44 all)) ≡ Some cats
+gathered_end known cats all rest same none = gathered_all known (pieces_of_rest 44 all) ∙ same ∙ ap (λ o. gathered known cats (pieces_of_rest 44 o)) none

@@ -3,6 +3,7 @@ ghost use Rattle.std.specs.Prelude.{◌≡◌, ◌++◌, OnOk};
 ghost use Rattle.lab_text.specs.Numbered.{numbered_text};
 
 use crate::{NoMemory, Policy, mac_to_text};
+use fs_path::put_number;
 use lab_lattice::Label;
 use std::alloc::Global;
 
@@ -17,7 +18,7 @@ pub fn put_numbered(
 ) -> Result<(), NoMemory>
     ensures { OnOk result (text.new.items ≡ text.old.items ++ numbered_text policy.now n label.now) }
 {
-    text.extend_from_slice(n.to_string(alloc)?.as_bytes())?;
+    put_number(alloc, text, n)?;
     text.push(b'@')?;
     text.extend_from_slice(mac_to_text(alloc, policy, label)?.as_slice())
 }

@@ -1,14 +1,14 @@
 // The texts of labels.
-ghost use Rattle.std.specs.Prelude.{◌≡◌, ◌+◌, ◌≤◌, ◌<◌, ◌^◌, ◌==◌, true, length, position, get_or, [], IfOk, IfErr, Some, None};
+ghost use Rattle.std.specs.Prelude.{◌≡◌, ◌+◌, ◌<◌, ◌^◌, true, get_or, [], IfOk, IfErr, Some, None};
 ghost use Rattle.std.specs.FinSet as set;
-ghost use Rattle.std.specs.List.{before_first};
 ghost use Rattle.std.specs.Option.{option_copied, option_map};
+ghost use Rattle.fs_path.specs.Split.{pieces_of_rest, bytes_from};
 ghost use Rattle.lab_text.specs.Policy.{is_valid};
-ghost use Rattle.lab_text.specs.Scan.{names_after, left_in, first_after};
 ghost use Rattle.lab_text.specs.Text.{places_of, first_unknown, parse_label, SaysNone, label_text};
 
 use crate::scan::syntax_fault;
 use crate::{NoMemory, Policy};
+use fs_path::first_piece;
 use lab_lattice::{Cats, Label, Lattice, Level, Pair};
 use std::alloc::Global;
 
@@ -23,36 +23,17 @@ pub enum LabelError {
     UnknownCategory(usize),
 }
 
-// The place of the first `at`.
-fn first_place(text: &[u8], at: u8) -> Option<usize>
-    ensures { result ≡ position (λ b. b == at) text.now }
-{
-    text.iter().position(|byte| *byte == at)
-}
-
-// What stands before the first `at`, and what stands behind it, if there is one.
-fn cut(text: &[u8], at: u8) -> (&[u8], Option<&[u8]>)
-    ensures before { result.0.now ≡ before_first (λ b. b == at) text.now }
-    ensures after { option_copied result.1 ≡ first_after (λ b. b == at) text.now }
-    ensures fewer { length result.0.now + left_in (option_copied result.1) ≤ length text.now }
-{
-    match first_place(text, at) {
-        Some(place) => (&text[..place], Some(&text[place + 1..])),
-        None => (text, None),
-    }
-}
-
 // The categories in a comma list that stands at `start`, if there is one, or the first that the policy does not know.
 fn cats_named(policy: &Policy, list: Option<&[u8]>, start: usize) -> Result<Cats, LabelError>
-    requires { start + left_in (option_copied list) < 2 ^ 64 }
-    ensures cats { IfOk result (λ cats. option_map set.from_list (places_of policy.now.cats (names_after (option_copied list.entry))) ≡ Some cats) }
-    ensures unknown { IfErr result (λ e. option_map LabelError.UnknownCategory (first_unknown policy.now.cats start (names_after (option_copied list.entry))) ≡ Some e) }
+    requires { start + bytes_from (option_copied list) < 2 ^ 64 }
+    ensures cats { IfOk result (λ cats. option_map set.from_list (places_of policy.now.cats (pieces_of_rest 44 (option_copied list.entry))) ≡ Some cats) }
+    ensures unknown { IfErr result (λ e. option_map LabelError.UnknownCategory (first_unknown policy.now.cats start (pieces_of_rest 44 (option_copied list.entry))) ≡ Some e) }
 {
     let mut cats = Cats::empty();
     let mut at = start;
     let mut rest = list;
     while let Some(text) = rest {
-        let (name, more) = cut(text, b',');
+        let (name, more) = first_piece(text, b',');
         let Some(cat) = policy.cat_named(name) else {
             return Err(LabelError::UnknownCategory(at));
         };
@@ -73,7 +54,7 @@ pub fn mac_from_text(policy: &Policy, text: &[u8]) -> Result<Label, LabelError>
     if let Some(at) = syntax_fault(text) {
         return Err(LabelError::Syntax(at));
     }
-    let (level, list) = cut(text, b':');
+    let (level, list) = first_piece(text, b':');
     let Some(first) = policy.level_named(level) else {
         return Err(LabelError::UnknownLevel(0));
     };

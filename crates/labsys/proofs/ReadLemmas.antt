@@ -1,8 +1,8 @@
 -- A world by the front of a text, and a script from one line on.
 use Rattle.std.proofs.Common.{◌≡◌, ℕ, ◌+◌, ◌≤◌, ◌<◌, Bool, true, false, cond, List, [], ◌∷◌, length, refl, sym, ◌∙◌, ap, subst, Option, Some, None, Bor}
 use Rattle.std.specs.Prelude.{Result, Ok, Err}
-use Rattle.fs_path.specs.Lines.{cut, pieces}
-use Rattle.fs_path.proofs.LineLemmas.{pieces_some, pieces_none, pieces_first}
+use Rattle.fs_path.specs.Split.{split_once, pieces}
+use Rattle.fs_path.proofs.SplitLemmas.{pieces_some, pieces_none, pieces_first}
 use Rattle.lab_text.specs.Policy.{PolicyNames, top_of}
 use Rattle.kern_model.specs.declared.calls.Call.{Call}
 use Rattle.kern_model.specs.declared.numbers.Pid.{Pid}
@@ -61,17 +61,17 @@ script_last : (over : Bool) (policy : PolicyNames) (n : ℕ) (text : List ℕ) �
 unfolding script_from
 script_last over policy n text = refl
 
-script_is : (over : Bool) (policy : PolicyNames) (n : ℕ) (text : List ℕ) (o : Option (List ℕ × List ℕ)) → cut 10 text ≡ o → script_from over policy n (pieces 10 text) ≡ script_next over policy n text o
+script_is : (over : Bool) (policy : PolicyNames) (n : ℕ) (text : List ℕ) (o : Option (List ℕ × List ℕ)) → split_once 10 text ≡ o → script_from over policy n (pieces 10 text) ≡ script_next over policy n text o
 script_is over policy n text None e = ap (script_from over policy n) (pieces_none 10 text e) ∙ script_last over policy n text
 script_is over policy n text (Some p) e =
     let first = pieces_first 10 p.1 in
     ap (script_from over policy n) (pieces_some 10 text p.0 p.1 e) ∙ script_more over policy n p.0 (pieces 10 p.1) first.0 first.1 first.2
 
 -- no line feed is left
-pub ends_last : (over : Bool) (policy : PolicyNames) (n : ℕ) (text : List ℕ) (ending : InputEnd) → cut 10 text ≡ None → ending ≡ last_piece over n text → Ends over policy n text ending
+pub ends_last : (over : Bool) (policy : PolicyNames) (n : ℕ) (text : List ℕ) (ending : InputEnd) → split_once 10 text ≡ None → ending ≡ last_piece over n text → Ends over policy n text ending
 ends_last over policy n text ending none is = script_is over policy n text None none ∙ sym (ap (script []) is)
 
-module _ (over : Bool) (policy : PolicyNames) (n : ℕ) (text line rest : List ℕ) (next : cut 10 text ≡ Some (line, rest)) where
+module _ (over : Bool) (policy : PolicyNames) (n : ℕ) (text line rest : List ℕ) (next : split_once 10 text ≡ Some (line, rest)) where
   -- the script behind the line
   abbrev after : Script
   after = script_from over policy (n + 1) (pieces 10 rest)

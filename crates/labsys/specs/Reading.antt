@@ -1,6 +1,6 @@
 -- What is read of an input, line by line.
 use Rattle.std.specs.Prelude.{◌≡◌, ℕ, ◌+◌, ◌≤◌, ◌<◌, Bool, true, List, [], ◌∷◌, length, Some}
-use Rattle.fs_path.specs.Lines.{pieces}
+use Rattle.fs_path.specs.Split.{pieces}
 use Rattle.lab_text.specs.Policy.{PolicyNames, top_of}
 use Rattle.kern_model.specs.declared.calls.Call.{Call}
 use Rattle.kern_model.specs.declared.numbers.Pid.{Pid}

@@ -11,7 +11,7 @@ ghost use Rattle.kern_core.specs.Built.{is_built};
 ghost use Rattle.kern_core.specs.Kernel.{state_of};
 ghost use Rattle.lab_text.specs.Policy.{top_of};
 ghost use Rattle.aud_record.specs.Written.{rec_text as rec_line, header_text as head_lines};
-ghost use Rattle.fs_path.specs.Lines.{pieces};
+ghost use Rattle.fs_path.specs.Split.{pieces};
 ghost use Rattle.labsys.specs.Input.{item_of, script_from, read_input};
 ghost use Rattle.labsys.specs.Texts.{end_text, label_in, caps_in, ends_text, last_text};
 ghost use Rattle.labsys.specs.Session.{call_bytes};

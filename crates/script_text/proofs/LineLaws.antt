@@ -7,7 +7,7 @@ use Rattle.std.specs.Option.{ok_or, option_and_then, option_map}
 use Rattle.std.proofs.lemmas.Bool.{and_parts, and_from}
 use Rattle.std.proofs.lemmas.Bool.Decides.{nat_tests}
 use Rattle.std.proofs.lemmas.Int.{ints}
-use Rattle.fs_path.specs.Lines.{cut}
+use Rattle.fs_path.specs.Split.{split_once}
 use Rattle.fs_path.specs.Options.{keep_if}
 use Rattle.fs_path.specs.Values.{mode_of, number_of, numeral, worth}
 use Rattle.fs_path.specs.Words.{is_blank, words_of}
@@ -154,19 +154,19 @@ module _ (policy : PolicyNames) where
 
   tag_fine : (w : List ℕ) (who : Pid) → a_tag policy w ≡ Ok who → is_number (top_of policy) who ≡ true
   unfolding a_tag
-  tag_fine w who h = by_cut (cut 64 w) (there _ _ who h)
+  tag_fine w who h = by_split (split_once 64 w) (there _ _ who h)
     where
-      by_cut : (o : Option (List ℕ × List ℕ)) → option_and_then (process policy) o ≡ Some who → is_number (top_of policy) who ≡ true
-      by_cut None h = absurd (cc)
-      by_cut (Some parts) h = process_fine parts who h
+      by_split : (o : Option (List ℕ × List ℕ)) → option_and_then (process policy) o ≡ Some who → is_number (top_of policy) who ≡ true
+      by_split None h = absurd (cc)
+      by_split (Some parts) h = process_fine parts who h
 
   pid_fine : (w : List ℕ) (who : Pid) → a_pid policy w ≡ Ok who → is_number (top_of policy) who ≡ true
   unfolding a_pid
-  pid_fine w who h = by_cut (numbered w) h
+  pid_fine w who h = by_split (numbered w) h
     where
-      by_cut : (o : Option (List ℕ × List ℕ)) → pid_by policy o ≡ Ok who → is_number (top_of policy) who ≡ true
-      by_cut None h = absurd (cc)
-      by_cut (Some parts) h = process_fine parts who (there (process policy parts) _ who h)
+      by_split : (o : Option (List ℕ × List ℕ)) → pid_by policy o ≡ Ok who → is_number (top_of policy) who ≡ true
+      by_split None h = absurd (cc)
+      by_split (Some parts) h = process_fine parts who (there (process policy parts) _ who h)
 
   -- ---- calls
 

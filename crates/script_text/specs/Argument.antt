@@ -6,7 +6,7 @@ use Rattle.std.specs.Option.{ok_or, option_and_then, option_map}
 use Rattle.cap_bits.specs.declared.state.CapState.{CapState}
 use Rattle.cap_clause.specs.Parsed.{parse_caps}
 use Rattle.cap_clause.specs.declared.error.CapTextError.{CapTextError}
-use Rattle.fs_path.specs.Lines.{cut}
+use Rattle.fs_path.specs.Split.{split_once}
 use Rattle.fs_path.specs.Path.{PathValue}
 use Rattle.fs_path.specs.PathText.{path_fault, parse_path}
 use Rattle.fs_path.specs.declared.path.PathError.{PathError}
@@ -60,11 +60,11 @@ process policy parts = option_and_then (λ n. option_map (λ at. record { label 
 
 -- a tag: `n@label`
 unfoldable pub tag : PolicyNames → List ℕ → Reading Pid
-tag policy word = ok_or (option_and_then (process policy) (cut 64 word)) error.BadTag
+tag policy word = ok_or (option_and_then (process policy) (split_once 64 word)) error.BadTag
 
 -- a number, `@` and a rest
 abbrev pub numbered : List ℕ → Option (List ℕ × List ℕ)
-numbered word = option_and_then (λ (parts : List ℕ × List ℕ). keep_if (is_some (number_of parts.0)) parts) (cut 64 word)
+numbered word = option_and_then (λ (parts : List ℕ × List ℕ). keep_if (is_some (number_of parts.0)) parts) (split_once 64 word)
 
 abbrev pub pid_by : PolicyNames → Option (List ℕ × List ℕ) → Reading Pid
 pid_by policy None = Err error.Syntax

@@ -7,7 +7,7 @@ ghost use Rattle.script_text.specs.Argument as argument;
 use crate::LineError;
 use cap_bits::CapState;
 use cap_clause::cap_from_text;
-use fs_path::{ByteList, LineWord, Path, PathError, cut, mode_of, number_of, numeral};
+use fs_path::{ByteList, LineWord, Path, PathError, mode_of, number_of, numeral, split_once};
 use kern_model::{Mode, OpenFlags, Pid, Signal, Whence};
 use lab_lattice::Label;
 use lab_text::{Policy, mac_from_text};
@@ -55,7 +55,7 @@ fn process(policy: &Policy, number: &[u8], label: &[u8]) -> Option<Pid>
 pub fn tag(policy: &Policy, word: &LineWord) -> Result<Pid, LineError>
     ensures { result ≡ argument.tag policy.now word.now.bytes }
 {
-    let (number, label) = cut(word.bytes.items(), b'@').ok_or(LineError::BadTag)?;
+    let (number, label) = split_once(word.bytes.items(), b'@').ok_or(LineError::BadTag)?;
     process(policy, number, label).ok_or(LineError::BadTag)
 }
 
@@ -64,7 +64,7 @@ pub fn tag(policy: &Policy, word: &LineWord) -> Result<Pid, LineError>
 pub fn pid(policy: &Policy, word: &LineWord) -> Result<Pid, LineError>
     ensures { result ≡ argument.pid policy.now word.now.bytes }
 {
-    let (number, label) = cut(word.bytes.items(), b'@').ok_or(LineError::Syntax)?;
+    let (number, label) = split_once(word.bytes.items(), b'@').ok_or(LineError::Syntax)?;
     let _form = number_of(number).ok_or(LineError::Syntax)?;
     process(policy, number, label).ok_or(LineError::BadLabel)
 }

@@ -12,7 +12,7 @@ use Rattle.cap_bits.specs.State.{no_flags}
 use Rattle.fs_path.specs.declared.words.LineWord.{LineWord}
 use Rattle.fs_path.specs.Name.{Name}
 use Rattle.fs_path.specs.Options.{keep_if, then}
-use Rattle.fs_path.specs.Lines.{pieces}
+use Rattle.fs_path.specs.Split.{pieces}
 use Rattle.fs_path.specs.Path.{PathValue, HasForm}
 use Rattle.fs_path.proofs.PathLaws.{path_form}
 use Rattle.fs_path.specs.PathText.{path_fault, parse_path}

@@ -1,7 +1,7 @@
 -- One line of a reading.
 use Rattle.std.proofs.Common.{◌≡◌, ℕ, ◌+◌, List, ◌∷◌, sym, ◌∙◌, ap, Some, None}
-use Rattle.fs_path.specs.Lines.{cut, pieces}
-use Rattle.fs_path.proofs.LineLemmas.{pieces_some, pieces_none, pieces_first}
+use Rattle.fs_path.specs.Split.{split_once, pieces}
+use Rattle.fs_path.proofs.SplitLemmas.{pieces_some, pieces_none, pieces_first}
 use Rattle.world_text.specs.declared.fault.WorldFault.{WorldFault}
 use Rattle.world_text.specs.declared.world.WorldText.{WorldText}
 use Rattle.world_text.specs.declared.expecting.Expecting.{Expecting}
@@ -15,28 +15,28 @@ unfolding reading
 more_lines n expecting line ls p ps e =
     ap (λ (q : List (List ℕ)). reading n expecting (line ∷ q)) e ∙ sym (ap (λ (q : List (List ℕ)). after (parse_line expecting line) n q (λ s. reading (n + 1) s q)) e)
 
-line_read : (n : ℕ) (expecting : Expecting) (text line rest : List ℕ) (parsed : Parsed) → cut 10 text ≡ Some (line, rest) → parsed ≡ parse_line expecting line
+line_read : (n : ℕ) (expecting : Expecting) (text line rest : List ℕ) (parsed : Parsed) → split_once 10 text ≡ Some (line, rest) → parsed ≡ parse_line expecting line
     → reading n expecting (pieces 10 text) ≡ after parsed n (pieces 10 rest) (λ s. reading (n + 1) s (pieces 10 rest))
 line_read n expecting text line rest parsed e is =
     let first = pieces_first 10 rest in
     ap (reading n expecting) (pieces_some 10 text line rest e) ∙ more_lines n expecting line (pieces 10 rest) first.0 first.1 first.2
     ∙ ap (λ (s : Parsed). after s n (pieces 10 rest) (λ s. reading (n + 1) s (pieces 10 rest))) (sym is)
 
-pub read_on : (r : Reading) (n : ℕ) (expecting next : Expecting) (text line rest : List ℕ) (parsed : Parsed) → r ≡ reading n expecting (pieces 10 text) → cut 10 text ≡ Some (line, rest) → parsed ≡ parse_line expecting line → parsed ≡ GoesOn next
+pub read_on : (r : Reading) (n : ℕ) (expecting next : Expecting) (text line rest : List ℕ) (parsed : Parsed) → r ≡ reading n expecting (pieces 10 text) → split_once 10 text ≡ Some (line, rest) → parsed ≡ parse_line expecting line → parsed ≡ GoesOn next
     → r ≡ reading (n + 1) next (pieces 10 rest)
 read_on r n expecting next text line rest parsed so_far e is goes =
     so_far ∙ line_read n expecting text line rest parsed e is ∙ ap (λ (s : Parsed). after s n (pieces 10 rest) (λ s. reading (n + 1) s (pieces 10 rest))) goes
 
-pub read_refused : (r : Reading) (n : ℕ) (expecting : Expecting) (text line rest : List ℕ) (parsed : Parsed) (fault : WorldFault) → r ≡ reading n expecting (pieces 10 text) → cut 10 text ≡ Some (line, rest) → parsed ≡ parse_line expecting line → parsed ≡ Refuses fault
+pub read_refused : (r : Reading) (n : ℕ) (expecting : Expecting) (text line rest : List ℕ) (parsed : Parsed) (fault : WorldFault) → r ≡ reading n expecting (pieces 10 text) → split_once 10 text ≡ Some (line, rest) → parsed ≡ parse_line expecting line → parsed ≡ Refuses fault
     → r ≡ Refused n fault
 read_refused r n expecting text line rest parsed fault so_far e is refuses =
     so_far ∙ line_read n expecting text line rest parsed e is ∙ ap (λ (s : Parsed). after s n (pieces 10 rest) (λ s. reading (n + 1) s (pieces 10 rest))) refuses
 
-pub read_world : (r : Reading) (n : ℕ) (expecting : Expecting) (text line rest : List ℕ) (parsed : Parsed) (world : WorldText) → r ≡ reading n expecting (pieces 10 text) → cut 10 text ≡ Some (line, rest) → parsed ≡ parse_line expecting line → parsed ≡ Begins world
+pub read_world : (r : Reading) (n : ℕ) (expecting : Expecting) (text line rest : List ℕ) (parsed : Parsed) (world : WorldText) → r ≡ reading n expecting (pieces 10 text) → split_once 10 text ≡ Some (line, rest) → parsed ≡ parse_line expecting line → parsed ≡ Begins world
     → r ≡ Accepted world (n + 1) (pieces 10 rest)
 read_world r n expecting text line rest parsed world so_far e is begins =
     so_far ∙ line_read n expecting text line rest parsed e is ∙ ap (λ (s : Parsed). after s n (pieces 10 rest) (λ s. reading (n + 1) s (pieces 10 rest))) begins
 
-pub read_end : (r : Reading) (n : ℕ) (expecting : Expecting) (text : List ℕ) → r ≡ reading n expecting (pieces 10 text) → cut 10 text ≡ None → r ≡ Ended n text
+pub read_end : (r : Reading) (n : ℕ) (expecting : Expecting) (text : List ℕ) → r ≡ reading n expecting (pieces 10 text) → split_once 10 text ≡ None → r ≡ Ended n text
 unfolding reading
 read_end r n expecting text so_far e = so_far ∙ ap (reading n expecting) (pieces_none 10 text e)

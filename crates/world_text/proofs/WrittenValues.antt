@@ -15,7 +15,8 @@ use Rattle.std.proofs.lemmas.List.{length-append}
 use Rattle.cap_bits.specs.declared.cap.Cap.{Cap}
 use Rattle.cap_bits.specs.declared.state.CapState.{CapState}
 use Rattle.cap_bits.specs.Cap.{all_caps}
-use Rattle.cap_bits.specs.CapSet.{CapSet, is_within, has-no_caps}
+use Rattle.cap_bits.specs.CapSet.{CapSet, is_within}
+use Rattle.cap_bits.proofs.CapSets.{has-no_caps}
 use Rattle.cap_bits.specs.State.{no_flags}
 use Rattle.cap_clause.specs.Written.{firsts_of, is_first, group_text, clauses_text, caps_text, set_text}
 use Rattle.cap_clause.proofs.WrittenRoundTrip.{caps_round_trip, caps_text_exact, set_round_trip, caps_text_plain, set_text_bare, set_text_some}
@@ -28,7 +29,7 @@ use Rattle.fs_path.specs.Path.{PathValue, HasForm, written_len}
 use Rattle.fs_path.specs.PathText.{is_slash, is_empty_or_dot, starts_badly, Component, placed, counts, names_of, component_fault, first_fault, components_of, path_fault, parse_path}
 use Rattle.fs_path.specs.Words.{is_plain, is_bare, is_bare_text, has_spelling, with_quotes_if_needed}
 use Rattle.lab_lattice.specs.Label.{Label}
-use Rattle.lab_text.proofs.Made.{any_before_end}
+use Rattle.fs_path.proofs.SplitLemmas.{any_before_end}
 use Rattle.lab_text.specs.Names.{Names, same_bytes, is_letter, is_name_part, is_label_name}
 use Rattle.lab_text.specs.Policy.{PolicyNames, MakePolicy, is_valid}
 use Rattle.lab_text.proofs.Parsed.{text_names, parse_text}

@@ -1,13 +1,13 @@
 -- Lines that are written are read as their words.
 use Rattle.std.specs.Prelude.{◌≡◌, ℕ, ◌+◌, ◌/◌, ◌%◌, ◌≤◌, ◌==◌, ◌&&◌, ◌||◌, not, nat_le, nat_lt, Bool, true, false, cond, List, [], ◌∷◌, ◌++◌, length, drop, map, Option, refl}
 use Rattle.std.proofs.Common.{ap, ◌∙◌, append_assoc, arith}
-use Rattle.std.specs.List.{flat_map, list_all, prefix_len}
+use Rattle.std.specs.List.{flat_map, list_all, onto_first, prefix_len}
 use Rattle.std.proofs.lemmas.Bool.{and_parts, and_from, not-true, le-leb, le-ltb, cond-false}
 use Rattle.std.proofs.lemmas.Bool.Decides.{nat_tests}
 use Rattle.std.proofs.lemmas.List.Folds.{list_all-append}
 use Rattle.fs_path.specs.declared.words.LineWord.{LineWord}
 use Rattle.fs_path.proofs.RoundTrip.{line_round_trip}
-use Rattle.fs_path.specs.Lines.{onto_first, pieces}
+use Rattle.fs_path.specs.Split.{pieces}
 use Rattle.fs_path.specs.Words.{is_space, is_plain, is_bare, is_bare_text, is_blank, hex_digit, item_text, quoted_text, has_spelling, spelling, after_spaces, line_text, says_nothing}
 use Rattle.world_text.specs.declared.fault.WorldFault.TheVariants.{Syntax}
 use Rattle.world_text.specs.declared.expecting.Expecting.{Expecting}
@@ -77,7 +77,6 @@ no_feed b h = grind (arith, nat_tests)
 
 -- a line feed ends the first piece
 first_piece : (line rest : List ℕ) → list_all is_high line ≡ true → pieces 10 (line ++ 10 ∷ rest) ≡ line ∷ pieces 10 rest
-unfolding pieces
 first_piece [] rest high = refl
 first_piece (b ∷ bs) rest high =
     let parts = and_parts (is_high b) (list_all is_high bs) high in
@@ -88,7 +87,7 @@ abbrev pub written_pieces : List (List LineWord) → List (List ℕ)
 written_pieces lines = map (λ words. line_text (map spelling words)) lines ++ [] ∷ []
 
 pub pieces_round_trip : (lines : List (List LineWord)) → list_all (list_all has_spelling) lines ≡ true → pieces 10 (flat_map line_of lines) ≡ written_pieces lines
-unfolding line_of pieces
+unfolding line_of
 pieces_round_trip [] can = refl
 pieces_round_trip (words ∷ lines) can =
     let parts = and_parts (list_all has_spelling words) (list_all (list_all has_spelling) lines) can in

@@ -1,6 +1,6 @@
 -- What a text says of a world, line by line.
 use Rattle.std.specs.Prelude.{◌≡◌, ℕ, ◌+◌, ◌≤◌, List, [], ◌∷◌, length, Option, None, Some}
-use Rattle.fs_path.specs.Lines.{pieces}
+use Rattle.fs_path.specs.Split.{pieces}
 use Rattle.world_text.specs.declared.fault.WorldFault.{WorldFault}
 use Rattle.world_text.specs.declared.fault.WorldFault.TheVariants as fault
 use Rattle.world_text.specs.declared.fault.WorldError.{WorldError}

@@ -1,7 +1,9 @@
 use Rattle.std.proofs.Common.{Bool, true, false, ◌≡◌, refl, ap, ◌∙◌, sym}
 use Rattle.std.specs.Prelude.{not, ◌&&◌}
 use Rattle.std.specs.Bool.{beq}
-use Rattle.cap_bits.specs.CapSet.{has, all_of_caps, minus_of, has-all_of_caps, has-minus_of}
+use Rattle.cap_bits.specs.CapSet.{has, all_of_caps, minus_of}
+use Rattle.cap_bits.proofs.CapSets.{has-minus_of}
+use Rattle.cap_bits.specs.Laws.{has-all_of_caps}
 use Rattle.cap_clause.proofs.written.alike.Goals as goal
 
 unlike : (a b : Bool) → a ≡ false → (true && not b) ≡ beq a b

@@ -1,7 +1,9 @@
 use Rattle.std.proofs.Common.{Bool, true, false, ◌≡◌, refl, ap, ◌∙◌, sym}
 use Rattle.std.specs.Prelude.{◌&&◌}
 use Rattle.std.specs.Bool.{beq}
-use Rattle.cap_bits.specs.CapSet.{has, has-meet_of, same_caps}
+use Rattle.cap_bits.specs.CapSet.{has}
+use Rattle.cap_bits.proofs.CapSets.{has-meet_of}
+use Rattle.cap_bits.specs.Laws.{same_caps}
 use Rattle.cap_clause.proofs.Groups.{has-group_of}
 use Rattle.cap_clause.specs.Written.{same_flags, group_of}
 use Rattle.cap_clause.proofs.written.group_of.Goals as goal

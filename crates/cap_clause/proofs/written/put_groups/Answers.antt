@@ -1,5 +1,5 @@
 use Rattle.std.proofs.Common.{◌+◌, ◌++◌, ◌∙◌, ap, sym, refl, arith}
-use Rattle.cap_bits.specs.Cap.{few_caps}
+use Rattle.cap_bits.proofs.Caps.{few_caps}
 use Rattle.cap_bits.specs.CapSet.{has, minus_of, union_of}
 use Rattle.cap_clause.proofs.WriteLemmas.{groups_from, left_at_first, left_after, left_past, group_written, group_passed, groups_written}
 use Rattle.cap_clause.proofs.written.put_groups.Goals as goal

@@ -1,5 +1,5 @@
 use Rattle.std.proofs.Common.{◌+◌, ◌++◌, ◌∙◌, ap, sym, arith}
-use Rattle.cap_bits.specs.Cap.{few_caps}
+use Rattle.cap_bits.proofs.Caps.{few_caps}
 use Rattle.cap_clause.proofs.WriteLemmas.{names_from, name_written, name_passed, names_written}
 use Rattle.cap_clause.proofs.written.put_names.Goals as goal
 use Rattle.cap_clause.proofs.written.put_names.Goals.{then-has+in_ok-extend_from_slice+in_ok-extend_from_slice-2, else-has}

@@ -1,7 +1,8 @@
 use Rattle.std.proofs.Common.{◌≡◌, ◌∙◌, ap, sym, subst, refl, ◌∷◌, [], ◌++◌, true, false, ℕ, ◌≤◌, length, count_by, codes, arith, Bool, List}
 use Rattle.std.proofs.lemmas.Bool.{and_from}
 use Rattle.std.proofs.lemmas.List.Sums.{count_by-le-length}
-use Rattle.cap_bits.specs.CapSet.{CapSet, no_caps, is_within, has-within}
+use Rattle.cap_bits.specs.CapSet.{CapSet, no_caps, is_within}
+use Rattle.cap_bits.specs.Laws.{has-within}
 use Rattle.cap_bits.specs.State.{no_flags}
 use Rattle.fs_path.specs.Name.{Name, is_name}
 use Rattle.fs_path.specs.Path.{HasForm, written_len}

@@ -1,6 +1,7 @@
 use Rattle.std.proofs.Common.{◌≡◌, ◌&&◌, ◌∙◌, ap}
 use Rattle.std.proofs.lemmas.Bool.Decides.{Decides-at, Decides-like, Decides-and}
-use Rattle.cap_bits.specs.CapSet.{same_sets, same_sets-decides}
+use Rattle.cap_bits.specs.CapSet.{same_sets}
+use Rattle.cap_bits.specs.Laws.{same_sets-decides}
 use Rattle.cap_bits.specs.State.{no_flags}
 use Rattle.cap_bits.specs.declared.state.CapState.{CapState}
 use Rattle.kern_model.proofs.valid.has_no_flags.Goals as goal

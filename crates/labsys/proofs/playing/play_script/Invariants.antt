@@ -1,5 +1,5 @@
 use Rattle.std.proofs.Common.{◌≡◌, ◌+◌, ◌^◌, ◌≤◌, length}
-use Rattle.fs_path.specs.Lines.{pieces}
+use Rattle.fs_path.specs.Split.{pieces}
 use Rattle.lab_text.specs.Policy.{top_of}
 use Rattle.labsys.specs.Input.{script_from}
 use Rattle.kern_core.specs.Kernel.{state_of}

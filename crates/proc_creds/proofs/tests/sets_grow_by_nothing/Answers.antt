@@ -1,4 +1,4 @@
-use Rattle.cap_bits.specs.CapSet.{has-within}
+use Rattle.cap_bits.specs.Laws.{has-within}
 use Rattle.proc_creds.proofs.tests.sets_grow_by_nothing.Goals as goal
 
 pub invariant_of-creds : goal.invariant_of-creds

@@ -1,5 +1,5 @@
 use Rattle.std.proofs.Common.{◌≡◌, ◌+◌, ◌≤◌, length}
-use Rattle.fs_path.specs.Lines.{pieces}
+use Rattle.fs_path.specs.Split.{pieces}
 use Rattle.world_text.specs.Reading.{reading, read_text}
 use Rattle.world_text.proofs.reading.read_prefix.Given as goal
 

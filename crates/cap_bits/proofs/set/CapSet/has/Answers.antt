@@ -2,7 +2,7 @@ use Rattle.std.specs.Prelude.{◌==◌}
 use Rattle.std.specs.Int.{bit_at}
 use Rattle.std.proofs.Common.{ap, sym, ◌∙◌}
 use Rattle.std.proofs.lemmas.Nat.Bits.{shr_and_one}
-use Rattle.cap_bits.specs.Word.{has-caps_of_word}
+use Rattle.cap_bits.specs.Laws.{has-caps_of_word}
 use Rattle.cap_bits.specs.CapSet.{has}
 use Rattle.cap_bits.proofs.set.CapSet.has.Goals as goal
 
