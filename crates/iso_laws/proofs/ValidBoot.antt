@@ -13,6 +13,7 @@ use Rattle.std.specs.FinMap.{FinMap, get-empty}
 use Rattle.cap_bits.specs.CapSet.{CapSet}
 use Rattle.fs_path.specs.Name.{Name, is_name}
 use Rattle.lab_lattice.specs.Label.{Label, bottom, dominates, label_cmp}
+use Rattle.kern_model.specs.declared.limits.TheConstants.{MAX_DESCRIPTIONS, MAX_OBJECTS, MAX_PIPE_BYTES, MAX_PROCS}
 use Rattle.kern_model.specs.declared.numbers.Pid.{Pid}
 use Rattle.kern_model.specs.declared.numbers.Oid.{Oid}
 use Rattle.kern_model.specs.declared.objects.Body.{Body}
@@ -66,7 +67,7 @@ fifo_empty (body.File bytes) e = absurd (cc)
 fifo_empty body.Fifo e = refl
 fifo_empty body.Pipe e = refl
 
-stream_few : (b : Body) → is_stream (kind_of b) ≡ true → length (bytes_of b) ≤ 4096
+stream_few : (b : Body) → is_stream (kind_of b) ≡ true → length (bytes_of b) ≤ MAX_PIPE_BYTES
 stream_few body.Dir e = absurd (cc)
 stream_few (body.File bytes) e = absurd (cc)
 stream_few body.Fifo e = omega arith
@@ -464,9 +465,9 @@ module _ (w : World) (is : IsWorld w) (f : State) (built : IsBuilt w.top w.objec
     one_entry = λ a b id o e g _ _. same_spot a b id e g;
     procs = valid_started;
     descriptions = λ did d e. absurd (never_some _ d (ap (λ (m : FinMap did_cmp Description). map.get m did) built.no_descriptions ∙ get-empty did_cmp did) e);
-    object_numbers = few_drawn s.object_numbers 65535 built.below (λ l. omega (arith, built.counted l, is.room.objects l));
-    process_numbers = few_drawn s.process_numbers 4095 staffed.below (λ l. omega (arith, staffed.counted l, is.room.procs l));
-    description_numbers = few_drawn s.description_numbers 65535 (λ l h. absurd (omega (arith, no_description_drawn l))) (λ l. omega (arith, no_description_drawn l));
+    object_numbers = few_drawn s.object_numbers MAX_OBJECTS built.below (λ l. omega (arith, built.counted l, is.room.objects l));
+    process_numbers = few_drawn s.process_numbers MAX_PROCS staffed.below (λ l. omega (arith, staffed.counted l, is.room.procs l));
+    description_numbers = few_drawn s.description_numbers MAX_DESCRIPTIONS (λ l h. absurd (omega (arith, no_description_drawn l))) (λ l. omega (arith, no_description_drawn l));
   }
 
 -- the first state of each world is valid
