@@ -31,6 +31,7 @@ use Rattle.kern_model.specs.State.{State, Process, Description, SetObject, SetEn
 use Rattle.kern_model.specs.Valid.{IsDrawn, AreFew, leads, IsRoot, IsValidObject, IsValidEntry, IsValidProcess, IsValid}
 use Rattle.kern_model.specs.World.{objects_at, procs_at, same_names, parent_names, given, IsPlaced, ArePlaced, IsWorldObject, IsWorldProc, IsWorld}
 use Rattle.kern_model.proofs.MapLemmas.{same_key, get_or-absent, get-insert_same, get-insert_kept, other_key, each-insert, never_some, some_same, count_entries-one}
+use Rattle.iso_laws.specs.Laws.{ValidBoot}
 use Rattle.iso_laws.proofs.Leading.{leads_kept, leads_on, IsEnd, has_end, names_itself, given-append, not_before, given_after}
 use Rattle.iso_laws.proofs.ValidLemmas.{no_fewer, one_more, still_drawn, next_drawn, still_below, still_counted}
 
@@ -470,9 +471,8 @@ module _ (w : World) (is : IsWorld w) (f : State) (built : IsBuilt w.top w.objec
     description_numbers = few_drawn s.description_numbers MAX_DESCRIPTIONS (λ l h. absurd (omega (arith, no_description_drawn l))) (λ l. omega (arith, no_description_drawn l));
   }
 
--- the first state of each world is valid
-pub valid_booted : (w : World) → IsWorld w → IsValid (boot w)
-valid_booted w is =
+pub valid_boot : ValidBoot
+valid_boot w is =
     let f = furnished w in
     let built = built_furnished w is in
     let none : IsStaffed w.top [] f.procs f.process_numbers = subst (λ (m : FinMap label_cmp ℕ). IsStaffed w.top [] f.procs m) (sym built.no_process_numbers) (subst (λ (m : FinMap pid_cmp Process). IsStaffed w.top [] m map.empty) (sym built.no_procs) (staffed_none w.top)) in
