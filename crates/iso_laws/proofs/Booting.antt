@@ -17,7 +17,8 @@ use Rattle.kern_model.specs.State.{State, Description, DrawObject, DrawProcess, 
 use Rattle.kern_model.specs.Boot.{object_of, process_of, entry_for, boot_object, boot_process, boot_objects, boot_processes, nothing, furnished, boot}
 use Rattle.kern_model.specs.Isolation.{Kept}
 use Rattle.kern_model.proofs.MapLemmas.{never_some}
-use Rattle.iso_laws.proofs.Part.{fixed_by}
+use Rattle.iso_laws.specs.Laws.{KeptBoot, TopBoot}
+use Rattle.iso_laws.proofs.Part.{fixed_by, top-changed}
 use Rattle.iso_laws.proofs.Changes.{kept_beside, kept_object, kept_process}
 
 -- ---- numbers and labels stay on one side
@@ -71,9 +72,8 @@ module _ (l : Label) where
   kept_processes [] s kept = kept
   kept_processes (w ∷ ws) s kept = kept_processes ws (boot_process s w) (kept_boot_process s w kept)
 
-  -- in the first state of a world what belongs together is on one side
-  pub kept_booted : (w : World) → Kept l (boot w)
-  kept_booted w = kept_processes w.procs (furnished w) (unopened_objects w.objects (nothing w.bound w.top) (unopened_nothing w.bound w.top)).kept
+pub kept_boot : KeptBoot
+kept_boot l w = kept_processes l w.procs (furnished w) (unopened_objects l w.objects (nothing w.bound w.top) (unopened_nothing l w.bound w.top)).kept
 
 -- ---- what no change changes
 module _ {X : Type 0} (of : State → X) (fixed : (s : State) (c : Change) → of (changed s c) ≡ of s) where
@@ -89,3 +89,6 @@ module _ {X : Type 0} (of : State → X) (fixed : (s : State) (c : Change) → o
 
   pub fixed_booted : (w : World) → of (boot w) ≡ of (nothing w.bound w.top)
   fixed_booted w = fixed_processes w.procs (furnished w) ∙ fixed_objects w.objects (nothing w.bound w.top)
+
+pub top_boot : TopBoot
+top_boot w = fixed_booted (λ s. s.top) top-changed w

@@ -10,6 +10,7 @@ use Rattle.cap_bits.specs.CapSet.{CapSet, is_within, meet_of}
 use Rattle.cap_bits.specs.declared.state.CapState.{CapState}
 use Rattle.fs_path.specs.Path.{PathValue}
 use Rattle.lab_lattice.specs.Label.{Label, dominates}
+use Rattle.kern_model.specs.declared.limits.TheConstants.{MAX_GROUPS}
 use Rattle.kern_model.specs.declared.numbers.Ids.{Ids}
 use Rattle.kern_model.specs.declared.numbers.Oid.{Oid}
 use Rattle.kern_model.specs.declared.numbers.Pid.{Pid}
@@ -264,7 +265,7 @@ valid_cases bad s valid who p is =
             drawn_already = own.drawn_already;
             within = within;
             umask = fits tt;
-            few_groups = subst (λ gs. length gs ≤ 16) (sym groups) own.few_groups;
+            few_groups = subst (λ gs. length gs ≤ MAX_GROUPS) (sym groups) own.few_groups;
             cwd = own.cwd;
             parent = own.parent;
             ended = own.ended;

@@ -27,7 +27,7 @@ use Rattle.kern_model.specs.declared.world.WorldProc.{WorldProc}
 use Rattle.kern_model.specs.declared.world.ScriptItem.{ScriptItem}
 use Rattle.kern_model.specs.Boot.{boot, boot_recs, boot_process, started, furnished}
 use Rattle.kern_model.specs.Keys.{pid_cmp_total}
-use Rattle.kern_model.specs.Lineage.{caps_after, reported, caps_of, all_recs, OnlyDrops}
+use Rattle.kern_model.specs.Lineage.{caps_after, reported, caps_of, all_recs}
 use Rattle.kern_model.specs.Names.{name_of}
 use Rattle.kern_model.specs.Row.{Row, Subject, End, judge, verdict_of, is_denied, exercise_with}
 use Rattle.kern_model.specs.Rules.{cap_of, denial_of, may_become, cap_grow}
@@ -35,6 +35,7 @@ use Rattle.kern_model.specs.Run.{CallRecord, run}
 use Rattle.kern_model.specs.State.{State, Process, Change}
 use Rattle.kern_model.specs.Step.{step, step_by, settled, subject, own_of}
 use Rattle.kern_model.specs.Table.{row}
+use Rattle.iso_laws.specs.Laws.{DropsByRecords}
 use Rattle.iso_laws.proofs.Part.{bound-changed}
 use Rattle.iso_laws.proofs.Rows.{when, Gives, used_is, end_is}
 use Rattle.iso_laws.proofs.Steps.{fixed_after}
@@ -149,5 +150,5 @@ all_drop w items =
     drop-append w.bound (λ _. no_flags) (boot_recs w) _ (start_drops w.bound w.procs (furnished w) (λ _. no_flags))
     (run_drops items (boot w) w.bound (caps_of w.bound (boot_recs w)) (fixed_booted (λ s. s.bound) bound-changed w) (reported_booted w))
 
-pub drops_are_reported : (w : World) (items : List ScriptItem) → OnlyDrops w.bound (all_recs w items)
-drops_are_reported w items before after who caps e = drop_between w.bound (λ _. no_flags) before (rec.CapSetProc who caps) after (subst (AllDrop w.bound (λ _. no_flags)) e (all_drop w items))
+pub drops_by_records : DropsByRecords
+drops_by_records w items before after who caps e = drop_between w.bound (λ _. no_flags) before (rec.CapSetProc who caps) after (subst (AllDrop w.bound (λ _. no_flags)) e (all_drop w items))

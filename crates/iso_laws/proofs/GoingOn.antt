@@ -7,12 +7,11 @@ use Rattle.kern_model.specs.declared.numbers.Pid.{Pid}
 use Rattle.kern_model.specs.declared.checks.CheckName.{CheckName}
 use Rattle.kern_model.specs.declared.checks.CheckName.TheVariants as check
 use Rattle.kern_model.specs.declared.calls.Call.{Call}
-use Rattle.kern_model.specs.declared.world.World.{World}
 use Rattle.kern_model.specs.declared.world.ScriptItem.{ScriptItem}
 use Rattle.kern_model.specs.declared.records.Rec.{Rec}
 use Rattle.kern_model.specs.declared.records.Rec.TheVariants as rec
 use Rattle.kern_model.specs.Boot.{boot}
-use Rattle.kern_model.specs.Drawing.{StayDrawn, NumbersGoOn, NothingComesBack}
+use Rattle.kern_model.specs.Drawing.{StayDrawn, NumbersGoOn}
 use Rattle.kern_model.specs.Refusals.{is_denial, IsNamed}
 use Rattle.kern_model.specs.Row.{Row, Need, Soft, Refuse, Fail, Commit, Subject, End, Stopped, Refused, Done, judge, verdict_of, is_denied, noted}
 use Rattle.kern_model.specs.Rules.{denial_of}
@@ -20,11 +19,11 @@ use Rattle.kern_model.specs.Run.{state_after_run}
 use Rattle.kern_model.specs.State.{State, Process, Change}
 use Rattle.kern_model.specs.Step.{step, subject, reply_of, state_after}
 use Rattle.kern_model.specs.Table.{row}
-use Rattle.kern_model.specs.Valid.{IsThere, IsValid}
-use Rattle.kern_model.specs.World.{IsWorld}
+use Rattle.kern_model.specs.Valid.{IsThere}
+use Rattle.iso_laws.specs.Laws.{RefusalsAreNamed, DrawnStep, NumbersStep, NumbersRun, GoneRun}
 use Rattle.iso_laws.proofs.Rows.{when}
 use Rattle.iso_laws.proofs.Steps.{by_process, judged_row}
-use Rattle.iso_laws.proofs.ValidBoot.{valid_booted}
+use Rattle.iso_laws.proofs.ValidBoot.{valid_boot}
 use Rattle.iso_laws.proofs.DrawingLemmas.{LeadsTo, IsClosed, AllFit, stay_all, stay_itself, closed_valid, GoesOn, goes_all, goes_itself, on_itself, on_over, nothing_back}
 use Rattle.iso_laws.proofs.RowsFair.{Fair, ReportsOwn, row_fair}
 
@@ -68,17 +67,16 @@ reply_named P (Stopped name place) h = denial_named name
 reply_named P (Refused e) h = h
 reply_named P (Done cs answer own) h = tt
 
-pub named_after : (s : State) (who : Pid) (c : Call) → IsNamed (step s who c).reply
-named_after s who c = by_process s who c (λ o. IsNamed o.reply) (λ _. refl) (λ p is. reply_named _ _ (row_ends Anything s (lead_anywhere s) who p is c))
+pub refusals_are_named : RefusalsAreNamed
+refusals_are_named s who c = by_process s who c (λ o. IsNamed o.reply) (λ _. refl) (λ p is. reply_named _ _ (row_ends Anything s (lead_anywhere s) who p is c))
 
 stay_at_end : (s : State) (who : Pid) (e : End) → EndsFair (Fitting Anything s who) e → StayDrawn s (state_after s e)
 stay_at_end s who (Stopped name place) h = stay_itself s
 stay_at_end s who (Refused e) h = stay_itself s
 stay_at_end s who (Done cs answer own) h = stay_all Anything _ s cs s h.0 (stay_itself s)
 
--- numbers that were drawn stay drawn
-pub stay_after : (s : State) (who : Pid) (c : Call) → StayDrawn s (step s who c).state
-stay_after s who c = by_process s who c (λ o. StayDrawn s o.state) (λ _. stay_itself s) (λ p is. stay_at_end s who _ (row_ends Anything s (lead_anywhere s) who p is c))
+pub drawn_step : DrawnStep
+drawn_step s who c = by_process s who c (λ o. StayDrawn s o.state) (λ _. stay_itself s) (λ p is. stay_at_end s who _ (row_ends Anything s (lead_anywhere s) who p is c))
 
 -- ---- in a state in which what leads to an object leads to one that is there
 goes_at_end : (s : State) → IsClosed s → (who : Pid) (e : End) → EndsFair (Fitting (λ id. IsThere s.objects id) s who) e → GoesOn s (state_after s e)
@@ -89,9 +87,8 @@ goes_at_end s closed who (Done cs answer own) h = goes_all _ s cs s h.0 (goes_it
 pub goes_after : (s : State) (who : Pid) (c : Call) → IsClosed s → GoesOn s (step s who c).state
 goes_after s who c closed = by_process s who c (λ o. GoesOn s o.state) (λ _. goes_itself s closed) (λ p is. goes_at_end s closed who _ (row_ends (λ id. IsThere s.objects id) s closed who p is c))
 
--- numbers go on
-pub on_after : (s : State) (who : Pid) (c : Call) → IsValid s → NumbersGoOn s (step s who c).state
-on_after s who c valid = (goes_after s who c (closed_valid s valid)).on
+pub numbers_step : NumbersStep
+numbers_step s who c valid = (goes_after s who c (closed_valid s valid)).on
 
 -- ---- over runs
 pub closed_after_run : (items : List ScriptItem) (s : State) → IsClosed s → IsClosed (state_after_run s items)
@@ -108,11 +105,10 @@ state_after_run-append : (s : State) (is js : List ScriptItem) → state_after_r
 state_after_run-append s [] js = refl
 state_after_run-append s (i ∷ is) js = state_after_run-append (step s i.who i.call).state is js
 
--- from each part of a run to a longer one
-pub on_over_run : (w : World) (items more : List ScriptItem) → IsWorld w → NumbersGoOn (state_after_run (boot w) items) (state_after_run (boot w) (items ++ more))
-on_over_run w items more is =
+pub numbers_run : NumbersRun
+numbers_run w items more is =
     subst (NumbersGoOn (state_after_run (boot w) items)) (sym (state_after_run-append (boot w) items more))
-    (on_after_run more (state_after_run (boot w) items) (closed_after_run items (boot w) (closed_valid (boot w) (valid_booted w is))))
+    (on_after_run more (state_after_run (boot w) items) (closed_after_run items (boot w) (closed_valid (boot w) (valid_boot w is))))
 
-pub nothing_back_over_run : (w : World) (items more : List ScriptItem) → IsWorld w → NothingComesBack (state_after_run (boot w) items) (state_after_run (boot w) (items ++ more))
-nothing_back_over_run w items more is = nothing_back (state_after_run (boot w) items) (state_after_run (boot w) (items ++ more)) (on_over_run w items more is)
+pub gone_run : GoneRun
+gone_run w items more is = nothing_back (state_after_run (boot w) items) (state_after_run (boot w) (items ++ more)) (numbers_run w items more is)

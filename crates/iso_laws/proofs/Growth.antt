@@ -14,14 +14,13 @@ use Rattle.kern_model.specs.declared.numbers.Oid.{Oid}
 use Rattle.kern_model.specs.declared.numbers.Pid.{Pid}
 use Rattle.kern_model.specs.declared.records.Rec.{Rec}
 use Rattle.kern_model.specs.declared.records.Rec.TheVariants as rec
-use Rattle.kern_model.specs.declared.world.World.{World}
-use Rattle.kern_model.specs.declared.world.ScriptItem.{ScriptItem}
 use Rattle.kern_model.specs.Exec.{exec_caps, exec_permitted}
 use Rattle.kern_model.specs.Keys.{pid_cmp_exact, same_pid}
-use Rattle.kern_model.specs.Lineage.{caps_after, reported, caps_of, all_recs, origin, ancestor, StartedWith, FromExec, GrowsByExec}
+use Rattle.kern_model.specs.Lineage.{caps_after, reported, caps_of, origin, ancestor, StartedWith, FromExec}
 use Rattle.kern_model.specs.Boot.{boot, boot_recs, furnished}
 use Rattle.kern_model.specs.Run.{CallRecord, run}
 use Rattle.kern_model.proofs.MapLemmas.{same_key}
+use Rattle.iso_laws.specs.Laws.{GrowthByRecords}
 use Rattle.iso_laws.proofs.CapsReported.{reported-append}
 use Rattle.iso_laws.proofs.Drops.{Drops, AllDrop, all_drop}
 use Rattle.iso_laws.proofs.SinceStart.{all_started}
@@ -120,8 +119,8 @@ module _ (bound : CapSet) (first others : List Rec) (starts : AreStarts first) (
       (given_later q cap)
       (ap (λ (c : CapState). has c.p cap) (sym (reported-append bound (λ _. no_flags) first others q)) ∙ h)
 
-pub growth_is_reported : (w : World) (items : List ScriptItem) → GrowsByExec w.bound (all_recs w items)
-growth_is_reported w items =
+pub growth_by_records : GrowthByRecords
+growth_by_records w items =
     let later : List Rec = flat_map (λ (p : CallRecord). p.recs) (run (boot w) items) in
     let starts : AreStarts (boot_recs w) = started_once w.procs (furnished w) in
     let none : NoStarts later = run_no_start items (boot w) in

@@ -21,3 +21,4 @@ pub mod GoingOn
 pub mod StartLemmas
 pub mod SinceStart
 pub mod Growth
+pub mod Laws

@@ -15,7 +15,6 @@ use Rattle.kern_model.specs.declared.calls.Call.{Call}
 use Rattle.kern_model.specs.declared.calls.CallName.{CallName}
 use Rattle.kern_model.specs.declared.records.Rec.{Rec}
 use Rattle.kern_model.specs.declared.records.Rec.TheVariants as rec
-use Rattle.kern_model.specs.declared.world.World.{World}
 use Rattle.kern_model.specs.declared.world.ScriptItem.{ScriptItem}
 use Rattle.kern_model.specs.Boot.{boot, boot_recs}
 use Rattle.kern_model.specs.Lineage.{reported, caps_of, all_recs}
@@ -26,6 +25,7 @@ use Rattle.kern_model.specs.Run.{CallRecord, run, state_after_run}
 use Rattle.kern_model.specs.State.{State, Process}
 use Rattle.kern_model.specs.Step.{step, step_by, settled, subject, state_after, own_of}
 use Rattle.kern_model.specs.Table.{row}
+use Rattle.iso_laws.specs.Laws.{CapsByRecords}
 use Rattle.iso_laws.proofs.Part.{bound-changed}
 use Rattle.iso_laws.proofs.Rows.{Gives, used_is, end_is}
 use Rattle.iso_laws.proofs.Steps.{fixed_after}
@@ -89,9 +89,8 @@ reported_after_run (i ∷ is) s bound f same has =
     (reported_after_run is next bound (reported bound f recs) (fixed_after s i.who i.call (λ t. t.bound) bound-changed ∙ same)
     (reported_same next (reported s.bound f recs) (reported bound f recs) (λ q. ap (λ b. reported b f recs q) same) (reported_after s i.who i.call f has)))
 
--- the sets of each living process are those that all records tell
-pub caps_are_reported : (w : World) (items : List ScriptItem) (who : Pid) (p : Process) → map.get (state_after_run (boot w) items).procs who ≡ Some p → p.caps ≡ caps_of w.bound (all_recs w items) who
-caps_are_reported w items =
+pub caps_by_records : CapsByRecords
+caps_by_records w items =
     let later : List Rec = flat_map (λ (p : CallRecord). p.recs) (run (boot w) items) in
     reported_same (state_after_run (boot w) items) (reported w.bound (caps_of w.bound (boot_recs w)) later) (caps_of w.bound (all_recs w items))
     (λ q. sym (reported-append w.bound (λ _. no_flags) (boot_recs w) later q))

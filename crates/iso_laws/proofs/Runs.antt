@@ -13,9 +13,8 @@ use Rattle.kern_model.specs.Isolation.{low, part, part_script, crossing, Answere
 use Rattle.kern_model.specs.Valid.{IsValid}
 use Rattle.kern_model.specs.Prefixes.{IsPrefix}
 use Rattle.iso_laws.specs.LawCalls.{has_laws, have_laws}
-use Rattle.iso_laws.proofs.Part.{top-changed}
 use Rattle.iso_laws.proofs.PrefixLemmas.{prefix_through}
-use Rattle.iso_laws.proofs.Steps.{low_after, other_after, kept_after, valid_after, fixed_after}
+use Rattle.iso_laws.proofs.Steps.{low_step, other_step, kept_step, valid_step, top_step}
 
 -- what a script of calls with laws asks of its first call and of the others
 record First (s : State) (i : ScriptItem) (is : List ScriptItem) : Type 0 where
@@ -32,7 +31,7 @@ first_of_script s i is laws args =
       laws = laws'.0;
       args = (and_parts _ _ args'.0).1;
       later_laws = laws'.1;
-      later_args = ap (λ top. is_script top is) (fixed_after s i.who i.call (λ t. t.top) top-changed) ∙ args'.1;
+      later_args = ap (λ top. is_script top is) (top_step s i.who i.call) ∙ args'.1;
     }
 
 module _ (l : Label) where
@@ -82,14 +81,14 @@ module _ (l : Label) where
       elim (crossing l (step s i.who i.call).recs) as (λ b. crossing l (step s i.who i.call).recs ≡ b → IsReported (run s (i ∷ is)) (all_answers (run (part l s) (part_script l (i ∷ is))))) [
         | true ↦ λ crosses. reported_none (played s i) (run next is) _ crosses
         | false ↦ λ inside.
-            let rest : IsReported (run next is) (all_answers (run (part l next) (part_script l is))) = reported_alone is next first.later_laws first.later_args (valid_after s i.who i.call first.laws first.args valid) (kept_after l s i.who i.call first.laws kept valid inside) in
+            let rest : IsReported (run next is) (all_answers (run (part l next) (part_script l is))) = reported_alone is next first.later_laws first.later_args (valid_step s i.who i.call first.laws first.args valid) (kept_step l s i.who i.call first.laws valid kept inside) in
             elim (low l i.who.label) as (λ b. low l i.who.label ≡ b → IsReported (run s (i ∷ is)) (all_answers (run (part l s) (cond b (i ∷ part_script l is) (part_script l is))))) [
               | true ↦ λ is_low.
-                  let e = low_after l s i.who i.call first.laws kept valid is_low inside in
+                  let e = low_step l s i.who i.call first.laws valid kept is_low inside in
                   subst (λ (o : StepResult). IsReported (run s (i ∷ is)) (record { who = i.who; head = i.head; reply = o.reply } ∷ all_answers (run o.state (part_script l is)))) (sym e)
                   (reported_more (played s i) true (run next is) _ is_low inside rest)
               | false ↦ λ high.
-                  subst (λ t. IsReported (run s (i ∷ is)) (all_answers (run t (part_script l is)))) (other_after l s i.who i.call first.laws kept valid high inside)
+                  subst (λ t. IsReported (run s (i ∷ is)) (all_answers (run t (part_script l is)))) (other_step l s i.who i.call first.laws valid kept high inside)
                   (reported_more (played s i) false (run next is) _ high inside rest)
             ] refl
       ] refl

@@ -18,7 +18,8 @@ use Rattle.kern_model.specs.Isolation.{low, part, crosses, crossing, Kept}
 use Rattle.kern_model.specs.Valid.{IsValid}
 use Rattle.kern_model.proofs.MapLemmas.{get-select}
 use Rattle.iso_laws.specs.LawCalls.{has_laws}
-use Rattle.iso_laws.proofs.Part.{by_number, low_pid, same, part_changes, part_by_number, by_number-changed_by, fixed_by}
+use Rattle.iso_laws.specs.Laws.{LowStepReply, LowStepRecords, LowStepState, OtherStep, KeptStep, ValidStep, TopStep}
+use Rattle.iso_laws.proofs.Part.{by_number, top-changed, low_pid, same, part_changes, part_by_number, by_number-changed_by, fixed_by}
 use Rattle.iso_laws.proofs.Rows.{part_end, part_judged, bad_prefix, never, none_never}
 use Rattle.iso_laws.proofs.Sight.{get_process}
 use Rattle.iso_laws.proofs.Calls.{Cases, low_row, row_meets, hidden_cases, kept_cases, valid_cases}
@@ -37,12 +38,11 @@ module _ (s : State) (who : Pid) (c : Call) where
   pub fixed_after : {X : Type 0} (of : State → X) → ((s : State) (c : Change) → of (changed s c) ≡ of s) → of (step s who c).state ≡ of s
   fixed_after of fixed = by_process (λ o. of o.state ≡ of s) (λ _. refl) (λ p _. fixed_by of fixed s (changes_of (judged_row p).end))
 
-module _ (s : State) (who : Pid) (c : Call) (laws : has_laws c ≡ true) where
-  -- a valid state stays valid, whatever crosses, where the arguments are as they have to be
-  pub valid_after : is_call s.top c ≡ true → IsValid s → IsValid (step s who c).state
-  valid_after args valid = by_process s who c (λ o. IsValid o.state)
-      (λ _. valid)
-      (λ p is. (row_meets never s valid who p is (Unit {0}) (λ cs. IsValid (changed_by s cs)) (valid_cases never s valid who p is) c (λ _. args) laws).ends [] (none_never (judged_row s who c p).used))
+-- a valid state stays valid, whatever crosses
+pub valid_step : ValidStep
+valid_step s who c laws args valid = by_process s who c (λ o. IsValid o.state)
+    (λ _. valid)
+    (λ p is. (row_meets never s valid who p is (Unit {0}) (λ cs. IsValid (changed_by s cs)) (valid_cases never s valid who p is) c (λ _. args) laws).ends [] (none_never (judged_row s who c p).used))
 
 module _ (l : Label) (s : State) (who : Pid) (c : Call) (laws : has_laws c ≡ true) where
   -- what a row's changes meet, where the step does not cross
@@ -52,23 +52,22 @@ module _ (l : Label) (s : State) (who : Pid) (c : Call) (laws : has_laws c ≡ t
       let j : CheckOutcome = judged_row s who c p in
       (row_meets (crosses l) s valid who p is (is_call s.top c ≡ true) P cases c (λ args. args) laws).ends [] (bad_prefix (crosses l) j.used (own_of who p (name_of c) j.end) h)
 
-  -- what is kept is kept by a step that does not cross
-  pub kept_after : Kept l s → IsValid s → crossing l (step s who c).recs ≡ false → Kept l (step s who c).state
-  kept_after kept valid = by_process s who c (λ o. crossing l o.recs ≡ false → Kept l o.state)
-      (λ _ _. kept)
-      (λ p is h. met (λ cs. Kept l (changed_by s cs)) valid p is (kept_cases l s kept who p _ is) h)
+pub kept_step : KeptStep
+kept_step l s who c laws valid kept = by_process s who c (λ o. crossing l o.recs ≡ false → Kept l o.state)
+    (λ _ _. kept)
+    (λ p is h. met l s who c laws (λ cs. Kept l (changed_by s cs)) valid p is (kept_cases l s kept who p _ is) h)
 
-  -- a process that is not Low leaves the part as it is
-  pub other_after : Kept l s → IsValid s → low l who.label ≡ false → crossing l (step s who c).recs ≡ false → part l (step s who c).state ≡ part l s
-  other_after kept valid high = by_process s who c (λ o. (crossing l o.recs ≡ false → Kept l o.state) → crossing l o.recs ≡ false → part l o.state ≡ part l s)
-      (λ _ _ _. refl)
-      (λ p is k h.
-      part_by_number l _ (k h)
-      ∙ by_number-changed_by l s (changes_of (judged_row s who c p).end)
-      ∙ ap (changed_by (by_number l s)) (met (λ cs. part_changes l s.top cs ≡ []) valid p is (hidden_cases l s who p _ high) h)
-      ∙ sym (part_by_number l s kept))
-      (kept_after kept valid)
+pub other_step : OtherStep
+other_step l s who c laws valid kept high = by_process s who c (λ o. (crossing l o.recs ≡ false → Kept l o.state) → crossing l o.recs ≡ false → part l o.state ≡ part l s)
+    (λ _ _ _. refl)
+    (λ p is k h.
+    part_by_number l _ (k h)
+    ∙ by_number-changed_by l s (changes_of (judged_row s who c p).end)
+    ∙ ap (changed_by (by_number l s)) (met l s who c laws (λ cs. part_changes l s.top cs ≡ []) valid p is (hidden_cases l s who p _ high) h)
+    ∙ sym (part_by_number l s kept))
+    (kept_step l s who c laws valid kept)
 
+module _ (l : Label) (s : State) (who : Pid) (c : Call) (laws : has_laws c ≡ true) where
   abbrev part_outcome : StepResult → StepResult
   part_outcome o = record { state = part l o.state; reply = o.reply; recs = o.recs }
 
@@ -84,10 +83,10 @@ module _ (l : Label) (s : State) (who : Pid) (c : Call) (laws : has_laws c ≡ t
   unfolding by_number
   absent e = get-select pid_cmp_exact (where_key (low_pid l) (same {X = Process})) pid_cmp_total s.procs who ∙ ap (option_and_then (where_key (low_pid l) same who)) e
 
-  -- a Low process is told the same in the part
-  pub low_after : Kept l s → IsValid s → low l who.label ≡ true → crossing l (step s who c).recs ≡ false → step (part l s) who c ≡ part_outcome (step s who c)
+  -- a step of a Low process in the part
+  pub low_step : IsValid s → Kept l s → low l who.label ≡ true → crossing l (step s who c).recs ≡ false → step (part l s) who c ≡ part_outcome (step s who c)
   unfolding step
-  low_after kept valid is_low h =
+  low_step valid kept is_low h =
       ap (λ t. step t who c) (part_by_number l s kept)
       ∙ by_process s who c (λ o. (crossing l o.recs ≡ false → Kept l o.state) → crossing l o.recs ≡ false → step (by_number l s) who c ≡ part_outcome o)
       (λ none _ _. ap (step_by (by_number l s) who c) (absent none) ∙ ap (λ t. step_by t who c None) (sym (part_by_number l s kept)))
@@ -96,4 +95,16 @@ module _ (l : Label) (s : State) (who : Pid) (c : Call) (laws : has_laws c ≡ t
       ap (step_by (by_number l s) who c) (get_process l s who is_low ∙ is)
       ∙ ap (settled (by_number l s) who p (name_of c)) ((low_row l s kept valid who p is p_low c laws).ends [] (bad_prefix (crosses l) (judged_row s who c p).used (own_of who p (name_of c) (judged_row s who c p).end) h))
       ∙ settled_part kept p (judged_row s who c p) (k h))
-      (kept_after kept valid) h
+      (kept_step l s who c laws valid kept) h
+
+pub low_step_reply : LowStepReply
+low_step_reply l s who c laws valid kept is_low h = ap (λ o. o.reply) (low_step l s who c laws valid kept is_low h)
+
+pub low_step_records : LowStepRecords
+low_step_records l s who c laws valid kept is_low h = ap (λ o. o.recs) (low_step l s who c laws valid kept is_low h)
+
+pub low_step_state : LowStepState
+low_step_state l s who c laws valid kept is_low h = ap (λ o. o.state) (low_step l s who c laws valid kept is_low h)
+
+pub top_step : TopStep
+top_step s who c = fixed_after s who c (λ t. t.top) top-changed

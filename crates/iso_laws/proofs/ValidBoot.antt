@@ -13,6 +13,7 @@ use Rattle.std.specs.FinMap.{FinMap, get-empty}
 use Rattle.cap_bits.specs.CapSet.{CapSet}
 use Rattle.fs_path.specs.Name.{Name, is_name}
 use Rattle.lab_lattice.specs.Label.{Label, bottom, dominates, label_cmp}
+use Rattle.kern_model.specs.declared.limits.TheConstants.{MAX_DESCRIPTIONS, MAX_OBJECTS, MAX_PIPE_BYTES, MAX_PROCS}
 use Rattle.kern_model.specs.declared.numbers.Pid.{Pid}
 use Rattle.kern_model.specs.declared.numbers.Oid.{Oid}
 use Rattle.kern_model.specs.declared.objects.Body.{Body}
@@ -30,6 +31,7 @@ use Rattle.kern_model.specs.State.{State, Process, Description, SetObject, SetEn
 use Rattle.kern_model.specs.Valid.{IsDrawn, AreFew, leads, IsRoot, IsValidObject, IsValidEntry, IsValidProcess, IsValid}
 use Rattle.kern_model.specs.World.{objects_at, procs_at, same_names, parent_names, given, IsPlaced, ArePlaced, IsWorldObject, IsWorldProc, IsWorld}
 use Rattle.kern_model.proofs.MapLemmas.{same_key, get_or-absent, get-insert_same, get-insert_kept, other_key, each-insert, never_some, some_same, count_entries-one}
+use Rattle.iso_laws.specs.Laws.{ValidBoot}
 use Rattle.iso_laws.proofs.Leading.{leads_kept, leads_on, IsEnd, has_end, names_itself, given-append, not_before, given_after}
 use Rattle.iso_laws.proofs.ValidLemmas.{no_fewer, one_more, still_drawn, next_drawn, still_below, still_counted}
 
@@ -66,7 +68,7 @@ fifo_empty (body.File bytes) e = absurd (cc)
 fifo_empty body.Fifo e = refl
 fifo_empty body.Pipe e = refl
 
-stream_few : (b : Body) → is_stream (kind_of b) ≡ true → length (bytes_of b) ≤ 4096
+stream_few : (b : Body) → is_stream (kind_of b) ≡ true → length (bytes_of b) ≤ MAX_PIPE_BYTES
 stream_few body.Dir e = absurd (cc)
 stream_few (body.File bytes) e = absurd (cc)
 stream_few body.Fifo e = omega arith
@@ -464,14 +466,13 @@ module _ (w : World) (is : IsWorld w) (f : State) (built : IsBuilt w.top w.objec
     one_entry = λ a b id o e g _ _. same_spot a b id e g;
     procs = valid_started;
     descriptions = λ did d e. absurd (never_some _ d (ap (λ (m : FinMap did_cmp Description). map.get m did) built.no_descriptions ∙ get-empty did_cmp did) e);
-    object_numbers = few_drawn s.object_numbers 65535 built.below (λ l. omega (arith, built.counted l, is.room.objects l));
-    process_numbers = few_drawn s.process_numbers 4095 staffed.below (λ l. omega (arith, staffed.counted l, is.room.procs l));
-    description_numbers = few_drawn s.description_numbers 65535 (λ l h. absurd (omega (arith, no_description_drawn l))) (λ l. omega (arith, no_description_drawn l));
+    object_numbers = few_drawn s.object_numbers MAX_OBJECTS built.below (λ l. omega (arith, built.counted l, is.room.objects l));
+    process_numbers = few_drawn s.process_numbers MAX_PROCS staffed.below (λ l. omega (arith, staffed.counted l, is.room.procs l));
+    description_numbers = few_drawn s.description_numbers MAX_DESCRIPTIONS (λ l h. absurd (omega (arith, no_description_drawn l))) (λ l. omega (arith, no_description_drawn l));
   }
 
--- the first state of each world is valid
-pub valid_booted : (w : World) → IsWorld w → IsValid (boot w)
-valid_booted w is =
+pub valid_boot : ValidBoot
+valid_boot w is =
     let f = furnished w in
     let built = built_furnished w is in
     let none : IsStaffed w.top [] f.procs f.process_numbers = subst (λ (m : FinMap label_cmp ℕ). IsStaffed w.top [] f.procs m) (sym built.no_process_numbers) (subst (λ (m : FinMap pid_cmp Process). IsStaffed w.top [] m map.empty) (sym built.no_procs) (staffed_none w.top)) in

@@ -1,1 +1,2 @@
 pub mod LawCalls
+pub mod Laws

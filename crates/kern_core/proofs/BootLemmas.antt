@@ -6,6 +6,7 @@ use Rattle.std.proofs.lemmas.List.Sums.{sum_by-cons}
 use Rattle.std.proofs.Common.{ap, sym, ◌∙◌, subst, arith, get_or, drop, drop-cons, add-one, suc, append_assoc}
 use Rattle.fs_path.specs.Name.{Name}
 use Rattle.lab_lattice.specs.Label.{Label, label_cmp, label_cmp_total, label_cmp_exact, dominates_itself}
+use Rattle.kern_model.specs.declared.limits.TheConstants.{MAX_OBJECTS, MAX_PROCS}
 use Rattle.kern_model.specs.declared.numbers.Oid.{Oid}
 use Rattle.kern_model.specs.declared.numbers.Pid.{Pid}
 use Rattle.kern_model.specs.declared.objects.Object.{Object}
@@ -139,24 +140,24 @@ within_all top (w ∷ ws) h = (h.0.within, within_all top ws h.1)
 
 -- the processes of a world can start, where nothing is drawn
 pub all_can : (w : World) → IsWorld w → CanStart map.empty w.procs
-all_can w is = record { room = all_room 4095 (λ l. procs_at l w.procs) is.room.procs; within = within_all w.top w.procs is.procs }
+all_can w is = record { room = all_room MAX_PROCS (λ l. procs_at l w.procs) is.room.procs; within = within_all w.top w.procs is.procs }
 
 -- ---- one more of a list
 rest_from : {X : Type 0} (xs : List X) (i : ℕ) (x : X) → i < length xs → x ≡ get_or xs i x → drop i xs ≡ x ∷ drop (i + 1) xs
 rest_from xs i x h is = drop-cons xs i x h ∙ ap (λ y. y ∷ drop (suc i) xs) (sym is) ∙ ap (λ n. x ∷ drop n xs) (sym (add-one i))
 
 -- the first object that is left has a number
-pub object_room : (s : State) (os : List WorldObject) (i : ℕ) (o : WorldObject) → i < length os → o ≡ get_or os i o → RoomForObjects s.object_numbers (drop i os) → drawn s.object_numbers o.label < 65535
+pub object_room : (s : State) (os : List WorldObject) (i : ℕ) (o : WorldObject) → i < length os → o ≡ get_or os i o → RoomForObjects s.object_numbers (drop i os) → drawn s.object_numbers o.label < MAX_OBJECTS
 object_room s os i o h is room =
-    first_room (λ (x : WorldObject). x.label) 65535 s.object_numbers o (drop (i + 1) os) (subst (λ xs. RoomForObjects s.object_numbers xs) (rest_from os i o h is) room)
+    first_room (λ (x : WorldObject). x.label) MAX_OBJECTS s.object_numbers o (drop (i + 1) os) (subst (λ xs. RoomForObjects s.object_numbers xs) (rest_from os i o h is) room)
 
 -- the first process that is left can start
 module _ (s : State) (ws : List WorldProc) (i : ℕ) (w : WorldProc) (h : i < length ws) (is : w ≡ get_or ws i w) (can : CanStart s.process_numbers (drop i ws)) where
   pub can_first : CanStart s.process_numbers (w ∷ drop (i + 1) ws)
   can_first = subst (CanStart s.process_numbers) (rest_from ws i w h is) can
 
-  pub process_room : drawn s.process_numbers w.label < 4095
-  process_room = first_room (λ (x : WorldProc). x.label) 4095 s.process_numbers w (drop (i + 1) ws) can_first.room
+  pub process_room : drawn s.process_numbers w.label < MAX_PROCS
+  process_room = first_room (λ (x : WorldProc). x.label) MAX_PROCS s.process_numbers w (drop (i + 1) ws) can_first.room
 
 module _ (s t : State) (os : List WorldObject) (i : ℕ) (o : WorldObject) (h : i < length os) (is : o ≡ get_or os i o) (booted : t ≡ boot_object s o) where
   pub objects_step : boot_objects t (drop (i + 1) os) ≡ boot_objects s (drop i os)
@@ -164,7 +165,7 @@ module _ (s t : State) (os : List WorldObject) (i : ℕ) (o : WorldObject) (h : 
 
   pub objects_room : RoomForObjects s.object_numbers (drop i os) → RoomForObjects t.object_numbers (drop (i + 1) os)
   objects_room room = subst (λ m. RoomForObjects m (drop (i + 1) os)) (sym (ap (λ u. u.object_numbers) booted ∙ object_draws s o))
-      (less_room (λ (x : WorldObject). x.label) 65535 s.object_numbers o (drop (i + 1) os) (subst (λ xs. RoomForObjects s.object_numbers xs) (rest_from os i o h is) room))
+      (less_room (λ (x : WorldObject). x.label) MAX_OBJECTS s.object_numbers o (drop (i + 1) os) (subst (λ xs. RoomForObjects s.object_numbers xs) (rest_from os i o h is) room))
 
 module _ (s t : State) (ws : List WorldProc) (i : ℕ) (w : WorldProc) (h : i < length ws) (is : w ≡ get_or ws i w) (booted : t ≡ boot_process s w) where
   pub processes_step : boot_processes t (drop (i + 1) ws) ≡ boot_processes s (drop i ws)
@@ -175,7 +176,7 @@ module _ (s t : State) (ws : List WorldProc) (i : ℕ) (w : WorldProc) (h : i < 
   processes_can can =
       let first = can_first s ws i w h is can in
       subst (λ m. CanStart m (drop (i + 1) ws)) (sym (ap (λ u. u.process_numbers) booted ∙ process_draws s w))
-      (record { room = less_room (λ (x : WorldProc). x.label) 4095 s.process_numbers w (drop (i + 1) ws) first.room; within = first.within.1 })
+      (record { room = less_room (λ (x : WorldProc). x.label) MAX_PROCS s.process_numbers w (drop (i + 1) ws) first.room; within = first.within.1 })
 
   -- its record, and then those of the rest
   pub started_step : (who : Pid) → who ≡ next_process s w.label → (recs : List Rec) → (recs ++ rec.Boot who w.label w.caps ∷ []) ++ started t (drop (i + 1) ws) ≡ recs ++ started s (drop i ws)

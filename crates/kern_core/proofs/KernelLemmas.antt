@@ -24,10 +24,8 @@ use Rattle.kern_model.specs.State.{State, Process}
 use Rattle.kern_model.specs.Step.{StepResult, IsPlayed, step, step_by, settled, subject, reply_of, state_after}
 use Rattle.kern_model.specs.Table.{row}
 use Rattle.kern_model.specs.Valid.{IsValid}
-use Rattle.iso_laws.proofs.GoingOn.{named_after, on_after}
 use Rattle.kern_model.specs.World.{IsWorld}
-use Rattle.iso_laws.proofs.Steps.{valid_after}
-use Rattle.iso_laws.proofs.ValidBoot.{valid_booted}
+use Rattle.iso_laws.proofs.Laws.{refusals_are_named, numbers_step, valid_boot, valid_step}
 use Rattle.kern_core.specs.Built.{is_built, built_laws}
 use Rattle.kern_core.specs.Kernel.{IsStopped}
 
@@ -56,17 +54,17 @@ go_on_prop s t = hlevel le_prop
 module _ {E : Type 0} (s t : State) (who : Pid) (c : Call) (r : Result reported.Outcome E) (is : IfOk r (λ o. IsPlayed s who c o t)) where
   -- names what refused it
   pub named_played : IfOk r (λ o. IsNamed o.reply)
-  named_played = IfOk-weaker r _ _ (λ o e. subst IsNamed (ap (λ (u : StepResult). u.reply) e) (named_after s who c)) is
+  named_played = IfOk-weaker r _ _ (λ o e. subst IsNamed (ap (λ (u : StepResult). u.reply) e) (refusals_are_named s who c)) is
 
   -- leaves a valid state valid
   pub valid_played : is_built c ≡ true → is_call s.top c ≡ true → ∥ IsValid s ∥₁ → OnOk r (∥ IsValid t ∥₁)
   valid_played built arguments valid =
-      let after : IsValid s → IsValid (step s who c).state = valid_after s who c (built_laws c built) arguments in
+      let after : IsValid s → IsValid (step s who c).state = valid_step s who c (built_laws c built) arguments in
       IfOk-weaker r _ _ (λ o e. ∥∥₁_map valid (λ v. subst IsValid (ap (λ (u : StepResult). u.state) e) (after v))) is
 
   -- lets numbers go on
   pub go_on_played : ∥ IsValid s ∥₁ → OnOk r (NumbersGoOn s t)
-  go_on_played valid = IfOk-weaker r _ _ (λ o e. ∥∥₁_elim valid (go_on_prop s t) (λ v. subst (NumbersGoOn s) (ap (λ (u : StepResult). u.state) e) (on_after s who c v))) is
+  go_on_played valid = IfOk-weaker r _ _ (λ o e. ∥∥₁_elim valid (go_on_prop s t) (λ v. subst (NumbersGoOn s) (ap (λ (u : StepResult). u.state) e) (numbers_step s who c v))) is
 
 -- what holds where a result is Ok, holds where it is no error
 pub where_no_error : {X E P : Type 0} (r : Result X E) → OnOk r P → is_err r ≡ false → P
@@ -78,4 +76,4 @@ where_no_error (Err x) h e = absurd (true≢false e)
 pub valid_started : (w : World) → IsWorld w → (empty furnished started : State) (os : List WorldObject) (ps : List WorldProc) → empty ≡ nothing w.bound w.top → os ≡ w.objects → furnished ≡ boot_objects empty os → ps ≡ w.procs → started ≡ boot_processes furnished ps → IsValid started
 valid_started w h empty furnished started os ps none objects furnishes procs starts =
     let booted = starts ∙ (λ i. boot_processes ((furnishes ∙ (λ j. boot_objects (none j) (objects j))) i) (procs i)) in
-    subst IsValid (sym booted) (valid_booted w h)
+    subst IsValid (sym booted) (valid_boot w h)

@@ -5,6 +5,7 @@ use Rattle.std.specs.FinMap.{FinMap}
 use Rattle.cap_bits.specs.CapSet.{is_within}
 use Rattle.fs_path.specs.Name.{Name}
 use Rattle.lab_lattice.specs.Label.{Label, label_cmp}
+use Rattle.kern_model.specs.declared.limits.TheConstants.{MAX_OBJECTS, MAX_PROCS}
 use Rattle.kern_model.specs.declared.numbers.Oid.{Oid}
 use Rattle.kern_model.specs.declared.world.WorldObject.{WorldObject}
 use Rattle.kern_model.specs.declared.world.WorldProc.{WorldProc}
@@ -15,11 +16,11 @@ use Rattle.kern_model.specs.World.{objects_at, procs_at}
 
 -- there are numbers left for these objects at each label
 abbrev pub RoomForObjects : FinMap label_cmp ℕ → List WorldObject → Type 0
-RoomForObjects numbers os = (l : Label) → drawn numbers l + objects_at l os ≤ 65535
+RoomForObjects numbers os = (l : Label) → drawn numbers l + objects_at l os ≤ MAX_OBJECTS
 
 -- these processes can start: there are numbers left for them at each label, and what is effective is permitted
 pub record CanStart (numbers : FinMap label_cmp ℕ) (ws : List WorldProc) : Type 0 where
-  pub room : (l : Label) → drawn numbers l + procs_at l ws ≤ 4095
+  pub room : (l : Label) → drawn numbers l + procs_at l ws ≤ MAX_PROCS
   pub within : AllByRecursion (λ (w : WorldProc). is_within w.caps.e w.caps.p ≡ true) ws
 
 -- the change that makes an entry at the spot, if there is one

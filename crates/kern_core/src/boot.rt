@@ -1,6 +1,7 @@
 // The first state of a world.
 ghost use Rattle.std.specs.Prelude.{◌≡◌, ◌<◌, ◌++◌, ◌∷◌, [], true, IfOk, OnOk};
 ghost use Rattle.cap_bits.specs.CapSet.{is_within};
+ghost use Rattle.kern_model.specs.declared.limits.TheConstants.{MAX_OBJECTS, MAX_PROCS};
 ghost use Rattle.kern_model.specs.declared.records.Rec.TheVariants as rec;
 ghost use Rattle.kern_model.specs.State.{drawn, next_process};
 ghost use Rattle.kern_model.specs.Boot.{boot_object, boot_objects, boot_process, boot_processes, nothing, started};
@@ -59,7 +60,7 @@ impl Tables {
 
     // Makes an object under the next number of its label, and its entry.
     fn boot_object(&mut self, object: &WorldObject) -> Result<(), NoMemory>
-        requires { drawn self.old.object_numbers object.now.label < 65535 }
+        requires { drawn self.old.object_numbers object.now.label < MAX_OBJECTS }
         ensures { OnOk result (state_of_tables self.new ≡ boot_object (state_of_tables self.old) object.now) }
     {
         let spot = self.spot_of(root_directory(), object.path.components())?;
@@ -93,7 +94,7 @@ impl Tables {
 
     // Makes a process under the next number of its label, in the root directory, and tells the number.
     fn boot_process(&mut self, process: &WorldProc) -> Result<Pid, NoMemory>
-        requires number { drawn self.old.process_numbers process.now.label < 4095 }
+        requires number { drawn self.old.process_numbers process.now.label < MAX_PROCS }
         requires within { is_within process.now.caps.e process.now.caps.p ≡ true }
         ensures state { OnOk result (state_of_tables self.new ≡ boot_process (state_of_tables self.old) process.now) }
         ensures number { IfOk result (λ who. who ≡ next_process (state_of_tables self.old) process.now.label) }

@@ -11,6 +11,7 @@ use Rattle.std.proofs.lemmas.List.Elements.{All-from_recursion, recursion_from_A
 use Rattle.std.proofs.lemmas.List.{drop_more}
 use Rattle.fs_path.specs.Name.{Name}
 use Rattle.lab_lattice.specs.Label.{Label, bottom, dominates, dominates_both}
+use Rattle.kern_model.specs.declared.limits.TheConstants.{MAX_OBJECTS, MAX_PROCS}
 use Rattle.kern_model.specs.declared.objects.Body.TheVariants as body
 use Rattle.kern_model.specs.declared.world.World.{World}
 use Rattle.kern_model.specs.declared.world.WorldObject.{WorldObject}
@@ -76,15 +77,15 @@ module _ {X : Type 0} (label : X → Label) (most : ℕ) where
 
 -- ---- the world
 abbrev pub objects_numbered : List WorldObject → Bool
-objects_numbered os = list_all (λ (o : WorldObject). nat_le (objects_at o.label os) 65535) os
+objects_numbered os = list_all (λ (o : WorldObject). nat_le (objects_at o.label os) MAX_OBJECTS) os
 
 abbrev pub procs_numbered : List WorldProc → Bool
-procs_numbered ps = list_all (λ (p : WorldProc). nat_le (procs_at p.label ps) 4095) ps
+procs_numbered ps = list_all (λ (p : WorldProc). nat_le (procs_at p.label ps) MAX_PROCS) ps
 
 pub Decides-room : (w : World) (a b : Bool) → a ≡ objects_numbered w.objects → b ≡ procs_numbered w.procs → Decides (a && b) (HasRoom w)
 Decides-room w a b p q =
     Decides-like _ (λ h. record { objects = h.0; procs = h.1 }) (λ h. (h.objects, h.procs))
-    (Decides-and a b (Decides-at a _ p (Decides-few (λ (o : WorldObject). o.label) 65535 w.objects)) (Decides-at b _ q (Decides-few (λ (x : WorldProc). x.label) 4095 w.procs)))
+    (Decides-and a b (Decides-at a _ p (Decides-few (λ (o : WorldObject). o.label) MAX_OBJECTS w.objects)) (Decides-at b _ q (Decides-few (λ (x : WorldProc). x.label) MAX_PROCS w.procs)))
 
 -- what has to hold of the parts of a world of which an object is the first
 pub record Parts (w : World) (first : WorldObject) : Type 0 where

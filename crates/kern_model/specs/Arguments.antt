@@ -2,6 +2,7 @@
 use Rattle.std.specs.Prelude.{ℕ, ◌&&◌, ◌||◌, not, nat_le, Bool, true, List, Option, None, Some, unsigned_abs}
 use Rattle.std.specs.List.{list_all}
 use Rattle.lab_lattice.specs.Label.{Label, dominates}
+use Rattle.kern_model.specs.declared.limits.TheConstants.{MAX_PROCS, MAX_FILE_BYTES, MAX_OFFSET}
 use Rattle.kern_model.specs.declared.calls.Call.{Call}
 use Rattle.kern_model.specs.declared.calls.Call.TheVariants as call
 use Rattle.kern_model.specs.declared.calls.OpenFlags.{OpenFlags}
@@ -18,15 +19,15 @@ abbrev pub is_mode_if : Bool → Option ℕ → Bool
 is_mode_if asked None = not asked
 is_mode_if asked (Some mode) = asked && is_mode mode
 
--- the number of a process is from 1 to 4,095, at a label that top dominates
+-- the number of a process is from 1 on, and one that may be drawn at a label that top dominates
 abbrev pub is_number : Label → Pid → Bool
-is_number top who = nat_le 1 who.n && nat_le who.n 4095 && dominates top who.label
+is_number top who = nat_le 1 who.n && nat_le who.n MAX_PROCS && dominates top who.label
 
 -- whether labels, numbers, modes and flags of a call are in their ranges, as far as their types leave that open, where top is the highest label
 unfoldable pub is_call : Label → Call → Bool
 is_call top (call.OpenPath path flags mode) = are_flags flags && is_mode_if flags.c mode
-is_call top (call.Read fd n) = nat_le n 65536
-is_call top (call.Lseek fd from offset) = nat_le (unsigned_abs offset) 4294967295
+is_call top (call.Read fd n) = nat_le n MAX_FILE_BYTES
+is_call top (call.Lseek fd from offset) = nat_le (unsigned_abs offset) MAX_OFFSET
 is_call top (call.Mkfifo path mode) = is_mode mode
 is_call top (call.Mkdir path mode) = is_mode mode
 is_call top (call.Chmod path mode) = is_mode mode

@@ -2,6 +2,7 @@
 use Rattle.std.specs.Prelude.{ℕ, ◌+◌, nat_lt, Bool, List, [], ◌∷◌, ◌++◌}
 use Rattle.cap_bits.specs.State.{no_flags}
 use Rattle.fs_path.specs.Name.{Name}
+use Rattle.kern_model.specs.declared.limits.TheConstants.{MAX_OBJECTS}
 use Rattle.kern_model.specs.declared.calls.Errno.TheVariants as errno
 use Rattle.kern_model.specs.declared.checks.Check.{Check}
 use Rattle.kern_model.specs.declared.checks.Place.{Place}
@@ -24,7 +25,7 @@ make_in s p dir place rest = enter_in s p dir place (created_order s p dir place
 
 -- whether a number of an object is left at the caller's label
 abbrev pub has_object_number : State → Process → Bool
-has_object_number s p = nat_lt (drawn s.object_numbers p.label) 65535
+has_object_number s p = nat_lt (drawn s.object_numbers p.label) MAX_OBJECTS
 
 -- what the caller makes is its effective user's and group's, without capabilities
 abbrev pub attr_of : Process → ℕ → Attr

@@ -4,6 +4,7 @@ use Rattle.std.specs.FinMap as map
 use Rattle.cap_bits.specs.State.{no_flags}
 use Rattle.fs_path.specs.Name.{Name}
 use Rattle.fs_path.specs.Path.{PathValue}
+use Rattle.kern_model.specs.declared.limits.TheConstants.{MAX_DESCRIPTIONS, MAX_DESCRIPTORS, MAX_FILE_BYTES, MAX_PIPE_BYTES}
 use Rattle.kern_model.specs.declared.calls.Answer.TheVariants as answer
 use Rattle.kern_model.specs.declared.calls.Errno.TheVariants as errno
 use Rattle.kern_model.specs.declared.calls.OpenFlags.{OpenFlags}
@@ -40,9 +41,13 @@ on_descriptor s p fd k = or_not_open (opened s p fd) k
 abbrev pub open_object : State → Opened → Object
 open_object s f = object_at s f.description.object
 
+-- whether n more descriptors of the caller are free
+abbrev pub has_free_descriptors : Process → ℕ → Bool
+has_free_descriptors p n = nat_le (open_count p + n) MAX_DESCRIPTORS
+
 -- whether n more numbers of descriptions are left at the caller's label
 abbrev pub has_descriptions : State → Process → ℕ → Bool
-has_descriptions s p n = nat_le (drawn s.description_numbers p.label + n) 65535
+has_descriptions s p n = nat_le (drawn s.description_numbers p.label + n) MAX_DESCRIPTIONS
 
 -- a description with another offset
 abbrev pub moved : Opened → ℕ → Change
@@ -113,7 +118,7 @@ open_found s who p path flags mode (Entry dir name (Some id)) = open_present s w
 -- `open PATH FLAGS [MODE]`
 abbrev pub open_row : State → Pid → Process → PathValue → OpenFlags → Option ℕ → Row
 open_row s who p path flags mode =
-    Refuse errno.EMFILE (nat_le 32 (open_count p))
+    Refuse errno.EMFILE (not (has_free_descriptors p 1))
     (Refuse errno.ENFILE (not (has_descriptions s p 1))
     (walk s p (λ n. First n) path (open_found s who p path flags (unwrap_or mode 0))))
 
@@ -127,7 +132,7 @@ close_row s who p fd = on_descriptor s p fd (λ f.
 -- `dup FD`
 abbrev pub dup_row : State → Pid → Process → ℕ → Row
 dup_row s who p fd = on_descriptor s p fd (λ f.
-    Refuse errno.EMFILE (nat_le 32 (open_count p))
+    Refuse errno.EMFILE (not (has_free_descriptors p 1))
     (Commit (SetProcess who (with_descriptor p f.did) ∷ []) (answer.Number (lowest_free p.fds)) None))
 
 -- octal 0600
@@ -154,7 +159,7 @@ piped s who p =
 -- `pipe`
 abbrev pub pipe_row : State → Pid → Process → Row
 pipe_row s who p =
-    Refuse errno.EMFILE (nat_le 31 (open_count p))
+    Refuse errno.EMFILE (not (has_free_descriptors p 2))
     (Refuse errno.ENFILE (not (has_descriptions s p 2))
     (Refuse errno.ENOSPC (not (has_object_number s p))
     (Commit (piped s who p) (answer.Two (lowest_free p.fds) (lowest_free (with_descriptor p (next_description s p.label)).fds)) None)))
@@ -183,7 +188,7 @@ read_row s who p fd n = on_descriptor s p fd (λ f.
 abbrev pub putting : State → Opened → List ℕ → Row
 putting s f bytes =
     Refuse errno.EPIPE (not (any_open s (λ d. d.reads) f.description.object))
-    (Refuse errno.EAGAIN (nat_lt 4096 (length (open_object s f).bytes + length bytes))
+    (Refuse errno.EAGAIN (nat_lt MAX_PIPE_BYTES (length (open_object s f).bytes + length bytes))
     (Commit (with_bytes s f.description.object ((open_object s f).bytes ++ bytes) ∷ []) (answer.Number (length bytes)) None))
 
 -- where a piece goes into a file: at the offset, or at the end
@@ -204,7 +209,7 @@ rewriting s f bytes k =
 abbrev pub writing : State → Opened → List ℕ → Row
 writing s f bytes =
     Refuse errno.EINVAL (nat_lt (length (open_object s f).bytes) (place_in (open_object s f) f))
-    (Refuse errno.EFBIG (nat_lt 65536 (place_in (open_object s f) f + length bytes))
+    (Refuse errno.EFBIG (nat_lt MAX_FILE_BYTES (place_in (open_object s f) f + length bytes))
     (rewriting s f bytes (λ changes. Commit (changes ++ moved f (place_in (open_object s f) f + length bytes) ∷ []) (answer.Number (length bytes)) None)))
 
 -- `write FD BYTES`

@@ -5,6 +5,7 @@ use Rattle.std.specs.FinMap as map
 use Rattle.cap_bits.specs.declared.state.CapState.{CapState}
 use Rattle.fs_path.specs.Path.{PathValue}
 use Rattle.lab_lattice.specs.Label.{Label}
+use Rattle.kern_model.specs.declared.limits.TheConstants.{MAX_PROCS}
 use Rattle.kern_model.specs.declared.calls.Answer.TheVariants as answer
 use Rattle.kern_model.specs.declared.calls.Ending.{Ending}
 use Rattle.kern_model.specs.declared.calls.Ending.TheVariants as ending
@@ -32,7 +33,7 @@ child_of who p = record p { parent = Some who; ended = [] }
 -- `fork`
 abbrev pub fork_row : State → Pid → Process → Row
 fork_row s who p =
-    Refuse errno.EAGAIN (nat_le 4095 (drawn s.process_numbers p.label))
+    Refuse errno.EAGAIN (nat_le MAX_PROCS (drawn s.process_numbers p.label))
     (Commit (DrawProcess p.label (drawn s.process_numbers p.label + 1) ∷ SetProcess (next_process s p.label) (child_of who p) ∷ [])
     (answer.Process (next_process s p.label)) (Some (rec.Fork who (next_process s p.label))))
 

@@ -2,6 +2,7 @@
 use Rattle.std.specs.Prelude.{ℕ, ◌&&◌, not, nat_le, cond, [], ◌∷◌, Option, None, Some}
 use Rattle.fs_path.specs.Name.{Name}
 use Rattle.fs_path.specs.Path.{PathValue}
+use Rattle.kern_model.specs.declared.limits.TheConstants.{MAX_LINKS}
 use Rattle.kern_model.specs.declared.calls.Answer.TheVariants as answer
 use Rattle.kern_model.specs.declared.calls.Errno.TheVariants as errno
 use Rattle.kern_model.specs.declared.checks.Place.{Place}
@@ -68,7 +69,7 @@ abbrev pub link_row : State → Pid → Process → PathValue → PathValue → 
 link_row s who p path to = reach s p (λ n. First n) path (λ id.
     Need (mac_write s p id (last_place (λ n. First n) path))
     (Need (link_dir s id (last_place (λ n. First n) path))
-    (Refuse errno.EMLINK (nat_le 1024 (link_count s id))
+    (Refuse errno.EMLINK (nat_le MAX_LINKS (link_count s id))
     (walk s p (λ n. Second n) to (λ found. to_new_name found (λ dir name.
     enter_in s p dir (dir_place (λ n. Second n) to) (held_order s id dir (dir_place (λ n. Second n) to))
     (Commit (SetEntry (dir, name) id ∷ []) answer.Nothing None)))))))

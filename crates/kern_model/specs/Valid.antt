@@ -9,6 +9,7 @@ use Rattle.cap_bits.specs.CapSet.{is_within}
 use Rattle.cap_bits.specs.State.{no_flags}
 use Rattle.fs_path.specs.Name.{Name, is_name}
 use Rattle.lab_lattice.specs.Label.{Label, label_cmp, bottom, dominates}
+use Rattle.kern_model.specs.declared.limits.TheConstants.{MAX_DESCRIPTIONS, MAX_DESCRIPTORS, MAX_FILE_BYTES, MAX_GROUPS, MAX_LINKS, MAX_OBJECTS, MAX_PIPE_BYTES, MAX_PROCS}
 use Rattle.kern_model.specs.declared.calls.Ending.{Ending}
 use Rattle.kern_model.specs.declared.numbers.Pid.{Pid}
 use Rattle.kern_model.specs.declared.numbers.Oid.{Oid}
@@ -62,11 +63,11 @@ pub record IsValidObject (s : State) (id : Oid) (o : Object) : Type 0 where
   pub only_files : is_file o.kind ≡ false → o.attr.caps ≡ no_flags
   -- a directory has entries and no bytes
   pub dir_bytes : o.kind ≡ kind.Dir → o.bytes ≡ []
-  pub file_bytes : o.kind ≡ kind.File → length o.bytes ≤ 65536
-  pub stream_bytes : is_stream o.kind ≡ true → length o.bytes ≤ 4096
+  pub file_bytes : o.kind ≡ kind.File → length o.bytes ≤ MAX_FILE_BYTES
+  pub stream_bytes : is_stream o.kind ≡ true → length o.bytes ≤ MAX_PIPE_BYTES
   -- a FIFO without a description is empty
   pub fifo_bytes : o.kind ≡ kind.Fifo → any_open s (λ d. true) id ≡ false → o.bytes ≡ []
-  pub few_names : is_dir o.kind ≡ false → link_count s id ≤ 1024
+  pub few_names : is_dir o.kind ≡ false → link_count s id ≤ MAX_LINKS
   -- a directory is reached from the root, or is removed and empty
   pub reached : o.kind ≡ kind.Dir → IsReached s id ⊎ ((is_removed s id ≡ true) × (is_empty s id ≡ true))
 
@@ -103,13 +104,13 @@ pub record IsValidProcess (s : State) (who : Pid) (p : Process) : Type 0 where
   -- what is effective is permitted
   pub within : is_within p.caps.e p.caps.p ≡ true
   pub umask : is_permission p.umask ≡ true
-  pub few_groups : length p.ids.groups ≤ 16
+  pub few_groups : length p.ids.groups ≤ MAX_GROUPS
   pub cwd : IsDir s.objects p.cwd
   -- a parent is living
   pub parent : (q : Pid) → p.parent ≡ Some q → IsThere s.procs q
   pub ended : AllByRecursion (IsValidEnd s) p.ended
-  -- descriptors are below 32, and each stands for a description
-  pub fds : (fd : ℕ) (did : Did) → map.get p.fds fd ≡ Some did → (fd < 32) × IsThere s.descriptions did
+  -- descriptors are numbers below the limit, and each stands for a description
+  pub fds : (fd : ℕ) (did : Did) → map.get p.fds fd ≡ Some did → (fd < MAX_DESCRIPTORS) × IsThere s.descriptions did
 
 -- a process has a descriptor on it
 pub record IsHeld (s : State) (did : Did) : Type 0 where
@@ -137,6 +138,6 @@ pub record IsValid (s : State) : Type 0 where
   pub one_entry : (a b : Spot) (id : Oid) (o : Object) → map.get s.entries a ≡ Some id → map.get s.entries b ≡ Some id → map.get s.objects id ≡ Some o → o.kind ≡ kind.Dir → a ≡ b
   pub procs : (who : Pid) (p : Process) → map.get s.procs who ≡ Some p → IsValidProcess s who p
   pub descriptions : (did : Did) (d : Description) → map.get s.descriptions did ≡ Some d → IsValidDescription s did d
-  pub object_numbers : AreFew s.top s.object_numbers 65535
-  pub process_numbers : AreFew s.top s.process_numbers 4095
-  pub description_numbers : AreFew s.top s.description_numbers 65535
+  pub object_numbers : AreFew s.top s.object_numbers MAX_OBJECTS
+  pub process_numbers : AreFew s.top s.process_numbers MAX_PROCS
+  pub description_numbers : AreFew s.top s.description_numbers MAX_DESCRIPTIONS

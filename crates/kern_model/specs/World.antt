@@ -7,6 +7,7 @@ use Rattle.cap_bits.specs.State.{no_flags}
 use Rattle.fs_path.specs.Name.{Name}
 use Rattle.fs_path.specs.Path.{HasForm}
 use Rattle.lab_lattice.specs.Label.{Label, bottom, dominates}
+use Rattle.kern_model.specs.declared.limits.TheConstants.{MAX_FILE_BYTES, MAX_GROUPS, MAX_OBJECTS, MAX_PROCS}
 use Rattle.kern_model.specs.declared.numbers.Ids.{Ids}
 use Rattle.kern_model.specs.declared.objects.Body.TheVariants as body
 use Rattle.kern_model.specs.declared.world.World.{World}
@@ -25,8 +26,8 @@ procs_at l ps = count_by (λ (p : WorldProc). same_label p.label l) ps
 
 -- no label has more objects or processes than may be drawn
 pub record HasRoom (w : World) : Type 0 where
-  pub objects : (l : Label) → objects_at l w.objects ≤ 65535
-  pub procs : (l : Label) → procs_at l w.procs ≤ 4095
+  pub objects : (l : Label) → objects_at l w.objects ≤ MAX_OBJECTS
+  pub procs : (l : Label) → procs_at l w.procs ≤ MAX_PROCS
 
 -- whether two paths have the same names
 abbrev pub same_names : List Name → List Name → Bool
@@ -55,13 +56,13 @@ abbrev pub ArePlaced : List WorldObject → List WorldObject → Type 0
 ArePlaced before [] = Unit {0}
 ArePlaced before (o ∷ os) = IsPlaced before o × ArePlaced (before ++ o ∷ []) os
 
--- an object of a world has an absolute path, a mode, a label below top, and at most 65,536 bytes; it is no pipe, and has no capabilities unless it is a file
+-- an object of a world has an absolute path, a mode, a label below top, and no more bytes than a file may have; it is no pipe, and has no capabilities unless it is a file
 pub record IsWorldObject (top : Label) (o : WorldObject) : Type 0 where
   pub absolute : o.path.absolute ≡ true
   pub path : HasForm o.path.absolute o.path.names
   pub mode : is_mode o.attr.mode ≡ true
   pub below : dominates top o.label ≡ true
-  pub few : length (bytes_of o.body) ≤ 65536
+  pub few : length (bytes_of o.body) ≤ MAX_FILE_BYTES
   pub no_pipe : o.body ≡ body.Pipe → ⊥
   pub only_file : is_file (kind_of o.body) ≡ false → o.attr.caps ≡ no_flags
 
@@ -72,10 +73,10 @@ pub record AreOne (ids : Ids) : Type 0 where
   pub rgid : ids.rgid ≡ ids.egid
   pub sgid : ids.sgid ≡ ids.egid
 
--- a process of a world has one user and one group, at most 16 groups besides, a label below top, and no effective capability that is not permitted
+-- a process of a world has one user and one group, no more groups besides than it may have, a label below top, and no effective capability that is not permitted
 pub record IsWorldProc (top : Label) (p : WorldProc) : Type 0 where
   pub ids : AreOne p.ids
-  pub few : length p.ids.groups ≤ 16
+  pub few : length p.ids.groups ≤ MAX_GROUPS
   pub below : dominates top p.label ≡ true
   pub within : is_within p.caps.e p.caps.p ≡ true
 

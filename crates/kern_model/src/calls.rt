@@ -49,7 +49,7 @@ pub enum Call {
     OpenPath(Path, OpenFlags, Option<Mode>),
     /// Closes a descriptor.
     Close(Fd),
-    /// Reads up to so many bytes, at most 65,536.
+    /// Reads up to so many bytes, at most `MAX_FILE_BYTES`.
     Read(Fd, u32),
     /// Writes all of these bytes.
     Write(Fd, ByteList),

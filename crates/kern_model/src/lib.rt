@@ -5,6 +5,7 @@
 mod calls;
 mod checks;
 mod kernel;
+pub mod limits;
 mod named;
 mod numbers;
 mod objects;

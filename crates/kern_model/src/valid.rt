@@ -11,17 +11,10 @@ ghost use Rattle.kern_model.specs.declared.world.WorldProc.{WorldProc};
 ghost use Rattle.kern_model.specs.Kinds.{is_file, kind_of, bytes_of, is_mode};
 ghost use Rattle.kern_model.specs.World.{objects_at, procs_at, same_names, parent_names, given, IsPlaced, ArePlaced, IsWorldObject, AreOne, IsWorldProc, HasRoom, IsWorld};
 
+use crate::limits::{MAX_FILE_BYTES, MAX_GROUPS, MAX_OBJECTS, MAX_PROCS};
 use crate::{Body, Ids, Mode, Name, World, WorldObject, WorldProc};
 use cap_bits::CapState;
 use lab_lattice::{Label, Lattice, bottom};
-
-const MAX_OBJECTS: usize = 65_535;
-
-const MAX_PROCS: usize = 4_095;
-
-const MAX_BYTES: usize = 65_536;
-
-const MAX_GROUPS: usize = 16;
 
 // Whether two paths have the same names.
 fn same_names(a: &[Name], b: &[Name]) -> bool
@@ -99,10 +92,10 @@ fn has_no_flags(caps: &CapState) -> bool
 
 // Whether an object may hold what it does: only a file has bytes and capabilities.
 fn may_be_held(held: &Body, caps: &CapState) -> bool
-    ensures { Decides result ((length (bytes_of held.now) ≤ 65536) × (held.now ≡ body.Pipe → ⊥) × (is_file (kind_of held.now) ≡ false → caps.now ≡ no_flags)) }
+    ensures { Decides result ((length (bytes_of held.now) ≤ MAX_FILE_BYTES) × (held.now ≡ body.Pipe → ⊥) × (is_file (kind_of held.now) ≡ false → caps.now ≡ no_flags)) }
 {
     match held {
-        Body::File(bytes) => bytes.items().len() <= MAX_BYTES,
+        Body::File(bytes) => bytes.items().len() <= MAX_FILE_BYTES,
         Body::Dir | Body::Fifo => has_no_flags(caps),
         Body::Pipe => false,
     }
@@ -157,7 +150,7 @@ fn procs_at(label: &Label, procs: &[WorldProc]) -> usize
 
 // Whether there are numbers for all objects.
 fn have_object_numbers(objects: &[WorldObject]) -> bool
-    ensures { result ≡ list_all (λ (o : WorldObject). nat_le (objects_at o.label objects.now) 65535) objects.now }
+    ensures { result ≡ list_all (λ (o : WorldObject). nat_le (objects_at o.label objects.now) MAX_OBJECTS) objects.now }
 {
     objects
         .iter()
@@ -166,7 +159,7 @@ fn have_object_numbers(objects: &[WorldObject]) -> bool
 
 // Whether there are numbers for all processes.
 fn have_proc_numbers(procs: &[WorldProc]) -> bool
-    ensures { result ≡ list_all (λ (p : WorldProc). nat_le (procs_at p.label procs.now) 4095) procs.now }
+    ensures { result ≡ list_all (λ (p : WorldProc). nat_le (procs_at p.label procs.now) MAX_PROCS) procs.now }
 {
     procs
         .iter()

@@ -7,8 +7,7 @@ use Rattle.std.proofs.KnownBytes.{Consumes-nil}
 use Rattle.lab_lattice.specs.Label.{Label}
 use Rattle.kern_model.specs.Prefixes.{IsPrefix}
 use Rattle.kern_model.specs.Lineage.{OnlyDrops, GrowsByExec}
-use Rattle.iso_laws.proofs.Drops.{drops_are_reported}
-use Rattle.iso_laws.proofs.Growth.{growth_is_reported}
+use Rattle.iso_laws.proofs.Laws.{drops_by_records, growth_by_records}
 use Rattle.labsys.specs.declared.command.Command.{Command}
 use Rattle.labsys.specs.declared.command.Command.TheVariants.{Play}
 use Rattle.labsys.specs.declared.status.InputEnd.{InputEnd}
@@ -142,8 +141,8 @@ session_printed a m sent rest e = record {
 session_dropped : (a : Accepted) (m : Script) (sent rest : List Sent) → session_order (session_of a m) ≡ sent ++ rest → Dropped (session_of a m) (trail_of sent)
 session_dropped a m sent rest e = record {
   begins = record { rest = trail_of rest; whole_is = sym (trail_reported (session_of a m)) ∙ trail_is (session_of a m) sent rest e };
-  drops = subst (OnlyDrops a.world.bound) (sym (all_numbered a m)) (drops_are_reported a.world m.items);
-  grows = subst (GrowsByExec a.world.bound) (sym (all_numbered a m)) (growth_is_reported a.world m.items);
+  drops = subst (OnlyDrops a.world.bound) (sym (all_numbered a m)) (drops_by_records a.world m.items);
+  grows = subst (GrowsByExec a.world.bound) (sym (all_numbered a m)) (growth_by_records a.world m.items);
 }
 
 -- where the whole output stands all replies do

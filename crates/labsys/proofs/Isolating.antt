@@ -6,7 +6,7 @@ use Rattle.lab_lattice.specs.Label.{Label}
 use Rattle.kern_model.specs.Run.{CallRecord}
 use Rattle.kern_model.specs.Isolation.{answers, alone, crossing, up_to}
 use Rattle.kern_model.specs.Prefixes.{IsPrefix, Agree}
-use Rattle.iso_laws.proofs.Worlds.{isolated_prefix, isolated_whole, two_prefixes, two_wholes}
+use Rattle.iso_laws.proofs.Laws.{isolated_prefix, isolated_whole, two_worlds_agree, two_worlds_same}
 use Rattle.labsys.specs.Input.{Accepted, Script}
 use Rattle.labsys.specs.Session.{CallBytes, session_of, bytes_of, replies_of}
 use Rattle.labsys.proofs.AcceptedLemmas.{IsPlayable}
@@ -104,8 +104,8 @@ module _ (l : Label) (a : Accepted) (script : Script) (is : IsPlayable a script)
       agree = λ m n few before before'.
           subst (λ ps. Agree (answers l ps) (answers l (take n (run_of b script')))) (sym (take_up_to l m (run_of a script) before))
           (subst (λ ps. Agree (answers l (take m (up_to l (run_of a script)))) (answers l ps)) (sym (take_up_to l n (run_of b script') before'))
-          (two_prefixes l a.world b.world script.items script'.items same.world same.items m n is.world is'.world is.script.arguments is'.script.arguments is.script.laws is'.script.laws));
+          (two_worlds_agree l a.world b.world script.items script'.items m n is.world is'.world is.script.arguments is'.script.arguments is.script.laws is'.script.laws same.world same.items));
     }
 
     pub two_whole : (out : List ℕ) → IsPrefix (replies_of (bytes_of (session_of a script))) out → TwoWhole l a script b script' out
-    two_whole out w = record { written = w; equal = λ none none'. two_wholes l a.world b.world script.items script'.items same.world same.items is.world is'.world is.script.arguments is'.script.arguments is.script.laws is'.script.laws none none' }
+    two_whole out w = record { written = w; equal = λ none none'. two_worlds_same l a.world b.world script.items script'.items is.world is'.world is.script.arguments is'.script.arguments is.script.laws is'.script.laws same.world same.items none none' }

@@ -14,7 +14,7 @@ use Rattle.lab_text.specs.Policy.{PolicyNames}
 use Rattle.kern_model.specs.declared.numbers.Pid.{Pid}
 use Rattle.kern_model.specs.Lineage.{caps_of, all_recs}
 use Rattle.kern_model.specs.State.{Process}
-use Rattle.iso_laws.proofs.Lineage.{caps_are_reported}
+use Rattle.iso_laws.proofs.Laws.{caps_by_records}
 use Rattle.labsys.specs.Input.{Accepted, Script}
 use Rattle.labsys.specs.Texts.{end_text, ends_text, last_text}
 use Rattle.labsys.specs.Session.{Session, session_of, bytes_from, bytes_of, replies_of, records_of, head_text, tail_text}
@@ -84,7 +84,7 @@ module _ (a : Accepted) (script : Script) where
   same_line who =
       elim (finite.get s.last_state.procs who) as (λ found. finite.get s.last_state.procs who ≡ found → line who found ≡ reported_line who found) [
         | None ↦ λ _. refl
-        | Some p ↦ λ is. ap (λ c. end_text a.policy who (Some p.label) (Some c)) (caps_are_reported a.world script.items who p is)
+        | Some p ↦ λ is. ap (λ c. end_text a.policy who (Some p.label) (Some c)) (caps_by_records a.world script.items who p is)
       ] refl
 
   -- the output is the one in which the records give the capability sets

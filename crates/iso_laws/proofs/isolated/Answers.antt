@@ -1,4 +1,4 @@
-use Rattle.iso_laws.proofs.Worlds.{isolated_prefix, isolated_whole}
+use Rattle.iso_laws.proofs.Laws.{isolated_prefix, isolated_whole}
 use Rattle.iso_laws.proofs.isolated.Goals as goal
 
 pub returns-clause-prefix : goal.returns-clause-prefix

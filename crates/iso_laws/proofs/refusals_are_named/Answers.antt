@@ -1,5 +1,5 @@
-use Rattle.iso_laws.proofs.GoingOn.{named_after}
+use Rattle.iso_laws.proofs.Laws.{refusals_are_named}
 use Rattle.iso_laws.proofs.refusals_are_named.Goals as goal
 
 pub returns : goal.returns
-returns c = named_after
+returns c = refusals_are_named

@@ -6,6 +6,7 @@ use Rattle.cap_bits.specs.Laws.{has-within}
 use Rattle.cap_bits.specs.State.{no_flags}
 use Rattle.fs_path.specs.Name.{Name, is_name}
 use Rattle.fs_path.specs.Path.{HasForm, written_len}
+use Rattle.kern_model.specs.declared.limits.TheConstants.{MAX_OBJECTS, MAX_PROCS}
 use Rattle.kern_model.specs.declared.numbers.Ids.{Ids}
 use Rattle.kern_model.specs.declared.objects.Attr.{Attr}
 use Rattle.kern_model.specs.declared.objects.Body.{Body}
@@ -79,8 +80,8 @@ small_world top a b f bound none other caps a_is b_is f_is = record {
   objects = (root_fits top, (file_fits top low f (has_form (codes "low") refl (omega arith)) (at_bottom top f f_is), (file_fits top high top (has_form (codes "high") refl (omega arith)) (dominates_itself top), tt)));
   procs = (process_fits top top none (dominates_itself top), (process_fits top a other (at_bottom top a a_is), (process_fits top b caps (at_bottom top b b_is), tt)));
   room = record {
-    objects = λ l. few (λ (o : WorldObject). same_label o.label l) (objects_of top f) 65535 (omega arith);
-    procs = λ l. few (λ (p : WorldProc). same_label p.label l) (procs_of top a b none other caps) 4095 (omega arith);
+    objects = λ l. few (λ (o : WorldObject). same_label o.label l) (objects_of top f) MAX_OBJECTS (omega arith);
+    procs = λ l. few (λ (p : WorldProc). same_label p.label l) (procs_of top a b none other caps) MAX_PROCS (omega arith);
   };
 }
 

@@ -5,8 +5,7 @@ use Rattle.kern_model.specs.Arguments.{is_call}
 use Rattle.kern_model.specs.State.{State}
 use Rattle.labsys.specs.Counts.{Counts, counts}
 use Rattle.labsys.specs.Reading.{Follows}
-use Rattle.iso_laws.proofs.Part.{top-changed}
-use Rattle.iso_laws.proofs.Steps.{fixed_after}
+use Rattle.iso_laws.proofs.Laws.{top_step}
 use Rattle.labsys.proofs.Sending.{sends_all, sends_start}
 use Rattle.labsys.proofs.ScriptLemmas.{underway_begins, underway_prefix, underway_cut, underway_item, underway_end_cut, underway_end}
 use Rattle.labsys.proofs.CountLemmas.{counts_fault, counts_no_memory}
@@ -42,7 +41,7 @@ loop-who-preserved-in-Item g c =
     let i = c.loop-who.invariant in
     record {
       underway = underway_item _ _ _ _ _ _ _ _ _ _ i.underway _ _ line.says _ _ _ c.in_ok-play_item-in-Item.ensures.ok c.in_ok-play_item-in-Item.ensures.state;
-      top = ap (λ (s : State). s.top) c.in_ok-play_item-in-Item.ensures.state ∙ fixed_after (state_of c.loop-who.kernel) c.in-Item.who c.in-Item.call (λ (s : State). s.top) top-changed ∙ i.top;
+      top = ap (λ (s : State). s.top) c.in_ok-play_item-in-Item.ensures.state ∙ top_step (state_of c.loop-who.kernel) c.in-Item.who c.in-Item.call ∙ i.top;
       few = omega arith;
       counted = omega arith;
       out_still = ap (λ (c : Counts). c.out) (c.in_ok-play_item-in-Item.ensures.counts 0) ∙ i.out_still;

@@ -2,8 +2,7 @@ use Rattle.std.proofs.Common.{◌∙◌, ap, refl}
 use Rattle.kern_model.specs.State.{State}
 use Rattle.kern_core.specs.Kernel.{state_of}
 use Rattle.labsys.proofs.Sending.{sends_start}
-use Rattle.iso_laws.proofs.Booting.{fixed_booted}
-use Rattle.iso_laws.proofs.Part.{top-changed}
+use Rattle.iso_laws.proofs.Laws.{top_boot}
 use Rattle.labsys.proofs.ScriptLemmas.{world_head_cut, world_prefix, world_whole}
 use Rattle.labsys.proofs.CountLemmas.{counts_no_memory, counts_on}
 use Rattle.labsys.proofs.playing.play_world.Goals as goal
@@ -16,7 +15,7 @@ returns-in_err-begin-clause-prefix g c =
     world_head_cut c.args.read.now.read _ c.items.result.now (c.items.ensures ∙ c.in_ok-kernel.ensures.recs) (state_of c.in_ok-kernel.kernel) c.in_ok-kernel.ensures.state _ _ _ c.begin.ensures.prefix
 
 pub play_script-requires-clause-top : goal.play_script-requires-clause-top
-play_script-requires-clause-top g c = ap (λ (s : State). s.top) c.in_ok-kernel.ensures.state ∙ fixed_booted (λ (s : State). s.top) top-changed c.args.read.now.read.world ∙ c.requires.top
+play_script-requires-clause-top g c = ap (λ (s : State). s.top) c.in_ok-kernel.ensures.state ∙ top_boot c.args.read.now.read.world ∙ c.requires.top
 
 pub returns-clause-whole : goal.returns-clause-whole
 returns-clause-whole g c =

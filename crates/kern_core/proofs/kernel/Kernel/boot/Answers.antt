@@ -2,6 +2,7 @@ use Rattle.std.proofs.Common.{◌≡◌, ◌∙◌, ap, sym, subst, ℕ, List}
 use Rattle.std.specs.FinMap as map
 use Rattle.std.specs.FinMap.{FinMap}
 use Rattle.lab_lattice.specs.Label.{label_cmp}
+use Rattle.kern_model.specs.declared.limits.TheConstants.{MAX_OBJECTS}
 use Rattle.kern_model.specs.declared.world.WorldObject.{WorldObject}
 use Rattle.kern_model.specs.declared.world.WorldProc.{WorldProc}
 use Rattle.kern_model.specs.Boot.{boot_objects, boot_processes}
@@ -18,7 +19,7 @@ use Rattle.kern_core.proofs.kernel.Kernel.boot.Goals as goal
 pub boot_objects-requires : goal.boot_objects-requires
 boot_objects-requires c =
     subst (λ (m : FinMap label_cmp ℕ). RoomForObjects m c.items.result.now) (sym (ap (λ (s : State). s.object_numbers) c.empty-tables.ensures))
-    (subst (λ (os : List WorldObject). RoomForObjects map.empty os) (sym c.items.ensures) (all_room 65535 (λ l. objects_at l c.args.world.now.objects) c.requires.world.room.objects))
+    (subst (λ (os : List WorldObject). RoomForObjects map.empty os) (sym c.items.ensures) (all_room MAX_OBJECTS (λ l. objects_at l c.args.world.now.objects) c.requires.world.room.objects))
 
 pub boot_processes-requires : goal.boot_processes-requires
 boot_processes-requires c =

@@ -1,0 +1,130 @@
+-- The laws, each by its name.
+use Rattle.std.specs.Prelude.{◌≡◌, ℕ, true, false, List, ◌++◌, Some, take}
+use Rattle.std.specs.FinMap as map
+use Rattle.lab_lattice.specs.Label.{Label}
+use Rattle.kern_model.specs.declared.numbers.Pid.{Pid}
+use Rattle.kern_model.specs.declared.calls.Call.{Call}
+use Rattle.kern_model.specs.declared.world.World.{World}
+use Rattle.kern_model.specs.declared.world.ScriptItem.{ScriptItem}
+use Rattle.kern_model.specs.Arguments.{is_call, is_script}
+use Rattle.kern_model.specs.Boot.{boot}
+use Rattle.kern_model.specs.Drawing.{StayDrawn, NumbersGoOn, NothingComesBack}
+use Rattle.kern_model.specs.Isolation.{low, crossing, part, part_script, answers, alone, up_to, Kept}
+use Rattle.kern_model.specs.Lineage.{caps_of, all_recs, OnlyDrops, GrowsByExec}
+use Rattle.kern_model.specs.Prefixes.{IsPrefix, Agree}
+use Rattle.kern_model.specs.Refusals.{IsNamed}
+use Rattle.kern_model.specs.Run.{run, state_after_run}
+use Rattle.kern_model.specs.State.{State, Process}
+use Rattle.kern_model.specs.Step.{step}
+use Rattle.kern_model.specs.Valid.{IsValid}
+use Rattle.kern_model.specs.World.{IsWorld}
+use Rattle.iso_laws.specs.LawCalls.{has_laws, have_laws}
+
+-- ---- a step, by a call with laws
+
+-- a step of a Low process that crosses nothing gives the same reply in the part
+abbrev pub LowStepReply : Type 0
+LowStepReply = (l : Label) (s : State) (who : Pid) (c : Call) → has_laws c ≡ true → IsValid s → Kept l s → low l who.label ≡ true → crossing l (step s who c).recs ≡ false
+    → (step (part l s) who c).reply ≡ (step s who c).reply
+
+-- and the same records
+abbrev pub LowStepRecords : Type 0
+LowStepRecords = (l : Label) (s : State) (who : Pid) (c : Call) → has_laws c ≡ true → IsValid s → Kept l s → low l who.label ≡ true → crossing l (step s who c).recs ≡ false
+    → (step (part l s) who c).recs ≡ (step s who c).recs
+
+-- and the part of the new state
+abbrev pub LowStepState : Type 0
+LowStepState = (l : Label) (s : State) (who : Pid) (c : Call) → has_laws c ≡ true → IsValid s → Kept l s → low l who.label ≡ true → crossing l (step s who c).recs ≡ false
+    → (step (part l s) who c).state ≡ part l (step s who c).state
+
+-- a step of a process that is not Low leaves the part as it was, unless it crosses
+abbrev pub OtherStep : Type 0
+OtherStep = (l : Label) (s : State) (who : Pid) (c : Call) → has_laws c ≡ true → IsValid s → Kept l s → low l who.label ≡ false → crossing l (step s who c).recs ≡ false
+    → part l (step s who c).state ≡ part l s
+
+-- what is kept stays kept over a step that does not cross
+abbrev pub KeptStep : Type 0
+KeptStep = (l : Label) (s : State) (who : Pid) (c : Call) → has_laws c ≡ true → IsValid s → Kept l s → crossing l (step s who c).recs ≡ false → Kept l (step s who c).state
+
+-- a valid state stays valid, where the arguments are in their ranges
+abbrev pub ValidStep : Type 0
+ValidStep = (s : State) (who : Pid) (c : Call) → has_laws c ≡ true → is_call s.top c ≡ true → IsValid s → IsValid (step s who c).state
+
+-- ---- the first state of a world
+
+-- the first state is kept
+abbrev pub KeptBoot : Type 0
+KeptBoot = (l : Label) (w : World) → Kept l (boot w)
+
+-- the first state of a world that is accepted is valid
+abbrev pub ValidBoot : Type 0
+ValidBoot = (w : World) → IsWorld w → IsValid (boot w)
+
+-- ---- runs of calls with laws
+
+-- what Low tags are answered before any call that crosses is a prefix of what they are answered with nothing else there
+abbrev pub IsolatedPrefix : Type 0
+IsolatedPrefix = (l : Label) (w : World) (items : List ScriptItem) (m : ℕ) → IsWorld w → is_script w.top items ≡ true → have_laws items ≡ true
+    → IsPrefix (answers l (take m (up_to l (run (boot w) items)))) (alone l w items)
+
+-- and all of it where no call crosses
+abbrev pub IsolatedWhole : Type 0
+IsolatedWhole = (l : Label) (w : World) (items : List ScriptItem) → IsWorld w → is_script w.top items ≡ true → have_laws items ≡ true
+    → up_to l (run (boot w) items) ≡ run (boot w) items → answers l (run (boot w) items) ≡ alone l w items
+
+-- in two worlds with one part, two scripts with the same Low items answer Low tags alike before any call that crosses: one list is a prefix of the other
+abbrev pub TwoWorldsAgree : Type 0
+TwoWorldsAgree = (l : Label) (w v : World) (is js : List ScriptItem) (m n : ℕ) → IsWorld w → IsWorld v → is_script w.top is ≡ true → is_script v.top js ≡ true → have_laws is ≡ true → have_laws js ≡ true
+    → part l (boot w) ≡ part l (boot v) → part_script l is ≡ part_script l js → Agree (answers l (take m (up_to l (run (boot w) is)))) (answers l (take n (up_to l (run (boot v) js))))
+
+-- and the same where no call crosses
+abbrev pub TwoWorldsSame : Type 0
+TwoWorldsSame = (l : Label) (w v : World) (is js : List ScriptItem) → IsWorld w → IsWorld v → is_script w.top is ≡ true → is_script v.top js ≡ true → have_laws is ≡ true → have_laws js ≡ true
+    → part l (boot w) ≡ part l (boot v) → part_script l is ≡ part_script l js
+    → up_to l (run (boot w) is) ≡ run (boot w) is → up_to l (run (boot v) js) ≡ run (boot v) js → answers l (run (boot w) is) ≡ answers l (run (boot v) js)
+
+-- ---- capability sets, by every call
+
+-- each process that lives at the end of a run has the capability sets that the records give
+abbrev pub CapsByRecords : Type 0
+CapsByRecords = (w : World) (items : List ScriptItem) (who : Pid) (p : Process) → map.get (state_after_run (boot w) items).procs who ≡ Some p → p.caps ≡ caps_of w.bound (all_recs w items) who
+
+-- what `cap_set_proc` makes permitted was permitted, by the records before its own
+abbrev pub DropsByRecords : Type 0
+DropsByRecords = (w : World) (items : List ScriptItem) → OnlyDrops w.bound (all_recs w items)
+
+-- permitted sets grow by exec alone
+abbrev pub GrowthByRecords : Type 0
+GrowthByRecords = (w : World) (items : List ScriptItem) → GrowsByExec w.bound (all_recs w items)
+
+-- ---- refusals and numbers, by every call
+
+-- a reply that a check denied holds EACCES or EPERM, and no other refusal holds one of them
+abbrev pub RefusalsAreNamed : Type 0
+RefusalsAreNamed = (s : State) (who : Pid) (c : Call) → IsNamed (step s who c).reply
+
+-- numbers that were drawn stay drawn over a step
+abbrev pub DrawnStep : Type 0
+DrawnStep = (s : State) (who : Pid) (c : Call) → StayDrawn s (step s who c).state
+
+-- numbers go on over a step of a valid state
+abbrev pub NumbersStep : Type 0
+NumbersStep = (s : State) (who : Pid) (c : Call) → IsValid s → NumbersGoOn s (step s who c).state
+
+-- numbers go on over a part of a run
+abbrev pub NumbersRun : Type 0
+NumbersRun = (w : World) (items more : List ScriptItem) → IsWorld w → NumbersGoOn (state_after_run (boot w) items) (state_after_run (boot w) (items ++ more))
+
+-- what has a number that was drawn, and is not there, does not come back
+abbrev pub GoneRun : Type 0
+GoneRun = (w : World) (items more : List ScriptItem) → IsWorld w → NothingComesBack (state_after_run (boot w) items) (state_after_run (boot w) (items ++ more))
+
+-- ---- the highest label, by every call
+
+-- it is the world's in the first state
+abbrev pub TopBoot : Type 0
+TopBoot = (w : World) → (boot w).top ≡ w.top
+
+-- and stays over a step
+abbrev pub TopStep : Type 0
+TopStep = (s : State) (who : Pid) (c : Call) → (step s who c).state.top ≡ s.top
