@@ -1,21 +1,18 @@
 -- What the names in a text come to, one after another.
-use Rattle.std.proofs.Common.{◌≡◌, ℕ, ◌+◌, ◌-◌, Bool, true, false, ◌==◌, ◌||◌, nat_eq, cond, List, [], ◌∷◌, length, take, drop, Option, Some, None, refl, ap, sym, ◌∙◌, arith}
-use Rattle.std.specs.Prelude.{option_and_then, position}
+use Rattle.std.proofs.Common.{◌≡◌, ℕ, ◌+◌, Bool, true, false, ◌==◌, ◌||◌, nat_eq, cond, List, [], ◌∷◌, length, Option, Some, None, refl, ap, sym, ◌∙◌, arith}
+use Rattle.std.specs.Prelude.{option_and_then}
 use Rattle.std.specs.FinSet as set
-use Rattle.std.specs.List.{list_any, before_first, after_first, slice_split, position_or_len, onto_first}
+use Rattle.std.specs.List.{list_any}
 use Rattle.std.specs.Option.{option_map}
-use Rattle.std.proofs.lemmas.Bool.{ltb-true, ltb-false, or_parts}
 use Rattle.std.proofs.lemmas.Bool.Decides.{nat_tests}
 use Rattle.std.proofs.Math.Bool.{or-false}
-use Rattle.std.proofs.lemmas.List.{take_all, take_rest}
 use Rattle.std.proofs.lemmas.Option.{same_Some}
-use Rattle.std.proofs.lemmas.List.Splits.{slice_split_first, slice_split-cons_no}
 use Rattle.lab_lattice.specs.Cats.{CatSet, has_cat, no_cats, one_cat, cats_join}
 use Rattle.lab_lattice.specs.Laws.{has-no_cats, has-one_cat, has-cats_join, same_cats}
 use Rattle.fs_path.specs.Split.{pieces, pieces_of_rest}
 use Rattle.fs_path.proofs.SplitLemmas.{position_found, position_missing}
 use Rattle.lab_text.specs.Names.{Names, same_bytes, place_of}
-use Rattle.lab_text.specs.Text.{is_comma, places_of, first_unknown}
+use Rattle.lab_text.specs.Text.{places_of, first_unknown}
 
 -- ---- categories
 
