@@ -6,7 +6,7 @@ use Rattle.std.specs.Option.{option_and_then, option_map}
 use Rattle.std.proofs.lemmas.Bool.{and_parts, and_from, cond_both, eqb-true, leb-true, lt-ltb, or_cases}
 use Rattle.std.proofs.lemmas.List.{append-nil}
 use Rattle.fs_path.proofs.RoundTrip.{line_round_trip}
-use Rattle.fs_path.specs.Words.{is_plain, is_bare, is_apart, hex_value, hex_pair, escaped, first_item, onto_piece, items_within, items_of, quoted_word, begun_word, apart, first_word, past_spaces, words_by, words_of, quoted_text, has_spelling}
+use Rattle.fs_path.specs.Words.{is_plain, is_bare, is_apart, hex_value, hex_pair, escaped, first_item, onto_piece, items_within, items_of, quoted_word, leading_word, apart, first_word, trim_spaces, words_by, words_of, quoted_text, has_spelling}
 use Rattle.fs_path.proofs.WordSteps.{words_are}
 use Rattle.fs_path.specs.declared.words.LineWord.{LineWord}
 use Rattle.line_text.specs.Ranges.{are_bytes}
@@ -88,7 +88,7 @@ abbrev FirstBytes : Option (LineWord × List ℕ) → Type 0
 FirstBytes None = Unit {0}
 FirstBytes (Some p) = WordBytes p.0
 
-begun_bytes : (text : List ℕ) → FirstBytes (begun_word text)
+begun_bytes : (text : List ℕ) → FirstBytes (leading_word text)
 begun_bytes [] = tt
 begun_bytes (b ∷ bs) = cond_both (b == 34) (option_map quoted_word (items_of bs)) (cond (is_bare b) bare None) FirstBytes (λ _. by_items (items_of bs) (items_bytes (length bs) bs))
     (λ _. cond_both (is_bare b) bare None FirstBytes (λ _ quoted. absurd (cc)) (λ _. tt))
@@ -101,7 +101,7 @@ begun_bytes (b ∷ bs) = cond_both (b == 34) (option_map quoted_word (items_of b
     by_items (Some p) all = λ _. all
 
 first_bytes : (text : List ℕ) → FirstBytes (first_word text)
-first_bytes text = by_word (begun_word text) (begun_bytes text)
+first_bytes text = by_word (leading_word text) (begun_bytes text)
   where
     by_word : (o : Option (LineWord × List ℕ)) → FirstBytes o → FirstBytes (option_and_then apart o)
     by_word None all = tt
@@ -127,7 +127,7 @@ words_bytes (b ∷ bs) = by_word (first_word (b ∷ bs)) (first_bytes (b ∷ bs)
 
 pub unquoted_bytes : (word bytes : List ℕ) → unquoted word ≡ Some bytes → are_bytes bytes ≡ true
 unfolding unquoted
-unquoted_bytes word bytes h = by_words (words_of word) (subst OnlyBytes (sym (words_are word)) (words_bytes (past_spaces word))) h
+unquoted_bytes word bytes h = by_words (words_of word) (subst OnlyBytes (sym (words_are word)) (words_bytes (trim_spaces word))) h
   where
     by_words : (o : Option (List LineWord)) → OnlyBytes o → option_and_then only_quoted o ≡ Some bytes → are_bytes bytes ≡ true
     by_words None all h = absurd (cc)

@@ -1,4 +1,4 @@
--- Names are in lower case already, so a word is one where its lower case is.
+-- A word in any case of its letters names the capability whose name it is in lower case.
 use Rattle.std.proofs.Common.{◌≡◌, ℕ, List, Bool, refl, ap, sym, ◌∙◌}
 use Rattle.std.specs.Prelude.{◌↔◌, IsTrue, ◌≢◌, true, false, [], ◌∷◌, Option, Some, None, MatchOption, cond}
 use Rattle.std.specs.Cmp.Lexicographic.{bytes_decides}
@@ -79,7 +79,7 @@ same_name a b e =
     let one : Some a ≡ Some b = sym (first_of_name a) ∙ ap (λ (name : List ℕ). find (λ other. bytes_eq (cap_name other) name) all_caps) e ∙ first_of_name b in
     cc
 
--- an answer is what a word names where it is the capability with the word as its name, and nothing where there is none
+-- the capability that a word names: the one with the word as its name, and none where there is no such one
 abbrev pub IsNamedBy : List ℕ → Option Cap → Type 0
 IsNamedBy word found = MatchOption found ((cap : Cap) → str_to_ascii_lowercase word ≢ cap_name cap) (λ cap. str_to_ascii_lowercase word ≡ cap_name cap)
 

@@ -1,4 +1,4 @@
--- What operations on a number's bits do to the capabilities that it stands for.
+-- What operations on a number's bits do to the set of capabilities that the number denotes.
 use Rattle.std.proofs.Common.{◌≡◌, ◌≢◌, ℕ, ◌-◌, ◌*◌, ◌%◌, ◌^◌, ◌<◌, Bool, true, false, refl, ap, sym, ◌∙◌, arith, bit_and, bit_or, w32, inl, inr}
 use Rattle.std.specs.Prelude.{◌⊎◌, not, ◌&&◌, ◌||◌, ◌==◌, max, min, nat_eq}
 use Rattle.std.specs.Int.{bit_at, bit_not}
@@ -15,7 +15,7 @@ use Rattle.cap_bits.specs.Laws.{word_back, has-caps_of_word, has-all_of_caps, ha
 use Rattle.cap_bits.specs.CapSet.{CapSet, has, no_caps, all_of_caps, with_cap, without_cap, union_of, meet_of, minus_of, is_within, same_sets}
 use Rattle.cap_bits.proofs.CapSets.{same_cap-number, has-no_caps, has-with_cap, has-without_cap, has-union_of, has-meet_of, has-minus_of}
 
--- a number stands for the set whose members its bits are
+-- a number denotes the set whose members are its bits
 caps_by_bits : (word : ℕ) (s : CapSet) → ((q : Cap) → in_word word q ≡ has s q) → caps_of_word word ≡ s
 caps_by_bits word s h = same_caps _ _ (λ q. has-caps_of_word word q ∙ h q)
 

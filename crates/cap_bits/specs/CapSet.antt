@@ -24,7 +24,7 @@ all_of_caps = set.from_list all_caps
 abbrev pub with_cap : CapSet → Cap → CapSet
 with_cap caps cap = set.insert caps cap
 
--- a set but for a capability
+-- a set without a capability
 abbrev pub without_cap : CapSet → Cap → CapSet
 without_cap caps cap = set.remove caps cap
 

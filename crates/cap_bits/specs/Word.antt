@@ -19,6 +19,6 @@ abbrev pub word_of_bits : List Bool → ℕ
 word_of_bits [] = 0
 word_of_bits (b ∷ bs) = cond b 1 0 + 2 * word_of_bits bs
 
--- the number whose bits say which capabilities are there
+-- the number whose bits are the members of a set
 unfoldable pub word_of_caps : CapSet → ℕ
 word_of_caps caps = word_of_bits (map (has caps) all_caps)

@@ -20,7 +20,7 @@ pub enum Cap {
     Fsetid,
     /// Signalling the processes of other users.
     Kill,
-    /// Linking directories. Sets hold it, and nothing asks for it.
+    /// Linking directories. Sets hold it, and no call checks it.
     LinkDir,
     /// Setting the capabilities of a file.
     Setfcap,

@@ -12,7 +12,7 @@ const ALL_BITS: u32 = 0x3_ffff;
 /// A set of capabilities.
 #[derive(Clone, Copy, Debug)]
 pub struct CapSet {
-    // The bit with a capability's number says whether the capability is there.
+    // The bit with a capability's number is 1 where the set has the capability.
     word: u32,
 }
 
@@ -51,7 +51,7 @@ impl CapSet {
         CapSet { word: ALL_BITS }
     }
 
-    /// Whether the capability is there.
+    /// Whether the set has the capability.
     pub fn has(&self, cap: Cap) -> bool
         ensures { result ≡ has self.now cap }
     {
@@ -67,7 +67,7 @@ impl CapSet {
         }
     }
 
-    /// The set but for this capability.
+    /// The set without this capability.
     pub fn without(self, cap: Cap) -> CapSet
         ensures { result ≡ without_cap self cap }
     {

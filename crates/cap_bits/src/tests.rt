@@ -1,4 +1,4 @@
-// What no clause says: the names and numbers, against a table.
+// The names and numbers, against a table.
 use crate::{Cap, CapSet, CapState, Flag};
 
 const TABLE: [(Cap, u8, &[u8]); 18] = [

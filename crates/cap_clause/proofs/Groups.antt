@@ -17,7 +17,7 @@ use Rattle.cap_bits.specs.declared.cap.Cap.{Cap}
 use Rattle.cap_bits.specs.declared.state.CapState.{CapState}
 use Rattle.cap_bits.specs.declared.state.Flag.{Flag}
 use Rattle.cap_bits.specs.declared.state.Flag.TheVariants.{Effective, Inheritable, Permitted}
-use Rattle.cap_clause.specs.Clauses.{all_flags, put_caps, put_flag, put_flags, operated}
+use Rattle.cap_clause.specs.Clauses.{all_flags, put_caps, put_flag, put_flags, after_operator}
 use Rattle.cap_clause.specs.Written.{same_flags, group_of, is_first, firsts_of}
 use Rattle.cap_clause.specs.declared.action.Operator.TheVariants.{Assign}
 
@@ -103,7 +103,7 @@ every_flag Effective = refl
 every_flag Inheritable = refl
 every_flag Permitted = refl
 
-assigned_after : (caps : CapSet) (flags : List Flag) (s : CapState) (q : Cap) (f : Flag) → has_flag (operated caps Assign flags s) q f ≡ cond (has caps q) (list_any (same_flag f) flags) (has_flag s q f)
+assigned_after : (caps : CapSet) (flags : List Flag) (s : CapState) (q : Cap) (f : Flag) → has_flag (after_operator caps Assign flags s) q f ≡ cond (has caps q) (list_any (same_flag f) flags) (has_flag s q f)
 assigned_after caps flags s q f =
     flags_after caps true flags (put_flags caps false all_flags s) q f
     ∙ ap (λ v. cond (list_any (same_flag f) flags && has caps q) true v) (flags_after caps false all_flags s q f ∙ ap (λ v. cond (v && has caps q) false (has_flag s q f)) (every_flag f))
@@ -119,7 +119,7 @@ assigned_after caps flags s q f =
 
 -- a state in which the flags of a group are assigned as another state has them
 abbrev pub assigned : CapState → CapState → Cap → CapState
-assigned s t cap = operated (group_of s cap) Assign (filter (has_flag s cap) all_flags) t
+assigned s t cap = after_operator (group_of s cap) Assign (filter (has_flag s cap) all_flags) t
 
 same_flag_is : (p : Flag → Bool) (f g : Flag) → same_flag f g ≡ true → p g ≡ p f
 same_flag_is p Effective Effective e = refl
@@ -234,7 +234,7 @@ no_flag q Inheritable = has-no_caps q
 no_flag q Permitted = has-no_caps q
 
 -- no flags, assigned to no flags, make none
-pub assigned_none : (caps : CapSet) → operated caps Assign [] no_flags ≡ no_flags
+pub assigned_none : (caps : CapSet) → after_operator caps Assign [] no_flags ≡ no_flags
 assigned_none caps = same_states _ no_flags (λ q f. assigned_after caps [] no_flags q f ∙ ap (λ v. cond (has caps q) false v) (no_flag q f) ∙ none (has caps q) ∙ sym (no_flag q f))
   where
     none : (h : Bool) → cond h false false ≡ false

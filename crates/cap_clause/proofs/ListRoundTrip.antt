@@ -43,7 +43,7 @@ name_byte_range b is = elim (or_cases (nat_le 97 b && nat_le b 122) (b == 95) is
   | inr line ↦ let same = eqb-true b 95 line in (omega arith, omega arith)
 ]
 
--- a name is made of such bytes, and begins with `c`
+-- a name has such bytes alone, and begins with `c`
 pub name_is : (cap : Cap) → (list_all is_name_byte (cap_name cap) ≡ true) × (cap_name cap ≡ 99 ∷ drop 1 (cap_name cap))
 name_is Chown = (refl, refl)
 name_is DacExecute = (refl, refl)
@@ -127,7 +127,7 @@ lower_name (b ∷ bs) all =
     let parts = and_parts (is_name_byte b) (list_all is_name_byte bs) all in
     (λ i. lower_byte b parts.0 i ∷ lower_name bs parts.1 i)
 
--- a capability's name stands for it
+-- a capability's name names it
 name_round_trip : (cap : Cap) → caps_named (cap_name cap) ≡ Some (with_cap no_caps cap)
 unfolding caps_named
 name_round_trip cap =

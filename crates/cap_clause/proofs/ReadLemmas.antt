@@ -1,4 +1,4 @@
--- What is cut off at the front of a text.
+-- The prefixes at which a text is split.
 use Rattle.std.proofs.Common.{◌≡◌, ℕ, ◌+◌, ◌-◌, ◌≤◌, Bool, true, false, cond, List, [], ◌∷◌, ◌++◌, length, take, drop, refl, sym, ◌∙◌, ap, subst, arith, Option, Some, None, Ok, Err}
 use Rattle.std.specs.Prelude.{◌==◌, ◌&&◌, not, filter_map, fold, is_some}
 use Rattle.std.specs.List.{list_all, position_or_len, prefix_len}
@@ -10,7 +10,7 @@ use Rattle.std.proofs.lemmas.List.Sums.{prefix_len-le-length}
 use Rattle.cap_bits.specs.CapSet.{CapSet, all_of_caps}
 use Rattle.cap_bits.specs.State.{no_flags}
 use Rattle.cap_bits.specs.declared.state.CapState.{CapState}
-use Rattle.cap_clause.specs.Clauses.{is_blank, operator_of, is_operator, flag_of, is_flag, clauses_of, first_fault, first_fault_or, unless_fault, parse_list, needs_flag, operated, first_operator, clause_fault, with_clause}
+use Rattle.cap_clause.specs.Clauses.{is_blank, operator_of, is_operator, flag_of, is_flag, clauses_of, first_fault, first_fault_or, unless_fault, parse_list, needs_flag, after_operator, first_operator, clause_fault, with_clause}
 use Rattle.cap_clause.specs.Reading.{parse_actions, parse_prefix, parse_clause}
 use Rattle.cap_clause.specs.Parsed.{caps_fault, caps_meant, parse_caps}
 use Rattle.cap_clause.proofs.Steps.{Stops, prefix_passes, after_stops, parsed_rest, parsed_no_flag, parsed_next, clauses_blank, clauses_next, clause_unnamed, clause_unknown, clause_listed, clause_for_all, no_fault_in, fault_in, parse_clauses}
@@ -19,7 +19,7 @@ use Rattle.cap_clause.specs.declared.action.Operator.TheVariants.{Assign, Raise,
 use Rattle.cap_clause.specs.declared.error.CapTextError.{CapTextError}
 use Rattle.cap_clause.specs.declared.error.CapTextError.TheVariants as error
 
--- bytes are the longest front that passes a test, and a rest
+-- bytes are the longest prefix that passes a test, and a rest
 pub record IsPrefix (p : ℕ → Bool) (bytes prefix rest : List ℕ) : Type 0 where
   pub whole : bytes ≡ prefix ++ rest
   pub passes : list_all p prefix ≡ true
@@ -45,30 +45,30 @@ no_flag at caps (b ∷ bs) flags rest s operator is missing =
     ∙ parsed_no_flag at b caps operator flags rest s is.first is.flags_are.passes is.flags_are.stops missing
 
 next_of : (at : ℕ) (caps : CapSet) (text flags rest : List ℕ) (s : CapState) (operator : Operator) → IsAction text operator flags rest
-    → (needs_flag operator && length flags == 0) ≡ false → parse_actions at caps text s ≡ parsed_rest (at + 1 + length flags) caps rest (operated caps operator (filter_map flag_of flags) s)
+    → (needs_flag operator && length flags == 0) ≡ false → parse_actions at caps text s ≡ parsed_rest (at + 1 + length flags) caps rest (after_operator caps operator (filter_map flag_of flags) s)
 next_of at caps [] flags rest s operator is enough = absurd (cc is.first)
 next_of at caps (b ∷ bs) flags rest s operator is enough =
     ap (λ (after : List ℕ). parse_actions at caps (b ∷ after) s) is.flags_are.whole
     ∙ parsed_next at b caps operator flags rest s is.first is.flags_are.passes is.flags_are.stops enough
 
 pub last_action : (at : ℕ) (caps : CapSet) (text flags rest : List ℕ) (s : CapState) (operator : Operator) → IsAction text operator flags rest
-    → (needs_flag operator && length flags == 0) ≡ false → (length rest == 0) ≡ true → parse_actions at caps text s ≡ Ok (operated caps operator (filter_map flag_of flags) s)
+    → (needs_flag operator && length flags == 0) ≡ false → (length rest == 0) ≡ true → parse_actions at caps text s ≡ Ok (after_operator caps operator (filter_map flag_of flags) s)
 last_action at caps text flags rest s operator is enough none =
     next_of at caps text flags rest s operator is enough
-    ∙ ap (λ (r : List ℕ). parsed_rest (at + 1 + length flags) caps r (operated caps operator (filter_map flag_of flags) s)) (nil_from_length rest (eqb-true (length rest) 0 none))
+    ∙ ap (λ (r : List ℕ). parsed_rest (at + 1 + length flags) caps r (after_operator caps operator (filter_map flag_of flags) s)) (nil_from_length rest (eqb-true (length rest) 0 none))
 
 pub more_actions : (at : ℕ) (caps : CapSet) (text flags rest : List ℕ) (s : CapState) (operator : Operator) → IsAction text operator flags rest
-    → (needs_flag operator && length flags == 0) ≡ false → (length rest == 0) ≡ false → parse_actions at caps text s ≡ parse_actions (at + (length flags + 1)) caps rest (operated caps operator (filter_map flag_of flags) s)
+    → (needs_flag operator && length flags == 0) ≡ false → (length rest == 0) ≡ false → parse_actions at caps text s ≡ parse_actions (at + (length flags + 1)) caps rest (after_operator caps operator (filter_map flag_of flags) s)
 more_actions at caps text flags [] s operator is enough some = absurd (cc)
 more_actions at caps text flags (r ∷ rs) s operator is enough some =
-    next_of at caps text flags (r ∷ rs) s operator is enough ∙ ap (λ n. parse_actions n caps (r ∷ rs) (operated caps operator (filter_map flag_of flags) s)) (one_on at (length flags))
+    next_of at caps text flags (r ∷ rs) s operator is enough ∙ ap (λ n. parse_actions n caps (r ∷ rs) (after_operator caps operator (filter_map flag_of flags) s)) (one_on at (length flags))
   where
     one_on : (n k : ℕ) → n + 1 + k ≡ n + (k + 1)
     one_on n k = omega arith
 
 -- ---- clauses
 
--- a list before the first operator of a clause, and the actions behind it
+-- a list before the first operator of a clause, and the actions from there on
 abbrev pub IsClause : List ℕ → List ℕ → List ℕ → Type 0
 IsClause bytes list actions = IsPrefix (λ b. not (is_operator b)) bytes list actions
 

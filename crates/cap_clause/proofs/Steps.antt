@@ -12,7 +12,7 @@ use Rattle.std.proofs.lemmas.List.Splits.{slice_split_at, slice_split_none}
 use Rattle.cap_bits.specs.CapSet.{CapSet, all_of_caps}
 use Rattle.cap_bits.specs.declared.state.CapState.{CapState}
 use Rattle.fs_path.specs.Split.{Piece, placed}
-use Rattle.cap_clause.specs.Clauses.{is_blank, operator_of, is_operator, flag_of, is_flag, has_bytes, clauses_of, pieces_of, first_fault, first_fault_or, unless_fault, piece_fault, caps_listed, Action, actions_in, needs_flag, action_fault, with_action, operated, first_operator, list_in, actions_fault, clause_fault_by, clause_fault, with_clause}
+use Rattle.cap_clause.specs.Clauses.{is_blank, operator_of, is_operator, flag_of, is_flag, has_bytes, clauses_of, pieces_of, first_fault, first_fault_or, unless_fault, piece_fault, caps_listed, Action, actions_in, needs_flag, action_fault, with_action, after_operator, first_operator, list_in, actions_fault, clause_fault_by, clause_fault, with_clause}
 use Rattle.cap_clause.specs.Reading.{parse_actions, parse_clause}
 use Rattle.cap_clause.specs.declared.action.Operator.{Operator}
 use Rattle.cap_clause.specs.declared.action.Operator.TheVariants.{Assign, Raise, Lower}
@@ -31,7 +31,7 @@ pub item_fault : {X V : Type 0} (fault : X → Option CapTextError) (step : V �
     → unless_fault (first_fault fault (x ∷ xs)) (fold step v (x ∷ xs)) ≡ Err e
 item_fault fault step v x xs e wrong = ap (λ (o : Option CapTextError). unless_fault (option_or o (first_fault fault xs)) (fold step (step v x) xs)) wrong
 
--- ---- the front of bytes
+-- ---- prefixes of bytes
 
 -- bytes are none, or begin with one that fails a test
 abbrev pub Stops : (ℕ → Bool) → List ℕ → Type 0
@@ -48,7 +48,7 @@ after_stops p [] = tt
 after_stops p (b ∷ bs) = elim (p b) as (λ v. p b ≡ v → Stops p (drop (cond v (1 + prefix_len p bs) 0) (b ∷ bs)))
     [ true ↦ λ e. let next = one-add (prefix_len p bs) in rw next (after_stops p bs) | false ↦ λ e. e ] refl
 
--- a front that passes a test is the longest such front where the rest stops
+-- a prefix that passes a test is the longest such prefix where the rest stops
 pub len_of_prefix : (p : ℕ → Bool) (prefix rest : List ℕ) → list_all p prefix ≡ true → Stops p rest → prefix_len p (prefix ++ rest) ≡ length prefix
 len_of_prefix p [] [] all stops = refl
 len_of_prefix p [] (b ∷ bs) all stops = cond-false (p b) _ _ stops
@@ -65,12 +65,12 @@ without p (b ∷ bs) all =
 
 -- ---- clauses
 
--- a blank at the front
+-- a blank that begins a text
 pub clauses_blank : (at b : ℕ) (bs : List ℕ) → is_blank b ≡ true → clauses_of at (b ∷ bs) ≡ clauses_of (at + 1) bs
 unfolding clauses_of
 clauses_blank at b bs blank = ap (λ (ps : List (List ℕ)). filter has_bytes (placed at ps)) (cond-true (is_blank b) _ _ blank) ∙ ap (λ n. filter has_bytes (placed (n + 1) (slice_split is_blank bs))) (add-zero at)
 
--- a clause at the front
+-- a clause that begins a text
 pub clauses_next : (at b : ℕ) (bs rest : List ℕ) → list_all (λ c. not (is_blank c)) (b ∷ bs) ≡ true → Stops (λ c. not (is_blank c)) rest
     → clauses_of at ((b ∷ bs) ++ rest) ≡ record { at = at; bytes = b ∷ bs } ∷ clauses_of (at + length (b ∷ bs)) rest
 unfolding clauses_of
@@ -119,7 +119,7 @@ none_there (Some x) e = cc
 abbrev actions_by : ℕ → List ℕ → Option Operator → List Action
 actions_by at bs o = cons_option (option_map (λ operator. record { at = at; operator = operator; rest = before_first is_operator bs }) o) (actions_in (at + 1) bs)
 
--- what stands before an operator begins no action
+-- bytes before an operator begin no action
 pub actions_after : (at : ℕ) (prefix rest : List ℕ) → list_all (λ b. not (is_operator b)) prefix ≡ true → actions_in at (prefix ++ rest) ≡ actions_in (at + length prefix) rest
 actions_after at [] rest none = ap (λ n. actions_in n rest) (sym (add-zero at))
 actions_after at (b ∷ bs) rest none =
@@ -144,7 +144,7 @@ before_stops p q (b ∷ bs) stops = elim (not (p b)) as (λ v. Stops q (take (co
 flags_apart : (flags : List ℕ) → list_all is_flag flags ≡ true → list_all (λ b. not (is_operator b)) flags ≡ true
 flags_apart flags all = all_weaker is_flag (λ b. not (is_operator b)) flags flag_apart all
 
--- an operator and flags, whatever stands behind them
+-- an operator and flags, whatever comes after them
 abbrev first_action : ℕ → Operator → List ℕ → List ℕ → Action
 first_action at operator flags rest = record { at = at; operator = operator; rest = flags ++ before_first is_operator rest }
 
@@ -177,7 +177,7 @@ begins at b caps operator flags rest s is all =
     parsed_some at caps b (flags ++ rest) s operator is
     ∙ ap (λ more. unless_fault (first_fault action_fault more) (fold (with_action caps) s more)) (actions_next at b operator flags rest is all)
 
--- no operator stands first
+-- no operator begins the bytes
 pub parsed_none : (at : ℕ) (caps : CapSet) (actions : List ℕ) (s : CapState) → first_operator actions ≡ None → parse_actions at caps actions s ≡ Err (error.NoOperator at)
 unfolding parse_actions
 parsed_none at caps actions s none = cond-false _ _ _ (ap (λ (o : Option Operator). is_some o) none)
@@ -190,7 +190,7 @@ parsed_no_flag at b caps operator flags rest s is all stops missing =
     ∙ item_fault action_fault (with_action caps) s (first_action at operator flags rest) (actions_in (at + 1 + length flags) rest) (error.NoFlag (at + 1))
     (fault_is at operator flags rest all stops ∙ cond-true _ _ _ missing)
 
--- what is left behind an action: nothing, or more, at a place
+-- what is left after an action: nothing, or more, at a place
 abbrev pub parsed_rest : ℕ → CapSet → List ℕ → CapState → Result CapState CapTextError
 parsed_rest at caps [] s = Ok s
 parsed_rest at caps (r ∷ rs) s = parse_actions at caps (r ∷ rs) s
@@ -204,35 +204,35 @@ wrong_after at count more operator enough = cond-false (needs_flag operator && c
 -- an action with its flags, and then what is left
 pub parsed_next : (at b : ℕ) (caps : CapSet) (operator : Operator) (flags rest : List ℕ) (s : CapState) → operator_of b ≡ Some operator → list_all is_flag flags ≡ true → Stops is_flag rest
     → (needs_flag operator && length flags == 0) ≡ false
-    → parse_actions at caps (b ∷ flags ++ rest) s ≡ parsed_rest (at + 1 + length flags) caps rest (operated caps operator (filter_map flag_of flags) s)
+    → parse_actions at caps (b ∷ flags ++ rest) s ≡ parsed_rest (at + 1 + length flags) caps rest (after_operator caps operator (filter_map flag_of flags) s)
 parsed_next at b caps operator flags [] s is all stops enough =
     begins at b caps operator flags [] s is all
     ∙ item_fine action_fault (with_action caps) s (first_action at operator flags []) [] (fault_is at operator flags [] all stops ∙ fine_after at (length flags) operator enough)
-    ∙ ap (λ (rest : List ℕ). Ok (operated caps operator (filter_map flag_of rest) s)) (append-nil flags)
+    ∙ ap (λ (rest : List ℕ). Ok (after_operator caps operator (filter_map flag_of rest) s)) (append-nil flags)
 parsed_next at b caps operator flags (r ∷ rs) s is all stops enough = by_rest (operator_of r) refl
   where
     prefix : (o : Option Operator) → operator_of r ≡ o → before_first is_operator (r ∷ rs) ≡ take (cond (not (is_some o)) (1 + position_or_len is_operator rs) 0) (r ∷ rs)
     prefix o is = ap (λ (o : Option Operator). take (cond (not (is_some o)) (1 + position_or_len is_operator rs) 0) (r ∷ rs)) is
 
-    by_rest : (o : Option Operator) → operator_of r ≡ o → parse_actions at caps (b ∷ flags ++ r ∷ rs) s ≡ parse_actions (at + 1 + length flags) caps (r ∷ rs) (operated caps operator (filter_map flag_of flags) s)
+    by_rest : (o : Option Operator) → operator_of r ≡ o → parse_actions at caps (b ∷ flags ++ r ∷ rs) s ≡ parse_actions (at + 1 + length flags) caps (r ∷ rs) (after_operator caps operator (filter_map flag_of flags) s)
     by_rest None none =
         let more : length (before_first is_operator (r ∷ rs)) ≡ suc (length (take (position_or_len is_operator rs) rs)) =
         ap length (prefix None none) ∙ ap (λ n. length (take n (r ∷ rs))) (one-add (position_or_len is_operator rs)) in
         begins at b caps operator flags (r ∷ rs) s is all
         ∙ item_fault action_fault (with_action caps) s (first_action at operator flags (r ∷ rs)) (actions_in (at + 1 + length flags) (r ∷ rs)) (error.NoOperator (at + 1 + length flags))
         (fault_is at operator flags (r ∷ rs) all stops ∙ ap (λ n. fault_after at operator (length flags) (length flags + n)) more ∙ wrong_after at (length flags) (length (take (position_or_len is_operator rs) rs)) operator enough)
-        ∙ sym (parsed_none (at + 1 + length flags) caps (r ∷ rs) (operated caps operator (filter_map flag_of flags) s) none)
+        ∙ sym (parsed_none (at + 1 + length flags) caps (r ∷ rs) (after_operator caps operator (filter_map flag_of flags) s) none)
     by_rest (Some other) found =
         begins at b caps operator flags (r ∷ rs) s is all
         ∙ item_fine action_fault (with_action caps) s (first_action at operator flags (r ∷ rs)) (actions_in (at + 1 + length flags) (r ∷ rs))
         (fault_is at operator flags (r ∷ rs) all stops ∙ ap (λ (f : List ℕ). fault_after at operator (length flags) (length flags + length f)) (prefix (Some other) found) ∙ fine_after at (length flags) operator enough)
-        ∙ ap (λ (rest : List ℕ). unless_fault (first_fault action_fault (actions_in (at + 1 + length flags) (r ∷ rs))) (fold (with_action caps) (operated caps operator (filter_map flag_of rest) s) (actions_in (at + 1 + length flags) (r ∷ rs))))
+        ∙ ap (λ (rest : List ℕ). unless_fault (first_fault action_fault (actions_in (at + 1 + length flags) (r ∷ rs))) (fold (with_action caps) (after_operator caps operator (filter_map flag_of rest) s) (actions_in (at + 1 + length flags) (r ∷ rs))))
         (ap (λ (f : List ℕ). flags ++ f) (prefix (Some other) found) ∙ append-nil flags)
-        ∙ sym (parsed_some (at + 1 + length flags) caps r rs (operated caps operator (filter_map flag_of flags) s) other found)
+        ∙ sym (parsed_some (at + 1 + length flags) caps r rs (after_operator caps operator (filter_map flag_of flags) s) other found)
 
 -- ---- a clause
 
--- there is an action where an operator stands first
+-- there is an action where an operator begins the bytes
 one_at_least : (missing : CapTextError) (at b : ℕ) (bs : List ℕ) (operator : Operator) → operator_of b ≡ Some operator
     → first_fault_or missing action_fault (actions_in at (b ∷ bs)) ≡ first_fault action_fault (actions_in at (b ∷ bs))
 one_at_least missing at b bs operator is =

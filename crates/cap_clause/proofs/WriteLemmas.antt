@@ -49,7 +49,7 @@ caps_from cap n is =
 no_more_caps : (n : ℕ) → 17 < n → drop n all_caps ≡ []
 no_more_caps n past = drop_all n all_caps (omega arith)
 
--- the names of a set's capabilities from a number on, the first behind a mark and each further one behind a comma
+-- the names of a set's capabilities from a number on, the first after a mark and each further one after a comma
 unfoldable pub names_from : List ℕ → CapSet → ℕ → List ℕ
 names_from mark caps n = after mark 44 (map cap_name (filter (has caps) (drop n all_caps)))
 
@@ -175,7 +175,7 @@ left_same s cap q n none = by_flags (same_flags s cap q) refl
     by_flags true same = ap (λ v. v && false) (not_left same) ∙ sym (not_left same)
     by_flags false same = and-true (is_left s n q)
 
--- the clauses of a state from a number on, the first behind a mark and each further one behind a space
+-- the clauses of a state from a number on, the first after a mark and each further one after a space
 unfoldable pub groups_from : List ℕ → CapState → ℕ → List ℕ
 groups_from mark s n = after mark 32 (map (group_text s) (filter (is_first s) (drop n all_caps)))
 
@@ -213,12 +213,12 @@ pub groups_written : (old new mark : List ℕ) (s : CapState) (n : ℕ) → 17 <
 groups_written old new mark s n past written =
     sym (append-nil new) ∙ ap (λ (t : List ℕ). new ++ t) (sym (groups_end mark s n past)) ∙ written ∙ ap (λ (t : List ℕ). old ++ t) (groups_all s)
 
--- what is left behind a group that was written
+-- what is left after a group was written
 pub left_after : (s : CapState) (left : CapSet) (cap : Cap) (n : ℕ) → cap_number cap ≡ n → ((q : Cap) → has left q ≡ is_left s n q) → (q : Cap) → has (minus_of left (group_of s cap)) q ≡ is_left s (n + 1) q
 left_after s left cap n is so_far q =
     has-minus_of left (group_of s cap) q ∙ (λ i. so_far q i && not (has-group_of s cap q i)) ∙ sym (left_more s cap q n is)
 
--- what is left behind a capability whose group was written, or which has no flags
+-- what is left after a capability whose group was written, or which has no flags
 pub left_past : (s : CapState) (left : CapSet) (cap : Cap) (n : ℕ) → cap_number cap ≡ n → ((q : Cap) → has left q ≡ is_left s n q) → is_left s n cap ≡ false → (q : Cap) → has left q ≡ is_left s (n + 1) q
 left_past s left cap n is so_far later q = so_far q ∙ sym (left_more s cap q n is ∙ left_same s cap q n later)
 

@@ -1,4 +1,4 @@
--- What is written is read again, and may stand in a line.
+-- What is written is read as the same, and can be part of a line.
 use Rattle.std.specs.Prelude.{◌≡◌, ℕ, suc, ◌+◌, ◌<◌, ◌==◌, ◌&&◌, not, nat_le, Bool, true, false, cond, List, [], ◌∷◌, ◌++◌, length, map, Option, None, Result, Ok, Err, codes, filter_map, fold, is_some, refl}
 use Rattle.std.proofs.Common.{ap, sym, ◌∙◌, arith, inl, inr}
 use Rattle.std.specs.List.{filter, join_with_byte, list_all, list_any}
@@ -15,7 +15,7 @@ use Rattle.cap_bits.specs.declared.state.CapState.{CapState}
 use Rattle.cap_bits.specs.declared.state.Flag.{Flag}
 use Rattle.cap_bits.specs.declared.state.Flag.TheVariants.{Effective, Inheritable, Permitted}
 use Rattle.fs_path.specs.Split.{placed}
-use Rattle.cap_clause.specs.Clauses.{is_blank, is_operator, flag_of, is_flag, are_some, has_bytes, clauses_of, pieces_of, caps_listed, first_fault_or, unless_fault, first_operator, operated, all_flags, clause_fault, with_clause, parse_list, first_fault, piece_fault}
+use Rattle.cap_clause.specs.Clauses.{is_blank, is_operator, flag_of, is_flag, are_some, has_bytes, clauses_of, pieces_of, caps_listed, first_fault_or, unless_fault, first_operator, after_operator, all_flags, clause_fault, with_clause, parse_list, first_fault, piece_fault}
 use Rattle.cap_clause.proofs.Groups.{same_from, has-group_of, assigned, assigned_none, groups_round_trip}
 use Rattle.cap_clause.proofs.ListRoundTrip.{is_name_byte, is_list_byte, name_byte_range, joined_all, split_joined, list_bytes, ListsSome, lists_some, among_caps, list_round_trip, BeginsAsList, list_begins}
 use Rattle.cap_clause.specs.Reading.{parse_actions, parse_clause}
@@ -68,11 +68,11 @@ flags_round_trip (Effective ∷ flags) = ap (λ fs. Effective ∷ fs) (flags_rou
 flags_round_trip (Inheritable ∷ flags) = ap (λ fs. Inheritable ∷ fs) (flags_round_trip flags)
 flags_round_trip (Permitted ∷ flags) = ap (λ fs. Permitted ∷ fs) (flags_round_trip flags)
 
-actions_round_trip : (at : ℕ) (caps : CapSet) (flags : List Flag) (t : CapState) → parse_actions at caps (61 ∷ map flag_byte flags) t ≡ Ok (operated caps Assign flags t)
+actions_round_trip : (at : ℕ) (caps : CapSet) (flags : List Flag) (t : CapState) → parse_actions at caps (61 ∷ map flag_byte flags) t ≡ Ok (after_operator caps Assign flags t)
 actions_round_trip at caps flags t =
     ap (λ (bytes : List ℕ). parse_actions at caps (61 ∷ bytes) t) (sym (append-nil (map flag_byte flags)))
     ∙ parsed_next at 61 caps Assign (map flag_byte flags) [] t refl (flag_bytes is_flag flags refl refl refl) tt refl
-    ∙ ap (λ fs. Ok (operated caps Assign fs t)) (flags_round_trip flags)
+    ∙ ap (λ fs. Ok (after_operator caps Assign fs t)) (flags_round_trip flags)
 
 no_operator_first : (text rest : List ℕ) → BeginsAsList text → first_operator (text ++ rest) ≡ None
 no_operator_first text rest (inl begins) = ap (λ (bytes : List ℕ). first_operator (bytes ++ rest)) begins.1
@@ -131,9 +131,9 @@ joined_round_trip s cap caps =
 
 none_round_trip : parse_caps (codes "=") ≡ Ok no_flags
 unfolding parse_caps caps_fault caps_meant clauses_of
-none_round_trip = clause_taken (record { at = 0; bytes = codes "=" }) [] no_flags (operated all_of_caps Assign [] no_flags) (clause_for_all 0 (codes "=") no_flags refl ∙ actions_round_trip 0 all_of_caps [] no_flags) ∙ ap Ok (assigned_none all_of_caps)
+none_round_trip = clause_taken (record { at = 0; bytes = codes "=" }) [] no_flags (after_operator all_of_caps Assign [] no_flags) (clause_for_all 0 (codes "=") no_flags refl ∙ actions_round_trip 0 all_of_caps [] no_flags) ∙ ap Ok (assigned_none all_of_caps)
 
--- a state's text says that state
+-- a state's text denotes that state
 pub caps_round_trip : (s : CapState) → parse_caps (caps_text s) ≡ Ok s
 unfolding caps_text
 caps_round_trip s = by_first (firsts_of s) (groups_round_trip s)
@@ -174,7 +174,7 @@ read_as_list text (inr begins) =
     ap (λ (bytes : List ℕ). cond (length bytes == 0) (Err error.Empty) (cond (str_eq_ignore_ascii_case (codes "none") bytes) (Ok no_caps) (parse_list 0 text))) begins.1
     ∙ cond-false _ _ _ (ne_eqb (suc (length begins.0)) 0 (λ same. omega arith))
 
--- a set's text says that set
+-- a set's text denotes that set
 pub set_round_trip : (caps : CapSet) → parse_set (set_text caps) ≡ Ok caps
 unfolding set_text
 set_round_trip caps = elim (same_sets caps no_caps) as (λ v. same_sets caps no_caps ≡ v → parse_set (cond v (codes "none") (list_text caps)) ≡ Ok caps) [
@@ -208,7 +208,7 @@ plain_clauses : (s : CapState) (caps : List Cap) → list_all (list_all is_plain
 plain_clauses s [] = refl
 plain_clauses s (cap ∷ caps) = and_from _ _ (clause_passes is_plain s cap plain_name refl refl refl refl refl) (plain_clauses s caps)
 
--- a state's text is made of bytes that stand for themselves between quotes
+-- a state's text has bytes alone that stand for themselves between quotes
 pub caps_text_plain : (s : CapState) → list_all is_plain (caps_text s) ≡ true
 unfolding caps_text
 caps_text_plain s = by_first (firsts_of s)
@@ -217,7 +217,7 @@ caps_text_plain s = by_first (firsts_of s)
     by_first [] = refl
     by_first (cap ∷ caps) = joined_all is_plain 32 (map (group_text s) (cap ∷ caps)) refl (plain_clauses s (cap ∷ caps))
 
--- a set's text is made of bytes that a bare word may have
+-- a set's text has bytes alone that a bare word may have
 pub set_text_bare : (caps : CapSet) → list_all is_bare (set_text caps) ≡ true
 unfolding set_text
 set_text_bare caps = elim (same_sets caps no_caps) as (λ v. list_all is_bare (cond v (codes "none") (list_text caps)) ≡ true) [ true ↦ refl | false ↦ list_passes is_bare caps bare_name refl ]

@@ -16,7 +16,7 @@ use Rattle.cap_clause.specs.declared.error.CapTextError.TheVariants as error
 
 -- ---- bytes
 
--- whether a byte stands between clauses: a space or a tab
+-- whether a byte separates clauses: a space or a tab
 abbrev pub is_blank : ℕ → Bool
 is_blank b = b == 32 || b == 9
 
@@ -67,14 +67,14 @@ abbrev pub first_fault_or : {X : Type 0} → CapTextError → (X → Option CapT
 first_fault_or missing fault [] = Some missing
 first_fault_or missing fault (x ∷ xs) = first_fault fault (x ∷ xs)
 
--- a value, or the fault that stands against it
+-- a value, unless there is a fault
 abbrev pub unless_fault : {V : Type 0} → Option CapTextError → V → Result V CapTextError
 unless_fault None v = Ok v
 unless_fault (Some fault) v = Err fault
 
 -- ---- lists of capabilities
 
--- the capabilities that a word stands for in any case of its ASCII letters: all 18 for `all`, one for its name
+-- the capabilities that a word names, in any case of its ASCII letters: all 18 for `all`, one for its name
 unfoldable pub caps_named : List ℕ → Option CapSet
 caps_named word = cond (str_eq_ignore_ascii_case (codes "all") word) (Some all_of_caps) (option_map (λ cap. with_cap no_caps cap) (cap_named word))
 
@@ -90,13 +90,13 @@ with_piece caps piece = union_of caps (unwrap_or (caps_named piece.bytes) no_cap
 abbrev pub caps_listed : List Piece → CapSet
 caps_listed pieces = fold with_piece no_caps pieces
 
--- what a list that begins at a place stands for, or its first fault
+-- the capabilities that a list names which begins at a place, or its first fault
 unfoldable pub parse_list : ℕ → List ℕ → Result CapSet CapTextError
 parse_list at list = unless_fault (first_fault piece_fault (pieces_of at list)) (caps_listed (pieces_of at list))
 
 -- ---- actions
 
--- an operator with its place, and what stands behind it up to the next one
+-- an operator with its place, and the bytes after it up to the next one
 pub record Action : Type 0 where
   pub at : ℕ
   pub operator : Operator
@@ -113,7 +113,7 @@ needs_flag Assign = false
 needs_flag Raise = true
 needs_flag Lower = true
 
--- the fault of an action: there is no flag behind its operator where one is needed, or something else behind its flags
+-- the fault of an action: no flag after an operator that needs one, or another byte after its flags
 abbrev pub action_fault : Action → Option CapTextError
 action_fault a =
     cond (needs_flag a.operator && prefix_len is_flag a.rest == 0) (Some (error.NoFlag (a.at + 1)))
@@ -137,15 +137,15 @@ put_flag caps raised s Permitted = record s { p = put_caps s.p caps raised }
 abbrev pub put_flags : CapSet → Bool → List Flag → CapState → CapState
 put_flags caps raised flags s = fold (put_flag caps raised) s flags
 
--- what an operator with flags makes of a state: `=` lowers all flags of the capabilities first
-abbrev pub operated : CapSet → Operator → List Flag → CapState → CapState
-operated caps Assign flags s = put_flags caps true flags (put_flags caps false all_flags s)
-operated caps Raise flags s = put_flags caps true flags s
-operated caps Lower flags s = put_flags caps false flags s
+-- the state after an operator with flags: `=` lowers all flags of the capabilities first
+abbrev pub after_operator : CapSet → Operator → List Flag → CapState → CapState
+after_operator caps Assign flags s = put_flags caps true flags (put_flags caps false all_flags s)
+after_operator caps Raise flags s = put_flags caps true flags s
+after_operator caps Lower flags s = put_flags caps false flags s
 
--- what an action makes of a state
+-- the state after an action
 abbrev pub with_action : CapSet → CapState → Action → CapState
-with_action caps s a = operated caps a.operator (filter_map flag_of a.rest) s
+with_action caps s a = after_operator caps a.operator (filter_map flag_of a.rest) s
 
 -- ---- clauses
 
@@ -154,7 +154,7 @@ abbrev pub first_operator : List ℕ → Option Operator
 first_operator [] = None
 first_operator (b ∷ bs) = operator_of b
 
--- the pieces of a clause's list, which stands before its first operator
+-- the pieces of a clause's list, which are the bytes before its first operator
 abbrev pub list_in : Piece → List Piece
 list_in clause = pieces_of clause.at (before_first is_operator clause.bytes)
 
@@ -162,7 +162,7 @@ list_in clause = pieces_of clause.at (before_first is_operator clause.bytes)
 abbrev pub actions_fault : Piece → Option CapTextError
 actions_fault clause = first_fault_or (error.NoOperator (clause.at + length clause.bytes)) action_fault (actions_in clause.at clause.bytes)
 
--- the first fault of a clause, by the operator with which it begins: `=` may stand first, without a list, and no other
+-- the first fault of a clause, by the operator with which it begins: `=` may begin a clause, without a list, and no other may
 abbrev pub clause_fault_by : Option Operator → Piece → Option CapTextError
 clause_fault_by None clause = option_or (first_fault piece_fault (list_in clause)) (actions_fault clause)
 clause_fault_by (Some Assign) clause = actions_fault clause
@@ -177,6 +177,6 @@ clause_fault clause = clause_fault_by (first_operator clause.bytes) clause
 abbrev pub caps_in : Piece → CapSet
 caps_in clause = cond (is_some (first_operator clause.bytes)) all_of_caps (caps_listed (list_in clause))
 
--- what a clause makes of a state: its actions, one after another
+-- the state after a clause: after its actions, one after another
 unfoldable pub with_clause : CapState → Piece → CapState
 with_clause s clause = fold (with_action (caps_in clause)) s (actions_in clause.at clause.bytes)

@@ -1,4 +1,4 @@
--- What capability texts and set texts stand for.
+-- The states and sets that texts denote.
 use Rattle.std.specs.Prelude.{ℕ, ◌==◌, cond, List, length, Option, Result, Ok, Err, codes, fold}
 use Rattle.std.specs.Str.{str_eq_ignore_ascii_case}
 use Rattle.cap_bits.specs.CapSet.{CapSet, no_caps}
@@ -16,11 +16,11 @@ caps_fault text = first_fault_or error.Empty clause_fault (clauses_of 0 text)
 unfoldable pub caps_meant : List ℕ → CapState
 caps_meant text = fold with_clause no_flags (clauses_of 0 text)
 
--- the state that a text stands for, or its first fault
+-- the state that a text denotes, or its first fault
 unfoldable pub parse_caps : List ℕ → Result CapState CapTextError
 parse_caps text = unless_fault (caps_fault text) (caps_meant text)
 
--- the set that a text stands for, or its first fault: `none` in any case of its letters, or a list
+-- the set that a text denotes, or its first fault: `none` in any case of its letters, or a list
 unfoldable pub parse_set : List ℕ → Result CapSet CapTextError
 parse_set text =
     cond (length text == 0) (Err error.Empty)

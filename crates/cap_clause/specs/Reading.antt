@@ -9,7 +9,7 @@ use Rattle.cap_clause.specs.declared.action.Operator.TheVariants.{Assign, Raise,
 use Rattle.cap_clause.specs.declared.error.CapTextError.{CapTextError}
 use Rattle.cap_clause.specs.declared.error.CapTextError.TheVariants as error
 
--- what actions make of a state where the first of them stands first, or the first fault
+-- the state after actions, where an operator begins them, or the first fault
 unfoldable pub parse_actions : ℕ → CapSet → List ℕ → CapState → Result CapState CapTextError
 parse_actions at caps actions s =
     cond (is_some (first_operator actions))

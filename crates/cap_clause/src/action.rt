@@ -2,7 +2,7 @@
 ghost use Rattle.std.specs.Prelude.{◌≡◌, ◌==◌, ◌&&◌, ◌+◌, ◌<◌, ◌≤◌, ◌^◌, length, drop, filter_map, IfSome};
 ghost use Rattle.std.specs.Option.{option_map};
 ghost use Rattle.std.specs.List.{prefix_len};
-ghost use Rattle.cap_clause.specs.Clauses.{operator_of, flag_of, is_flag, put_caps, put_flag, put_flags, operated, first_operator, needs_flag};
+ghost use Rattle.cap_clause.specs.Clauses.{operator_of, flag_of, is_flag, put_caps, put_flag, put_flags, after_operator, first_operator, needs_flag};
 ghost use Rattle.cap_clause.specs.Reading.{parse_actions};
 
 use crate::CapTextError;
@@ -20,7 +20,7 @@ pub enum Operator {
 }
 
 impl Operator {
-    // Whether more flags than these must stand behind it.
+    // Whether it needs a flag and has none.
     fn lacks_flag(self, flags: &[u8]) -> bool
         ensures { result ≡ (needs_flag self && length flags.now == 0) }
     {
@@ -108,9 +108,9 @@ fn put_flags(mut state: CapState, caps: CapSet, flags: &[u8], raised: bool) -> C
     state
 }
 
-// What an operator with flags makes of a state.
+// The state after an operator with flags.
 fn operate(state: CapState, caps: CapSet, operator: Operator, flags: &[u8]) -> CapState
-    ensures { result ≡ operated caps operator (filter_map flag_of flags.now) state }
+    ensures { result ≡ after_operator caps operator (filter_map flag_of flags.now) state }
 {
     match operator {
         Operator::Assign => {
@@ -122,7 +122,7 @@ fn operate(state: CapState, caps: CapSet, operator: Operator, flags: &[u8]) -> C
     }
 }
 
-// The operator with which a text begins, and what stands behind it.
+// The operator that begins a text, and the text after it.
 pub fn first_operator(text: &[u8]) -> Option<(Operator, &[u8])>
     ensures first { option_map (λ found. found.0) result ≡ first_operator text.now }
     ensures after { IfSome result (λ found. found.1.now ≡ drop 1 text.now) }
@@ -134,7 +134,7 @@ pub fn first_operator(text: &[u8]) -> Option<(Operator, &[u8])>
     Some((operator_of(*first)?, after))
 }
 
-// What actions, of which the first begins at a place, make of a state.
+// The state after actions, of which the first begins at `start`.
 pub fn read_actions(
     start: usize,
     caps: CapSet,

@@ -10,7 +10,7 @@ use crate::action::{Operator, first_operator, operator_of, read_actions};
 use crate::list::caps_listed;
 use cap_bits::{CapSet, CapState};
 
-// Whether a byte stands between clauses.
+// Whether a byte separates clauses.
 fn is_blank(byte: u8) -> bool
     ensures { result ≡ is_blank byte }
 {
@@ -25,14 +25,14 @@ fn blanks_len(text: &[u8]) -> usize
     text.iter().take_while(|byte| is_blank(**byte)).count()
 }
 
-// A text without the blanks at its front.
-fn past_blanks(text: &[u8]) -> &[u8]
+// A text without the blanks that begin it.
+fn trim_blanks(text: &[u8]) -> &[u8]
     ensures { result.now ≡ drop (prefix_len is_blank text.now) text.now }
 {
     &text[blanks_len(text)..]
 }
 
-// How many bytes stand before the first blank.
+// How many bytes come before the first blank.
 fn clause_len(text: &[u8]) -> usize
     ensures count { result ≡ position_or_len is_blank text.now }
     ensures within { result ≤ length text.now }
@@ -40,7 +40,7 @@ fn clause_len(text: &[u8]) -> usize
     text.iter().take_while(|byte| !is_blank(**byte)).count()
 }
 
-// How many bytes stand before the first operator.
+// How many bytes come before the first operator.
 fn list_len(clause: &[u8]) -> usize
     ensures count { result ≡ position_or_len is_operator clause.now }
     ensures within { result ≤ length clause.now }
@@ -51,7 +51,7 @@ fn list_len(clause: &[u8]) -> usize
         .count()
 }
 
-// The capabilities that a clause which begins at a place is about: those in its list, or all where it begins with `=`.
+// The capabilities of a clause that begins at `at`: those in its list, or all where it begins with `=`.
 fn clause_caps(at: usize, clause: &[u8], list: &[u8]) -> Result<CapSet, CapTextError>
     requires { at + length list.now + 1 < 2 ^ 64 }
     ensures { result ≡ parse_prefix at list.now (first_operator clause.now) }
@@ -65,7 +65,7 @@ fn clause_caps(at: usize, clause: &[u8], list: &[u8]) -> Result<CapSet, CapTextE
     }
 }
 
-// What a clause that begins at a place makes of a state.
+// The state after a clause that begins at `at`.
 fn read_clause(at: usize, clause: &[u8], state: CapState) -> Result<CapState, CapTextError>
     requires { at + length clause.now + 1 < 2 ^ 64 }
     ensures { result ≡ parse_clause state (record { at = at; bytes = clause.now }) }
@@ -75,12 +75,12 @@ fn read_clause(at: usize, clause: &[u8], state: CapState) -> Result<CapState, Ca
     read_actions(at + list.len(), caps, actions, state)
 }
 
-/// The state that a text stands for: what its clauses make, one after another, of the state with no capability in any
-/// set. It takes no memory.
+/// The state that a text denotes: the state after its clauses, one after another, where at first no set has a capability.
+/// It allocates no memory.
 pub fn cap_from_text(text: &[u8]) -> Result<CapState, CapTextError>
     ensures parsed { result ≡ parse_caps text.now }
 {
-    let mut left = past_blanks(text);
+    let mut left = trim_blanks(text);
     if left.is_empty() {
         return Err(CapTextError::Empty);
     }
@@ -89,7 +89,7 @@ pub fn cap_from_text(text: &[u8]) -> Result<CapState, CapTextError>
         let at = text.len() - left.len();
         let (clause, rest) = left.split_at(clause_len(left));
         state = read_clause(at, clause, state)?;
-        left = past_blanks(rest);
+        left = trim_blanks(rest);
     }
     Ok(state)
 }

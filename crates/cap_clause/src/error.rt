@@ -1,16 +1,16 @@
 // Why a text is refused.
 
-/// Why a text stands for no state, or for no set. It is the first fault from the left; places are bytes, counted from 0.
+/// Why a text denotes no state, or no set: its first fault from the left. Places are bytes, counted from 0.
 #[derive(Clone, Copy, Debug, PartialEq, Eq)]
 pub enum CapTextError {
     /// There is no clause; for a set, no byte.
     Empty,
-    /// The piece of a list that begins here is no name.
+    /// The piece of a list that begins at this place is no name.
     UnknownName(usize),
-    /// A list or the flags of an action end here, and neither an operator stands behind them nor, after an action, the clause's end.
+    /// A list or the flags of an action end at this place, and neither an operator follows nor, after an action, the end of the clause.
     NoOperator(usize),
-    /// No flag stands here, behind `+` or `-`.
+    /// There is no flag at this place, after `+` or `-`.
     NoFlag(usize),
-    /// The clause that begins here begins with `+` or `-`.
+    /// The clause at this place begins with `+` or `-`, without a list.
     NoNames(usize),
 }

@@ -15,7 +15,7 @@ fn is_word(own: &[u8], word: &[u8]) -> bool
     own.eq_ignore_ascii_case(word)
 }
 
-// The capabilities that a word stands for.
+// The capabilities that a word names.
 #[tactic(auto, unfolding(crate::specs::Clauses::caps_named))]
 fn caps_named(word: &[u8]) -> Option<CapSet>
     ensures { result ≡ caps_named word.now }
@@ -48,7 +48,7 @@ pub fn caps_listed(start: usize, list: &[u8]) -> Result<CapSet, CapTextError>
     Ok(caps)
 }
 
-/// The set that a text stands for: `none`, or names and `all` with commas between them. It takes no memory.
+/// The set that a text denotes: `none`, or names and `all` with commas between them. It allocates no memory.
 #[tactic(auto, unfolding(crate::specs::Parsed::parse_set))]
 pub fn set_from_text(text: &[u8]) -> Result<CapSet, CapTextError>
     ensures parsed { result ≡ parse_set text.now }

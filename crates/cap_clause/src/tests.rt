@@ -1,10 +1,10 @@
-// What no clause says: tables of what texts stand for.
+// Tables of texts and what they denote.
 use crate::CapTextError::{Empty, NoFlag, NoNames, NoOperator, UnknownName};
 use crate::*;
 use cap_bits::{Cap, CapSet, CapState, Flag};
 use std::test::Fail;
 
-// A text, and the canonical text of the state that it stands for, or its first fault.
+// A text, and the canonical text of the state that it denotes, or its first fault.
 const STATES: [(&[u8], Result<&[u8], CapTextError>); 35] = [
     (b"=", Ok(b"=")),
     (b"all=eip", Ok(b"all=eip")),
@@ -59,7 +59,7 @@ const STATES: [(&[u8], Result<&[u8], CapTextError>); 35] = [
     (b"cap_x", Err(UnknownName(0))),
 ];
 
-// A text, and the canonical text of the set that it stands for, or its first fault.
+// A text, and the canonical text of the set that it denotes, or its first fault.
 const SETS: [(&[u8], Result<&[u8], CapTextError>); 17] = [
     (b"cap_kill,cap_setuid", Ok(b"cap_kill,cap_setuid")),
     (b"all", Ok(b"all")),

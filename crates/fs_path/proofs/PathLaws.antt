@@ -1,4 +1,4 @@
--- What the path has that a text without a fault stands for.
+-- The form of the path that a text without a fault denotes.
 use Rattle.std.specs.Prelude.{◌≡◌, ℕ, suc, ◌+◌, ◌≤◌, ◌<◌, Bool, true, false, not, cond, ◌==◌, ◌&&◌, List, [], ◌∷◌, length, refl, Option, None, Some}
 use Rattle.std.proofs.Common.{sym, ◌∙◌, ap, arith}
 use Rattle.std.specs.List.{filter, list_all, onto_first, position, prefix_len, starts_with}
@@ -27,7 +27,7 @@ no_slash_in_pieces (x ∷ xs) = by_head (is_slash x) refl (no_slash_in_pieces xs
     by_head true e h = h
     by_head false e h = onto_no_slash x (pieces 47 xs) e h
 
--- no slash stands in a text's first piece
+-- a text's first piece has no slash
 pub no_slash_before : (text piece : List ℕ) (more : List (List ℕ)) → pieces 47 text ≡ piece ∷ more → has_no_slash piece ≡ true
 no_slash_before text piece more e = (and_parts (has_no_slash piece) (list_all has_no_slash more) (sym (ap (list_all has_no_slash) e) ∙ no_slash_in_pieces text)).0
 
@@ -177,7 +177,7 @@ path_names text h = all_names 0 0 (pieces 47 text) (no_slash_in_pieces text) (fi
 same_slash : (x : ℕ) → (x == 47) ≡ false → (47 == x && true) ≡ false
 same_slash x e = let other : (47 == x) ≡ false = grind (arith, nat_tests) in ap (λ v. v && true) other
 
--- a slash at the front is not written before a name
+-- a slash that begins a text is before no name
 written_text : (text : List ℕ) → written_len (names_of (components_of text)) ≤ length text + cond (starts_with ◌==◌ text (47 ∷ [])) 0 1
 unfolding components_of
 written_text [] = omega arith

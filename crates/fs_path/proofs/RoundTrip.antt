@@ -14,8 +14,8 @@ use Rattle.std.proofs.lemmas.List.Splits.{slice_split_none, slice_split_at}
 use Rattle.std.proofs.Math.Nat.{div-div-eq-div-mul}
 use Rattle.fs_path.specs.declared.words.LineWord.{LineWord}
 use Rattle.fs_path.specs.Options.{keep_if}
-use Rattle.fs_path.specs.Values.{is_digit, worth, numeral, number_of, mode_of, numbers_of, few_numbers, groups_of, mode_text, after_commas, groups_text}
-use Rattle.fs_path.specs.Words.{is_space, is_plain, is_bare, is_bare_text, hex_value, hex_pair, escaped, first_item, onto_piece, items_of, quoted_word, begun_word, apart, is_apart, first_word, past_spaces, words_by, words_of, hex_digit, item_text, quoted_text, has_spelling, with_quotes_if_needed, spelling, after_spaces, line_text}
+use Rattle.fs_path.specs.Values.{is_digit, digits_value, numeral, number_of, mode_of, numbers_of, few_numbers, groups_of, mode_text, after_commas, groups_text}
+use Rattle.fs_path.specs.Words.{is_space, is_plain, is_bare, is_bare_text, hex_value, hex_pair, escaped, first_item, onto_piece, items_of, quoted_word, leading_word, apart, is_apart, first_word, trim_spaces, words_by, words_of, hex_digit, item_text, quoted_text, has_spelling, with_quotes_if_needed, spelling, after_spaces, line_text}
 use Rattle.fs_path.proofs.WordSteps.{items_next, words_are, words_first}
 
 -- ---- items between quotes
@@ -41,7 +41,7 @@ digit_round_trip n small = elim (cases_Bool (nat_le n 9)) [ inl e ↦ low e | in
         let under : nat_le (87 + n) 102 ≡ true = le-leb (87 + n) 102 (omega arith) in
         rw (e, above, no_digit, over, under, is)
 
--- a text that stands for a byte where more follows, and begins with no quote
+-- a text that denotes a byte where more follows, and begins with no quote
 abbrev Begins : ℕ → List ℕ → List ℕ → Type 0
 Begins b more text = (first_item (text ++ more) ≡ Some (b, more)) × (get_or (text ++ more) 0 0 ≡ 34 → ⊥)
 
@@ -102,7 +102,7 @@ no_quote b bare = ne_eqb b 34 (λ is. let no : false ≡ true = subst (λ n. is_
 no_space : (b : ℕ) → is_bare b ≡ true → is_space b ≡ false
 no_space b bare = ne_eqb b 32 (λ is. let no : false ≡ true = subst (λ n. is_bare n ≡ true) is bare in cc)
 
--- a text that may stand bare is read as that bare word
+-- the text of a bare word is read as that word
 pub bare_round_trip : (bytes rest : List ℕ) → is_bare_text bytes ≡ true → is_apart rest ≡ true → first_word (bytes ++ rest) ≡ Some (record { quoted = false; bytes = bytes }, rest)
 bare_round_trip [] rest bare ends = absurd (cc)
 bare_round_trip (b ∷ bs) rest bare ends =
@@ -111,42 +111,42 @@ bare_round_trip (b ∷ bs) rest bare ends =
     let len = bare_len (b ∷ bs) rest all ends in
     let text = (b ∷ bs) ++ rest in
     let word : ℕ → LineWord × List ℕ = λ n. (record { quoted = false; bytes = take n text }, drop n text) in
-    let begun : begun_word text ≡ Some (word (prefix_len is_bare text)) = cond-false _ _ _ (no_quote b first) ∙ cond-true _ _ _ first in
-    let is : begun_word text ≡ Some (record { quoted = false; bytes = b ∷ bs }, rest) =
+    let begun : leading_word text ≡ Some (word (prefix_len is_bare text)) = cond-false _ _ _ (no_quote b first) ∙ cond-true _ _ _ first in
+    let is : leading_word text ≡ Some (record { quoted = false; bytes = b ∷ bs }, rest) =
     begun ∙ ap (λ n. Some (word n)) len ∙ ap (λ (t : List ℕ). Some (record { quoted = false; bytes = t }, drop (length (b ∷ bs)) text)) (take_at (b ∷ bs) rest (length (b ∷ bs)) refl)
     ∙ ap (λ (t : List ℕ). Some (record { quoted = false; bytes = b ∷ bs }, t)) (drop_at (b ∷ bs) rest (length (b ∷ bs)) refl) in
     ap (option_and_then apart) is ∙ cond-true (is_apart rest) _ None ends
 
 -- ---- numbers, modes and groups
 
-worth_push : (base v d : ℕ) (ds : List ℕ) → worth base v (ds ++ d ∷ []) ≡ base * worth base v ds + (d - 48)
-unfolding worth
-worth_push base v d [] = refl
-worth_push base v d (x ∷ xs) = worth_push base (base * v + (x - 48)) d xs
+value_push : (base v d : ℕ) (ds : List ℕ) → digits_value base v (ds ++ d ∷ []) ≡ base * digits_value base v ds + (d - 48)
+unfolding digits_value
+value_push base v d [] = refl
+value_push base v d (x ∷ xs) = value_push base (base * v + (x - 48)) d xs
 
 digit_is : (base k : ℕ) → k < base → is_digit base (48 + k) ≡ true
 digit_is base k small = and_from (nat_le 48 (48 + k)) (nat_lt (48 + k) (48 + base)) (le-leb 48 (48 + k) (omega arith)) (lt-ltb (48 + k) (48 + base) (omega arith))
 
-numeral_is : (base most high v : ℕ) (w : List ℕ) → 0 < length w → length w ≤ most → list_all (is_digit base) w ≡ true → worth base 0 w ≡ v → v ≤ high → numeral base most 0 high w ≡ Some v
+numeral_is : (base most high v : ℕ) (w : List ℕ) → 0 < length w → length w ≤ most → list_all (is_digit base) w ≡ true → digits_value base 0 w ≡ v → v ≤ high → numeral base most 0 high w ≡ Some v
 unfolding numeral
 numeral_is base most high v w some few digits is le =
-    let low : nat_le 0 (worth base 0 w) ≡ true = le-leb 0 (worth base 0 w) (omega arith) in
-    let high : nat_le (worth base 0 w) high ≡ true = le-leb (worth base 0 w) high (omega arith) in
+    let low : nat_le 0 (digits_value base 0 w) ≡ true = le-leb 0 (digits_value base 0 w) (omega arith) in
+    let high : nat_le (digits_value base 0 w) high ≡ true = le-leb (digits_value base 0 w) high (omega arith) in
     let kept = and_from _ _ (and_from _ _ (and_from _ _ (and_from _ _ (le-leb 1 (length w) (omega arith)) (le-leb (length w) most few)) digits) low) high in
-    ap (λ t. keep_if t (worth base 0 w)) kept ∙ ap Some is
+    ap (λ t. keep_if t (digits_value base 0 w)) kept ∙ ap Some is
 
 abbrev Spells : ℕ → List ℕ → Type 0
-Spells n ds = (list_all (is_digit 10) ds ≡ true) × (worth 10 0 ds ≡ n)
+Spells n ds = (list_all (is_digit 10) ds ≡ true) × (digits_value 10 0 ds ≡ n)
 
 decimal_spells : (n : ℕ) → n < 2 ^ 64 → Spells n (decimal n)
-unfolding worth
+unfolding digits_value
 decimal_spells = decimal_by_steps Spells (λ n small. (and_from (is_digit 10 (48 + n)) true (digit_is 10 n small) refl, omega arith)) more
   where
     more : (n : ℕ) (ds : List ℕ) → 10 ≤ n → Spells (n / 10) ds → Spells n (ds ++ (48 + n % 10) ∷ [])
     more n ds some h =
         let last : n % 10 < 10 = omega arith in (
           list_all-append (is_digit 10) ds ((48 + n % 10) ∷ []) ∙ and_from (list_all (is_digit 10) ds) (is_digit 10 (48 + n % 10) && true) h.0 (and_from (is_digit 10 (48 + n % 10)) true (digit_is 10 (n % 10) last) refl),
-          worth_push 10 0 (48 + n % 10) ds ∙ omega (arith, h.1),
+          value_push 10 0 (48 + n % 10) ds ∙ omega (arith, h.1),
         )
 
 -- a number is read again
@@ -155,9 +155,9 @@ number_round_trip n small =
     let spells = decimal_spells n (omega arith) in
     numeral_is 10 10 4294967295 n (decimal n) (decimal_nonempty n (omega arith)) (length-decimal-le 10 n (omega arith) (omega arith) (omega arith)) spells.0 spells.1 small
 
-worth_four : (a b c d : ℕ) → worth 8 0 ((48 + a) ∷ (48 + b) ∷ (48 + c) ∷ (48 + d) ∷ []) ≡ 512 * a + 64 * b + 8 * c + d
-unfolding worth
-worth_four a b c d = omega arith
+value_four : (a b c d : ℕ) → digits_value 8 0 ((48 + a) ∷ (48 + b) ∷ (48 + c) ∷ (48 + d) ∷ []) ≡ 512 * a + 64 * b + 8 * c + d
+unfolding digits_value
+value_four a b c d = omega arith
 
 -- a mode is read again
 pub mode_round_trip : (m : ℕ) → m ≤ 4095 → (m / 512) % 2 ≡ 0 → mode_of (mode_text m) ≡ Some m
@@ -167,7 +167,7 @@ mode_round_trip m small even =
     let digits : list_all (is_digit 8) (mode_text m) ≡ true = and_from _ _ (digit (m / 512)) (and_from _ _ (digit (m / 64)) (and_from _ _ (digit (m / 8)) (and_from _ _ (digit m) refl))) in
     let sixty_four = div-div-eq-div-mul m 8 8 in
     let whole : 512 * (m / 512 % 8) + 64 * (m / 64 % 8) + 8 * (m / 8 % 8) + m % 8 ≡ m = omega (arith, sixty_four, div-div-eq-div-mul m 64 8) in
-    ap (option_and_then (λ mode. keep_if ((mode / 512) % 2 == 0) mode)) (numeral_is 8 4 4095 m (mode_text m) (omega arith) (omega arith) digits (worth_four (m / 512 % 8) (m / 64 % 8) (m / 8 % 8) (m % 8) ∙ whole) small)
+    ap (option_and_then (λ mode. keep_if ((mode / 512) % 2 == 0) mode)) (numeral_is 8 4 4095 m (mode_text m) (omega arith) (omega arith) digits (value_four (m / 512 % 8) (m / 64 % 8) (m / 8 % 8) (m % 8) ∙ whole) small)
     ∙ ap (λ t. keep_if t m) (eq-eqb ((m / 512) % 2) 0 even)
 
 -- ---- lists of numbers
@@ -275,22 +275,22 @@ word_round_trip : (w : LineWord) (rest : List ℕ) → has_spelling w ≡ true �
 word_round_trip w rest can ends = elim w.quoted as (λ v. cond v (list_all (λ b. nat_lt b 256) w.bytes) (is_bare_text w.bytes) ≡ true → first_word (cond v (quoted_text w.bytes) w.bytes ++ rest) ≡ Some (record { quoted = v; bytes = w.bytes }, rest))
     [ true ↦ λ can. quoted_round_trip w.bytes rest can ends | false ↦ λ can. bare_round_trip w.bytes rest can ends ] can
 
-past_one : (text : List ℕ) → past_spaces (32 ∷ text) ≡ past_spaces text
+past_one : (text : List ℕ) → trim_spaces (32 ∷ text) ≡ trim_spaces text
 past_one text = ap (λ n. drop n (32 ∷ text)) (one_add (prefix_len is_space text))
   where
     one_add : (n : ℕ) → 1 + n ≡ suc n
     one_add n = omega arith
 
-no_space_first : (b : ℕ) (bs : List ℕ) → is_space b ≡ false → past_spaces (b ∷ bs) ≡ b ∷ bs
+no_space_first : (b : ℕ) (bs : List ℕ) → is_space b ≡ false → trim_spaces (b ∷ bs) ≡ b ∷ bs
 no_space_first b bs other = ap (λ v. drop (cond v (1 + prefix_len is_space bs) 0) (b ∷ bs)) other
 
 -- a spelling begins with no space
-spelling_first : (w : LineWord) (rest : List ℕ) → has_spelling w ≡ true → past_spaces (spelling w ++ rest) ≡ spelling w ++ rest
+spelling_first : (w : LineWord) (rest : List ℕ) → has_spelling w ≡ true → trim_spaces (spelling w ++ rest) ≡ spelling w ++ rest
 unfolding quoted_text
-spelling_first w rest can = elim w.quoted as (λ v. cond v (list_all (λ b. nat_lt b 256) w.bytes) (is_bare_text w.bytes) ≡ true → past_spaces (cond v (quoted_text w.bytes) w.bytes ++ rest) ≡ cond v (quoted_text w.bytes) w.bytes ++ rest)
+spelling_first w rest can = elim w.quoted as (λ v. cond v (list_all (λ b. nat_lt b 256) w.bytes) (is_bare_text w.bytes) ≡ true → trim_spaces (cond v (quoted_text w.bytes) w.bytes ++ rest) ≡ cond v (quoted_text w.bytes) w.bytes ++ rest)
     [ true ↦ λ can. refl | false ↦ λ can. by_first w.bytes can ] can
   where
-    by_first : (bytes : List ℕ) → is_bare_text bytes ≡ true → past_spaces (bytes ++ rest) ≡ bytes ++ rest
+    by_first : (bytes : List ℕ) → is_bare_text bytes ≡ true → trim_spaces (bytes ++ rest) ≡ bytes ++ rest
     by_first [] can = absurd (cc)
     by_first (b ∷ bs) can = no_space_first b (bs ++ rest) (no_space b (and_parts (is_bare b) (list_all is_bare bs) (and_parts (nat_lt 0 (length (b ∷ bs))) (list_all is_bare (b ∷ bs)) can).1).0)
 
@@ -298,7 +298,7 @@ spaces_apart : (ws : List (List ℕ)) → is_apart (after_spaces ws) ≡ true
 spaces_apart [] = refl
 spaces_apart (w ∷ ws) = refl
 
-one_round_trip : (w : LineWord) (ws : List LineWord) → has_spelling w ≡ true → words_of (after_spaces (map spelling ws)) ≡ Some ws → words_by words_of (past_spaces (spelling w ++ after_spaces (map spelling ws))) ≡ Some (w ∷ ws)
+one_round_trip : (w : LineWord) (ws : List LineWord) → has_spelling w ≡ true → words_of (after_spaces (map spelling ws)) ≡ Some ws → words_by words_of (trim_spaces (spelling w ++ after_spaces (map spelling ws))) ≡ Some (w ∷ ws)
 one_round_trip w ws can round_trip =
     let rest = after_spaces (map spelling ws) in
     ap (words_by words_of) (spelling_first w rest can) ∙ words_first (spelling w ++ rest) rest w (word_round_trip w rest can (spaces_apart (map spelling ws))) ∙ ap (option_map (λ vs. w ∷ vs)) round_trip

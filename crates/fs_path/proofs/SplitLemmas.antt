@@ -54,7 +54,7 @@ any_before_end p (x ∷ xs) = elim (p x) as (λ v. (v || list_any p xs) ≡ nat_
     later : (k n : ℕ) → nat_lt k n ≡ nat_lt (1 + k) (suc n)
     later k n = grind (arith, nat_tests)
 
--- what a place says of the items
+-- where there is a place, it is within the list, and an item passes
 pub position_found : {X : Type 0} (p : X → Bool) (xs : List X) (i : ℕ) → position p xs ≡ Some i → (i < length xs) × (position_or_len p xs ≡ i) × (list_any p xs ≡ true)
 position_found p xs i h = by_place (nat_lt (position_or_len p xs) (length xs)) refl h
   where
@@ -65,7 +65,7 @@ position_found p xs i h = by_place (nat_lt (position_or_len p xs) (length xs)) r
         (omega arith, same, any_before_end p xs ∙ lt)
     by_place false lt h = absurd (cc)
 
--- what it says of them that there is no place
+-- where there is no place, no item passes
 pub position_missing : {X : Type 0} (p : X → Bool) (xs : List X) → position p xs ≡ None → (length xs ≤ position_or_len p xs) × (list_any p xs ≡ false)
 position_missing p xs h = by_place (nat_lt (position_or_len p xs) (length xs)) refl h
   where

@@ -1,4 +1,4 @@
--- The ranges of numbers, modes and groups that words stand for.
+-- The ranges of numbers, modes and groups that words denote.
 use Rattle.std.specs.Prelude.{◌≡◌, ℕ, ◌≤◌, ◌<◌, ◌/◌, ◌%◌, ◌==◌, nat_le, Bool, true, false, cond, List, [], ◌∷◌, length, Option, Some, None, refl, codes}
 use Rattle.std.specs.Cmp.Lexicographic.{pointwise}
 use Rattle.std.specs.List.{slice_split}
@@ -25,7 +25,7 @@ mode_range word mode is = option_and_then_some _ (numeral 8 4 0 4095 word) mode 
     let range = (numeral_range 8 4 0 4095 word n n_is).1 in
     (subst (λ m. m < 4096) kept.1 (omega arith), subst (λ m. (m / 512) % 2 ≡ 0) kept.1 (eqb-true _ _ kept.0)))
 
--- each word stands for one number
+-- each word denotes one number
 pub as_many : (words : List (List ℕ)) (numbers : List ℕ) → numbers_of words ≡ Some numbers → length numbers ≡ length words
 as_many [] numbers is = ap (λ (ns : List ℕ). length ns) (sym (same_Some _ _ is))
 as_many (w ∷ ws) numbers is = option_and_then_some _ (number_of w) numbers is (λ n n_is last. by_rest (λ ns e. as_many ws ns e) n (numbers_of ws) refl last)

@@ -6,10 +6,10 @@ use Rattle.std.specs.Option.{option_and_then, option_map}
 use Rattle.std.proofs.lemmas.Bool.{cond_both}
 use Rattle.std.proofs.lemmas.List.{length-take}
 use Rattle.fs_path.specs.declared.words.LineWord.{LineWord}
-use Rattle.fs_path.specs.Words.{is_bare, first_item, onto_piece, items_within, items_of, quoted_word, begun_word, apart, is_apart, first_word, past_spaces, words_by, words_within, words_of}
+use Rattle.fs_path.specs.Words.{is_bare, first_item, onto_piece, items_within, items_of, quoted_word, leading_word, apart, is_apart, first_word, trim_spaces, words_by, words_within, words_of}
 use Rattle.fs_path.proofs.WordSteps.{AtMost, item_shorter, word_shorter, past_shorter}
 
--- the bytes that stand between quotes are at most n
+-- the bytes between quotes are at most n
 abbrev ItemsFit : ℕ → Option (List ℕ × List ℕ) → Type 0
 ItemsFit n None = Unit {0}
 ItemsFit n (Some p) = length p.0 ≤ n
@@ -38,7 +38,7 @@ abbrev WordFits : ℕ → Option (LineWord × List ℕ) → Type 0
 WordFits n None = Unit {0}
 WordFits n (Some p) = length p.0.bytes ≤ n
 
-begun_fits : (text : List ℕ) → WordFits (length text) (begun_word text)
+begun_fits : (text : List ℕ) → WordFits (length text) (leading_word text)
 begun_fits [] = tt
 begun_fits (b ∷ bs) =
     cond_both (b == 34) (option_map quoted_word (items_of bs)) (cond (is_bare b) (Some bare) None) (WordFits (length (b ∷ bs))) (λ _. by_items (items_of bs) (items_fit (length bs) bs))
@@ -52,7 +52,7 @@ begun_fits (b ∷ bs) =
     by_items (Some p) fit = omega arith
 
 first_fits : (text : List ℕ) → WordFits (length text) (first_word text)
-first_fits text = by_word (begun_word text) (begun_fits text)
+first_fits text = by_word (leading_word text) (begun_fits text)
   where
     by_word : (o : Option (LineWord × List ℕ)) → WordFits (length text) o → WordFits (length text) (option_and_then apart o)
     by_word None fits = tt
@@ -77,8 +77,8 @@ all_by most more (b ∷ bs) le round_trip = by_word (first_word (b ∷ bs)) (fir
     by_word (Some p) fits short = onto p.0 (omega arith) (more p.1) (round_trip p.1 (short p.1 p.0 refl))
 
 all_within : (most n : ℕ) (text : List ℕ) → length text ≤ most → AllFit most (words_within n text)
-all_within most zero text le = let past = past_shorter text in all_by most (λ _. None) (past_spaces text) (omega arith) (λ rest le. tt)
-all_within most (suc n) text le = let past = past_shorter text in all_by most (words_within n) (past_spaces text) (omega arith) (λ rest le. all_within most n rest le)
+all_within most zero text le = let past = past_shorter text in all_by most (λ _. None) (trim_spaces text) (omega arith) (λ rest le. tt)
+all_within most (suc n) text le = let past = past_shorter text in all_by most (words_within n) (trim_spaces text) (omega arith) (λ rest le. all_within most n rest le)
 
 -- no word of a line has more bytes than the line
 pub words_fit : (line : List ℕ) (ws : List LineWord) → words_of line ≡ Some ws → AllByRecursion (λ (w : LineWord). length w.bytes ≤ length line) ws

@@ -6,11 +6,11 @@ use Rattle.std.specs.Option.{option_and_then, option_map}
 use Rattle.std.proofs.lemmas.Bool.{cond_both, ne_eqb}
 use Rattle.std.proofs.lemmas.List.{length-drop}
 use Rattle.fs_path.specs.declared.words.LineWord.{LineWord}
-use Rattle.fs_path.specs.Words.{is_space, is_plain, is_bare, hex_value, hex_pair, escaped, first_item, onto_piece, items_within, items_of, quoted_word, begun_word, apart, is_apart, first_word, past_spaces, words_by, words_within, words_of}
+use Rattle.fs_path.specs.Words.{is_space, is_plain, is_bare, hex_value, hex_pair, escaped, first_item, onto_piece, items_within, items_of, quoted_word, leading_word, apart, is_apart, first_word, trim_spaces, words_by, words_within, words_of}
 
 -- ---- items between quotes
 
--- at most n bytes stand behind what was read
+-- at most n bytes come after what was read
 abbrev pub AtMost : ℕ → Option (ℕ × List ℕ) → Type 0
 AtMost n None = Unit {0}
 AtMost n (Some p) = length p.1 ≤ n
@@ -57,7 +57,7 @@ items_same (suc n) (suc m) (b ∷ bs) h k = ap (cond (b == 34) (Some ([], bs))) 
     by_item same None short = refl
     by_item same (Some p) short = ap (onto_piece p.0) (same p.1 (omega arith) (omega arith))
 
--- an item that is no quote, and then what stands behind it
+-- an item that is no quote, and then the items after it
 items_cons : (b x : ℕ) (bs more : List ℕ) → (b == 34) ≡ false → first_item (b ∷ bs) ≡ Some (x, more) → items_of (b ∷ bs) ≡ onto_piece x (items_of more)
 items_cons b x bs more no_quote first =
     let short : length more ≤ length bs = subst (AtMost (length bs)) first (item_shorter b bs) in
@@ -71,12 +71,12 @@ items_next (b ∷ bs) more x no_quote first = items_cons b x bs more (ne_eqb b 3
 
 -- ---- words
 
--- less than n bytes stand behind a word
+-- less than n bytes come after a word
 abbrev Below : {W : Type 0} → ℕ → Option (W × List ℕ) → Type 0
 Below n None = Unit {0}
 Below n (Some p) = length p.1 < n
 
--- a quote closes the items, and what stands behind it is shorter
+-- a quote closes the items, and the text after it is shorter
 items_shorter : (n : ℕ) (text : List ℕ) → Below (length text) (items_within n text)
 items_shorter zero text = tt
 items_shorter (suc n) [] = tt
@@ -93,7 +93,7 @@ items_shorter (suc n) (b ∷ bs) =
     by_item round_trip None short = tt
     by_item round_trip (Some p) short = onto p.0 (length p.1) (items_within n p.1) (round_trip p.1) short
 
-begun_shorter : (text : List ℕ) → Below (length text) (begun_word text)
+begun_shorter : (text : List ℕ) → Below (length text) (leading_word text)
 begun_shorter [] = tt
 begun_shorter (b ∷ bs) =
     cond_both (b == 34) (option_map quoted_word (items_of bs)) (cond (is_bare b) (Some bare) None) (Below (length (b ∷ bs))) (λ _. by_items (items_of bs) (items_shorter (length bs) bs))
@@ -112,7 +112,7 @@ begun_shorter (b ∷ bs) =
         omega (arith, count, length-drop (prefix_len is_bare (b ∷ bs)) (b ∷ bs))
 
 first_shorter : (text : List ℕ) → Below (length text) (first_word text)
-first_shorter text = by_word (begun_word text) (begun_shorter text)
+first_shorter text = by_word (leading_word text) (begun_shorter text)
   where
     by_word : (o : Option (LineWord × List ℕ)) → Below (length text) o → Below (length text) (option_and_then apart o)
     by_word None short = tt
@@ -121,7 +121,7 @@ first_shorter text = by_word (begun_word text) (begun_shorter text)
 pub word_shorter : (text rest : List ℕ) (w : LineWord) → first_word text ≡ Some (w, rest) → length rest < length text
 word_shorter text rest w is = subst (Below (length text)) is (first_shorter text)
 
-pub past_shorter : (text : List ℕ) → length (past_spaces text) ≤ length text
+pub past_shorter : (text : List ℕ) → length (trim_spaces text) ≤ length text
 past_shorter text = omega (arith, length-drop (prefix_len is_space text) text)
 
 by_same : (f g : List ℕ → Option (List LineWord)) (text : List ℕ) → ((rest : List ℕ) → length rest < length text → f rest ≡ g rest) → words_by f text ≡ words_by g text
@@ -142,15 +142,15 @@ words_same (suc n) zero [] h k = refl
 words_same (suc n) zero (b ∷ bs) h k = absurd (omega arith)
 words_same (suc n) (suc m) text h k =
     let past = past_shorter text in
-    by_same (words_within n) (words_within m) (past_spaces text) (λ rest short. words_same n m rest (omega arith) (omega arith))
+    by_same (words_within n) (words_within m) (trim_spaces text) (λ rest short. words_same n m rest (omega arith) (omega arith))
 
--- the words of a line are its first word, behind spaces, and those of what stands behind it
-pub words_are : (text : List ℕ) → words_of text ≡ words_by words_of (past_spaces text)
+-- the words of a line are its first word, after spaces, and those of the text after that word
+pub words_are : (text : List ℕ) → words_of text ≡ words_by words_of (trim_spaces text)
 unfolding words_of
 words_are [] = refl
 words_are (b ∷ bs) =
     let past = past_shorter (b ∷ bs) in
-    by_same (words_within (length bs)) (λ rest. words_within (length rest) rest) (past_spaces (b ∷ bs)) (λ rest short. words_same (length bs) (length rest) rest (omega arith) (omega arith))
+    by_same (words_within (length bs)) (λ rest. words_within (length rest) rest) (trim_spaces (b ∷ bs)) (λ rest short. words_same (length bs) (length rest) rest (omega arith) (omega arith))
 
 pub words_first : (text rest : List ℕ) (w : LineWord) → first_word text ≡ Some (w, rest) → words_by words_of text ≡ option_map (λ ws. w ∷ ws) (words_of rest)
 words_first [] rest w first = absurd (cc)

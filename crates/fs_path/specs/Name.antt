@@ -9,7 +9,7 @@ Name = List ℕ
 abbrev pub is_name_byte : ℕ → Bool
 is_name_byte b = not (b == 0) && not (b == 47)
 
--- whether bytes are `.` or `..`, which stand for directories themselves
+-- whether bytes are `.` or `..`, which denote directories themselves
 abbrev pub is_dots : List ℕ → Bool
 is_dots (a ∷ []) = a == 46
 is_dots (a ∷ b ∷ []) = a == 46 && b == 46

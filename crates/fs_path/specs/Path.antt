@@ -12,7 +12,7 @@ pub record PathValue : Type 0 where
 abbrev pub written_len : List Name → ℕ
 written_len names = sum_by (λ (name : Name). length name + 1) names
 
--- at most 32 names, each of which is a name, and at most 1,023 bytes where the path is written; a relative one has no `/` in front
+-- at most 32 names, each of which is a name, and at most 1,023 bytes where the path is written; a relative one has no `/` before its names
 pub record HasForm (absolute : Bool) (names : List Name) : Type 0 where
   pub few : length names ≤ 32
   pub named : list_all is_name names ≡ true

@@ -19,7 +19,7 @@ are_same = pointwise ◌==◌
 
 -- ---- components
 
--- whether bytes are none, or `.`
+-- whether there are no bytes, or they are `.`
 abbrev pub is_empty_or_dot : List ℕ → Bool
 is_empty_or_dot bytes = are_same bytes [] || are_same bytes (46 ∷ [])
 
@@ -27,7 +27,7 @@ is_empty_or_dot bytes = are_same bytes [] || are_same bytes (46 ∷ [])
 abbrev pub counts : Piece → Bool
 counts c = not (is_empty_or_dot c.bytes)
 
--- the components of a text: what stands between slashes and counts
+-- the components of a text: the pieces between slashes that count
 unfoldable pub components_of : List ℕ → List Piece
 components_of text = filter counts (placed 0 (pieces 47 text))
 
@@ -42,7 +42,7 @@ abbrev pub starts_badly : List ℕ → Bool
 starts_badly bytes = are_same bytes (46 ∷ 46 ∷ []) || starts_with ◌==◌ bytes (0 ∷ [])
 
 -- the fault of a component, before which `count` others count: at its first byte that it is too long, then a byte 0 or
--- `..`, then that it is one too many; behind its first byte a byte 0
+-- `..`, then that it is one too many; after its first byte a byte 0
 unfoldable pub component_fault : ℕ → Piece → Option PathError
 component_fault count c =
     cond (nat_lt 63 (length c.bytes)) (Some (error.NameTooLong c.at))
@@ -62,7 +62,7 @@ path_fault text =
     (cond (nat_lt 1023 (length text)) (Some error.TooLong)
     (first_fault 0 (components_of text)))
 
--- an error that says this fault, or that memory ran out
+-- an error that reports this fault, or that memory ran out
 abbrev pub Says : Option PathError → PathError → Type 0
 Says fault (error.NoMemory _) = Unit {0}
 Says fault e = fault ≡ Some e
@@ -73,7 +73,7 @@ IsNoPath text e = Says (path_fault text) e
 
 -- ---- paths
 
--- the path that a text without a fault stands for
+-- the path that a text without a fault denotes
 unfoldable pub parse_path : List ℕ → PathValue
 parse_path text = record { absolute = starts_with ◌==◌ text (47 ∷ []); names = names_of (components_of text) }
 

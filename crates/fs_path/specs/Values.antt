@@ -12,15 +12,15 @@ use Rattle.fs_path.specs.Options.{keep_if}
 abbrev pub is_digit : ℕ → ℕ → Bool
 is_digit base d = nat_le 48 d && nat_lt d (48 + base)
 
--- what digits are worth behind a value
-unfoldable pub worth : ℕ → ℕ → List ℕ → ℕ
-worth base v [] = v
-worth base v (d ∷ ds) = worth base (base * v + (d - 48)) ds
+-- the value of digits after digits of a value
+unfoldable pub digits_value : ℕ → ℕ → List ℕ → ℕ
+digits_value base v [] = v
+digits_value base v (d ∷ ds) = digits_value base (base * v + (d - 48)) ds
 
 -- a number of 1 to `most` digits, from `low` to `high`
 unfoldable pub numeral : (base most low high : ℕ) → List ℕ → Option ℕ
 numeral base most low high w =
-    keep_if (nat_le 1 (length w) && nat_le (length w) most && list_all (is_digit base) w && nat_le low (worth base 0 w) && nat_le (worth base 0 w) high) (worth base 0 w)
+    keep_if (nat_le 1 (length w) && nat_le (length w) most && list_all (is_digit base) w && nat_le low (digits_value base 0 w) && nat_le (digits_value base 0 w) high) (digits_value base 0 w)
 
 -- 1 to 10 digits, with a value that fits 32 bits
 abbrev pub number_of : List ℕ → Option ℕ
@@ -30,7 +30,7 @@ number_of word = numeral 10 10 0 4294967295 word
 abbrev pub mode_of : List ℕ → Option ℕ
 mode_of word = option_and_then (λ mode. keep_if ((mode / 512) % 2 == 0) mode) (numeral 8 4 0 4095 word)
 
--- the numbers that words stand for, where each stands for one
+-- the numbers that words denote, where each denotes one
 abbrev pub numbers_of : List (List ℕ) → Option (List ℕ)
 numbers_of [] = Some []
 numbers_of (w ∷ ws) = option_and_then (λ n. option_map (λ ns. n ∷ ns) (numbers_of ws)) (number_of w)
@@ -48,7 +48,7 @@ groups_of word = cond (pointwise ◌==◌ word (codes "-")) (Some []) (few_numbe
 unfoldable pub mode_text : ℕ → List ℕ
 mode_text mode = (48 + mode / 512 % 8) ∷ (48 + mode / 64 % 8) ∷ (48 + mode / 8 % 8) ∷ (48 + mode % 8) ∷ []
 
--- numbers, each behind a comma
+-- numbers, each after a comma
 abbrev pub after_commas : List ℕ → List ℕ
 after_commas ns = flat_map (λ n. 44 ∷ decimal n) ns
 

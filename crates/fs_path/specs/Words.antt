@@ -1,4 +1,4 @@
--- The words of a line. A word is seen as what it stands for, without quotes and escapes.
+-- The words of a line. A word is seen as its bytes, without quotes and escapes.
 use Rattle.std.specs.Prelude.{ℕ, zero, suc, ◌+◌, ◌*◌, ◌-◌, ◌/◌, ◌%◌, ◌==◌, ◌&&◌, ◌||◌, not, nat_le, nat_lt, Bool, true, false, cond, List, [], ◌∷◌, ◌++◌, length, drop, Option, None, Some}
 use Rattle.std.specs.List.{flat_map, list_all, take_while, prefix_len}
 use Rattle.std.specs.Option.{option_and_then, option_map}
@@ -24,18 +24,18 @@ hex_value b =
     (cond (nat_le 97 b && nat_le b 102) (Some (b - 87))
     (cond (nat_le 65 b && nat_le b 70) (Some (b - 55)) None))
 
--- the byte that two hexadecimal digits stand for, and what stands behind them
+-- the byte that two hexadecimal digits denote, and the text after them
 abbrev pub hex_pair : List ℕ → Option (ℕ × List ℕ)
 hex_pair [] = None
 hex_pair (h ∷ []) = None
 hex_pair (h ∷ l ∷ rest) = option_and_then (λ high. option_map (λ low. (16 * high + low, rest)) (hex_value l)) (hex_value h)
 
--- what a backslash makes of what stands behind it: `"`, `\`, or `x` and two digits
+-- the byte that an escape denotes, and the text after it: after the backslash `"`, `\`, or `x` and two digits
 abbrev pub escaped : List ℕ → Option (ℕ × List ℕ)
 escaped [] = None
 escaped (b ∷ bs) = cond (b == 34 || b == 92) (Some (b, bs)) (cond (b == 120) (hex_pair bs) None)
 
--- the byte that the first item between quotes stands for, and what stands behind the item
+-- the byte that the first item between quotes denotes, and the text after the item
 abbrev pub first_item : List ℕ → Option (ℕ × List ℕ)
 first_item [] = None
 first_item (b ∷ bs) = cond (b == 92) (escaped bs) (cond (is_plain b) (Some (b, bs)) None)
@@ -44,27 +44,27 @@ abbrev pub onto_piece : ℕ → Option (List ℕ × List ℕ) → Option (List �
 onto_piece x None = None
 onto_piece x (Some p) = Some (x ∷ p.0, p.1)
 
--- the bytes that up to n items stand for, up to the closing quote, and what stands behind that
+-- the bytes that up to n items denote, up to the closing quote, and the text after that
 abbrev pub items_within : ℕ → List ℕ → Option (List ℕ × List ℕ)
 items_within zero text = None
 items_within (suc n) [] = None
 items_within (suc n) (b ∷ bs) = cond (b == 34) (Some ([], bs)) (option_and_then (λ (p : ℕ × List ℕ). onto_piece p.0 (items_within n p.1)) (first_item (b ∷ bs)))
 
--- the bytes that items up to a closing quote stand for, and what stands behind that; each item has a byte at least, so that there are no more of them than bytes
+-- the bytes that items up to a closing quote denote, and the text after that; each item has at least one byte, so there are no more items than bytes
 abbrev pub items_of : List ℕ → Option (List ℕ × List ℕ)
 items_of text = items_within (length text) text
 
 abbrev pub quoted_word : List ℕ × List ℕ → LineWord × List ℕ
 quoted_word p = (record { quoted = true; bytes = p.0 }, p.1)
 
--- the word that begins a text, and what stands behind it, whatever that is
-abbrev pub begun_word : List ℕ → Option (LineWord × List ℕ)
-begun_word [] = None
-begun_word (b ∷ bs) =
+-- the word that begins a text, and the text after it, whatever that is
+abbrev pub leading_word : List ℕ → Option (LineWord × List ℕ)
+leading_word [] = None
+leading_word (b ∷ bs) =
     cond (b == 34) (option_map quoted_word (items_of bs))
     (cond (is_bare b) (Some (record { quoted = false; bytes = take_while is_bare (b ∷ bs) }, drop (prefix_len is_bare (b ∷ bs)) (b ∷ bs))) None)
 
--- behind a word stands a space or nothing
+-- after a word comes a space or the end
 abbrev pub is_apart : List ℕ → Bool
 is_apart [] = true
 is_apart (b ∷ bs) = is_space b
@@ -72,35 +72,35 @@ is_apart (b ∷ bs) = is_space b
 abbrev pub apart : LineWord × List ℕ → Option (LineWord × List ℕ)
 apart p = cond (is_apart p.1) (Some p) None
 
--- the word that begins a text, and what stands behind it
+-- the word that begins a text, and the text after it
 abbrev pub first_word : List ℕ → Option (LineWord × List ℕ)
-first_word text = option_and_then apart (begun_word text)
+first_word text = option_and_then apart (leading_word text)
 
--- a text without the spaces at its front
-abbrev pub past_spaces : List ℕ → List ℕ
-past_spaces text = drop (prefix_len is_space text) text
+-- a text without the spaces that begin it
+abbrev pub trim_spaces : List ℕ → List ℕ
+trim_spaces text = drop (prefix_len is_space text) text
 
--- what begins behind spaces: nothing, or a word and more words
+-- the words of a text that begins with no space: none, or a word and more words
 abbrev pub words_by : (List ℕ → Option (List LineWord)) → List ℕ → Option (List LineWord)
 words_by more [] = Some []
 words_by more (b ∷ bs) = option_and_then (λ (p : LineWord × List ℕ). option_map (λ ws. p.0 ∷ ws) (more p.1)) (first_word (b ∷ bs))
 
 -- up to n words, with spaces between them and at both ends
 abbrev pub words_within : ℕ → List ℕ → Option (List LineWord)
-words_within zero text = words_by (λ _. None) (past_spaces text)
-words_within (suc n) text = words_by (words_within n) (past_spaces text)
+words_within zero text = words_by (λ _. None) (trim_spaces text)
+words_within (suc n) text = words_by (words_within n) (trim_spaces text)
 
--- the words of a line; each has a byte at least, so that there are no more of them than bytes
+-- the words of a line; each has at least one byte, so there are no more words than bytes
 unfoldable pub words_of : List ℕ → Option (List LineWord)
 words_of line = words_within (length line) line
 
--- a line without words, or with `#` as its first byte that is no space, says nothing
-abbrev pub says_nothing : List ℕ → Bool
-says_nothing [] = true
-says_nothing (b ∷ bs) = b == 35
+-- whether a text that begins with no space is empty or begins with `#`
+abbrev pub is_empty_or_comment : List ℕ → Bool
+is_empty_or_comment [] = true
+is_empty_or_comment (b ∷ bs) = b == 35
 
 unfoldable pub is_blank : List ℕ → Bool
-is_blank line = says_nothing (past_spaces line)
+is_blank line = is_empty_or_comment (trim_spaces line)
 
 -- ---- what is written
 
@@ -123,18 +123,18 @@ quoted_text bytes = 34 ∷ flat_map item_text bytes ++ 34 ∷ []
 abbrev pub is_bare_text : List ℕ → Bool
 is_bare_text bytes = nat_lt 0 (length bytes) && list_all is_bare bytes
 
--- whether a word can be written: a quoted one with any bytes, a bare one with those that may stand bare
+-- whether a word can be written: a quoted one with any bytes, a bare one with those of a bare word
 abbrev pub has_spelling : LineWord → Bool
 has_spelling word = cond word.quoted (list_all (λ b. nat_lt b 256) word.bytes) (is_bare_text word.bytes)
 
--- a word between quotes exactly where its bytes can't stand bare
+-- a word, quoted exactly where its bytes can't be a bare word
 abbrev pub with_quotes_if_needed : List ℕ → LineWord
 with_quotes_if_needed bytes = record { quoted = not (is_bare_text bytes); bytes = bytes }
 
 abbrev pub spelling : LineWord → List ℕ
 spelling word = cond word.quoted (quoted_text word.bytes) word.bytes
 
--- spellings, each behind a space
+-- spellings, each after a space
 abbrev pub after_spaces : List (List ℕ) → List ℕ
 after_spaces words = flat_map (λ w. 32 ∷ w) words
 

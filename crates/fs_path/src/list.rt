@@ -62,7 +62,7 @@ impl<T: Copy + Drop> List<T> {
         Ok(List { kept })
     }
 
-    /// The same items once more.
+    /// A copy of the list.
     pub fn copy(&self) -> Result<Self, NoMemory>
         ensures { IfOk result (λ list. list ≡ self.now) }
     {

@@ -13,7 +13,7 @@ use std::alloc::Global;
 use std::cmp::Ordering;
 use std::marker::Model;
 
-/// How many bytes a name may have.
+/// The most bytes that a name has.
 pub(crate) const MAX_NAME: usize = 63;
 
 /// The name of an entry in a directory: 1 to 63 bytes, none of them 0 or `/`, and neither `.` nor `..`.
@@ -45,7 +45,7 @@ fn are_dots(bytes: &[u8]) -> bool
     }
 }
 
-// Whether each byte may stand in a name.
+// Whether a name may have each of these bytes.
 fn are_name_bytes(bytes: &[u8]) -> bool
     ensures { result ≡ list_all is_name_byte bytes.now }
 {
@@ -64,7 +64,7 @@ fn may_be_name(bytes: &[u8]) -> bool
 }
 
 impl Name {
-    // The name with bytes that are one.
+    // The name with these bytes, which must be one.
     pub(crate) fn of(alloc: Global, bytes: &[u8]) -> Result<Name, NoMemory>
         requires { is_name bytes.now ≡ true }
         ensures { IfOk result (λ name. name ≡ bytes.now) }
@@ -73,7 +73,7 @@ impl Name {
         Ok(Name { kept })
     }
 
-    /// The name with these bytes, where they may be one.
+    /// The name with these bytes, or `None` where they are no name.
     pub fn read(alloc: Global, bytes: &[u8]) -> Result<Option<Name>, NoMemory>
         ensures { IfOk result (λ name. MatchOption name (is_name bytes.now ≡ false) (λ name. (name ≡ bytes.now) × (is_name bytes.now ≡ true))) }
     {
@@ -92,7 +92,7 @@ impl Name {
         self.kept.items()
     }
 
-    /// The same name once more.
+    /// A copy of the name.
     pub fn copy(&self) -> Result<Name, NoMemory>
         ensures { IfOk result (λ name. name ≡ self.now) }
     {

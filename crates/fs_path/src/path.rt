@@ -18,8 +18,8 @@ const MAX_NAMES: usize = 32;
 /// Names of a path, in order.
 pub type NameList = List<Name>;
 
-/// A path: where it starts, and the names from there on. Written with one `/` between names, and one in front
-/// where it is absolute, it has at most 1,023 bytes; it has at most 32 names.
+/// A path: where it starts, and the names from there on. It has at most 32 names. Written with one `/` between names, and
+/// one before them where it is absolute, it has at most 1,023 bytes.
 #[derive(Debug, Drop)]
 pub struct Path {
     /// Whether it starts at the root, and not at the current directory.
@@ -47,7 +47,7 @@ pub enum PathError {
     TooLong,
     /// A component that begins at this place has more than 63 bytes.
     NameTooLong(usize),
-    /// A byte 0 stands at this place, or a component `..` begins there.
+    /// A byte 0 is at this place, or a component `..` begins there.
     BadByte(usize),
     /// It has more than 32 components, besides those that are empty or `.`.
     TooDeep,
@@ -98,7 +98,7 @@ fn component_fault(count: usize, at: usize, bytes: &[u8]) -> Option<PathError>
     Some(PathError::BadByte(at + place))
 }
 
-// Puts a component that begins at `at` behind the names before it, if it counts.
+// Appends a component that begins at `at` to the names before it, if it counts.
 #[tactic(auto, using(crate::proofs::PathLaws::is_name_without_fault))]
 fn take_component(
     alloc: Global,
@@ -143,8 +143,8 @@ fn read_names(alloc: Global, text: &[u8]) -> Result<NameList, PathError>
 }
 
 impl Path {
-    /// The path that a text stands for: names with slashes between them. Empty components and components `.` are left
-    /// out, and it is absolute where it begins with `/`.
+    /// The path that a text denotes: names with slashes between them. Empty components and components `.` are left out,
+    /// and the path is absolute where the text begins with `/`.
     #[tactic(auto, using(std::proofs::lemmas::Bool::Decides::nat_tests, crate::proofs::PathLaws::path_form), unfolding(crate::specs::PathText::path_fault, crate::specs::PathText::parse_path))]
     pub fn read(alloc: Global, text: &[u8]) -> Result<Path, PathError>
         ensures path { IfOk result (λ path. (path ≡ parse_path text.now) × (path_fault text.now ≡ None)) }

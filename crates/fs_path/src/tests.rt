@@ -1,3 +1,3 @@
-// What no clause says: tables of texts and what they stand for.
+// Tables of texts and what they denote.
 mod paths;
 mod words;

@@ -3,7 +3,7 @@ ghost use Rattle.std.specs.Prelude.{◌≡◌, ◌+◌, ◌%◌, ◌&&◌, ◌<�
 ghost use Rattle.std.specs.Fmt.{decimal};
 ghost use Rattle.std.specs.List.{list_all, slice_split};
 ghost use Rattle.fs_path.specs.Options.{keep_if};
-ghost use Rattle.fs_path.specs.Values.{is_digit, worth, numeral, number_of, mode_of, numbers_of, groups_of, mode_text, groups_text};
+ghost use Rattle.fs_path.specs.Values.{is_digit, digits_value, numeral, number_of, mode_of, numbers_of, groups_of, mode_text, groups_text};
 
 use crate::{List, NoMemory};
 use std::alloc::Global;
@@ -14,25 +14,25 @@ const STICKY: u64 = 0o1000;
 
 const MAX_GROUPS: usize = 16;
 
-// What digits are worth, where all of the bytes are digits and it is at most `high`.
-fn worth_of(word: &[u8], base: u64, high: u64) -> Option<u64>
+// The value of digits, where all of the bytes are digits and the value is at most `high`.
+fn digits_value(word: &[u8], base: u64, high: u64) -> Option<u64>
     requires some_base { 1 ≤ base }
     requires small_base { base ≤ 10 }
     requires small { high < 2 ^ 32 }
-    ensures { result ≡ keep_if (list_all (is_digit base) word.now && nat_le (worth base 0 word.now) high) (worth base 0 word.now) }
+    ensures { result ≡ keep_if (list_all (is_digit base) word.now && nat_le (digits_value base 0 word.now) high) (digits_value base 0 word.now) }
 {
-    let mut worth = 0;
+    let mut value = 0;
     for byte in word {
         let digit = u64::from(*byte);
         if digit < 48 || digit >= 48 + base {
             return None;
         }
-        worth = base * worth + (digit - 48);
-        if worth > high {
+        value = base * value + (digit - 48);
+        if value > high {
             return None;
         }
     }
-    Some(worth)
+    Some(value)
 }
 
 /// A number of 1 to `most` digits, from `low` to `high`.
@@ -47,8 +47,8 @@ pub fn numeral(word: &[u8], base: u64, most: usize, low: u64, high: u64) -> Opti
     if word.is_empty() || word.len() > most {
         return None;
     }
-    let worth = worth_of(word, base, high)?;
-    (low <= worth).then_some(worth)
+    let value = digits_value(word, base, high)?;
+    (low <= value).then_some(value)
 }
 
 /// A number: 1 to 10 decimal digits, of a value that fits 32 bits.
@@ -70,7 +70,7 @@ pub fn mode_of(word: &[u8]) -> Option<u16>
     Some(mode as u16)
 }
 
-// The numbers that words stand for.
+// The numbers that words denote, where each denotes one.
 fn numbers_of(alloc: Global, words: &[&[u8]]) -> Result<Option<List<u32>>, NoMemory>
     ensures { IfOk result (λ parsed. parsed ≡ numbers_of (map (λ word. word.now) words.now)) }
 {
@@ -84,7 +84,7 @@ fn numbers_of(alloc: Global, words: &[&[u8]]) -> Result<Option<List<u32>>, NoMem
     Ok(Some(numbers))
 }
 
-// What stands between commas.
+// The pieces between commas.
 fn parts_of(alloc: Global, word: &[u8]) -> Result<Vec<&[u8]>, NoMemory>
     ensures { IfOk result (λ parts. map (λ part. part.now) parts.items ≡ slice_split (λ b. b == 44) word.now) }
 {
@@ -106,7 +106,7 @@ pub fn groups_of(alloc: Global, word: &[u8]) -> Result<Option<List<u32>>, NoMemo
     numbers_of(alloc, parts.as_slice())
 }
 
-/// Writes a number.
+/// Writes a number in decimal.
 pub fn put_number(alloc: Global, text: &mut Vec<u8>, n: u64) -> Result<(), NoMemory>
     ensures { OnOk result (text.new.items ≡ text.old.items ++ decimal n) }
 {
@@ -134,7 +134,7 @@ pub fn put_mode(text: &mut Vec<u8>, mode: u16) -> Result<(), NoMemory>
     ])
 }
 
-/// Writes groups.
+/// Writes groups: `-` where there are none, else the numbers with commas between them.
 #[tactic(auto, unfolding(crate::specs::Values::groups_text))]
 pub fn put_groups(alloc: Global, text: &mut Vec<u8>, groups: &[u32]) -> Result<(), NoMemory>
     ensures { OnOk result (text.new.items ≡ text.old.items ++ groups_text groups.now) }

@@ -1,17 +1,17 @@
 // The words of a line.
 ghost use Rattle.std.specs.Prelude.{◌≡◌, ◌++◌, ◌<◌, OnOk, IfOk, IfSome, MatchOption, None, Some};
 ghost use Rattle.std.specs.List.{list_all, prefix_len};
-ghost use Rattle.fs_path.specs.Words.{words_of, is_blank, quoted_text, with_quotes_if_needed, spelling, is_plain, is_bare, is_bare_text, hex_value, hex_pair, escaped, first_item, items_of, is_apart, begun_word, first_word, past_spaces, hex_digit, item_text};
+ghost use Rattle.fs_path.specs.Words.{words_of, is_blank, quoted_text, with_quotes_if_needed, spelling, is_plain, is_bare, is_bare_text, hex_value, hex_pair, escaped, first_item, items_of, is_apart, leading_word, first_word, trim_spaces, hex_digit, item_text};
 
 use crate::{ByteList, List, NoMemory};
 use std::alloc::Global;
 
-/// A word of a line. Its bytes are those that it stands for, without quotes and escapes.
+/// A word of a line, without its quotes and escapes.
 #[derive(Debug, Drop)]
 pub struct LineWord {
-    /// Whether it stands between quotes.
+    /// Whether it is written between quotes.
     pub quoted: bool,
-    /// The bytes that it stands for.
+    /// Its bytes.
     pub bytes: ByteList,
 }
 
@@ -42,7 +42,7 @@ fn hex_value(byte: u8) -> Option<u8>
     }
 }
 
-// The byte that two hexadecimal digits stand for, and what stands behind them.
+// The byte that two hexadecimal digits denote, and the text after them.
 fn hex_pair(text: &[u8]) -> Option<(u8, &[u8])>
     ensures { MatchOption result (hex_pair text.now ≡ None) (λ pair. hex_pair text.now ≡ Some (pair.0, pair.1.now)) }
 {
@@ -54,7 +54,7 @@ fn hex_pair(text: &[u8]) -> Option<(u8, &[u8])>
     Some((16 * high + low, rest))
 }
 
-// The byte that an escape stands for, from behind its backslash, and what stands behind it.
+// The byte that an escape denotes, from after its backslash, and the text after the escape.
 fn escaped(text: &[u8]) -> Option<(u8, &[u8])>
     ensures { MatchOption result (escaped text.now ≡ None) (λ item. escaped text.now ≡ Some (item.0, item.1.now)) }
 {
@@ -68,7 +68,7 @@ fn escaped(text: &[u8]) -> Option<(u8, &[u8])>
     }
 }
 
-// The byte that the first item between quotes stands for, and what stands behind the item.
+// The byte that the first item between quotes denotes, and the text after the item.
 fn first_item(text: &[u8]) -> Option<(u8, &[u8])>
     ensures { MatchOption result (first_item text.now ≡ None) (λ item. first_item text.now ≡ Some (item.0, item.1.now)) }
 {
@@ -82,7 +82,7 @@ fn first_item(text: &[u8]) -> Option<(u8, &[u8])>
     }
 }
 
-// The bytes that stand between quotes, from behind the first one, and what stands behind the second.
+// The bytes between quotes, from after the first quote, and the text after the second.
 fn between_quotes(alloc: Global, text: &[u8]) -> Result<Option<(ByteList, &[u8])>, NoMemory>
     ensures { IfOk result (λ parsed. MatchOption parsed (items_of text.now ≡ None) (λ items. items_of text.now ≡ Some (items.0, items.1.now))) }
 {
@@ -101,16 +101,16 @@ fn between_quotes(alloc: Global, text: &[u8]) -> Result<Option<(ByteList, &[u8])
     Ok(None)
 }
 
-// How many bytes a text begins with that a bare word may have.
+// How many bytes that a bare word may have begin a text.
 fn bare_len(text: &[u8]) -> usize
     ensures { result ≡ prefix_len is_bare text.now }
 {
     text.iter().take_while(|byte| is_bare(**byte)).count()
 }
 
-// The word that begins a text, and what stands behind it, whatever that is.
-fn begun_word(alloc: Global, text: &[u8]) -> Result<Option<(LineWord, &[u8])>, NoMemory>
-    ensures { IfOk result (λ parsed. MatchOption parsed (begun_word text.now ≡ None) (λ word. begun_word text.now ≡ Some (word.0, word.1.now))) }
+// The word that begins a text, and the text after it, whatever that is.
+fn leading_word(alloc: Global, text: &[u8]) -> Result<Option<(LineWord, &[u8])>, NoMemory>
+    ensures { IfOk result (λ parsed. MatchOption parsed (leading_word text.now ≡ None) (λ word. leading_word text.now ≡ Some (word.0, word.1.now))) }
 {
     if let [b'"', inner @ ..] = text {
         let Some((bytes, rest)) = between_quotes(alloc, inner)? else {
@@ -148,11 +148,11 @@ fn is_apart(text: &[u8]) -> bool
     }
 }
 
-// The word that begins a text, and what stands behind it.
+// The word that begins a text, and the text after it: none, or one that begins with a space.
 fn first_word(alloc: Global, text: &[u8]) -> Result<Option<(LineWord, &[u8])>, NoMemory>
     ensures { IfOk result (λ parsed. MatchOption parsed (first_word text.now ≡ None) (λ word. first_word text.now ≡ Some (word.0, word.1.now))) }
 {
-    let Some((word, rest)) = begun_word(alloc, text)? else {
+    let Some((word, rest)) = leading_word(alloc, text)? else {
         return Ok(None);
     };
     if !is_apart(rest) {
@@ -161,9 +161,9 @@ fn first_word(alloc: Global, text: &[u8]) -> Result<Option<(LineWord, &[u8])>, N
     Ok(Some((word, rest)))
 }
 
-// A text without the spaces at its front.
-fn past_spaces(text: &[u8]) -> &[u8]
-    ensures { result.now ≡ past_spaces text.now }
+// A text without the spaces that begin it.
+fn trim_spaces(text: &[u8]) -> &[u8]
+    ensures { result.now ≡ trim_spaces text.now }
 {
     let mut left = text;
     while let [b' ', more @ ..] = left {
@@ -177,23 +177,23 @@ pub fn words_of(alloc: Global, line: &[u8]) -> Result<Option<List<LineWord>>, No
     ensures { IfOk result (λ parsed. parsed ≡ words_of line.now) }
 {
     let mut words = List::new(alloc);
-    let mut left = past_spaces(line);
+    let mut left = trim_spaces(line);
     while !left.is_empty() {
         let Some((word, rest)) = first_word(alloc, left)? else {
             return Ok(None);
         };
         words.push(word)?;
-        left = past_spaces(rest);
+        left = trim_spaces(rest);
     }
     Ok(Some(words))
 }
 
-/// Whether a line has no words or begins with `#`, so that it says nothing.
+/// Whether a line is blank: it has no words, or its first byte that is no space is `#`.
 #[tactic(auto, unfolding(crate::specs::Words::is_blank))]
 pub fn is_blank(line: &[u8]) -> bool
     ensures { result ≡ is_blank line.now }
 {
-    match past_spaces(line) {
+    match trim_spaces(line) {
         [] => true,
         [first, ..] => *first == b'#',
     }
@@ -243,7 +243,7 @@ fn are_bare(bytes: &[u8]) -> bool
     bytes.iter().all(|byte| is_bare(*byte))
 }
 
-// Whether bytes can stand as a bare word.
+// Whether bytes can be written as a bare word.
 #[tactic(auto, using(std::proofs::lemmas::Bool::Decides::nat_tests))]
 fn is_bare_text(bytes: &[u8]) -> bool
     ensures { result ≡ is_bare_text bytes.now }
@@ -251,7 +251,7 @@ fn is_bare_text(bytes: &[u8]) -> bool
     !bytes.is_empty() && are_bare(bytes)
 }
 
-/// Writes bytes as a word, between quotes exactly where they can't stand bare.
+/// Writes bytes as a word, between quotes exactly where they can't be a bare word.
 pub fn put_word(text: &mut Vec<u8>, bytes: &[u8]) -> Result<(), NoMemory>
     ensures { OnOk result (text.new.items ≡ text.old.items ++ spelling (with_quotes_if_needed bytes.now)) }
 {

@@ -1,4 +1,4 @@
--- What operations on a number's bits do to the categories that it stands for.
+-- What operations on a number's bits do to the set of categories that the number denotes.
 use Rattle.std.proofs.Common.{◌≡◌, ℕ, ◌*◌, ◌/◌, ◌%◌, ◌^◌, ◌<◌, ◌≤◌, true, false, ap, sym, ◌∙◌, arith, bit_and, bit_or}
 use Rattle.std.specs.Prelude.{◌||◌, ◌&&◌, ◌==◌, nat_eq, nat_lt, min}
 use Rattle.std.specs.Ordering.{nat_cmp}
@@ -18,7 +18,7 @@ both x y p q = grind (arith, nat_tests)
 in-and : (a b q : ℕ) → in_word (bit_and a b) q ≡ (in_word a q && in_word b q)
 in-and a b q = ap (λ x. x == 1) (bit_at_and a b q) ∙ both (bit_at a q) (bit_at b q) (bit_at-lt a q) (bit_at-lt b q)
 
--- a short number stands for the set whose members its bits are
+-- a number below 2 ^ 64 denotes the set whose members are its bits
 cats_by_bits : (word : ℕ) (s : CatSet) → word < 2 ^ 64 → ((q : ℕ) → in_word word q ≡ has_cat s q) → cats_of_word word ≡ s
 cats_by_bits word s h e = same_cats _ _ (λ q. has-short_word word q h ∙ e q)
 

@@ -1,5 +1,5 @@
 -- The label of this profile: what definitions and proofs above may know of it. `pair_covers` and `pair_cmp` can't be unfolded
--- above, so what is built on this file holds for whatever a label is made of.
+-- above, so what is built on this file holds whatever the parts of a label are.
 use Rattle.std.specs.Prelude.{◌≡◌, ℕ, Bool, true, refl}
 use Rattle.std.specs.declared.cmp.Ordering.{Ordering}
 use Rattle.std.specs.Ordering.{nat_cmp}

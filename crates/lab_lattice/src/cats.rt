@@ -9,13 +9,13 @@ use crate::Lattice;
 use std::cmp::Ordering;
 use std::marker::Model;
 
-// How many categories there can be.
+// The most categories that there are.
 const MAX_CATS: u8 = 64;
 
 /// A set of categories, which are numbers below 64.
 #[derive(Clone, Copy, Debug)]
 pub struct Cats {
-    // The bit with a category's number says whether the category is there.
+    // The bit with a category's number is 1 where the set has the category.
     word: u64,
 }
 
@@ -58,7 +58,7 @@ impl Cats {
         }
     }
 
-    /// Whether the category is there.
+    /// Whether the set has the category.
     pub fn has(&self, i: u8) -> bool
         ensures { result ≡ has_cat self.now i }
     {

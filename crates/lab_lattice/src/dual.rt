@@ -1,7 +1,7 @@
-// Lattices turned round.
+// Lattices in reverse.
 use crate::Lattice;
 
-/// A value of a lattice, with the order turned round: what was above is below. It is listed as the inner value is.
+/// A value of a lattice whose order is reversed: what was above is below. It is listed as the inner value is.
 #[derive(Clone, Copy, Debug, PartialEq, Eq, PartialOrd, Ord)]
 pub struct Dual<A> {
     pub inner: A,

@@ -1,4 +1,4 @@
--- What a text says once it is split at its colon, and how a label's text grows.
+-- What a text denotes once it is split at its colon, and how a label's text grows.
 use Rattle.std.proofs.Common.{◌≡◌, ℕ, ◌+◌, ◌≤◌, Bool, true, false, cond, List, ◌++◌, length, drop, Option, Some, None, refl, ap, sym, ◌∙◌}
 use Rattle.std.specs.Prelude.{option_and_then}
 use Rattle.std.specs.FinSet as set

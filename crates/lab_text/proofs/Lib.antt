@@ -2,5 +2,5 @@ pub mod ScanLemmas
 pub mod PolicyLemmas
 pub mod NameLemmas
 pub mod LabelLemmas
-pub mod Made
+pub mod PolicyFacts
 pub mod Parsed

@@ -1,4 +1,4 @@
--- What texts say, and that a label's text says that label.
+-- The labels that texts denote; a label's text denotes that label.
 use Rattle.std.specs.Prelude.{◌≡◌, ℕ, ◌+◌, ◌-◌, ◌≤◌, ◌<◌, Bool, true, false, not, ◌&&◌, ◌||◌, nat_eq, nat_le, nat_lt, cond, List, [], ◌∷◌, ◌++◌, length, take, drop, get_or, Option, None, Some, option_and_then, is_some, refl, zero, suc}
 use Rattle.std.specs.FinSet as set
 use Rattle.std.specs.List.{list_all, list_any, slice_split, position_or_len, range_with_len, All}
@@ -20,7 +20,7 @@ use Rattle.lab_text.specs.Names.{Names, same_bytes, is_label_name, is_letter, is
 use Rattle.lab_text.specs.Policy.{PolicyNames, MakePolicy, top_of, is_valid}
 use Rattle.lab_text.specs.Text.{is_colon, is_comma, LabelWords, parts_of, label_words, is_label_text, places_of, label_of, parse_label, Breaks, first_unknown, unknown_in, SaysNone, names_in, past_mark, label_text}
 use Rattle.fs_path.proofs.SplitLemmas.{position_found}
-use Rattle.lab_text.proofs.Made.{made, unlisted_unplaced, place_of_own}
+use Rattle.lab_text.proofs.PolicyFacts.{policy_facts, unlisted_unplaced, place_of_own}
 use Rattle.lab_text.specs.declared.text.LabelError.{LabelError}
 use Rattle.lab_text.specs.declared.text.LabelError.TheVariants as error
 
@@ -99,7 +99,7 @@ none_parsed : (p : PolicyNames) (o : Option LabelWords) (e : LabelError) → opt
 none_parsed p None e h = refl
 none_parsed p (Some w) e h = not_parsed p w e h
 
--- a text that says no label for a cause stands for none
+-- a text that denotes no label for a cause denotes none
 pub says_none : (p : PolicyNames) (text : List ℕ) (e : LabelError) → SaysNone p text e → parse_label p text ≡ None
 unfolding parse_label
 says_none p text (error.Syntax at) h = ap (option_and_then (label_of p)) (no_words text h.is_none)
@@ -157,7 +157,7 @@ places_within known (w ∷ ws) is q h has = by_parts (place_of known w) (places_
           | inr t ↦ rest js f t
         ]
 
--- a label that a text stands for is valid
+-- a label that a text denotes is valid
 pub parsed_valid : (p : PolicyNames) (text : List ℕ) (label : Label) → parse_label p text ≡ Some label → is_valid p label ≡ true
 unfolding parse_label
 parsed_valid p text label h = by_words (label_words text) h
@@ -211,7 +211,7 @@ without_commas (b ∷ bs) h =
     let both = and_parts (is_name_part b) (list_all is_name_part bs) h in
     All-cons (λ x. is_comma x ≡ false) b bs (no_comma b both.0) (without_commas bs both.1)
 
--- names behind commas are the pieces between these
+-- names after commas are the pieces between these
 split_marked : (n : List ℕ) (ns : Names) → is_label_name n ≡ true → list_all is_label_name ns ≡ true → slice_split is_comma (n ++ past_mark 44 ns) ≡ n ∷ ns
 split_marked n [] h all = ap (slice_split is_comma) (append-nil n) ∙ slice_split_none is_comma n (without_commas n (name_parts n h))
 split_marked n (m ∷ ms) h all =
@@ -302,7 +302,7 @@ numbers_back cats ns within = same_cats _ cats (λ q. set.contains-from_list_nat
     all_there true q k within = let below = within refl in grind (arith, nat_tests)
     all_there false q k within = refl
 
--- names as they stand in a label's text
+-- the names in a label's text
 pub record AreWritten (text : List ℕ) : Type 0 where
   pub level : List ℕ
   pub cats : Names
@@ -310,11 +310,11 @@ pub record AreWritten (text : List ℕ) : Type 0 where
   pub level_name : is_label_name level ≡ true
   pub cat_names : list_all is_label_name cats ≡ true
 
--- the text of a valid label is made of names
+-- the text of a valid label is one of names
 pub text_names : (p : PolicyNames) (label : Label) → MakePolicy p → is_valid p label ≡ true → AreWritten (label_text p label)
 unfolding label_text
 text_names p label h valid =
-    let is = made p h in
+    let is = policy_facts p h in
     let some = is.some in
     let level = valid_level p label valid in
     let within : label.first < length p.levels = omega arith in
@@ -326,11 +326,11 @@ text_names p label h valid =
       cat_names = names_in_names label.second 0 p.cats is.cat_names;
     }
 
--- a label's text says that label
+-- a label's text denotes that label
 pub parse_text : (p : PolicyNames) (label : Label) → MakePolicy p → is_valid p label ≡ true → parse_label p (label_text p label) ≡ Some label
 unfolding parse_label label_text text_names
 parse_text p label h valid =
-    let is = made p h in
+    let is = policy_facts p h in
     let some = is.some in
     let level = valid_level p label valid in
     let within : label.first < length p.levels = omega arith in

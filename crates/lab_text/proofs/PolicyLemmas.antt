@@ -9,18 +9,18 @@ use Rattle.lab_lattice.specs.Laws.{has-no_cats, has-one_cat, has-cats_join, same
 use Rattle.lab_text.specs.Names.{same_bytes, place_of}
 use Rattle.lab_text.specs.Policy.{PolicyNames, MakePolicy, top_of}
 use Rattle.fs_path.proofs.SplitLemmas.{position_found}
-use Rattle.lab_text.proofs.Made.{made}
+use Rattle.lab_text.proofs.PolicyFacts.{policy_facts}
 use Rattle.lab_text.proofs.Parsed.{has-first_cats}
 
 -- ---- places fit
 
 pub level_low : (p : PolicyNames) (name : List ℕ) (i : ℕ) → MakePolicy p → place_of p.levels name ≡ Some i → i ≤ 15
-level_low p name i h e = let few = (made p h).few_levels in let found = position_found (same_bytes name) p.levels i e in omega arith
+level_low p name i h e = let few = (policy_facts p h).few_levels in let found = position_found (same_bytes name) p.levels i e in omega arith
 
 pub cat_low : (p : PolicyNames) (name : List ℕ) (i : ℕ) → MakePolicy p → place_of p.cats name ≡ Some i → i < 64
-cat_low p name i h e = let few = (made p h).few_cats in let found = position_found (same_bytes name) p.cats i e in omega arith
+cat_low p name i h e = let few = (policy_facts p h).few_cats in let found = position_found (same_bytes name) p.cats i e in omega arith
 
--- what a call answers that answers where its number is low enough
+-- what a call returns that returns a value where its number is low enough
 pub answered : {A : Type 0} (r : Option A) (x : A) (P : Type 0) → (IsSome r ↔ P) → IfSome r (λ y. y ≡ x) → P → r ≡ Some x
 answered None x P s i p = let some = s.1 p in absurd (cc)
 answered (Some y) x P s i p = ap Some i

@@ -1,4 +1,4 @@
--- The reading of a text, byte by byte, judges its form.
+-- The reading of a text, byte by byte, decides its form.
 use Rattle.std.proofs.Common.{◌≡◌, ℕ, ◌+◌, ◌≤◌, ◌<◌, Bool, true, false, ◌==◌, ◌&&◌, cond, not, nat_le, nat_lt, List, [], ◌∷◌, ◌++◌, length, take, drop, get_or, suc, refl, sym, subst, ◌∙◌, ap, arith, Option, Some, None, MatchOption}
 use Rattle.std.specs.Prelude.{is_some}
 use Rattle.std.specs.Bool.{then_some}
@@ -111,7 +111,7 @@ name_no_mark false n b e = grind (arith, nat_tests)
 more_short : (n b : ℕ) → may_name n b ≡ true → n + 1 ≤ 31
 more_short n b e = grind (arith, nat_tests)
 
--- ---- behind the colon
+-- ---- after the colon
 
 -- whether the first of these bytes complete a name of n bytes so far, and the others are names
 abbrev ends_names : ℕ → Names → Bool
@@ -207,7 +207,7 @@ completes s = by_zero (s.len == 0) refl
     by_zero true e = ap (λ z. holds_of (goes_on []) (cond z (Some (scan_at s.in_cats 1)) (cond (nat_lt s.len 31) (Some (scan_at s.in_cats (s.len + 1))) None))) e
     by_zero false e = ap not e
 
--- what a reading that came to `s` says of the text so far
+-- what a reading that came to `s` implies for the text so far
 abbrev pub ReadTo : List ℕ → ℕ → Scan → Type 0
 ReadTo text at s = (rest : List ℕ) → goes_on (take at text ++ rest) (scan_at false 0) ≡ goes_on rest s
 

@@ -22,7 +22,7 @@ abbrev pub is_label_name : List ℕ → Bool
 is_label_name [] = false
 is_label_name (b ∷ bs) = is_letter b && nat_le (length bs) 30 && list_all is_name_part bs
 
--- no name stands twice
+-- no two names are equal
 abbrev pub are_distinct : Names → Bool
 are_distinct [] = true
 are_distinct (x ∷ xs) = not (list_any (same_bytes x) xs) && are_distinct xs

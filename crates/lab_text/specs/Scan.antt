@@ -3,7 +3,7 @@ use Rattle.std.specs.Prelude.{ℕ, ◌+◌, Bool, true, ◌==◌, nat_lt, cond, 
 use Rattle.lab_text.specs.Names.{is_letter, is_name_part}
 use Rattle.lab_text.specs.declared.scan.Scan.{Scan}
 
--- what may end a name: a colon behind the level, a comma behind a category
+-- what may end a name: a colon after the level, a comma after a category
 abbrev pub mark_of : Bool → ℕ
 mark_of in_cats = cond in_cats 44 58
 

@@ -23,7 +23,7 @@ pub record LabelWords : Type 0 where
   pub level : List ℕ
   pub cats : Names
 
--- what stands before a colon, and the pieces between commas behind it
+-- the text before a colon, and the pieces between commas after it
 abbrev pub parts_of : List ℕ → LabelWords
 parts_of text = cond (list_any is_colon text)
     (record { level = before_first is_colon text; cats = slice_split is_comma (after_first is_colon text) })
@@ -37,7 +37,7 @@ label_words text = cond (is_label_name (parts_of text).level && list_all is_labe
 abbrev pub is_label_text : List ℕ → Bool
 is_label_text text = is_some (label_words text)
 
--- ---- what a text says
+-- ---- the label that a text denotes
 
 -- the places of names in their list, where each is in it
 abbrev pub places_of : Names → Names → Option (List ℕ)
@@ -48,13 +48,13 @@ places_of names (w ∷ ws) = option_and_then (λ i. option_map (λ is. i ∷ is)
 abbrev pub label_of : PolicyNames → LabelWords → Option Label
 label_of p w = option_and_then (λ level. option_map (λ cats. record { first = level; second = set.from_list cats }) (places_of p.cats w.cats)) (place_of p.levels w.level)
 
--- the label that a text stands for
+-- the label that a text denotes
 unfoldable pub parse_label : PolicyNames → List ℕ → Option Label
 parse_label p text = option_and_then (label_of p) (label_words text)
 
--- ---- why a text says none
+-- ---- why a text denotes none
 
--- a front of a label's text
+-- bytes that begin some label's text
 pub record CanGoOn (prefix : List ℕ) : Type 0 where
   pub rest : List ℕ
   pub is_label : is_label_text (prefix ++ rest) ≡ true
@@ -66,7 +66,7 @@ pub record Breaks (text : List ℕ) (at : ℕ) : Type 0 where
   pub so_far : CanGoOn (take at text)
   pub no_further : at < length text → (rest : List ℕ) → is_label_text (take (at + 1) text ++ rest) ≡ false
 
--- the place of the first name that is not in a list, among names of which the first stands at a place, with one byte between them
+-- the place of the first name that is not in a list, among names with one byte between them, the first of them at a place
 abbrev pub first_unknown : Names → ℕ → Names → Option ℕ
 first_unknown known at [] = None
 first_unknown known at (w ∷ ws) = cond (list_any (same_bytes w) known) (first_unknown known (at + length w + 1) ws) (Some at)
@@ -75,7 +75,7 @@ first_unknown known at (w ∷ ws) = cond (list_any (same_bytes w) known) (first_
 abbrev pub unknown_in : PolicyNames → LabelWords → Option LabelError
 unknown_in p w = cond (list_any (same_bytes w.level) p.levels) (option_map error.UnknownCategory (first_unknown p.cats (length w.level + 1) w.cats)) (Some (error.UnknownLevel 0))
 
--- a text says no label for this cause: its form, and only then its first unknown name
+-- a text denotes no label for this cause: its form, and only then its first unknown name
 abbrev pub SaysNone : PolicyNames → List ℕ → LabelError → Type 0
 SaysNone p text (error.Syntax at) = Breaks text at
 SaysNone p text e = option_and_then (unknown_in p) (label_words text) ≡ Some e
@@ -87,11 +87,11 @@ abbrev pub names_in : CatSet → ℕ → Names → Names
 names_in cats i [] = []
 names_in cats i (n ∷ ns) = cond (has_cat cats i) (n ∷ names_in cats (i + 1) ns) (names_in cats (i + 1) ns)
 
--- names, the first behind a mark and each further one behind a comma
+-- names, the first after a mark and each further one after a comma
 abbrev pub past_mark : ℕ → Names → List ℕ
 past_mark mark [] = []
 past_mark mark (n ∷ ns) = mark ∷ n ++ past_mark 44 ns
 
--- the level's name, and behind a colon the names of the categories in the policy's order
+-- the level's name, and after a colon the names of the categories in the policy's order
 unfoldable pub label_text : PolicyNames → Label → List ℕ
 label_text p label = get_or p.levels label.first [] ++ past_mark 58 (names_in label.second 0 p.cats)

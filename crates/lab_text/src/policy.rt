@@ -27,7 +27,7 @@ pub enum PolicyError {
     TooMany,
     /// A name has no bytes or more than 31, does not begin with a letter, or has a byte besides letters, digits, `_` and `-`.
     BadName,
-    /// A name stands twice among the levels or twice among the categories.
+    /// Two levels or two categories have one name.
     Repeated,
     /// Memory ran out.
     NoMemory(NoMemory),
@@ -69,7 +69,7 @@ pub fn are_label_names(names: &[Word]) -> bool
     names.iter().all(|word| is_label_name(word.bytes()))
 }
 
-// Whether no name stands twice.
+// Whether no two names are equal.
 fn are_distinct(names: &[Word]) -> bool
     ensures { result ≡ are_distinct names.now }
 {
@@ -122,9 +122,9 @@ fn cats_below(n: u8) -> Cats
 }
 
 impl Policy {
-    /// The policy of these names, where they make one. The first error of the list in `PolicyError` that applies is answered.
+    /// The policy of these names. Of the errors of `PolicyError` the first that applies is returned.
     pub fn new(alloc: Global, levels: &[Word], cats: &[Word]) -> Result<Policy, PolicyError>
-        ensures made { IfOk result (λ policy. policy ≡ record { levels = levels.now; cats = cats.now }) }
+        ensures names { IfOk result (λ policy. policy ≡ record { levels = levels.now; cats = cats.now }) }
         ensures policy { IfOk result MakePolicy }
         ensures none { IfErr result (MakeNone levels.now cats.now) }
     {
@@ -136,7 +136,7 @@ impl Policy {
         Ok(Policy { levels, cats })
     }
 
-    /// The memory that its names stand in.
+    /// The allocator of its names.
     pub fn allocator(&self) -> Global {
         *self.levels.allocator()
     }

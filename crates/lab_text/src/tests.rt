@@ -1,4 +1,4 @@
-// What no clause says: tables of what texts stand for.
+// Tables of texts and what they denote.
 use crate::LabelError::{Syntax, UnknownCategory, UnknownLevel};
 use crate::*;
 use lab_lattice::Lattice;
@@ -9,7 +9,7 @@ const THREE: &[u8] = b"unc conf sec";
 
 const TWO: &[u8] = b"a b";
 
-// Levels and categories, a text, and the text of the label that it stands for or why it stands for none.
+// Levels and categories, a text, and the text of the label that it denotes or why it denotes none.
 const LABEL_TEXTS: [(&[u8], &[u8], &[u8], Result<&[u8], LabelError>); 23] = [
     (THREE, TWO, b"sec:b,a", Ok(b"sec:a,b")),
     (THREE, TWO, b"sec:", Err(Syntax(4))),

@@ -12,18 +12,19 @@ use fs_path::first_piece;
 use lab_lattice::{Cats, Label, Lattice, Level, Pair};
 use std::alloc::Global;
 
-/// Why a text stands for no label. Places are bytes, counted from 0.
+/// Why a text denotes no label. Places are bytes, counted from 0.
 #[derive(Clone, Copy, Debug, PartialEq, Eq)]
 pub enum LabelError {
-    /// It is not a name, or a name, `:` and a comma list of names; from this place on no such text can go on as it does.
+    /// The text is neither a name nor a name, `:` and a comma list of names: no such text has the byte at this place after the
+    /// bytes before it, or the text ends too early, at this place.
     Syntax(usize),
-    /// The name of the level, which stands here, is not the policy's.
+    /// The name of the level, which begins at this place, is not in the policy.
     UnknownLevel(usize),
-    /// The name of a category, which stands here, is not the policy's; the first such one.
+    /// The name of a category, which begins at this place, is not in the policy; it is the first such name.
     UnknownCategory(usize),
 }
 
-// The categories in a comma list that stands at `start`, if there is one, or the first that the policy does not know.
+// The categories in a comma list that begins at `start`, if there is one, or the first name that is not in the policy.
 fn cats_named(policy: &Policy, list: Option<&[u8]>, start: usize) -> Result<Cats, LabelError>
     requires { start + bytes_from (option_copied list) < 2 ^ 64 }
     ensures cats { IfOk result (λ cats. option_map set.from_list (places_of policy.now.cats (pieces_of_rest 44 (option_copied list.entry))) ≡ Some cats) }
@@ -44,7 +45,7 @@ fn cats_named(policy: &Policy, list: Option<&[u8]>, start: usize) -> Result<Cats
     Ok(cats)
 }
 
-/// The label that a text stands for. Its form is judged before any name.
+/// The label that a text denotes. Its form is checked before any name.
 pub fn mac_from_text(policy: &Policy, text: &[u8]) -> Result<Label, LabelError>
     ensures parsed { IfOk result (λ label. parse_label policy.now text.now ≡ Some label) }
     ensures valid { IfOk result (λ label. is_valid policy.now label ≡ true) }

@@ -9,7 +9,7 @@ use Rattle.std.proofs.lemmas.Bool.Decides.{nat_tests}
 use Rattle.std.proofs.lemmas.Int.{ints}
 use Rattle.fs_path.specs.Split.{split_once}
 use Rattle.fs_path.specs.Options.{keep_if}
-use Rattle.fs_path.specs.Values.{mode_of, number_of, numeral, worth}
+use Rattle.fs_path.specs.Values.{mode_of, number_of, numeral, digits_value}
 use Rattle.fs_path.specs.Words.{is_blank, words_of}
 use Rattle.fs_path.specs.declared.words.LineWord.{LineWord}
 use Rattle.kern_model.specs.Arguments.{are_flags, is_call, is_number}
@@ -61,9 +61,9 @@ from_made P make (Err e) b h p = absurd (cc)
 numeral_within : (base most low high : ℕ) (w : List ℕ) (n : ℕ) → numeral base most low high w ≡ Some n → (nat_le low n ≡ true) × (nat_le n high ≡ true)
 unfolding numeral
 numeral_within base most low high w n h =
-    let is = kept _ (worth base 0 w) n h in
-    let upper = and_parts _ (nat_le (worth base 0 w) high) is.0 in
-    let lower = and_parts _ (nat_le low (worth base 0 w)) upper.0 in
+    let is = kept _ (digits_value base 0 w) n h in
+    let upper = and_parts _ (nat_le (digits_value base 0 w) high) is.0 in
+    let lower = and_parts _ (nat_le low (digits_value base 0 w)) upper.0 in
     (ap (nat_le low) (sym is.1) ∙ lower.1, ap (λ v. nat_le v high) (sym is.1) ∙ upper.1)
 
 mode_fine : (w : List ℕ) (m : ℕ) → a_mode w ≡ Ok m → is_mode m ≡ true

@@ -19,7 +19,7 @@ use Rattle.fs_path.specs.Path.{PathValue}
 use Rattle.fs_path.specs.Values.{mode_text, groups_text}
 use Rattle.fs_path.specs.Words.{has_spelling, with_quotes_if_needed, spelling, line_text}
 use Rattle.lab_lattice.specs.Label.{Label, dominates, bottom, dominates_itself}
-use Rattle.lab_text.proofs.Made.{made}
+use Rattle.lab_text.proofs.PolicyFacts.{policy_facts}
 use Rattle.lab_text.specs.Names.{Names, same_bytes, is_label_name}
 use Rattle.lab_text.specs.Policy.{PolicyNames, MakePolicy, is_valid}
 use Rattle.lab_text.proofs.Parsed.{parse_text}
@@ -106,7 +106,7 @@ levels_line : (policy : PolicyNames) → MakePolicy policy → IsShort (names_wo
     → parse_line at.Levels (text_of (names_words (codes "levels") policy.levels)) ≡ GoesOn (at.Categories policy.levels)
 unfolding parse_words
 levels_line policy h short =
-    let is = made policy h in
+    let is = policy_facts policy h in
     let some : (length policy.levels == 0) ≡ false = ne_eqb (length policy.levels) 0 (λ e. let some = is.some in omega arith) in
     let form = or_from _ _ some (ap not is.level_names) in
     line_is at.Levels (codes "levels") (map bare policy.levels) refl (names_spelling policy.levels is.level_names) short ∙ ap parse_levels (canonical_names policy.levels)
@@ -116,7 +116,7 @@ categories_line : (policy : PolicyNames) → MakePolicy policy → IsShort (name
     → parse_line (at.Categories policy.levels) (text_of (names_words (codes "categories") policy.cats)) ≡ GoesOn (at.Bound policy)
 unfolding parse_words
 categories_line policy h short =
-    let is = made policy h in
+    let is = policy_facts policy h in
     line_is (at.Categories policy.levels) (codes "categories") (map bare policy.cats) refl (names_spelling policy.cats is.cat_names) short ∙ ap (parse_categories policy.levels) (canonical_names policy.cats)
     ∙ cond-false _ _ _ (ap not is.cat_names) ∙ cond-false _ _ _ (le-ltb 64 (length policy.cats) is.few_cats) ∙ cond-false _ _ _ (ap not is.cats_apart)
 
@@ -371,7 +371,7 @@ processes_spelling policy (p ∷ ps) h valid written = and_from _ _ (process_spe
 
 head_spelling : (policy : PolicyNames) (bound : CapSet) → MakePolicy policy → list_all (list_all has_spelling) (head_words policy bound) ≡ true
 head_spelling policy bound h =
-    let is = made policy h in
+    let is = policy_facts policy h in
     and_from _ _ (names_spelling policy.levels is.level_names) (and_from _ _ (names_spelling policy.cats is.cat_names) (and_from _ _ (and_from _ _ (bound_bare bound) refl) refl))
 
 some_objects : (os : List WorldObject) (first : WorldObject) (others : List WorldObject) → os ≡ first ∷ others → (length os == 0) ≡ false

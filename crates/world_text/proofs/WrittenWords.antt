@@ -8,7 +8,7 @@ use Rattle.std.proofs.lemmas.List.Folds.{list_all-append}
 use Rattle.fs_path.specs.declared.words.LineWord.{LineWord}
 use Rattle.fs_path.proofs.RoundTrip.{line_round_trip}
 use Rattle.fs_path.specs.Split.{pieces}
-use Rattle.fs_path.specs.Words.{is_space, is_plain, is_bare, is_bare_text, is_blank, hex_digit, item_text, quoted_text, has_spelling, spelling, after_spaces, line_text, says_nothing}
+use Rattle.fs_path.specs.Words.{is_space, is_plain, is_bare, is_bare_text, is_blank, hex_digit, item_text, quoted_text, has_spelling, spelling, after_spaces, line_text, is_empty_or_comment}
 use Rattle.world_text.specs.declared.fault.WorldFault.TheVariants.{Syntax}
 use Rattle.world_text.specs.declared.expecting.Expecting.{Expecting}
 use Rattle.world_text.specs.Expecting.{with_form, parse_words, parse_line}
@@ -106,7 +106,7 @@ unfolding is_blank
 not_blank [] rest begins = absurd (cc)
 not_blank (b ∷ bs) rest begins =
     let parts = and_parts (not (is_space b)) (not (b == 35)) begins in
-    ap (λ v. says_nothing (drop (cond v (1 + prefix_len is_space (bs ++ rest)) 0) (b ∷ (bs ++ rest)))) (not-true (is_space b) parts.0) ∙ not-true (b == 35) parts.1
+    ap (λ v. is_empty_or_comment (drop (cond v (1 + prefix_len is_space (bs ++ rest)) 0) (b ∷ (bs ++ rest)))) (not-true (is_space b) parts.0) ∙ not-true (b == 35) parts.1
 
 -- a line that is written says what its words say
 pub line_is : (expecting : Expecting) (key : List ℕ) (ws : List LineWord) → begins_line key ≡ true → list_all has_spelling (bare key ∷ ws) ≡ true

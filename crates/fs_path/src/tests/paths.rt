@@ -1,9 +1,9 @@
-// What no clause says: how texts of paths are read, against a table.
+// How texts of paths are read, against tables.
 use crate::{Name, Path, PathError};
 use std::alloc::Global;
 use std::test::Fail;
 
-// A text: what stands in front, a part, how often it stands behind that, and what stands behind the parts.
+// A text: its beginning, a part, how often the part follows, and its end.
 type Text = (&'static [u8], &'static [u8], usize, &'static [u8]);
 
 // Whether a path starts at the root, and its names.

@@ -1,11 +1,11 @@
-// What no clause says: lines, values and what is written of them, against tables.
+// Lines, values and how they are written, against tables.
 use crate::{
     NoMemory, groups_of, is_blank, mode_of, number_of, put_groups, put_mode, put_number,
     put_quoted, put_word, words_of,
 };
 use std::alloc::Global;
 
-// Whether a line is read as these words, of which each is said to be quoted or not.
+// Whether a line is read as these words, each with whether it is quoted.
 fn reads(alloc: Global, line: &[u8], due: &[(bool, &[u8])]) -> Result<bool, NoMemory> {
     let Some(words) = words_of(alloc, line)? else {
         return Ok(false);

@@ -13,17 +13,17 @@ cut : (c : After-split_at) → IsPrefix (λ b. not (is_blank b)) c.loop-left.lef
 cut c = prefix_of (λ b. not (is_blank b)) c.clause_len.result c.loop-left.left.now c.split_at.result.0.now c.split_at.result.1.now c.clause_len.ensures.count c.split_at.ensures.front c.split_at.ensures.back
 
 pub returns-then-is_empty : goal.returns-then-is_empty
-returns-then-is_empty c = record { parsed = sym (no_clause c.args.text.now c.past_blanks-left.result.now c.past_blanks-left.ensures (sym c.is_empty.ensures ∙ c.if-is_empty.true)) }
+returns-then-is_empty c = record { parsed = sym (no_clause c.args.text.now c.trim_blanks-left.result.now c.trim_blanks-left.ensures (sym c.is_empty.ensures ∙ c.if-is_empty.true)) }
 
 pub loop-left-init : goal.loop-left-init
 loop-left-init c =
     let text = c.args.text.now in
-    let left = c.past_blanks-left.result.now in
+    let left = c.trim_blanks-left.result.now in
     let short = length-drop (prefix_len is_blank text) text in
-    let len = ap length c.past_blanks-left.ensures in
+    let len = ap length c.trim_blanks-left.ensures in
     record {
-      parsed = first_clause text left c.past_blanks-left.ensures (sym c.is_empty.ensures ∙ c.if-is_empty.false) ∙ ap (parse_clauses (clauses_of (length text - length left) left)) (sym c.none-state.ensures);
-      stops = subst (Stops is_blank) (sym c.past_blanks-left.ensures) (after_stops is_blank text);
+      parsed = first_clause text left c.trim_blanks-left.ensures (sym c.is_empty.ensures ∙ c.if-is_empty.false) ∙ ap (parse_clauses (clauses_of (length text - length left) left)) (sym c.none-state.ensures);
+      stops = subst (Stops is_blank) (sym c.trim_blanks-left.ensures) (after_stops is_blank text);
       within = omega arith;
     }
 
@@ -47,14 +47,14 @@ loop-left-preserved c =
     let left = c.loop-left.left.now in
     let clause = c.split_at.result.0.now in
     let rest = c.split_at.result.1.now in
-    let next = c.past_blanks-left-in-loop-left.result.now in
+    let next = c.trim_blanks-left-in-loop-left.result.now in
     let short = length-drop (prefix_len is_blank rest) rest in
-    let len = ap length c.past_blanks-left-in-loop-left.ensures in
+    let len = ap length c.trim_blanks-left-in-loop-left.ensures in
     record {
       parsed = c.loop-left.invariant.parsed
-          ∙ ap (λ clauses. parse_clauses clauses c.loop-left.state) (next_clause (length text) left clause rest next (cut (goal.at.loop-left-preserved c).After-split_at) (sym c.is_empty-in-loop-left.ensures ∙ c.loop-left-test.true) c.loop-left.invariant.stops c.past_blanks-left-in-loop-left.ensures c.loop-left.invariant.within)
+          ∙ ap (λ clauses. parse_clauses clauses c.loop-left.state) (next_clause (length text) left clause rest next (cut (goal.at.loop-left-preserved c).After-split_at) (sym c.is_empty-in-loop-left.ensures ∙ c.loop-left-test.true) c.loop-left.invariant.stops c.trim_blanks-left-in-loop-left.ensures c.loop-left.invariant.within)
           ∙ clause_taken (record { at = length text - length left; bytes = clause }) (clauses_of (length text - length next) next) c.loop-left.state c.in_ok-state.state (sym c.read_clause.ensures ∙ c.in_ok-state.was);
-      stops = subst (Stops is_blank) (sym c.past_blanks-left-in-loop-left.ensures) (after_stops is_blank rest);
+      stops = subst (Stops is_blank) (sym c.trim_blanks-left-in-loop-left.ensures) (after_stops is_blank rest);
       within = omega arith;
     }
 

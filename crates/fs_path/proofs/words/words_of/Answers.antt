@@ -4,16 +4,16 @@ use Rattle.fs_path.proofs.WordSteps.{word_shorter, past_shorter}
 use Rattle.fs_path.proofs.words.words_of.Goals as goal
 
 pub loop-left-init : goal.loop-left-init
-loop-left-init c = words_init c.args.line.now c.past_spaces-left.result.now c.new-words.result c.new-words.ensures c.past_spaces-left.ensures
+loop-left-init c = words_init c.args.line.now c.trim_spaces-left.result.now c.new-words.result c.new-words.ensures c.trim_spaces-left.ensures
 
 pub loop-left-smaller : goal.loop-left-smaller
 loop-left-smaller c =
     let short = word_shorter c.loop-left.left.now c.in-Some.rest.now c.in-Some.word (rw c.in-Some.is at c.in_ok-word.ensures) in
     let past = past_shorter c.in-Some.rest.now in
-    let len = ap length c.past_spaces-left-in-loop-left.ensures in
+    let len = ap length c.trim_spaces-left-in-loop-left.ensures in
     omega arith
 
 pub loop-left-preserved : goal.loop-left-preserved
 loop-left-preserved c =
     c.loop-left.invariant
-    ∙ words_step c.loop-left.left.now c.in-Some.rest.now c.past_spaces-left-in-loop-left.result.now c.in-Some.word c.loop-left.words c.push.new.self (rw c.in-Some.is at c.in_ok-word.ensures) c.in_ok-push.ensures.ok c.past_spaces-left-in-loop-left.ensures
+    ∙ words_step c.loop-left.left.now c.in-Some.rest.now c.trim_spaces-left-in-loop-left.result.now c.in-Some.word c.loop-left.words c.push.new.self (rw c.in-Some.is at c.in_ok-word.ensures) c.in_ok-push.ensures.ok c.trim_spaces-left-in-loop-left.ensures

@@ -1,7 +1,7 @@
 use Rattle.std.proofs.Common.{◌++◌, length, ap, ◌∙◌, arith}
 use Rattle.lab_text.specs.Names.{Names}
 use Rattle.lab_text.specs.Text.{names_in, past_mark, label_text, parse_label}
-use Rattle.lab_text.proofs.Made.{made}
+use Rattle.lab_text.proofs.PolicyFacts.{policy_facts}
 use Rattle.lab_text.proofs.Parsed.{parse_text}
 use Rattle.lab_text.proofs.LabelLemmas.{all_written}
 use Rattle.lab_text.proofs.text.mac_to_text.Goals as goal
@@ -12,7 +12,7 @@ loop-place-init c = ap (λ t. t ++ past_mark 58 (names_in c.args.label.now.secon
 
 pub overflow_cast-place : goal.overflow_cast-place
 overflow_cast-place c =
-    let few = (made c.args.policy.now c.cats-name-items.ensures.policy).few_cats in
+    let few = (policy_facts c.args.policy.now c.cats-name-items.ensures.policy).few_cats in
     let count = ap (λ (names : Names). length names) c.cats-name-items.ensures.names in
     omega arith
 

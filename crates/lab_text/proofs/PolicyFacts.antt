@@ -1,4 +1,4 @@
--- What names have that make a policy, and where a name stands in its list.
+-- What holds of names that make a policy, and the places of names in their list.
 use Rattle.std.specs.Prelude.{◌≡◌, ℕ, ◌+◌, ◌≤◌, ◌<◌, Bool, true, false, not, ◌||◌, ◌==◌, nat_lt, cond, List, [], ◌∷◌, length, get_or, Option, None, Some, position, refl, zero, suc}
 use Rattle.std.specs.List.{list_all, list_any, position_or_len}
 use Rattle.std.proofs.Common.{ap, sym, ◌∙◌, arith}
@@ -12,8 +12,8 @@ use Rattle.lab_text.specs.Names.{Names, same_bytes, is_label_name, are_distinct,
 use Rattle.lab_text.specs.Policy.{PolicyNames, names_fault, MakePolicy}
 use Rattle.lab_text.specs.declared.policy.PolicyError.{PolicyError}
 
--- what names have that make a policy
-pub record AreMade (p : PolicyNames) : Type 0 where
+-- what holds of names that make a policy
+pub record HasPolicyFacts (p : PolicyNames) : Type 0 where
   pub some : 1 ≤ length p.levels
   pub few_levels : length p.levels ≤ 16
   pub few_cats : length p.cats ≤ 64
@@ -33,9 +33,9 @@ not_false false h = cc
 at_least_one : (n : ℕ) → (n == 0) ≡ false → 1 ≤ n
 at_least_one n h = grind (arith, nat_tests)
 
-pub made : (p : PolicyNames) → MakePolicy p → AreMade p
+pub policy_facts : (p : PolicyNames) → MakePolicy p → HasPolicyFacts p
 unfolding names_fault
-made p h =
+policy_facts p h =
     let one = no_fault _ _ _ h in
     let two = no_fault _ _ _ one.1 in
     let three = no_fault _ _ _ two.1 in
@@ -59,7 +59,7 @@ made p h =
 pub unlisted_unplaced : (names : Names) (word : List ℕ) → list_any (same_bytes word) names ≡ false → place_of names word ≡ None
 unlisted_unplaced names word h = ap (λ v. cond v (Some (position_or_len (same_bytes word) names)) None) (sym (any_before_end (same_bytes word) names) ∙ h)
 
--- a name differs from those before it, where no name stands twice
+-- a name differs from those before it, where no two names are equal
 apart_before : (names : Names) (i k : ℕ) → are_distinct names ≡ true → k < i → i < length names → same_bytes (get_or names i []) (get_or names k []) ≡ false
 apart_before [] i k d lt within = absurd (omega arith)
 apart_before (x ∷ xs) zero k d lt within = absurd (omega arith)
@@ -70,7 +70,7 @@ apart_before (x ∷ xs) (suc i) zero d lt within =
 apart_before (x ∷ xs) (suc i) (suc k) d lt within =
     apart_before xs i k (and_parts (not (list_any (same_bytes x) xs)) (are_distinct xs) d).1 (omega arith) (omega arith)
 
--- each name has the place where it stands, where no name stands twice
+-- each name has its own place, where no two names are equal
 pub place_of_own : (names : Names) (i : ℕ) → are_distinct names ≡ true → i < length names → place_of names (get_or names i []) ≡ Some i
 place_of_own names i d within =
     let first : position_or_len (same_bytes (get_or names i [])) names ≡ i =
