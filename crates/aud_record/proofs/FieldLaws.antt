@@ -42,15 +42,16 @@ use Rattle.kern_model.specs.declared.checks.Thing.TheVariants as thing
 use Rattle.kern_model.specs.declared.numbers.Oid.{Oid}
 use Rattle.kern_model.specs.declared.numbers.Pid.{Pid}
 use Rattle.kern_model.specs.Named.{named, named_is, call_round_trip, check_round_trip, errno_round_trip}
+use Rattle.line_text.specs.Ranges.{are_bytes}
+use Rattle.line_text.specs.Words.{pid_text, oid_text, caps_word, thing_text, new_label_text}
 use Rattle.aud_record.specs.Events.{event_word}
-use Rattle.aud_record.specs.Fits.{numbered_fits, pid_fits, oid_fits, thing_fits, new_label_fits, place_fits, are_bytes}
+use Rattle.aud_record.specs.Fits.{numbered_fits, pid_fits, oid_fits, thing_fits, new_label_fits, place_fits}
 use Rattle.aud_record.specs.Forms.{Choice, first_of, other_of, OnOrOff, ExitOrKill, TermOrKill, Field, Number, Either, Kind, Capability, Check, Error, Call, Process, Object, Mark, NewMark, Caps, Bytes, About, Where, Of, canonical}
 use Rattle.aud_record.proofs.ListedLaws.{event_round_trip, cap_round_trip}
 use Rattle.aud_record.proofs.Numbers.{same_itself, same_is, kept_is, number_is, number_round_trip}
 use Rattle.aud_record.proofs.Quoted.{unquoted_bytes, quoted_unquoted, plain_small}
 use Rattle.aud_record.specs.Canonical.{canonical_number, canonical_label, canonical_numbered, canonical_pid, canonical_oid, after_prefix, canonical_thing, canonical_new_label, canonical_step, canonical_place, unquoted, canonical_bytes, canonical_caps, canonical_choice}
 use Rattle.aud_record.proofs.WordLaws.{lacks, lacks-append, split_round_trip, split_is, IsWord}
-use Rattle.aud_record.specs.Written.{pid_text, oid_text, caps_word, thing_text, new_label_text}
 use Rattle.aud_record.specs.declared.event.Event.{Event}
 use Rattle.aud_record.specs.declared.event.Event.TheVariants as event
 

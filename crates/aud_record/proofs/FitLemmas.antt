@@ -1,7 +1,6 @@
 -- A record with valid labels whose numbers and bytes are in range fits, and a record that fits has valid labels.
 use Rattle.std.specs.Prelude.{◌≡◌, ℕ, ◌^◌, ◌<◌, ◌&&◌, Bool, true, List, [], ◌∷◌, Option, None, Some, refl}
 use Rattle.std.specs.List.{list_all}
-use Rattle.std.proofs.Common.{suc, get_or}
 use Rattle.std.proofs.lemmas.Bool.{and_parts, and_from, lt-ltb}
 use Rattle.lab_lattice.specs.Label.{Label}
 use Rattle.lab_text.specs.Policy.{PolicyNames, is_valid}
@@ -13,15 +12,9 @@ use Rattle.kern_model.specs.declared.checks.Thing.{Thing}
 use Rattle.kern_model.specs.declared.checks.Thing.TheVariants as thing
 use Rattle.kern_model.specs.declared.records.Rec.{Rec}
 use Rattle.kern_model.specs.declared.records.Rec.TheVariants as rec
+use Rattle.line_text.specs.Ranges.{count_of, PlaceInRange, EndingInRange}
 use Rattle.aud_record.specs.Events.{who_of}
-use Rattle.aud_record.specs.Fits.{label_of, label_if, rest_labels, has_valid_labels, count_of, PlaceInRange, EndingInRange, are_bytes, RestInRange, IsInRange, numbered_fits, pid_fits, thing_fits, new_label_fits, place_fits, ending_fits, rest_tests, all_hold, rec_fits}
-
--- ---- ranges
-
--- items below 256 are bytes
-pub bytes_from : (xs : List ℕ) → ((i : ℕ) → get_or xs i 0 < 256) → are_bytes xs ≡ true
-bytes_from [] small = refl
-bytes_from (x ∷ xs) small = and_from _ _ (lt-ltb x 256 (small 0)) (bytes_from xs (λ i. small (suc i)))
+use Rattle.aud_record.specs.Fits.{label_of, label_if, rest_labels, has_valid_labels, RestInRange, IsInRange, numbered_fits, pid_fits, thing_fits, new_label_fits, place_fits, ending_fits, rest_tests, all_hold, rec_fits}
 
 -- ---- from labels and ranges
 

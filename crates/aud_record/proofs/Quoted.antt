@@ -9,8 +9,8 @@ use Rattle.fs_path.proofs.RoundTrip.{line_round_trip}
 use Rattle.fs_path.specs.Words.{is_plain, is_bare, is_apart, hex_value, hex_pair, escaped, first_item, onto_piece, items_within, items_of, quoted_word, leading_word, apart, first_word, trim_spaces, words_by, words_of, quoted_text, has_spelling}
 use Rattle.fs_path.proofs.WordSteps.{words_are}
 use Rattle.fs_path.specs.declared.words.LineWord.{LineWord}
+use Rattle.line_text.specs.Ranges.{are_bytes}
 use Rattle.aud_record.proofs.Numbers.{kept_is}
-use Rattle.aud_record.specs.Fits.{are_bytes}
 use Rattle.aud_record.specs.Canonical.{only_quoted, unquoted}
 
 -- ---- what is read is bytes

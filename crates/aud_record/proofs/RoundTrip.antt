@@ -11,6 +11,7 @@ use Rattle.lab_text.specs.Policy.{PolicyNames, MakePolicy}
 use Rattle.kern_model.specs.declared.numbers.Pid.{Pid}
 use Rattle.kern_model.specs.declared.records.Rec.{Rec}
 use Rattle.kern_model.specs.Named.{named}
+use Rattle.line_text.specs.Words.{pid_text}
 use Rattle.aud_record.specs.Events.{event_of, event_word, who_of, all_events}
 use Rattle.aud_record.proofs.FieldLaws.{canonical_is, canonical_round_trip, field_word}
 use Rattle.aud_record.specs.Fits.{pid_fits, rest_tests, all_hold, rec_fits}
@@ -22,7 +23,7 @@ use Rattle.aud_record.specs.Parsed.{parse_line, line_read, read_by, parse_rec}
 use Rattle.aud_record.specs.Canonical.{canonical_number, canonical_pid}
 use Rattle.aud_record.proofs.WordLaws.{lacks, lacks-append, split_round_trip, split_is, word_lacks}
 use Rattle.aud_record.specs.Words.{◌>>=◌, parse_word, parse_field}
-use Rattle.aud_record.specs.Written.{rest_words, rec_words, line_of, rec_text, pid_text}
+use Rattle.aud_record.specs.Written.{rest_words, rec_words, line_of, rec_text}
 use Rattle.aud_record.specs.declared.event.Event.{Event}
 use Rattle.aud_record.specs.declared.fault.Fault.{Fault}
 use Rattle.aud_record.specs.declared.reading.ReadRec.{ReadRec}

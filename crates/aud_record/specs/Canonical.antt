@@ -20,7 +20,7 @@ use Rattle.kern_model.specs.declared.checks.Thing.{Thing}
 use Rattle.kern_model.specs.declared.checks.Thing.TheVariants as thing
 use Rattle.kern_model.specs.declared.numbers.Oid.{Oid}
 use Rattle.kern_model.specs.declared.numbers.Pid.{Pid}
-use Rattle.aud_record.specs.Written.{caps_word}
+use Rattle.line_text.specs.Words.{caps_word}
 
 -- the number below a bound with these decimal digits
 unfoldable pub canonical_number : ℕ → List ℕ → Option ℕ

@@ -13,6 +13,7 @@ use Rattle.kern_model.specs.declared.numbers.Oid.{Oid}
 use Rattle.kern_model.specs.declared.numbers.Pid.{Pid}
 use Rattle.kern_model.specs.declared.records.Rec.{Rec}
 use Rattle.kern_model.specs.declared.records.Rec.TheVariants as rec
+use Rattle.line_text.specs.Ranges.{are_bytes, count_of, PlaceInRange, EndingInRange}
 use Rattle.aud_record.specs.Events.{who_of}
 
 -- ---- labels
@@ -47,26 +48,6 @@ unfoldable pub has_valid_labels : PolicyNames → Rec → Bool
 has_valid_labels p r = list_all (is_valid p) ((who_of r).label ∷ rest_labels r)
 
 -- ---- numbers and bytes
-
--- the count in the number of an object or a process
-abbrev pub count_of : Thing → ℕ
-count_of (thing.Object oid) = oid.n
-count_of (thing.Process pid) = pid.n
-
--- a place in a path is a number of 8 bits
-abbrev pub PlaceInRange : Place → Type 0
-PlaceInRange (place.First n) = n < 2 ^ 8
-PlaceInRange (place.Second n) = n < 2 ^ 8
-PlaceInRange _ = Unit {0}
-
--- a status is a number of 8 bits
-abbrev pub EndingInRange : Ending → Type 0
-EndingInRange (ending.Exit code) = code < 2 ^ 8
-EndingInRange _ = Unit {0}
-
--- bytes are numbers below 256
-abbrev pub are_bytes : List ℕ → Bool
-are_bytes bytes = list_all (λ b. nat_lt b 256) bytes
 
 -- the numbers and bytes after the number of the process are in the ranges of their types
 abbrev pub RestInRange : Rec → Type 0

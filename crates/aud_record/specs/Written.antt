@@ -1,53 +1,22 @@
 -- The texts of the audit trail: its header, and one line for each record.
-use Rattle.std.specs.Prelude.{ℕ, Bool, cond, List, [], ◌∷◌, ◌++◌, Option, None, Some, codes}
+use Rattle.std.specs.Prelude.{ℕ, Bool, cond, List, [], ◌∷◌, ◌++◌, codes}
 use Rattle.std.specs.Fmt.{decimal}
 use Rattle.std.specs.List.{flat_map}
 use Rattle.cap_bits.specs.Cap.{cap_name}
 use Rattle.cap_bits.specs.CapSet.{CapSet}
-use Rattle.cap_bits.specs.declared.state.CapState.{CapState}
-use Rattle.cap_clause.specs.Written.{caps_text, set_text}
+use Rattle.cap_clause.specs.Written.{set_text}
 use Rattle.fs_path.specs.Words.{quoted_text, line_text}
-use Rattle.lab_lattice.specs.Label.{Label}
-use Rattle.lab_text.specs.Numbered.{numbered_text}
 use Rattle.lab_text.specs.Policy.{PolicyNames}
 use Rattle.lab_text.specs.Text.{label_text}
 use Rattle.kern_model.specs.Names.{word_of, check_word, errno_word, place_text, ending_text}
-use Rattle.kern_model.specs.declared.checks.Thing.{Thing}
-use Rattle.kern_model.specs.declared.checks.Thing.TheVariants as thing
-use Rattle.kern_model.specs.declared.numbers.Oid.{Oid}
-use Rattle.kern_model.specs.declared.numbers.Pid.{Pid}
 use Rattle.kern_model.specs.declared.records.Rec.{Rec}
 use Rattle.kern_model.specs.declared.records.Rec.TheVariants as rec
+use Rattle.line_text.specs.Words.{pid_text, oid_text, caps_word, thing_text, new_label_text}
 use Rattle.aud_record.specs.Events.{event_of, event_word, who_of}
 
--- ---- words
-
--- the number of a process: `n@label`
-abbrev pub pid_text : PolicyNames → Pid → List ℕ
-pid_text p pid = numbered_text p pid.n pid.label
-
--- the number of an object: `n@label`
-abbrev pub oid_text : PolicyNames → Oid → List ℕ
-oid_text p oid = numbered_text p oid.n oid.label
-
--- a capability state between quotes
-abbrev pub caps_word : CapState → List ℕ
-caps_word caps = quoted_text (caps_text caps)
-
--- what a check is about: `obj:` or `proc:`, and its number
-abbrev pub thing_text : PolicyNames → Thing → List ℕ
-thing_text p (thing.Object oid) = codes "obj:" ++ oid_text p oid
-thing_text p (thing.Process pid) = codes "proc:" ++ pid_text p pid
-
--- the new label of a check, `-` where it has none
-abbrev pub new_label_text : PolicyNames → Option Label → List ℕ
-new_label_text p None = codes "-"
-new_label_text p (Some label) = label_text p label
-
+-- whether the trail is on
 abbrev pub switch_word : Bool → List ℕ
 switch_word on = cond on (codes "on") (codes "off")
-
--- ---- lines
 
 -- words with one space between them, and a line feed
 unfoldable pub line_of : List (List ℕ) → List ℕ

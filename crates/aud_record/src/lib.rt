@@ -6,7 +6,6 @@ mod event;
 mod fault;
 mod fields;
 mod forms;
-mod line;
 mod reading;
 #[cfg(test)]
 mod tests;

@@ -8,11 +8,11 @@ ghost use Rattle.aud_record.specs.Written.{switch_word, rest_words, rec_text, he
 
 use crate::NoMemory;
 use crate::event::{Event, who};
-use crate::line::Line;
 use cap_bits::CapSet;
 use cap_clause::set_to_text;
 use kern_model::Rec;
 use lab_text::Policy;
+use line_text::LineWriter;
 use std::alloc::Global;
 
 fn switch_word(on: bool) -> &'static [u8]
@@ -21,8 +21,8 @@ fn switch_word(on: bool) -> &'static [u8]
     if on { b"on" } else { b"off" }
 }
 
-// The words behind the number of the process.
-fn put_rest(line: Line, policy: &Policy, rec: &Rec) -> Result<Line, NoMemory>
+// The words after the number of the process.
+fn put_rest(line: LineWriter, policy: &Policy, rec: &Rec) -> Result<LineWriter, NoMemory>
     ensures text { IfOk result (λ new. new ≡ line ++ after_spaces (rest_words policy.now rec.now)) }
     ensures in_range { OnOk result (RestInRange rec.now) }
 {
@@ -62,21 +62,21 @@ fn line_of(alloc: Global, policy: &Policy, call: u64, rec: &Rec) -> Result<Vec<u
     ensures text { IfOk result (λ text. text.items ≡ rec_text policy.now call rec.now) }
     ensures in_range { OnOk result (IsInRange call rec.now) }
 {
-    let line = Line::new(alloc)
-        .number(call)?
+    let line = LineWriter::new(alloc)
+        .digits(call)?
         .word(Event::of(rec).word())?
         .pid(policy, &who(rec))?;
-    Ok(put_rest(line, policy, rec)?.bytes(b"\n")?.into_text())
+    Ok(put_rest(line, policy, rec)?.line_feed()?.into_text())
 }
 
-/// The line of a record, behind the number of its call: 0 for those of the start. Of a label that is not valid in the
-/// policy only the names that the policy has are written.
+/// The line of a record, after the number of its call, which is 0 for the records of the start. Of a label that is not
+/// valid in the policy only the names that the policy has are written.
 pub fn rec_text(alloc: Global, policy: &Policy, call: u64, rec: &Rec) -> Result<Vec<u8>, NoMemory>
     ensures text { IfOk result (λ text. text.items ≡ rec_text policy.now call rec.now) }
-    // Where its labels are valid it is read again, whatever stands after it.
+    // Where its labels are valid the line is read as this record, whatever follows it.
     ensures round_trip { IfOk result (λ text. has_valid_labels policy.now rec.now ≡ true → (rest : List ℕ) → parse_rec policy.now (text.items ++ rest) ≡ Ok (record { call = call; rec = rec.now; used = length text.items })) }
 {
-    // Its names make a policy, which the clause `again` needs.
+    // Its names make a policy, which the clause `round_trip` needs.
     let _names = policy.levels();
     line_of(alloc, policy, call, rec)
 }
@@ -87,13 +87,13 @@ pub fn header_text(alloc: Global, policy: &Policy, bound: &CapSet) -> Result<Vec
     ensures { IfOk result (λ text. text.items ≡ header_text policy.now bound.now) }
 {
     let bound = set_to_text(alloc, bound)?;
-    let line = Line::new(alloc)
+    let line = LineWriter::new(alloc)
         .bytes(b"trail 1\nlevels")?
         .words(policy.levels())?
         .bytes(b"\ncategories")?
         .words(policy.cats())?
         .bytes(b"\nbound")?
         .word(bound.as_slice())?
-        .bytes(b"\n")?;
+        .line_feed()?;
     Ok(line.into_text())
 }

@@ -6,7 +6,8 @@ use Rattle.kern_model.specs.Prefixes.{IsPrefix}
 use Rattle.fs_path.specs.Words.{line_text}
 use Rattle.kern_model.specs.Run.{CallRecord}
 use Rattle.lab_text.specs.Policy.{PolicyNames}
-use Rattle.script_text.specs.Reply.{pid_text, outcome_words, reply_line}
+use Rattle.line_text.specs.Words.{pid_text}
+use Rattle.script_text.specs.Reply.{outcome_words, reply_line}
 use Rattle.labsys.specs.Texts.{reply_text}
 use Rattle.labsys.specs.Session.{Session, CallBytes, bytes_from, bytes_of, replies_of, records_of, head_text, tail_text}
 use Rattle.labsys.specs.Order.{Sent, out_of, trail_of, to_out, to_trail, call_order, session_order}

@@ -1,7 +1,6 @@
 -- The lines of replies.
 use Rattle.std.specs.Prelude.{ℕ, List, [], ◌∷◌, ◌++◌, map, None, Some, codes}
 use Rattle.std.specs.Fmt.{decimal}
-use Rattle.cap_clause.specs.Written.{caps_text}
 use Rattle.fs_path.specs.Values.{mode_text, groups_text}
 use Rattle.fs_path.specs.Words.{quoted_text, line_text}
 use Rattle.kern_model.specs.declared.calls.Answer.{Answer}
@@ -12,19 +11,15 @@ use Rattle.kern_model.specs.declared.numbers.Ids.{Ids}
 use Rattle.kern_model.specs.declared.numbers.Pid.{Pid}
 use Rattle.kern_model.specs.declared.objects.StatAnswer.{StatAnswer}
 use Rattle.kern_model.specs.Names.{check_word, ending_text, errno_word, kind_word, place_text}
-use Rattle.lab_text.specs.Numbered.{numbered_text}
 use Rattle.lab_text.specs.Policy.{PolicyNames}
 use Rattle.lab_text.specs.Text.{label_text}
+use Rattle.line_text.specs.Words.{pid_text, oid_text, caps_word}
 
--- the number of a process
-abbrev pub pid_text : PolicyNames → Pid → List ℕ
-pid_text policy who = numbered_text policy who.n who.label
-
--- what is told of an object: kind, mode, owner, group, size, names, number and label
+-- the answer to `stat`: kind, mode, owner, group, size, names, number and label
 abbrev pub stat_words : PolicyNames → StatAnswer → List (List ℕ)
 stat_words policy s =
     kind_word s.kind ∷ mode_text s.mode ∷ decimal s.owner ∷ decimal s.group ∷ decimal s.size ∷ decimal s.names
-    ∷ numbered_text policy s.id.n s.id.label ∷ label_text policy s.label ∷ []
+    ∷ oid_text policy s.id ∷ label_text policy s.label ∷ []
 
 -- real, effective and saved user, the same of the group, and the supplementary groups
 abbrev pub ids_words : Ids → List (List ℕ)
@@ -41,7 +36,7 @@ answer_words policy (answer.Bytes bytes) = quoted_text bytes ∷ []
 answer_words policy (answer.Names names) = map quoted_text names
 answer_words policy (answer.Stat s) = stat_words policy s
 answer_words policy (answer.Bits mode) = mode_text mode ∷ []
-answer_words policy (answer.Caps caps) = quoted_text (caps_text caps) ∷ []
+answer_words policy (answer.Caps caps) = caps_word caps ∷ []
 answer_words policy (answer.Mark label) = label_text policy label ∷ []
 answer_words policy (answer.Process who) = pid_text policy who ∷ []
 answer_words policy (answer.Parent None) = codes "none" ∷ []
@@ -61,7 +56,7 @@ reply_line policy who word reply = line_text (pid_text policy who ∷ word ∷ o
 
 -- ---- as it is written
 
--- a text with further words, each behind a space
+-- a text with further words, each after a space
 abbrev pub with_words : List ℕ → List (List ℕ) → List ℕ
 with_words text [] = text
 with_words text (word ∷ words) = with_words (text ++ 32 ∷ word) words

@@ -8,11 +8,10 @@ use crate::call::call_of;
 use crate::fault::both;
 use crate::{LineError, argument};
 use fs_path::{LineWord, is_blank, words_of};
+use kern_model::limits::MAX_LINE;
 use kern_model::{Call, CallName, Pid};
 use lab_text::Policy;
 use std::alloc::Global;
-
-const MAX_LINE: usize = 2048;
 
 /// What a line of a script says.
 #[derive(Debug, Drop)]

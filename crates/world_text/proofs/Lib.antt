@@ -1,4 +1,5 @@
 pub mod RangeLemmas
+pub mod AppendLemmas
 pub mod BuilderLemmas
 pub mod PlacingLemmas
 pub mod LineLemmas

@@ -14,7 +14,8 @@ use Rattle.kern_model.specs.declared.world.WorldObject.{WorldObject}
 use Rattle.kern_model.specs.declared.world.WorldProc.{WorldProc}
 use Rattle.kern_model.specs.Kinds.{is_file, kind_of}
 use Rattle.kern_model.specs.World.{IsWorldObject, IsWorldProc}
-use Rattle.world_text.specs.CanBeRead.{are_bytes, IsNumber, HasBytes, IsWrittenObject, IsWrittenIds}
+use Rattle.line_text.specs.Ranges.{are_bytes, IsNumber}
+use Rattle.world_text.specs.CanBeRead.{HasBytes, IsWrittenObject, IsWrittenIds}
 use Rattle.world_text.specs.Written.{path_text}
 
 -- an absolute path whose text is bytes

@@ -34,6 +34,7 @@ use Rattle.kern_model.specs.Kinds.{kind_of}
 use Rattle.kern_model.specs.Kinds.{is_dir, is_file}
 use Rattle.kern_model.specs.Rules.{same_label}
 use Rattle.kern_model.specs.World.{IsPlaced, ArePlaced, given, parent_names, objects_at, procs_at, same_names}
+use Rattle.line_text.specs.Ranges.{IsNumber}
 use Rattle.world_text.specs.declared.fault.WorldFault.{WorldFault}
 use Rattle.world_text.specs.declared.fault.WorldFault.TheVariants.{Syntax, UnknownName}
 use Rattle.world_text.specs.declared.expecting.Expecting.{Expecting}
@@ -46,7 +47,7 @@ use Rattle.world_text.specs.Placing.{is_directory, is_above, directory_of, is_ro
 use Rattle.world_text.specs.Expecting.{world_of, refuse_or, with_form, caps_of, parse_levels, parse_categories, object_fields_of, proc_fields_of, ids_of, parse_object, parse_tree, parse_process, parse_words, parse_line}
 use Rattle.world_text.specs.Reading.{Accepted, after, reading, read_text}
 use Rattle.world_text.specs.Written.{bare, quoted, path_text, names_words, head_words, body_keyword, body_words, object_words, process_words, script_words, lines_of, next_number, written}
-use Rattle.world_text.specs.CanBeRead.{IsNumber, IsShort, CanBeRead}
+use Rattle.world_text.specs.CanBeRead.{IsShort, CanBeRead}
 use Rattle.world_text.proofs.WrittenForms.{IsCanonicalBody, IsCanonicalObject, IsCanonicalIds, canonical_objects, objects_below, objects_plain, canonical_procs, procs_below, procs_within}
 use Rattle.world_text.proofs.WrittenWords.{written_pieces, pieces_round_trip, begins_line, line_is}
 use Rattle.world_text.proofs.WrittenValues.{path_round_trip, path_spelling, label_name_bare, label_bare, label_round_trip, caps_known, proc_caps_known, none_known, bound_known, caps_spelling, bound_bare}

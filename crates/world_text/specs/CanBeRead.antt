@@ -1,6 +1,6 @@
 -- What it takes that the text of a world is read as that world.
-use Rattle.std.specs.Prelude.{◌≡◌, ℕ, ◌≤◌, nat_le, nat_lt, Bool, true, List, length, map}
-use Rattle.std.specs.List.{AllByRecursion, list_all}
+use Rattle.std.specs.Prelude.{◌≡◌, ◌≤◌, true, List, length, map}
+use Rattle.std.specs.List.{AllByRecursion}
 use Rattle.fs_path.specs.declared.words.LineWord.{LineWord}
 use Rattle.fs_path.specs.Words.{spelling, line_text}
 use Rattle.lab_text.specs.Policy.{MakePolicy, top_of}
@@ -10,16 +10,9 @@ use Rattle.kern_model.specs.declared.objects.Body.TheVariants as body
 use Rattle.kern_model.specs.declared.world.WorldObject.{WorldObject}
 use Rattle.kern_model.specs.declared.world.WorldProc.{WorldProc}
 use Rattle.kern_model.specs.World.{IsWorld}
+use Rattle.line_text.specs.Ranges.{are_bytes, are_numbers, IsNumber}
 use Rattle.world_text.specs.declared.world.WorldText.{WorldText}
 use Rattle.world_text.specs.Written.{path_text, lines_of}
-
--- numbers below 256
-abbrev pub are_bytes : List ℕ → Bool
-are_bytes bytes = list_all (λ b. nat_lt b 256) bytes
-
--- a number that fits 32 bits
-abbrev pub IsNumber : ℕ → Type 0
-IsNumber n = n ≤ 4294967295
 
 -- the content of a file is bytes
 abbrev pub HasBytes : Body → Type 0
@@ -37,7 +30,7 @@ pub record IsWrittenObject (o : WorldObject) : Type 0 where
 pub record IsWrittenIds (ids : Ids) : Type 0 where
   pub user : IsNumber ids.euid
   pub group : IsNumber ids.egid
-  pub groups : list_all (λ g. nat_le g 4294967295) ids.groups ≡ true
+  pub groups : are_numbers ids.groups ≡ true
 
 -- a line that is not too long
 abbrev pub IsShort : List LineWord → Type 0

@@ -12,13 +12,12 @@ use cap_clause::{CapTextError, cap_from_text, set_from_text};
 use fs_path::{
     ByteList, LineWord, List, Path, PathError, groups_of, is_blank, mode_of, number_of, words_of,
 };
+use kern_model::limits::MAX_LINE;
 use kern_model::{Attr, Body, Gid, GroupList, Ids, Mode, Uid, World, WorldObject, WorldProc};
 use lab_lattice::Label;
 use lab_text::{LabelError, Policy, PolicyError, Word, are_label_names, mac_from_text, top};
 use std::alloc::Global;
 use std::marker::Model;
-
-const MAX_LINE: usize = 2048;
 
 /// Which line of a world is due.
 #[derive(Drop)]

@@ -5,4 +5,4 @@ use Rattle.script_text.proofs.reply.put_names.Given as goal
 
 -- with the names that are left the text is what it has to be
 abbrev pub invariant-loop-name : goal.invariant-loop-name
-invariant-loop-name l = with_words l.text.items (map quoted_text (drop l.name-index l.names)) ≡ with_words l.fn.text.items (map quoted_text l.names)
+invariant-loop-name l = with_words l.line (map quoted_text (drop l.name-index l.names)) ≡ with_words l.fn.line (map quoted_text l.names)

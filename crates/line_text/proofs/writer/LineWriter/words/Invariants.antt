@@ -1,6 +1,6 @@
 use Rattle.std.proofs.Common.{◌≡◌, ◌++◌, take}
 use Rattle.fs_path.specs.Words.{after_spaces}
-use Rattle.aud_record.proofs.line.Line.words.Given as goal
+use Rattle.line_text.proofs.writer.LineWriter.words.Given as goal
 
 abbrev pub invariant-loop-word : goal.invariant-loop-word
 invariant-loop-word l = l.line ≡ l.fn.self ++ after_spaces (take l.word-index l.words)

@@ -1,0 +1,236 @@
+// The writer of lines.
+ghost use Rattle.std.specs.Prelude.{◌≡◌, ◌<◌, ◌^◌, true, [], ◌∷◌, ◌++◌, IfOk, OnOk};
+ghost use Rattle.std.specs.Fmt.{decimal};
+ghost use Rattle.fs_path.specs.Values.{mode_text, groups_text};
+ghost use Rattle.fs_path.specs.Words.{quoted_text, spelling, with_quotes_if_needed, after_spaces};
+ghost use Rattle.lab_text.specs.Numbered.{numbered_text};
+ghost use Rattle.lab_text.specs.Text.{label_text};
+ghost use Rattle.kern_model.specs.Names.{place_text, ending_text};
+ghost use Rattle.line_text.specs.Ranges.{are_bytes, are_numbers, IsNumber, count_of, PlaceInRange, EndingInRange};
+ghost use Rattle.line_text.specs.Words.{pid_text, oid_text, caps_word, thing_text, new_label_text};
+
+use crate::NoMemory;
+use cap_bits::CapState;
+use cap_clause::cap_to_text;
+use fs_path::{put_groups, put_mode, put_number, put_quoted, put_word};
+use kern_model::{Ending, Oid, Pid, Place, Thing, put_ending, put_place};
+use lab_lattice::Label;
+use lab_text::{Policy, Word, mac_to_text, put_numbered};
+use std::alloc::Global;
+use std::marker::Model;
+
+/// Lines under construction. Its value is the bytes written so far. Each method appends and returns the writer; at an
+/// error, which is always out of memory, the writer is dropped.
+#[derive(Drop)]
+pub struct LineWriter {
+    alloc: Global,
+    text: Vec<u8>,
+}
+
+impl Model for LineWriter {
+    ghost use Rattle.std.specs.Prelude.{List, ℕ};
+
+    ghost Value = { List ℕ };
+
+    ghost view = { λ w. w.text.items };
+}
+
+impl LineWriter {
+    /// An empty writer.
+    pub fn new(alloc: Global) -> LineWriter
+        ensures { result ≡ [] }
+    {
+        LineWriter {
+            alloc,
+            text: Vec::new(alloc),
+        }
+    }
+
+    /// Appends bytes as they are.
+    pub fn bytes(mut self, bytes: &[u8]) -> Result<LineWriter, NoMemory>
+        ensures { IfOk result (λ line. line ≡ self ++ bytes.now) }
+    {
+        self.text.extend_from_slice(bytes)?;
+        Ok(self)
+    }
+
+    /// Appends the decimal digits of a number, with no space before them.
+    pub fn digits(mut self, n: u64) -> Result<LineWriter, NoMemory>
+        ensures { IfOk result (λ line. line ≡ self ++ decimal n) }
+    {
+        put_number(self.alloc, &mut self.text, n)?;
+        Ok(self)
+    }
+
+    /// Appends `n@label`, with no space before it.
+    pub fn numbered(
+        mut self,
+        policy: &Policy,
+        n: u16,
+        label: &Label,
+    ) -> Result<LineWriter, NoMemory>
+        ensures { IfOk result (λ line. line ≡ self ++ numbered_text policy.now n label.now) }
+    {
+        put_numbered(self.alloc, &mut self.text, policy, u64::from(n), label)?;
+        Ok(self)
+    }
+
+    /// Ends the line.
+    pub fn line_feed(self) -> Result<LineWriter, NoMemory>
+        ensures { IfOk result (λ line. line ≡ self ++ 10 ∷ []) }
+    {
+        self.bytes(b"\n")
+    }
+
+    /// Appends a space and a word.
+    pub fn word(self, word: &[u8]) -> Result<LineWriter, NoMemory>
+        ensures { IfOk result (λ line. line ≡ self ++ 32 ∷ word.now) }
+    {
+        self.bytes(b" ")?.bytes(word)
+    }
+
+    /// Appends words, each after a space.
+    pub fn words(self, words: &[Word]) -> Result<LineWriter, NoMemory>
+        ensures { IfOk result (λ line. line ≡ self ++ after_spaces words.now) }
+    {
+        let mut line = self;
+        for word in words {
+            line = line.word(word.bytes())?;
+        }
+        Ok(line)
+    }
+
+    /// Appends a space and a word between quotes.
+    pub fn quoted(self, bytes: &[u8]) -> Result<LineWriter, NoMemory>
+        ensures text { IfOk result (λ line. line ≡ self ++ 32 ∷ quoted_text bytes.now) }
+        ensures in_range { OnOk result (are_bytes bytes.now ≡ true) }
+    {
+        let mut line = self.bytes(b" ")?;
+        put_quoted(&mut line.text, bytes)?;
+        Ok(line)
+    }
+
+    /// Appends a space and a word, between quotes where it needs them.
+    pub fn bare_or_quoted(self, bytes: &[u8]) -> Result<LineWriter, NoMemory>
+        ensures text { IfOk result (λ line. line ≡ self ++ 32 ∷ spelling (with_quotes_if_needed bytes.now)) }
+        ensures in_range { OnOk result (are_bytes bytes.now ≡ true) }
+    {
+        let mut line = self.bytes(b" ")?;
+        put_word(&mut line.text, bytes)?;
+        Ok(line)
+    }
+
+    /// Appends a space and a number of 32 bits.
+    pub fn number(self, n: u32) -> Result<LineWriter, NoMemory>
+        ensures text { IfOk result (λ line. line ≡ self ++ 32 ∷ decimal n) }
+        ensures in_range { OnOk result (IsNumber n) }
+    {
+        self.bytes(b" ")?.digits(u64::from(n))
+    }
+
+    /// Appends a space and a size in bytes.
+    pub fn size(self, bytes: u64) -> Result<LineWriter, NoMemory>
+        ensures { IfOk result (λ line. line ≡ self ++ 32 ∷ decimal bytes) }
+    {
+        self.bytes(b" ")?.digits(bytes)
+    }
+
+    /// Appends a space and a mode.
+    pub fn mode(self, mode: u16) -> Result<LineWriter, NoMemory>
+        ensures { IfOk result (λ line. line ≡ self ++ 32 ∷ mode_text mode) }
+    {
+        let mut line = self.bytes(b" ")?;
+        put_mode(&mut line.text, mode)?;
+        Ok(line)
+    }
+
+    /// Appends a space and supplementary groups.
+    pub fn groups(self, groups: &[u32]) -> Result<LineWriter, NoMemory>
+        ensures text { IfOk result (λ line. line ≡ self ++ 32 ∷ groups_text groups.now) }
+        ensures in_range { OnOk result (are_numbers groups.now ≡ true) }
+    {
+        let mut line = self.bytes(b" ")?;
+        put_groups(line.alloc, &mut line.text, groups)?;
+        Ok(line)
+    }
+
+    /// Appends a space and a label.
+    pub fn label(self, policy: &Policy, label: &Label) -> Result<LineWriter, NoMemory>
+        ensures { IfOk result (λ line. line ≡ self ++ 32 ∷ label_text policy.now label.now) }
+    {
+        let label = mac_to_text(self.alloc, policy, label)?;
+        self.word(label.as_slice())
+    }
+
+    /// Appends a space and the new label of a check, or `-`.
+    pub fn new_label(self, policy: &Policy, label: &Option<Label>) -> Result<LineWriter, NoMemory>
+        ensures { IfOk result (λ line. line ≡ self ++ 32 ∷ new_label_text policy.now label.now) }
+    {
+        match label {
+            Some(label) => self.label(policy, label),
+            None => self.word(b"-"),
+        }
+    }
+
+    /// Appends a space and the number of a process.
+    pub fn pid(self, policy: &Policy, pid: &Pid) -> Result<LineWriter, NoMemory>
+        ensures text { IfOk result (λ line. line ≡ self ++ 32 ∷ pid_text policy.now pid.now) }
+        ensures in_range { OnOk result (pid.now.n < 2 ^ 16) }
+    {
+        self.bytes(b" ")?.numbered(policy, pid.n, &pid.label)
+    }
+
+    /// Appends a space and the number of an object.
+    pub fn oid(self, policy: &Policy, oid: &Oid) -> Result<LineWriter, NoMemory>
+        ensures text { IfOk result (λ line. line ≡ self ++ 32 ∷ oid_text policy.now oid.now) }
+        ensures in_range { OnOk result (oid.now.n < 2 ^ 16) }
+    {
+        self.bytes(b" ")?.numbered(policy, oid.n, &oid.label)
+    }
+
+    /// Appends a space and the object or process of a check.
+    pub fn thing(self, policy: &Policy, thing: &Thing) -> Result<LineWriter, NoMemory>
+        ensures text { IfOk result (λ line. line ≡ self ++ 32 ∷ thing_text policy.now thing.now) }
+        ensures in_range { OnOk result (count_of thing.now < 2 ^ 16) }
+    {
+        match thing {
+            Thing::Object(oid) => self.word(b"obj:")?.numbered(policy, oid.n, &oid.label),
+            Thing::Process(pid) => self.word(b"proc:")?.numbered(policy, pid.n, &pid.label),
+        }
+    }
+
+    /// Appends a space and a capability state, between quotes.
+    pub fn caps(self, caps: &CapState) -> Result<LineWriter, NoMemory>
+        ensures { IfOk result (λ line. line ≡ self ++ 32 ∷ caps_word caps.now) }
+    {
+        let caps = cap_to_text(self.alloc, caps)?;
+        self.quoted(caps.as_slice())
+    }
+
+    /// Appends a space and a place of a check.
+    pub fn place(self, place: Place) -> Result<LineWriter, NoMemory>
+        ensures text { IfOk result (λ line. line ≡ self ++ 32 ∷ place_text place) }
+        ensures in_range { OnOk result (PlaceInRange place) }
+    {
+        let mut line = self.bytes(b" ")?;
+        put_place(line.alloc, &mut line.text, place)?;
+        Ok(line)
+    }
+
+    /// Appends a space and the two words of how a process ended.
+    pub fn ending(self, ending: Ending) -> Result<LineWriter, NoMemory>
+        ensures text { IfOk result (λ line. line ≡ self ++ 32 ∷ ending_text ending) }
+        ensures in_range { OnOk result (EndingInRange ending) }
+    {
+        let mut line = self.bytes(b" ")?;
+        put_ending(line.alloc, &mut line.text, ending)?;
+        Ok(line)
+    }
+
+    /// The bytes written.
+    pub fn into_text(self) -> Vec<u8>
+        ensures { result.items ≡ self }
+    {
+        self.text
+    }
+}
