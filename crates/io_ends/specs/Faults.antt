@@ -1,4 +1,4 @@
--- How an end of the outside counts its faults, and what a write that failed leaves.
+-- How a source or a sink counts its faults, and what a write that failed leaves.
 use Rattle.std.specs.Prelude.{◌≡◌, ℕ, ◌+◌, ◌-◌, ◌^◌, ◌<◌, min, List, ◌++◌, length, OnOk, OnErr, Result}
 use Rattle.std.specs.declared.option.Option.{Option}
 use Rattle.std.specs.Io.KnownBytes.{Appends}
@@ -7,7 +7,7 @@ use Rattle.std.specs.Io.KnownBytes.{Appends}
 abbrev pub counted : ℕ → ℕ
 counted n = min (n + 1) (2 ^ 64 - 1)
 
--- A call that failed was counted once, and one that answered was not counted.
+-- A call that failed was counted once, and one that succeeded was not.
 pub record CountsFault {T E : Type 0} (before now : ℕ) (result : Result T E) : Type 0 where
   pub still : OnOk result (now ≡ before)
   pub once : OnErr result (now ≡ counted before)

@@ -14,7 +14,7 @@ pub record SourceState : Type 0 where
   pub calls : ℕ
   pub faults : ℕ
 
--- A call that isn't listed gave as many bytes as fit, and no other part of the source changed.
+-- A call that is not listed read as many bytes as fit, and no other part of the source changed.
 pub record ReadGives (count : ℕ) (buf : List ℕ) (before after : SourceState) : Type 0 where
   pub unlisted : is_listed before.fails (counted before.calls) ≡ false
   pub count_is : count ≡ min (length buf) (length before.left)
@@ -34,11 +34,11 @@ pub record SinkState : Type 0 where
   pub calls : ℕ
   pub faults : ℕ
 
--- The next call with a piece that isn't empty is listed, or the room is full.
+-- The next call with a piece that is not empty is listed, or the room is full.
 abbrev pub will_fail : SinkState → Bool
 will_fail s = is_listed s.fails (counted s.calls) || nat_le s.room (length s.held)
 
--- A call took its whole piece, or as much as the room had left.
+-- A call appended its whole piece, or as much of it as there was room for.
 pub record WriteTakes (count : ℕ) (piece : List ℕ) (before after : SinkState) : Type 0 where
   pub may : will_fail before ≡ false
   pub count_is : count ≡ min (length piece) (before.room - length before.held)

@@ -1,5 +1,5 @@
-// The ends of the process: standard input and output, and files. What a system call does is not
-// proved, so these ends tell nothing of their bytes.
+// Standard input and output, and files. What a system call does is not proved, so these sources and
+// sinks do not report their bytes.
 ghost use Rattle.std.specs.Prelude.{◌≡◌, ◌<◌, ◌≤◌, [], None, Ok, length, is_ok, if◌then◌else◌, IfOk};
 ghost use Rattle.std.specs.Io.{ReadsAtMost, WritesAtMost};
 ghost use Rattle.std.specs.Io.KnownBytes.{ReadConsumes, WriteAppends};
@@ -12,7 +12,7 @@ use std::io::{self, Read, Write};
 use std::marker::Model;
 use std::rt::Files;
 
-/// A source over standard input, as the runtime's `reader()` gives it, or over a file that is opened
+/// A source over standard input, as the runtime's `reader()` returns it, or over a file that is open
 /// for reading. Each read that the system refuses is a fault.
 #[derive(Drop)]
 pub struct FileSource<R: Read> {
@@ -29,7 +29,7 @@ impl<R: Read> Model for FileSource<R> {
 }
 
 impl<R: Read> FileSource<R> {
-    /// A source of what the reader gives.
+    /// A source of the bytes of a reader.
     pub fn new(reader: R) -> Self
         ensures { result ≡ record { reported = R.remaining reader; faults = 0 } }
     {
@@ -47,7 +47,7 @@ impl<R: Read> Source for FileSource<R> {
         ensures bytes { ReadConsumes None None result buf.new }
         ensures counts { CountsFault self.old.faults self.new.faults result }
 
-        // It hands on what its reader gives.
+        // It returns the bytes of its reader.
         ensures given { ReadConsumes self.old.reported self.new.reported result buf.new }
     {
         match self.reader.read(buf) {
@@ -66,8 +66,8 @@ enum Place<F> {
 }
 
 /// A sink over standard output, or over a named file. Each write that the system refuses is a
-/// fault, and so is one that takes no byte of a piece that has some. Nothing is kept back: a write
-/// gives its piece to the system before it returns.
+/// fault, and so is one that takes no byte of a piece that is not empty. It is not buffered: each
+/// write calls the system before it returns.
 #[derive(Drop)]
 pub struct FileSink<R: Files> {
     rt: R,
@@ -95,8 +95,8 @@ impl<R: Files + Print> FileSink<R> {
         }
     }
 
-    /// A sink over the file of this name, which is made, or emptied where it is there, at the first
-    /// write of a piece that is not empty. Where that fails, the next such write tries it again.
+    /// A sink over the file of this name. The first write of a piece that is not empty creates the
+    /// file, or truncates it where it exists. Where that fails, the next such write tries again.
     pub fn named(rt: R, name: String) -> Self
         ensures { result ≡ 0 }
     {

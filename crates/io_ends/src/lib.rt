@@ -1,8 +1,8 @@
-//! The ends of the outside: where bytes come from and where they go, each with a count of its faults.
+//! Sources of bytes and sinks for them, the ends of a program, each with a count of its faults.
 //!
 //! Code over a [`Source`] or a [`Sink`] is proved from the clauses of these traits alone, so it holds
 //! over every end. The ends in memory and those that never fail are proved to the byte. What the
-//! system does with a call of a [`FileSource`] or a [`FileSink`] is trusted.
+//! system does at a call of a [`FileSource`] or a [`FileSink`] is trusted.
 #![tactic(auto)]
 
 mod ends;
@@ -18,7 +18,7 @@ pub use list::ByteList;
 pub use memory::{MemSink, MemSource};
 pub use std::alloc::AllocError as NoMemory;
 pub use sure::{SureSink, SureSource};
-pub use whole::{LineFault, Whole, read_whole, write_whole};
+pub use whole::{ReadError, Whole, read_whole, write_whole};
 
 #[cfg(test)]
 mod tests;

@@ -4,7 +4,7 @@ ghost use Rattle.std.specs.Prelude.{◌≡◌, ◌<◌, ◌++◌, ◌∷◌, [],
 use std::alloc::{AllocError, Global};
 use std::marker::Model;
 
-/// Bytes in order. It keeps the allocator that it was made with.
+/// Bytes in order, in memory of the allocator that `new` takes.
 #[derive(Debug, Drop)]
 pub struct ByteList {
     bytes: Vec<u8>,
@@ -19,7 +19,7 @@ impl Model for ByteList {
 }
 
 impl ByteList {
-    /// The empty list, which takes no memory.
+    /// The empty list. It does not allocate.
     pub fn new(alloc: Global) -> Self
         ensures { result ≡ [] }
     {

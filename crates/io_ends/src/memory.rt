@@ -1,4 +1,4 @@
-// Ends in memory, which tell their bytes, and whose calls fail where they are told to.
+// A source and a sink in memory, which report their bytes. The calls that fail are listed.
 ghost use Rattle.std.specs.Prelude.{◌≡◌, ◌<◌, ◌≤◌, ◌++◌, [], Some, Ok, drop, length, min, take, IfOk, MatchResult};
 ghost use Rattle.std.specs.Io.{ReadsAtMost, WritesAtMost};
 ghost use Rattle.std.specs.Io.KnownBytes.{ReadConsumes, WriteAppends};
@@ -10,7 +10,7 @@ use crate::{Failed, Sink, Source};
 use std::alloc::{AllocError, Global};
 use std::marker::Model;
 
-// Copies as many bytes as fit, and answers how many.
+// Copies as many bytes as fit, and returns how many.
 pub(crate) fn copy_prefix(left: &[u8], buf: &mut [u8]) -> usize
     ensures count { result ≡ min (length buf.new) (length left.now) }
     ensures given { take result buf.new ≡ take result left.now }
@@ -67,7 +67,7 @@ impl Source for MemSource {
         ensures bytes { ReadConsumes (Some self.old.left) (Some self.new.left) result buf.new }
         ensures counts { CountsFault self.old.faults self.new.faults result }
 
-        // Which calls fail, and how many bytes the others give.
+        // Which calls fail, and how many bytes the others read.
         ensures exact { MatchResult result
             (λ count. ReadGives count buf.new self.old self.new)
             (λ _. ReadFails self.old self.new) }
@@ -82,7 +82,7 @@ impl Source for MemSource {
     }
 }
 
-/// A sink in memory, with room for so many bytes. Of the calls with a piece that is not empty,
+/// A sink in memory, with room for `room` bytes. Of the calls with a piece that is not empty,
 /// those in `fails`, counted from 1, fail, and so do those that come when the room is full.
 #[derive(Debug, Drop)]
 pub struct MemSink {
@@ -105,7 +105,7 @@ impl Model for MemSink {
 }
 
 impl MemSink {
-    /// An empty sink with room for `room` bytes, which it takes at once.
+    /// An empty sink. It allocates its room at once.
     pub fn new(alloc: Global, room: usize, fails: Vec<u64>) -> Result<Self, AllocError>
         ensures { IfOk result (λ s. s ≡ record { held = []; room = room; fails = fails.items; calls = 0; faults = 0 }) }
     {

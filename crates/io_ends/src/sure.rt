@@ -1,4 +1,4 @@
-// Ends that never fail.
+// A source and a sink that never fail.
 ghost use Rattle.std.specs.Prelude.{◌≡◌, ◌<◌, [], Some, None, Ok, length, min, drop, IfOk};
 ghost use Rattle.std.specs.Io.{ReadsAtMost, WritesAtMost};
 ghost use Rattle.std.specs.Io.KnownBytes.{ReadConsumes, WriteAppends};
@@ -44,7 +44,7 @@ impl Source for SureSource {
         ensures bytes { ReadConsumes (Some self.old) (Some self.new) result buf.new }
         ensures counts { CountsFault 0 0 result }
 
-        // It gives as many bytes as fit.
+        // It reads as many bytes as fit.
         ensures exact { result ≡ Ok (min (length buf.new) (length self.old)) }
         ensures after { self.new ≡ drop (length buf.new) self.old }
     {

@@ -103,7 +103,7 @@ fn whole_bytes_take_several_reads(rt: HostRuntime) -> Result<(), AllocError> {
         let fails = vec![in alloc; call]?;
         let mut source = MemSource::new(vec![in alloc; 7u8; 10_000]?, fails);
         let fault = read_whole(alloc, &mut source, 10_000).err();
-        assert_eq!(rt; fault, Some(LineFault::Failed), "at {call}");
+        assert_eq!(rt; fault, Some(ReadError::Failed), "at {call}");
     }
     Ok(())
 }
@@ -208,5 +208,5 @@ fn a_read_that_fails_takes_nothing(rt: HostRuntime) {
 
     let mut source = FileSource::new(Flaky { calls: 0 });
     let fault = read_whole(rt.alloc(), &mut source, 4).err();
-    assert_eq!(rt; fault, Some(LineFault::Failed));
+    assert_eq!(rt; fault, Some(ReadError::Failed));
 }

@@ -1,5 +1,5 @@
-// A whole piece out, in as many writes as it takes, and whole bytes in.
-ghost use Rattle.std.specs.Prelude.{◌≡◌, ◌+◌, ◌<◌, ◌≤◌, false, length, nat_lt, take, MatchResult, OnOk, OnErr, IfErr};
+// Writes of a whole piece, and reads of all bytes.
+ghost use Rattle.std.specs.Prelude.{◌≡◌, ◌+◌, ◌^◌, ◌<◌, ◌≤◌, false, length, nat_lt, take, MatchResult, OnOk, OnErr, IfErr};
 ghost use Rattle.std.specs.Io.KnownBytes.{Appends};
 ghost use Rattle.io_ends.specs.Faults.{CountsFault, AppendsPart};
 ghost use Rattle.io_ends.specs.Whole.{CountsRead, Fills, FillFails, ReadsWhole};
@@ -10,27 +10,27 @@ use std::alloc::{AllocError, Global};
 // How many bytes one read asks for.
 const CHUNK: usize = 4096;
 
-/// Why the bytes of a source could not be had.
+/// Why the bytes of a source were not read.
 #[derive(Clone, Copy, Debug, PartialEq, Eq)]
-pub enum LineFault {
+pub enum ReadError {
     /// A read failed, and the source has counted the fault.
     Failed,
-    /// There was no memory to keep what was read.
+    /// There was no memory for the bytes.
     NoMemory,
 }
 
-impl From<AllocError> for LineFault {
+impl From<AllocError> for ReadError {
     ghost use Rattle.std.specs.Prelude.{◌≡◌};
-    ghost use Rattle.io_ends.specs.declared.whole.LineFault.TheVariants.{NoMemory};
+    ghost use Rattle.io_ends.specs.declared.whole.ReadError.TheVariants.{NoMemory};
 
     ghost from_gives = { λ _ e. e ≡ NoMemory };
 
     fn from(_: AllocError) -> Self {
-        LineFault::NoMemory
+        ReadError::NoMemory
     }
 }
 
-/// The first bytes of a source, and whether there were more than the limit.
+/// The first bytes of a source, up to a limit, and whether it had more.
 #[derive(Debug, Drop)]
 pub struct Whole {
     /// The first bytes, up to the limit.
@@ -39,8 +39,8 @@ pub struct Whole {
     pub more: bool,
 }
 
-/// Appends a whole piece. It takes no memory of its own. After a fault a part of the piece stands,
-/// and not all of it.
+/// Appends a whole piece. It does not allocate. After a fault a proper prefix of the piece is
+/// appended.
 pub fn write_whole<K: Sink>(sink: &mut K, piece: &[u8]) -> Result<(), Failed>
     ensures ok { OnOk result (Appends (K.held sink.old) (K.held sink.new) piece.now) }
     ensures err { OnErr result (AppendsPart (K.held sink.old) (K.held sink.new) piece.now) }
@@ -55,7 +55,7 @@ pub fn write_whole<K: Sink>(sink: &mut K, piece: &[u8]) -> Result<(), Failed>
 }
 
 // Adds one read to the bytes, which stay at most `most`.
-fn fill<S: Source>(bytes: &mut ByteList, source: &mut S, most: usize) -> Result<usize, LineFault>
+fn fill<S: Source>(bytes: &mut ByteList, source: &mut S, most: usize) -> Result<usize, ReadError>
     requires { length bytes.old < most }
     ensures fills { MatchResult result
         (λ n. Fills n bytes.old bytes.new most (S.left source.old) (S.left source.new))
@@ -69,11 +69,11 @@ fn fill<S: Source>(bytes: &mut ByteList, source: &mut S, most: usize) -> Result<
             bytes.append(&chunk[..count])?;
             Ok(count)
         }
-        Err(_) => Err(LineFault::Failed),
+        Err(_) => Err(ReadError::Failed),
     }
 }
 
-// What bytes that were read say, the last of which may be beyond the limit.
+// Bytes that were read, the last of which may be past the limit.
 fn whole_of(mut bytes: ByteList, limit: usize) -> Whole
     ensures bytes { result.bytes ≡ take limit bytes }
     ensures more { result.more ≡ nat_lt limit (length bytes) }
@@ -83,10 +83,10 @@ fn whole_of(mut bytes: ByteList, limit: usize) -> Whole
     Whole { bytes, more }
 }
 
-/// Reads a source to its end, or to one byte beyond `limit` bytes, which tells that there are more.
-/// After an error the bytes that were taken are lost.
-pub fn read_whole<S: Source>(alloc: Global, source: &mut S, limit: u64) -> Result<Whole, LineFault>
-    requires { limit ≤ 16777216 }
+/// Reads a source to its end, or to one byte past `limit` bytes. After an error the bytes that were
+/// read are lost.
+pub fn read_whole<S: Source>(alloc: Global, source: &mut S, limit: u64) -> Result<Whole, ReadError>
+    requires { limit < 2 ^ 32 }
     ensures reads { ReadsWhole result limit (S.left source.old) (S.left source.new) }
     ensures counts { CountsRead result (S.faults source.old) (S.faults source.new) }
 {

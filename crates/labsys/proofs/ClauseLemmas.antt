@@ -2,8 +2,7 @@
 use Rattle.std.specs.Prelude.{Result, IfOk, IfSome, Ok, Err, None, Some}
 use Rattle.std.proofs.Common.{◌≡◌, ℕ, List, ◌++◌, [], refl, sym, ◌∙◌, ap, subst, arith}
 use Rattle.std.specs.declared.option.Option.{Option}
-use Rattle.std.specs.Io.KnownBytes.{Appends, Consumes, IsAtEnd}
-use Rattle.std.proofs.KnownBytes.{Consumes-nil}
+use Rattle.std.specs.Io.KnownBytes.{Appends, Consumes}
 use Rattle.lab_lattice.specs.Label.{Label}
 use Rattle.kern_model.specs.Prefixes.{IsPrefix}
 use Rattle.kern_model.specs.Lineage.{OnlyDrops, GrowsByExec}
@@ -20,10 +19,10 @@ use Rattle.labsys.specs.Input.{Accepted, Script, input_of}
 use Rattle.labsys.specs.Session.{Session, session_of, bytes_of, replies_of, records_of, head_text, tail_text}
 use Rattle.labsys.specs.Order.{Sent, out_of, trail_of, session_order, order_by, order_of, IsInOrder}
 use Rattle.labsys.specs.Commands.{ends_with, due}
-use Rattle.labsys.specs.Counts.{Counts, CountsOnce, counts_after, counted_by}
-use Rattle.labsys.specs.Playing.{Sends, Finishes, RunDid, left_of}
+use Rattle.labsys.specs.Counts.{counts_after, counted_by}
+use Rattle.labsys.specs.Playing.{Ends, EndsAs, RunDid, Sends, Writes, faults_of, left_of}
 use Rattle.labsys.specs.Clauses.{status_of, OnWhole, Reports, reports, Moved, WhereReported, WhereAccepted, TakesAtMost, Covered, RepliesFirst, Printed, Dropped, Written, Isolated, IsolatedWhole, SameBelow, TwoInputs, TwoWhole}
-use Rattle.labsys.proofs.Sending.{out_of-append, trail_of-append}
+use Rattle.labsys.proofs.Sending.{out_of-append, trail_of-append, prefix_of}
 use Rattle.labsys.proofs.Coverage.{session_out, session_trail, covered, replies_first, recorded}
 use Rattle.labsys.proofs.AcceptedLemmas.{accepted_input}
 use Rattle.labsys.proofs.Printing.{out_reported, trail_reported, all_numbered}
@@ -49,9 +48,10 @@ held_after None before bs h = absurd h
 held_after (Some ys) before bs h = ap (λ (z : List ℕ). Some z) h
 
 -- what was sent was appended where the sinks report it
-moved : (l l' o o' t t' : Option (List ℕ)) (taken : List ℕ) → Consumes l l' taken → (sent : List Sent) → Sends o o' t t' sent
-    → (P : List ℕ → List ℕ → List ℕ → Type 0) (text before above : List ℕ) → l ≡ Some text → o ≡ Some before → t ≡ Some above → P text (out_of sent) (trail_of sent) → Moved text before above (reports l' o' t') P
-moved l l' o o' t t' taken took sent sends P text before above el eo et p =
+moved : (l l' : Option (List ℕ)) (e e' : Ends) (taken : List ℕ) → Consumes l l' taken → (sent : List Sent) → Sends sent e e'
+    → (P : List ℕ → List ℕ → List ℕ → Type 0) (text before above : List ℕ) → l ≡ Some text → e.out.held ≡ Some before → e.trail.held ≡ Some above → P text (out_of sent) (trail_of sent)
+    → Moved text before above (reports l' e'.out.held e'.trail.held) P
+moved l l' e e' taken took sent sends P text before above el eo et p =
     let left = left_taken l' text taken (subst (λ z. Consumes z l' taken) el took) in
     record {
       taken = taken;
@@ -60,8 +60,8 @@ moved l l' o o' t t' taken took sent sends P text before above el eo et p =
       trail = trail_of sent;
       text_is = left.text_is;
       left_is = left.left_is;
-      out_is = held_after o' before (out_of sent) (subst (λ z. Appends z o' (out_of sent)) eo sends.to_out);
-      trail_is = held_after t' above (trail_of sent) (subst (λ z. Appends z t' (trail_of sent)) et sends.to_trail);
+      out_is = held_after e'.out.held before (out_of sent) (subst (λ z. Appends z e'.out.held (out_of sent)) eo sends.to_out);
+      trail_is = held_after e'.trail.held above (trail_of sent) (subst (λ z. Appends z e'.trail.held (trail_of sent)) et sends.to_trail);
       holds = p;
     }
 
@@ -96,23 +96,15 @@ on_command (Some Play) P p = p
 
 -- ---- counts
 
-counts_by : (r : Result InputEnd Fault) (before now : Counts) → CountsOnce r before now → now ≡ counts_after (status_of r) before
+counts_by : (r : Result InputEnd Fault) (order : List Sent) (e e' : Ends) → Writes r order e e' → faults_of e' ≡ counts_after (status_of r) (faults_of e)
 unfolding counted_by
-counts_by (Ok Whole) before now h = h
-counts_by (Ok (IsRefused n part why)) before now h = h
-counts_by (Ok TooMuch) before now h = h
-counts_by (Err Read) before now h = h
-counts_by (Err Write) before now h = h
-counts_by (Err Trail) before now h = h
-counts_by (Err Memory) before now h = h
-
-pub run_counts : (r : Result InputEnd Fault) (s : Status) (before now : Counts) → s ≡ status_of r → CountsOnce r before now → now ≡ counts_after s before
-run_counts r s before now is h = subst (λ z. now ≡ counts_after z before) (sym is) (counts_by r before now h)
-
--- ---- without a command
-
-pub nothing_taken : (left : Option (List ℕ)) → TakesAtMost 16777217 left left
-nothing_taken left = record { taken = []; took = Consumes-nil left; few = omega arith }
+counts_by (Ok Whole) order e e' w = w.no_fault
+counts_by (Ok (IsRefused n part why)) order e e' w = w.no_fault
+counts_by (Ok TooMuch) order e e' w = w.no_fault
+counts_by (Err Read) order e e' w = w.one_fault
+counts_by (Err Write) order e e' w = w.one_fault
+counts_by (Err Trail) order e e' w = w.one_fault
+counts_by (Err Memory) order e e' w = w.one_fault
 
 -- ---- an accepted world
 
@@ -155,78 +147,85 @@ all_written text a out is so = record {
 
 -- ---- a run
 
-module _ (r : Result InputEnd Fault) (l l' o o' t t' : Option (List ℕ)) (x : RunDid r l l' o o' t t') where
+module _ (r : Result InputEnd Fault) (l l' : Option (List ℕ)) (entry exit : Ends) (x : RunDid r l l' entry exit) where
+  abbrev old : Reports
+  old = reports l entry.out.held entry.trail.held
+
+  abbrev now : Reports
+  now = reports l' exit.out.held exit.trail.held
+
   -- what holds of each prefix of the order holds where the ends report
-  where_sent : (P : List ℕ → List ℕ → List ℕ → Type 0) → ((text : List ℕ) (sent rest : List Sent) → order_of (input_of text) ≡ sent ++ rest → P text (out_of sent) (trail_of sent)) → WhereReported (reports l o t) (reports l' o' t') P
+  where_sent : (P : List ℕ → List ℕ → List ℕ → Type 0) → ((text : List ℕ) (sent rest : List Sent) → order_of (input_of text) ≡ sent ++ rest → P text (out_of sent) (trail_of sent)) → WhereReported old now P
   where_sent P f text before above el eo et =
-      moved l l' o o' t t' x.taken x.took x.prefix.sent x.prefix.sends P text before above el eo et
-      (f text x.prefix.sent x.prefix.rest (ap (λ (z : List ℕ). order_of (input_of z)) (text_left l l' x.taken text el x.took) ∙ x.prefix.prefix))
+      let p = prefix_of r (order_of (input_of (x.taken ++ left_of l'))) entry exit x.writes in
+      moved l l' entry exit x.taken x.took p.sent p.sends P text before above el eo et
+      (f text p.sent p.rest (ap (λ (z : List ℕ). order_of (input_of z)) (text_left l l' x.taken text el x.took) ∙ p.prefix))
 
   -- the same for what was played on an accepted world
   where_played : (P : List ℕ → Accepted → Script → List ℕ → List ℕ → Type 0)
       → ((text : List ℕ) (a : Accepted) (sent rest : List Sent) → (input_of text).accepted ≡ Some a → session_order (session_of a (input_of text).script) ≡ sent ++ rest → P text a (input_of text).script (out_of sent) (trail_of sent))
-      → WhereReported (reports l o t) (reports l' o' t') (λ text out trail. WhereAccepted text (λ a m. P text a m out trail))
+      → WhereReported old now (λ text out trail. WhereAccepted text (λ a m. P text a m out trail))
   where_played P f = where_sent _ (λ text sent rest e a is. f text a sent rest is (by_session text a sent rest is e))
 
-  pub run_order : (c : Option Command) → IfSome c (λ command. WhereReported (reports l o t) (reports l' o' t') (λ text out trail. IsInOrder (due command text).order out trail))
+  pub run_order : (c : Option Command) → IfSome c (λ command. WhereReported old now (λ text out trail. IsInOrder (due command text).order out trail))
   run_order c = on_command c _ (where_sent _ (λ text sent rest e. record { sent = sent; rest = rest; order_is = e; out_is = refl; trail_is = refl }))
 
-  pub run_covered : WhereReported (reports l o t) (reports l' o' t') (λ text out trail. WhereAccepted text (λ a m. Covered (session_of a m) out trail))
+  pub run_covered : WhereReported old now (λ text out trail. WhereAccepted text (λ a m. Covered (session_of a m) out trail))
   run_covered = where_played (λ text a m out trail. Covered (session_of a m) out trail) (λ text a sent rest is e. covered (session_of a (input_of text).script) sent rest e)
 
-  pub run_replies_first : WhereReported (reports l o t) (reports l' o' t') (λ text out trail. WhereAccepted text (λ a m. RepliesFirst (session_of a m) out trail))
+  pub run_replies_first : WhereReported old now (λ text out trail. WhereAccepted text (λ a m. RepliesFirst (session_of a m) out trail))
   run_replies_first = where_played (λ text a m out trail. RepliesFirst (session_of a m) out trail) (λ text a sent rest is e. replies_first (session_of a (input_of text).script) sent rest e)
 
-  pub run_printed : WhereReported (reports l o t) (reports l' o' t') (λ text out trail. WhereAccepted text (λ a m. Printed (session_of a m) out trail))
+  pub run_printed : WhereReported old now (λ text out trail. WhereAccepted text (λ a m. Printed (session_of a m) out trail))
   run_printed = where_played (λ text a m out trail. Printed (session_of a m) out trail) (λ text a sent rest is e. session_printed a (input_of text).script sent rest e)
 
-  pub run_dropped : WhereReported (reports l o t) (reports l' o' t') (λ text out trail. WhereAccepted text (λ a m. Dropped (session_of a m) trail))
+  pub run_dropped : WhereReported old now (λ text out trail. WhereAccepted text (λ a m. Dropped (session_of a m) trail))
   run_dropped = where_played (λ text a m out trail. Dropped (session_of a m) trail) (λ text a sent rest is e. session_dropped a (input_of text).script sent rest e)
 
-  pub run_isolated : (k : Label) → WhereReported (reports l o t) (reports l' o' t') (λ text out trail. WhereAccepted text (λ a m. Isolated k a m out))
+  pub run_isolated : (k : Label) → WhereReported old now (λ text out trail. WhereAccepted text (λ a m. Isolated k a m out))
   run_isolated k = where_played (λ text a m out trail. Isolated k a m out) (λ text a sent rest is e.
       is_isolated k a (input_of text).script (accepted_input text a is) (out_of sent) (session_written (session_of a (input_of text).script) sent rest e))
 
-  pub run_two_inputs : (k : Label) (other : List ℕ) → WhereReported (reports l o t) (reports l' o' t')
+  pub run_two_inputs : (k : Label) (other : List ℕ) → WhereReported old now
       (λ text out trail. WhereAccepted text (λ a m. WhereAccepted other (λ b m'. SameBelow k a m b m' → TwoInputs k a m b m' out)))
   run_two_inputs k other = where_played (λ text a m out trail. WhereAccepted other (λ b m'. SameBelow k a m b m' → TwoInputs k a m b m' out)) (λ text a sent rest is e b is' same.
       two_agree k a (input_of text).script (accepted_input text a is) b (input_of other).script (accepted_input other b is') same (out_of sent) (session_written (session_of a (input_of text).script) sent rest e))
+
+  pub run_counts : (s : Status) → s ≡ status_of r → faults_of exit ≡ counts_after s (faults_of entry)
+  run_counts s is = subst (λ (z : Status). faults_of exit ≡ counts_after z (faults_of entry)) (sym is) (counts_by r (order_of (input_of (x.taken ++ left_of l'))) entry exit x.writes)
 
   pub run_few : TakesAtMost 16777217 l l'
   run_few = record { taken = x.taken; took = x.took; few = x.few }
 
   -- ---- a whole run
 
-  abbrev EndsSo : Result InputEnd Fault → Type 0
-  EndsSo q = IfOk q (λ e. Finishes o o' t t' (order_of (input_of (x.taken ++ left_of l'))) e (input_of (x.taken ++ left_of l')).script.ending × (e ≡ Whole → IsAtEnd l'))
-
-  run_all : (s : Status) → s ≡ status_of r → OnWhole s (WhereReported (reports l o t) (reports l' o' t') (λ text out trail. (out ≡ out_of (order_of (input_of text))) × (trail ≡ trail_of (order_of (input_of text)))))
+  run_all : (s : Status) → s ≡ status_of r → OnWhole s (WhereReported old now (λ text out trail. (out ≡ out_of (order_of (input_of text))) × (trail ≡ trail_of (order_of (input_of text)))))
   run_all s is =
-      let P : Type 0 = WhereReported (reports l o t) (reports l' o' t') (λ text out trail. (out ≡ out_of (order_of (input_of text))) × (trail ≡ trail_of (order_of (input_of text)))) in
+      let P : Type 0 = WhereReported old now (λ text out trail. (out ≡ out_of (order_of (input_of text))) × (trail ≡ trail_of (order_of (input_of text)))) in
       subst (λ z. OnWhole z P) (sym is) (on_whole r (λ _. P) (λ e ok text before above el eo et.
-      let w = subst (λ q. EndsSo q) ok x.whole in
+      let w = subst (λ (q : Result InputEnd Fault). Writes q (order_of (input_of (x.taken ++ left_of l'))) entry exit) ok x.writes in
       let same = ap (λ (z : List ℕ). order_of (input_of z)) (sym (text_left l l' x.taken text el x.took)) in
-      moved l l' o o' t t' x.taken x.took (order_of (input_of (x.taken ++ left_of l'))) w.0.all _ text before above el eo et (ap out_of same, ap trail_of same)))
+      moved l l' entry exit x.taken x.took (order_of (input_of (x.taken ++ left_of l'))) w.sends _ text before above el eo et (ap out_of same, ap trail_of same)))
 
   pub run_whole : (s : Status) → s ≡ status_of r → (c : Option Command)
-      → IfSome c (λ command. OnWhole s (WhereReported (reports l o t) (reports l' o' t') (λ text out trail. (out ≡ out_of (due command text).order) × (trail ≡ trail_of (due command text).order))))
+      → IfSome c (λ command. OnWhole s (WhereReported old now (λ text out trail. (out ≡ out_of (due command text).order) × (trail ≡ trail_of (due command text).order))))
   run_whole s is c = on_command c _ (run_all s is)
 
   ends_by : (s : Status) → s ≡ status_of r → OnWhole s ((text : List ℕ) → l ≡ Some text → s ≡ ends_with (input_of text).script.ending)
   ends_by s is =
       let P : Status → Type 0 = λ z. (text : List ℕ) → l ≡ Some text → z ≡ ends_with (input_of text).script.ending in
       subst (λ z. OnWhole z (P z)) (sym is) (on_whole r P (λ e ok text el.
-      let w = subst (λ q. EndsSo q) ok x.whole in
-      ap ends_with (w.0.ends ∙ ap (λ (z : List ℕ). (input_of z).script.ending) (sym (text_left l l' x.taken text el x.took)))))
+      let w = subst (λ (q : Result InputEnd Fault). IfOk q (λ k. EndsAs k (input_of (x.taken ++ left_of l')).script.ending l')) ok x.ending in
+      ap ends_with (w.same ∙ ap (λ (z : List ℕ). (input_of z).script.ending) (sym (text_left l l' x.taken text el x.took)))))
 
   pub run_ending : (s : Status) → s ≡ status_of r → (c : Option Command) → IfSome c (λ command. OnWhole s ((text : List ℕ) → l ≡ Some text → s ≡ (due command text).status))
   run_ending s is c = on_command c _ (ends_by s is)
 
-  pub run_isolated_whole : (s : Status) → s ≡ status_of r → (k : Label) → OnWhole s (WhereReported (reports l o t) (reports l' o' t') (λ text out trail. WhereAccepted text (λ a m. IsolatedWhole k a m out)))
-  run_isolated_whole s is k = whole_gives s _ _ (reported_gives (reports l o t) (reports l' o' t') _ _ (λ text out trail w a acc.
+  pub run_isolated_whole : (s : Status) → s ≡ status_of r → (k : Label) → OnWhole s (WhereReported old now (λ text out trail. WhereAccepted text (λ a m. IsolatedWhole k a m out)))
+  run_isolated_whole s is k = whole_gives s _ _ (reported_gives old now _ _ (λ text out trail w a acc.
       is_isolated_whole k a (input_of text).script (accepted_input text a acc) out (all_written text a out acc w.0))) (run_all s is)
 
-  pub run_two_whole : (s : Status) → s ≡ status_of r → (k : Label) (other : List ℕ) → OnWhole s (WhereReported (reports l o t) (reports l' o' t')
+  pub run_two_whole : (s : Status) → s ≡ status_of r → (k : Label) (other : List ℕ) → OnWhole s (WhereReported old now
       (λ text out trail. WhereAccepted text (λ a m. WhereAccepted other (λ b m'. SameBelow k a m b m' → TwoWhole k a m b m' out))))
-  run_two_whole s is k other = whole_gives s _ _ (reported_gives (reports l o t) (reports l' o' t') _ _ (λ text out trail w a acc b acc' same.
+  run_two_whole s is k other = whole_gives s _ _ (reported_gives old now _ _ (λ text out trail w a acc b acc' same.
       two_whole k a (input_of text).script (accepted_input text a acc) b (input_of other).script (accepted_input other b acc') same out (all_written text a out acc w.0))) (run_all s is)

@@ -1,4 +1,4 @@
--- A reply that stands has its records before it.
+-- A reply that was written has its records before it.
 use Rattle.std.proofs.Common.{◌≡◌, ℕ, ◌+◌, ◌≤◌, ◌<◌, List, [], ◌∷◌, ◌++◌, length, take, suc, zero, refl, sym, ◌∙◌, ap, subst, append_assoc, arith}
 use Rattle.std.proofs.lemmas.List.{append-nil, append_cancel_left, length-append}
 use Rattle.std.specs.List.{flat_map, AllByRecursion}
@@ -13,23 +13,23 @@ use Rattle.labsys.specs.Session.{Session, CallBytes, bytes_from, bytes_of, repli
 use Rattle.labsys.specs.Order.{Sent, out_of, trail_of, to_out, to_trail, call_order, session_order}
 use Rattle.labsys.proofs.Sending.{out_of-append, trail_of-append, out_of-to_out, out_of-to_trail, trail_of-to_out, trail_of-to_trail}
 
--- a front of two lists is a front of the first, or all of it and a front of the second
-pub data Split (a b prefix rest : List Sent) : Type 0 where
-  Within : (more : List Sent) (a_is : a ≡ prefix ++ more) → Split a b prefix rest
-  Past : (more : List Sent) (prefix_is : prefix ≡ a ++ more) (b_is : b ≡ more ++ rest) → Split a b prefix rest
+-- a prefix of two lists is a prefix of the first, or all of it and a prefix of the second
+pub data Split {X : Type 0} (a b prefix rest : List X) : Type 0 where
+  Within : (more : List X) (a_is : a ≡ prefix ++ more) (some : 0 < length more) → Split a b prefix rest
+  Past : (more : List X) (prefix_is : prefix ≡ a ++ more) (b_is : b ≡ more ++ rest) → Split a b prefix rest
 
-pub split : (a b prefix rest : List Sent) → a ++ b ≡ prefix ++ rest → Split a b prefix rest
+pub split : {X : Type 0} (a b prefix rest : List X) → a ++ b ≡ prefix ++ rest → Split a b prefix rest
 split [] b prefix rest e = Past prefix refl e
-split (x ∷ a) b [] rest e = Within (x ∷ a) refl
-split (x ∷ a) b (y ∷ prefix) rest e =
+split (x ∷ a) b [] rest e = Within (x ∷ a) refl (omega arith)
+split {X = X} (x ∷ a) b (y ∷ prefix) rest e =
     let h : x ≡ y = cc in
     let t : a ++ b ≡ prefix ++ rest = cc in
     elim (split a b prefix rest t) [
-      | Within more a_is ↦ Within more (ap (λ (z : List Sent). x ∷ z) a_is ∙ ap (λ q. q ∷ (prefix ++ more)) h)
-      | Past more prefix_is b_is ↦ Past more (ap (λ (z : List Sent). y ∷ z) prefix_is ∙ ap (λ q. q ∷ (a ++ more)) (sym h)) b_is
+      | Within more a_is some ↦ Within more (ap (λ (z : List X). x ∷ z) a_is ∙ ap (λ q. q ∷ (prefix ++ more)) h) some
+      | Past more prefix_is b_is ↦ Past more (ap (λ (z : List X). y ∷ z) prefix_is ∙ ap (λ q. q ∷ (a ++ more)) (sym h)) b_is
     ]
 
--- what stands in each sink after records, and after a reply
+-- what each sink has after records, and after a reply
 out_after : (r : List ℕ) (x : List Sent) → out_of (to_trail r ++ x) ≡ out_of x
 out_after r x = out_of-append (to_trail r) x ∙ ap (λ (z : List ℕ). z ++ out_of x) (out_of-to_trail r)
 
@@ -89,7 +89,7 @@ replies_pos : (ts : List CallBytes) (m : ℕ) → AllReply ts → suc m ≤ leng
 replies_pos [] m all le = absurd (omega arith)
 replies_pos (t ∷ ts) m all le = let p = all.0 in omega (arith, length-append t.reply (replies_of (take m ts)))
 
--- ---- fronts
+-- ---- prefixes
 
 empty_back : (xs ys : List ℕ) → xs ++ ys ≡ [] → ys ≡ []
 empty_back [] ys e = e
@@ -98,7 +98,7 @@ empty_back (x ∷ xs) ys e = absurd (cc)
 only_prefix : (xs ys zs : List ℕ) → ys ≡ [] → xs ++ ys ≡ zs → xs ≡ zs
 only_prefix xs ys zs none e = sym (append-nil xs) ∙ ap (λ (z : List ℕ). xs ++ z) (sym none) ∙ e
 
--- among records nothing stands in the output
+-- records add nothing to the output
 none_out : (r : List ℕ) (x y : List Sent) → to_trail r ≡ x ++ y → length (out_of x) ≡ 0
 none_out r x y e = let h = ap length (sym (out_of-to_trail r) ∙ ap out_of e ∙ out_of-append x y) in omega (arith, h, length-append (out_of x) (out_of y))
 
@@ -122,15 +122,15 @@ call_parts t ts tail =
     append_assoc (to_trail t.recs ++ to_out t.reply) (flat_map call_order ts) (to_out tail) ∙ append_assoc (to_trail t.recs) (to_out t.reply) (flat_map call_order ts ++ to_out tail)
 
 after_records : (t : CallBytes) (ts : List CallBytes) (after x rest : List Sent) → AllReply ts
-    → (round_trip : (z rest : List Sent) → after ≡ z ++ rest → (m : ℕ) → suc m ≤ length ts → IsPrefix (replies_of (take (suc m) ts)) (out_of z) → IsPrefix (records_of (take (suc m) ts)) (trail_of z))
+    → (covers : (z rest : List Sent) → after ≡ z ++ rest → (m : ℕ) → suc m ≤ length ts → IsPrefix (replies_of (take (suc m) ts)) (out_of z) → IsPrefix (records_of (take (suc m) ts)) (trail_of z))
     → to_out t.reply ++ after ≡ x ++ rest
     → (sent : List Sent) → sent ≡ to_trail t.recs ++ x
     → (m : ℕ) → suc m ≤ length (t ∷ ts) → IsPrefix (replies_of (take (suc m) (t ∷ ts))) (out_of sent) → IsPrefix (records_of (take (suc m) (t ∷ ts))) (trail_of sent)
-after_records t ts after x rest all round_trip eq sent is zero le f = record {
+after_records t ts after x rest all covers eq sent is zero le f = record {
   rest = trail_of x;
   whole_is = ap trail_of is ∙ trail_after t.recs x ∙ ap (λ (z : List ℕ). z ++ trail_of x) (sym (append-nil t.recs));
 }
-after_records t ts after x rest all round_trip eq sent is (suc m) le f =
+after_records t ts after x rest all covers eq sent is (suc m) le f =
     let r = t.recs in
     let p = t.reply in
     let reps = replies_of (take (suc m) ts) in
@@ -138,10 +138,10 @@ after_records t ts after x rest all round_trip eq sent is (suc m) le f =
     let fewer : suc m ≤ length ts = omega arith in
     let more = replies_pos ts m all fewer in
     elim (split (to_out p) after x rest eq) [
-      | Within y a_is ↦ absurd (omega (arith, some_out p x y a_is, ap length out_x, length-append (p ++ reps) f.rest, length-append p reps))
+      | Within y a_is _ ↦ absurd (omega (arith, some_out p x y a_is, ap length out_x, length-append (p ++ reps) f.rest, length-append p reps))
       | Past z prefix_is b_is ↦
           let out_z : out_of z ≡ reps ++ f.rest = append_cancel_left p (out_of z) (reps ++ f.rest) (sym (out_reply p z) ∙ ap out_of (sym prefix_is) ∙ out_x ∙ append_assoc p reps f.rest) in
-          let next : IsPrefix (records_of (take (suc m) ts)) (trail_of z) = round_trip z rest b_is m fewer (record { rest = f.rest; whole_is = out_z }) in
+          let next : IsPrefix (records_of (take (suc m) ts)) (trail_of z) = covers z rest b_is m fewer (record { rest = f.rest; whole_is = out_z }) in
           record {
             rest = next.rest;
             whole_is = ap trail_of is ∙ trail_after r x ∙ ap (λ (q : List ℕ). r ++ q) (ap trail_of prefix_is ∙ trail_reply p z ∙ next.whole_is) ∙ sym (append_assoc r _ next.rest);
@@ -155,7 +155,7 @@ covered_from (t ∷ ts) tail sent rest all eq m le f =
     let after = flat_map call_order ts ++ to_out tail in
     let pos = all.0 in
     elim (split (to_trail t.recs) (to_out t.reply ++ after) sent rest (sym (call_parts t ts tail) ∙ eq)) [
-      | Within y a_is ↦ absurd (omega (arith, none_out t.recs sent y a_is, ap length f.whole_is, length-append (t.reply ++ replies_of (take m ts)) f.rest, length-append t.reply (replies_of (take m ts))))
+      | Within y a_is _ ↦ absurd (omega (arith, none_out t.recs sent y a_is, ap length f.whole_is, length-append (t.reply ++ replies_of (take m ts)) f.rest, length-append t.reply (replies_of (take m ts))))
       | Past x prefix_is b_is ↦ after_records t ts after x rest all.1 (λ z rest h m le f. covered_from ts tail z rest all.1 h m le f) b_is sent prefix_is m le f
     ]
 
@@ -165,14 +165,14 @@ covered_after : (head : List ℕ) (ts : List CallBytes) (tail : List ℕ) (sent 
 covered_after head ts tail sent rest all e m le f =
     let pos = replies_pos ts m all le in
     elim (split (to_trail head) (flat_map call_order ts ++ to_out tail) sent rest e) [
-      | Within y a_is ↦ absurd (omega (arith, none_out head sent y a_is, ap length f.whole_is, length-append (replies_of (take (suc m) ts)) f.rest))
+      | Within y a_is _ ↦ absurd (omega (arith, none_out head sent y a_is, ap length f.whole_is, length-append (replies_of (take (suc m) ts)) f.rest))
       | Past x prefix_is b_is ↦
           let h : IsPrefix (replies_of (take (suc m) ts)) (out_of x) = record { rest = f.rest; whole_is = sym (out_after head x) ∙ ap out_of (sym prefix_is) ∙ f.whole_is } in
           let r = covered_from ts tail x rest all b_is m le h in
           record { rest = r.rest; whole_is = ap trail_of prefix_is ∙ trail_after head x ∙ ap (λ (q : List ℕ). head ++ q) r.whole_is ∙ sym (append_assoc head _ r.rest) }
     ]
 
--- a reply line that stands has its call's records before it
+-- a reply that was written has its call's records before it
 pub covered : (s : Session) (sent rest : List Sent) → session_order s ≡ sent ++ rest → (k : ℕ) → k + 1 ≤ length (bytes_of s)
     → IsPrefix (replies_of (take (k + 1) (bytes_of s))) (out_of sent) → IsPrefix (head_text s ++ records_of (take (k + 1) (bytes_of s))) (trail_of sent)
 unfolding session_order
@@ -195,10 +195,10 @@ replies_from (t ∷ ts) tail sent rest eq (suc m) le h =
     let all = length-append r recs in
     let fewer : m ≤ length ts = omega arith in
     elim (split (to_trail r) (to_out p ++ after) sent rest (sym (call_parts t ts tail) ∙ eq)) [
-      | Within y a_is ↦ absurd (omega (arith, some_trail r sent y a_is))
+      | Within y a_is _ ↦ absurd (omega (arith, some_trail r sent y a_is))
       | Past x prefix_is b_is ↦
           elim (split (to_out p) after x rest b_is) [
-            | Within y a_is ↦ absurd (omega (arith, none_trail p x y a_is, ap length (ap trail_of prefix_is ∙ trail_after r x), length-append r (trail_of x)))
+            | Within y a_is _ ↦ absurd (omega (arith, none_trail p x y a_is, ap length (ap trail_of prefix_is ∙ trail_after r x), length-append r (trail_of x)))
             | Past z x_is z_is ↦
                 let trail_is = ap length (ap trail_of prefix_is ∙ trail_after r x ∙ ap (λ (q : List ℕ). r ++ q) (ap trail_of x_is ∙ trail_reply p z)) in
                 let more : length recs < length (trail_of z) = omega (arith, length-append r (trail_of z)) in
@@ -215,7 +215,7 @@ first_after : (head : List ℕ) (ts : List CallBytes) (tail : List ℕ) (sent re
 first_after head ts tail sent rest e m le h =
     let all = length-append head (records_of (take m ts)) in
     elim (split (to_trail head) (flat_map call_order ts ++ to_out tail) sent rest e) [
-      | Within y a_is ↦ absurd (omega (arith, some_trail head sent y a_is))
+      | Within y a_is _ ↦ absurd (omega (arith, some_trail head sent y a_is))
       | Past x prefix_is b_is ↦
           let trail_is = ap length (ap trail_of prefix_is ∙ trail_after head x) in
           let more : length (records_of (take m ts)) < length (trail_of x) = omega (arith, length-append head (trail_of x)) in
@@ -223,7 +223,7 @@ first_after head ts tail sent rest e m le h =
           record { rest = r.rest; whole_is = ap out_of prefix_is ∙ out_after head x ∙ r.whole_is }
     ]
 
--- a record stands only after the replies of the calls before
+-- a record is written only after the replies to the calls before it
 pub replies_first : (s : Session) (sent rest : List Sent) → session_order s ≡ sent ++ rest → (k : ℕ) → k ≤ length (bytes_of s)
     → length (head_text s ++ records_of (take k (bytes_of s))) < length (trail_of sent) → IsPrefix (replies_of (take k (bytes_of s))) (out_of sent)
 unfolding session_order
@@ -231,7 +231,7 @@ replies_first s sent rest e k le h = first_after (head_text s) (bytes_of s) (tai
 
 -- ---- after the replies
 
--- what goes on after the replies in the output has all records before it
+-- an output that goes on after the replies has all records before it
 pub recorded : (s : Session) (sent rest : List Sent) → session_order s ≡ sent ++ rest
     → length (replies_of (bytes_of s)) < length (out_of sent) → trail_of sent ≡ head_text s ++ records_of (bytes_of s)
 unfolding session_order
@@ -242,7 +242,7 @@ recorded s sent rest e more =
     let parts : calls ++ to_out tail ≡ sent ++ rest = append_assoc (to_trail (head_text s)) (flat_map call_order cs) (to_out tail) ∙ e in
     let out_calls = ap length (sym (out_of-append calls (to_out tail)) ∙ ap out_of (append_assoc (to_trail (head_text s)) (flat_map call_order cs) (to_out tail)) ∙ out_after (head_text s) (flat_map call_order cs ++ to_out tail) ∙ calls_out cs tail) in
     elim (split calls (to_out tail) sent rest parts) [
-      | Within y a_is ↦ absurd (omega (
+      | Within y a_is _ ↦ absurd (omega (
         arith,
         out_calls,
         more,

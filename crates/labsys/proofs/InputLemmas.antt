@@ -3,7 +3,8 @@ use Rattle.std.proofs.Common.{◌≡◌, ℕ, ◌+◌, ◌≤◌, ◌<◌, true,
 use Rattle.std.proofs.lemmas.List.{append-nil, length-append, length-take, take-append-le}
 use Rattle.std.proofs.lemmas.Bool.Decides.{nat_tests}
 use Rattle.std.specs.Prelude.{Result, IsErrAnd, IfOk, Ok, Err, Option, None, Some, nat_lt}
-use Rattle.std.specs.Io.KnownBytes.{Appends, IsAtEnd}
+use Rattle.std.specs.Io.KnownBytes.{IsAtEnd}
+use Rattle.io_ends.specs.Sinks.{SinkView}
 use Rattle.io_ends.specs.declared.whole.Whole.{Whole}
 use Rattle.io_ends.specs.Whole.{IsWhole}
 use Rattle.labsys.specs.declared.status.InputEnd.{InputEnd}
@@ -29,17 +30,15 @@ use Rattle.script_text.specs.declared.fault.LineError.{LineError}
 use Rattle.script_text.specs.Line as script_lines
 use Rattle.labsys.specs.Input.{Input, Script, script, item_of, no_world, cut_off, after_line, script_from, has_fifo, of_world, input_by, read_input, input_of}
 use Rattle.labsys.specs.Texts.{last_text}
-use Rattle.labsys.specs.Order.{order_by, order_of}
-use Rattle.labsys.specs.Playing.{AppendsPrefix, SendsPrefix, Finishes, Takes, RunDid, left_of}
-use Rattle.labsys.proofs.Sending.{sends_start, sends_reply, sends_out}
+use Rattle.labsys.specs.Counts.{counts, counted_by}
+use Rattle.labsys.specs.Order.{to_out, order_by, order_of}
+use Rattle.labsys.specs.Playing.{Writes, Takes, EndsAs, RunDid, ends, left_of}
+use Rattle.labsys.proofs.Sending.{in_order, passes_on, prefix_nothing}
 
 -- ---- bytes
 
-pub is_more : (n k : ℕ) → nat_lt n k ≡ true → n < k
+is_more : (n k : ℕ) → nat_lt n k ≡ true → n < k
 is_more n k h = grind (arith, nat_tests)
-
-pub not_more : (n k : ℕ) → nat_lt n k ≡ false → k ≤ n
-not_more n k h = grind (arith, nat_tests)
 
 more_is : (n k : ℕ) → n < k → nat_lt n k ≡ true
 more_is n k h = grind (arith, nat_tests)
@@ -134,22 +133,10 @@ lines_not text = input_not (read_text text) (has_piece 1 at.Format (pieces 10 te
 
 -- ---- what a run leaves
 
--- the last line alone, where no world was accepted
-pub without_world : (o o' t : Option (List ℕ)) (e : InputEnd) → AppendsPrefix o o' (last_text 0 e) → SendsPrefix o o' t t (order_of (no_world e))
+-- without a world the order is the last line
+pub without_world : (e : InputEnd) → to_out (last_text 0 e) ≡ order_of (no_world e)
 unfolding order_by
-without_world o o' t e f = sends_reply o o' t (last_text 0 e) f
-
-pub without_world_whole : (r : Result InputEnd Fault) (o o' t : Option (List ℕ)) (e : InputEnd) → IfOk r (λ x. Appends o o' (last_text 0 e) × (x ≡ e)) → IfOk r (λ x. Finishes o o' t t (order_of (no_world e)) x (no_world e).script.ending)
-unfolding order_by
-without_world_whole (Ok x) o o' t e h = record { all = sends_out o o' t (last_text 0 e) h.0; ends = h.1 }
-without_world_whole (Err fault) o o' t e h = tt
-
--- a run on one input is a run on the same input
-pub whole_over : (r : Result InputEnd Fault) (o o' t t' : Option (List ℕ)) (i j : Input) → i ≡ j → IfOk r (λ e. Finishes o o' t t' (order_of i) e i.script.ending) → IfOk r (λ e. Finishes o o' t t' (order_of j) e j.script.ending)
-whole_over r o o' t t' i j is h = subst (λ k. IfOk r (λ e. Finishes o o' t t' (order_of k) e k.script.ending)) is h
-
-pub prefix_over : (o o' t t' : Option (List ℕ)) (i j : Input) → i ≡ j → SendsPrefix o o' t t' (order_of i) → SendsPrefix o o' t t' (order_of j)
-prefix_over o o' t t' i j is h = subst (λ k. SendsPrefix o o' t t' (order_of k)) is h
+without_world e = refl
 
 -- a source at which an input ended whole is at its end
 at_end : (w : Whole) (got text : List ℕ) (now : Option (List ℕ)) → IsWhole w got 16777216 now → (read_input w.more text).script.ending ≡ AllRead → IsAtEnd now
@@ -159,36 +146,37 @@ at_end w got text now is =
       | false ↦ λ within _. is.to_the_end within
     ] refl
 
--- a run that played what was taken
-pub plays_taken : (r : Result InputEnd Fault) (w : Whole) (left left' o o' t t' : Option (List ℕ)) (text : List ℕ) → (takes : Takes (Ok w) left left') → text ≡ w.bytes
-    → SendsPrefix o o' t t' (order_of (read_input w.more text)) → IfOk r (λ e. Finishes o o' t t' (order_of (read_input w.more text)) e (read_input w.more text).script.ending)
-    → RunDid r left left' o o' t t'
-plays_taken (Ok e) w left left' o o' t t' text takes kept prefix whole =
-    let i = input_taken w takes.got left' text takes.shows kept in
-    record {
-      taken = takes.got;
-      took = takes.took;
-      few = takes.few;
-      prefix = prefix_over o o' t t' _ _ (sym i.input) prefix;
-      whole = (subst (λ k. Finishes o o' t t' (order_of k) e k.script.ending) (sym i.input) whole, λ all. at_end w takes.got text left' takes.shows (sym whole.ends ∙ all));
-    }
-plays_taken (Err fault) w left left' o o' t t' text takes kept prefix whole =
-    let i = input_taken w takes.got left' text takes.shows kept in
-    record {
-      taken = takes.got;
-      took = takes.took;
-      few = takes.few;
-      prefix = prefix_over o o' t t' _ _ (sym i.input) prefix;
-      whole = tt;
-    }
+module _ (w : Whole) (left left' : Option (List ℕ)) (text : List ℕ) (takes : Takes (Ok w) left left') (kept : text ≡ w.bytes) where
+  same_input : read_input w.more text ≡ input_of (takes.got ++ left_of left')
+  same_input = sym (input_taken w takes.got left' text takes.shows kept).input
+
+  ends_as : (r : Result InputEnd Fault) → IfOk r (λ e. e ≡ (read_input w.more text).script.ending) → IfOk r (λ e. EndsAs e (input_of (takes.got ++ left_of left')).script.ending left')
+  ends_as (Ok e) is = record {
+    same = is ∙ ap (λ (i : Input). i.script.ending) same_input;
+    to_the_end = λ whole. at_end w takes.got text left' takes.shows (sym is ∙ whole);
+  }
+  ends_as (Err fault) is = tt
+
+  -- a run that played what was taken
+  pub plays_taken : (r : Result InputEnd Fault) (n n' : ℕ) (o o' t t' : SinkView) → n' ≡ n
+      → Writes r (order_of (read_input w.more text)) (ends n' o t) (ends n' o' t') → IfOk r (λ e. e ≡ (read_input w.more text).script.ending)
+      → RunDid r left left' (ends n o t) (ends n' o' t')
+  plays_taken r n n' o o' t t' still writes ending = record {
+    taken = takes.got;
+    took = takes.took;
+    few = takes.few;
+    writes = in_order r _ _ _ _ (ap order_of same_input) (subst (λ k. Writes r (order_of (read_input w.more text)) (ends k o t) (ends n' o' t')) still writes);
+    ending = ends_as r ending;
+  }
 
 -- nothing was played
-pub plays_nothing : (r : Result InputEnd Fault) (w : Result Whole Fault) (fault : Fault) (left left' o t : Option (List ℕ)) → Takes w left left' → IsErrAnd r (λ e. e ≡ fault) → RunDid r left left' o o t t
-plays_nothing (Ok e) w fault left left' o t takes is = absurd is
-plays_nothing (Err e) w fault left left' o t takes is = record {
+pub plays_nothing : (r : Result InputEnd Fault) (w : Result Whole Fault) (fault : Fault) (left left' : Option (List ℕ)) (n n' : ℕ) (o t : SinkView) → Takes w left left'
+    → counts n' o.faults t.faults ≡ counted_by fault (counts n o.faults t.faults) → IsErrAnd r (λ e. e ≡ fault) → RunDid r left left' (ends n o t) (ends n' o t)
+plays_nothing (Ok e) w fault left left' n n' o t takes once is = absurd is
+plays_nothing (Err e) w fault left left' n n' o t takes once is = record {
   taken = takes.got;
   took = takes.took;
   few = takes.few;
-  prefix = sends_start o t (order_of (input_of (takes.got ++ left_of left')));
-  whole = tt;
+  writes = passes_on {T = InputEnd} (Err e) fault _ (ends n o t) (ends n' o t) (record { sends = prefix_nothing _ n n' o t; one_fault = once }) is;
+  ending = tt;
 }

@@ -1,7 +1,6 @@
--- How many replies stand in an output, and what they have of the part alone.
+-- How many replies an output has, and that they are those of the part alone.
 use Rattle.std.proofs.Common.{◌≡◌, ℕ, ◌+◌, ◌≤◌, ◌<◌, true, false, cond, List, [], ◌∷◌, ◌++◌, length, take, suc, zero, refl, sym, ◌∙◌, ap, subst, append_assoc, arith}
 use Rattle.std.proofs.lemmas.List.{append-nil, length-append}
-use Rattle.std.specs.Prelude.{nat_lt}
 use Rattle.lab_lattice.specs.Label.{Label}
 use Rattle.kern_model.specs.Run.{CallRecord}
 use Rattle.kern_model.specs.Isolation.{answers, alone, crossing, up_to}
@@ -10,32 +9,12 @@ use Rattle.iso_laws.proofs.Laws.{isolated_prefix, isolated_whole, two_worlds_agr
 use Rattle.labsys.specs.Input.{Accepted, Script}
 use Rattle.labsys.specs.Session.{CallBytes, session_of, bytes_of, replies_of}
 use Rattle.labsys.proofs.AcceptedLemmas.{IsPlayable}
-use Rattle.labsys.proofs.InputLemmas.{is_more, not_more}
+use Rattle.labsys.proofs.Coverage.{Split, Within, Past, split}
 use Rattle.labsys.specs.Clauses.{Written, Isolated, IsolatedWhole, SameBelow, TwoInputs, TwoWhole, run_of}
 
 -- ---- written replies
 
--- an output that is long enough begins with the first piece
-record After (a b out more : List ℕ) : Type 0 where
-  rest : List ℕ
-  out_is : out ≡ a ++ rest
-  b_is : b ≡ rest ++ more
-
-after : (a b out more : List ℕ) → a ++ b ≡ out ++ more → length a ≤ length out → After a b out more
-after [] b out more e le = record { rest = out; out_is = refl; b_is = e }
-after (x ∷ a) b [] more e le = absurd (omega arith)
-after (x ∷ a) b (y ∷ out) more e le =
-    let h : x ≡ y = cc in
-    let t : a ++ b ≡ out ++ more = cc in
-    let less : length a ≤ length out = omega arith in
-    let r = after a b out more t less in
-    record {
-      rest = r.rest;
-      out_is = ap (λ (z : List ℕ). y ∷ z) r.out_is ∙ ap (λ q. q ∷ (a ++ r.rest)) (sym h);
-      b_is = r.b_is;
-    }
-
--- no reply stands there whole
+-- no reply is whole
 none_written : (t : CallBytes) (ts : List CallBytes) (out : List ℕ) → length out < length t.reply → Written (t ∷ ts) out
 none_written t ts out short = record {
   count = 0;
@@ -64,16 +43,14 @@ one_more t ts out rest is w =
           (omega (arith, all, length-append t.reply rest, length-append t.reply (replies_of (take (suc w.count) ts))));
     }
 
--- of a front of replies and what is after them some number is whole
+-- a prefix of replies and of what is after them has some number of whole replies
 pub written : (ts : List CallBytes) (tail out more : List ℕ) → replies_of ts ++ tail ≡ out ++ more → Written ts out
 written [] tail out more e = record { count = 0; few = omega arith; begins = record { rest = out; whole_is = refl }; no_more = λ le. absurd (omega arith) }
 written (t ∷ ts) tail out more e =
-    elim (nat_lt (length out) (length t.reply)) as (λ b. nat_lt (length out) (length t.reply) ≡ b → Written (t ∷ ts) out) [
-      | true ↦ λ short. none_written t ts out (is_more _ _ short)
-      | false ↦ λ long.
-          let h = after t.reply (replies_of ts ++ tail) out more (sym (append_assoc t.reply (replies_of ts) tail) ∙ e) (not_more _ _ long) in
-          one_more t ts out h.rest h.out_is (written ts tail h.rest more h.b_is)
-    ] refl
+    elim (split t.reply (replies_of ts ++ tail) out more (sym (append_assoc t.reply (replies_of ts) tail) ∙ e)) [
+      | Within y reply_is some ↦ none_written t ts out (omega (arith, ap length reply_is, length-append out y))
+      | Past rest out_is rest_is ↦ one_more t ts out rest out_is (written ts tail rest more rest_is)
+    ]
 
 -- ---- the first calls
 

@@ -1,6 +1,5 @@
 pub mod ReadLemmas
 pub mod Sending
-pub mod CountLemmas
 pub mod ScriptLemmas
 pub mod InputLemmas
 pub mod Coverage

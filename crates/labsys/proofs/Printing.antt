@@ -49,7 +49,7 @@ lines_from policy n (p ∷ ps) =
     ∙ ap (λ (xs : List ℕ). xs ++ lines policy (numbered_from (n + 1) ps)) (lines_of_call policy n p.recs)
     ∙ ap (λ (xs : List ℕ). flat_map (rec_text policy n) p.recs ++ xs) (lines_from policy (n + 1) ps)
 
--- the lines of all records stand in the trail
+-- the trail has the lines of all records
 pub trail_reported : (s : Session) → head_text s ++ records_of (bytes_of s) ≡ trail_with s (numbered_recs s)
 unfolding head_text
 trail_reported s =

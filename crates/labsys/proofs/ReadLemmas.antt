@@ -1,4 +1,4 @@
--- A world by the front of a text, and a script from one line on.
+-- A world at the beginning of a text, and a script from one line on.
 use Rattle.std.proofs.Common.{◌≡◌, ℕ, ◌+◌, ◌≤◌, ◌<◌, Bool, true, false, cond, List, [], ◌∷◌, length, refl, sym, ◌∙◌, ap, subst, Option, Some, None, Bor}
 use Rattle.std.specs.Prelude.{Result, Ok, Err}
 use Rattle.fs_path.specs.Split.{split_once, pieces}
@@ -46,7 +46,7 @@ reads_world over text w n rest is plain numbered = record {
 
 -- ---- a script
 
--- a script by what stands before its first line feed
+-- a script by its first line feed
 abbrev script_next : Bool → PolicyNames → ℕ → List ℕ → Option (List ℕ × List ℕ) → Script
 script_next over policy n text None = script [] (last_piece over n text)
 script_next over policy n text (Some p) = after_line (parse_line policy p.0) n (script_from over policy (n + 1) (pieces 10 p.1))
@@ -72,11 +72,11 @@ pub ends_last : (over : Bool) (policy : PolicyNames) (n : ℕ) (text : List ℕ)
 ends_last over policy n text ending none is = script_is over policy n text None none ∙ sym (ap (script []) is)
 
 module _ (over : Bool) (policy : PolicyNames) (n : ℕ) (text line rest : List ℕ) (next : split_once 10 text ≡ Some (line, rest)) where
-  -- the script behind the line
+  -- the script after the line
   abbrev after : Script
   after = script_from over policy (n + 1) (pieces 10 rest)
 
-  -- what comes of the line that is next
+  -- the script that begins with the line
   by_line : (parsed : Result Line LineError) → parse_line policy line ≡ parsed → script_from over policy n (pieces 10 text) ≡ after_line parsed n after
   by_line parsed is = script_is over policy n text (Some (line, rest)) next ∙ ap (λ (r : Result Line LineError). after_line r n after) is
 

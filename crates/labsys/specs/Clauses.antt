@@ -1,4 +1,4 @@
--- What a run means, in words on the bytes of its ends.
+-- What is promised of a run, by the bytes of its ends.
 use Rattle.std.specs.Prelude.{◌≡◌, ℕ, ◌+◌, ◌≤◌, ◌<◌, List, [], ◌∷◌, ◌++◌, length, map, take, Result, Ok, Err, Option, Some}
 use Rattle.std.specs.List.{flat_map}
 use Rattle.std.specs.Io.KnownBytes.{Consumes}
@@ -79,17 +79,17 @@ OnWhole s P = Unit {0}
 
 -- ---- replies and their records
 
--- where the reply lines of the first calls stand in out, the head of the trail and their records stand in trail
+-- where the output has the replies to the first calls, the trail has its head and their records
 abbrev pub Covered : Session → List ℕ → List ℕ → Type 0
 Covered s out trail = (m : ℕ) → m + 1 ≤ length (bytes_of s) → IsPrefix (replies_of (take (m + 1) (bytes_of s))) out
     → IsPrefix (head_text s ++ records_of (take (m + 1) (bytes_of s))) trail
 
--- where the trail goes on after the records of the first calls, their replies stand in out
+-- where the trail goes on after the records of the first calls, the output has their replies
 abbrev pub RepliesFirst : Session → List ℕ → List ℕ → Type 0
 RepliesFirst s out trail = (m : ℕ) → m ≤ length (bytes_of s) → length (head_text s ++ records_of (take m (bytes_of s))) < length trail
     → IsPrefix (replies_of (take m (bytes_of s))) out
 
--- how many whole reply lines stand in out
+-- how many whole replies the output has
 pub record Written (calls : List CallBytes) (out : List ℕ) : Type 0 where
   pub count : ℕ
   pub few : count ≤ length calls
@@ -120,7 +120,7 @@ abbrev pub out_with : Session → List Rec → List ℕ
 out_with s recs = replies_of (bytes_of s)
     ++ (flat_map (λ who. end_text s.policy who (label_in s.last_state who) (Some (caps_of s.bound recs who))) (finite.keys s.last_state.procs) ++ last_text (length s.calls) s.ending)
 
--- each end line has the capability sets that the records give, and where out goes on after the replies they all stand in the trail
+-- each end line has the capability sets that the records give, and where the output goes on after the replies the trail has them all
 pub record Printed (s : Session) (out trail : List ℕ) : Type 0 where
   pub by_records : IsPrefix out (out_with s (recs_in (numbered_recs s)))
   pub recorded : length (replies_of (bytes_of s)) < length out → trail ≡ trail_with s (numbered_recs s)
@@ -137,13 +137,13 @@ pub record Dropped (s : Session) (trail : List ℕ) : Type 0 where
 abbrev pub run_of : Accepted → Script → List CallRecord
 run_of a script = run (boot a.world) script.items
 
--- up to the first call with a record that crosses l, the written replies to Low tags are the first that the call table gives
--- to the Low items on the part of the world alone
+-- up to the first call with a record that crosses l, the written replies to Low tags are a prefix of those of the run of the Low items
+-- on the part of the world alone
 pub record Isolated (l : Label) (a : Accepted) (script : Script) (out : List ℕ) : Type 0 where
   pub written : Written (bytes_of (session_of a script)) out
   pub reported : (m : ℕ) → m ≤ written.count → m ≤ length (up_to l (run_of a script)) → IsPrefix (answers l (take m (run_of a script))) (alone l a.world script.items)
 
--- all reply lines stand in out, and where no call crosses l those to Low tags are all that the table gives there
+-- the output has all replies, and where no call crosses l those to Low tags are all of that run
 pub record IsolatedWhole (l : Label) (a : Accepted) (script : Script) (out : List ℕ) : Type 0 where
   pub written : IsPrefix (replies_of (bytes_of (session_of a script))) out
   pub reported : up_to l (run_of a script) ≡ run_of a script → answers l (run_of a script) ≡ alone l a.world script.items
@@ -160,7 +160,7 @@ pub record TwoInputs (l : Label) (a : Accepted) (script : Script) (b : Accepted)
   pub agree : (m n : ℕ) → m ≤ written.count → m ≤ length (up_to l (run_of a script)) → n ≤ length (up_to l (run_of b script'))
       → Agree (answers l (take m (run_of a script))) (answers l (take n (run_of b script')))
 
--- all reply lines stand in out, and where neither run crosses l those to Low tags are the other run's
+-- the output has all replies, and where neither run crosses l those to Low tags are the other run's
 pub record TwoWhole (l : Label) (a : Accepted) (script : Script) (b : Accepted) (script' : Script) (out : List ℕ) : Type 0 where
   pub written : IsPrefix (replies_of (bytes_of (session_of a script))) out
   pub equal : up_to l (run_of a script) ≡ run_of a script → up_to l (run_of b script') ≡ run_of b script' → answers l (run_of a script) ≡ answers l (run_of b script')

@@ -12,12 +12,12 @@ use Rattle.labsys.specs.declared.status.Status.TheVariants.{Done, Refused, TooLo
 use Rattle.labsys.specs.Input.{input_of}
 use Rattle.labsys.specs.Order.{Sent, order_of}
 
--- a file's word: it has a byte, and does not begin with `-`
+-- a word that names a file: it is not empty, and does not begin with `-`
 abbrev pub is_file_word : List ℕ → Bool
 is_file_word [] = false
 is_file_word (b ∷ bytes) = not (b == 45)
 
--- the command that the words name, if they do: `play FILE`
+-- the command that the words name, if they name one: `play FILE`
 abbrev pub command_of : List (String Global) → Option Command
 command_of (word ∷ file ∷ []) = cond (same_bytes (string_bytes word) (codes "play") && is_file_word (string_bytes file)) (Some Play) None
 command_of words = None
@@ -33,7 +33,7 @@ pub record Due : Type 0 where
   pub order : List Sent
   pub status : Status
 
--- what a command owes for the bytes of a source
+-- what is due of a command, by the bytes of the source
 abbrev pub due : Command → List ℕ → Due
 due Play text = record { order = order_of (input_of text); status = ends_with (input_of text).script.ending }
 

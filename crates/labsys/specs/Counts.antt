@@ -15,7 +15,7 @@ pub record Counts : Type 0 where
 abbrev pub counts : ℕ → ℕ → ℕ → Counts
 counts source out trail = record { source = source; out = out; trail = trail }
 
--- the counts after a run with this status: one more at the end whose fault it tells, and no other change
+-- the counts after a run with this status: one more at the end whose fault it reports, and no other change
 abbrev pub counts_after : Status → Counts → Counts
 counts_after ReadFault c = record c { source = counted c.source }
 counts_after WriteFault c = record c { out = counted c.out }
@@ -29,6 +29,6 @@ counted_by Write c = record c { out = counted c.out }
 counted_by Trail c = record c { trail = counted c.trail }
 counted_by Memory c = c
 
--- what goes on has counted no fault, and what a fault ended has counted that one
+-- a function that succeeded counted no fault, and one that failed counted its fault once
 abbrev pub CountsOnce : {T : Type 0} → Result T Fault → Counts → Counts → Type 0
 CountsOnce result before after = MatchResult result (λ _. after ≡ before) (λ fault. after ≡ counted_by fault before)

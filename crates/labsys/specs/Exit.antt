@@ -14,7 +14,7 @@ exit_code TrailFault = 5
 exit_code NoMemory = 6
 exit_code TooLong = 7
 
--- whether the last line of the output tells how the run ended
+-- whether the last line of the output reports the status
 abbrev pub is_reported : Status → Bool
 is_reported Done = true
 is_reported Refused = true

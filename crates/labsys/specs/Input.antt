@@ -1,4 +1,4 @@
--- What an input says: its world, its script up to the first refused line, and how it ends.
+-- The meaning of an input: its world, its script up to the first refused line, and how it ends.
 use Rattle.std.specs.Prelude.{ℕ, ◌+◌, Bool, true, false, cond, nat_lt, List, [], ◌∷◌, length, take, Option, Some, None, Result, Ok, Err}
 use Rattle.std.specs.List.{list_any}
 use Rattle.kern_model.specs.declared.objects.Body.{Body}
@@ -28,7 +28,7 @@ use Rattle.labsys.specs.declared.status.Part.TheVariants as part
 use Rattle.labsys.specs.declared.status.Refusal.{Refusal}
 use Rattle.labsys.specs.declared.status.Refusal.TheVariants as refusal
 
--- a world that was accepted, with the names that it gives
+-- a world that was accepted, with the names of its labels
 abbrev pub Accepted : Type 0
 Accepted = WorldText
 
@@ -48,11 +48,11 @@ script items ending = record { items = items; ending = ending }
 abbrev pub no_world : InputEnd → Input
 no_world ending = record { accepted = None; script = script [] ending }
 
--- a line that passes the place of the limit is judged for its length alone
+-- how an input ends at a last piece that goes on past the limit: the piece is refused where it is too long for a line
 abbrev pub cut_off : ℕ → Part → Refusal → List ℕ → InputEnd
 cut_off n p why last = cond (nat_lt 2048 (length last)) (Refused n p why) TooMuch
 
--- how an input ends inside its world at a last piece that is no line; `over` where it goes on past the limit
+-- how an input ends inside its world at a last piece that no line feed ends; `over` where the input goes on past the limit
 abbrev pub ends_at : Bool → ℕ → Part → Refusal → List ℕ → InputEnd
 ends_at over n p why last = cond over (cut_off n p why last) (Refused n p why)
 
@@ -67,21 +67,21 @@ refusal_of_line line_error.BadLabel = refusal.BadLabel
 refusal_of_line line_error.BadCaps = refusal.BadCaps
 refusal_of_line _ = refusal.Syntax
 
--- a call of a script, whose reply shows its own word
+-- a call of a script, whose reply has the word of the call
 abbrev pub item_of : Pid → Call → ScriptItem
 item_of who call = record { who = who; head = word_of (name_of call); call = call }
 
--- what comes of a line: it is refused, it says nothing, or it is a call, which has to be built
+-- a script that begins with this line: the line is refused, it is blank, or it is a call, which has to be built
 abbrev pub after_line : Result Line LineError → ℕ → Script → Script
 after_line (Err e) n more = script [] (Refused n part.Script (refusal_of_line e))
 after_line (Ok line.Blank) n more = more
 after_line (Ok (line.One who call)) n more = cond (is_built call) (script (item_of who call ∷ more.items) more.ending) (script [] (Refused n part.Script refusal.NotBuilt))
 
--- why a last piece is refused that is no line: it is too long, or it does not end
+-- why a last piece is refused that no line feed ends: it is too long, or it does not end
 abbrev pub unended : List ℕ → Refusal
 unended last = cond (nat_lt 2048 (length last)) refusal.TooLong refusal.Syntax
 
--- how a script ends at its last piece, which is no line; one that passes the place of the limit is judged for its length alone
+-- how a script ends at its last piece, which no line feed ends
 abbrev pub last_piece : Bool → ℕ → List ℕ → InputEnd
 last_piece false n [] = Whole
 last_piece false n last = Refused n part.Script (unended last)
@@ -116,16 +116,16 @@ has_fifo w = list_any (λ (o : WorldObject). is_fifo o.body) w.objects
 abbrev pub of_world : Bool → WorldText → ℕ → List (List ℕ) → Input
 of_world over w n lines = cond (has_fifo w.world) (no_world (Refused 0 part.World refusal.NotBuilt)) (record { accepted = Some w; script = script_from over w.policy n lines })
 
--- an input, by what its text says of a world
+-- an input, by what was read of its world
 abbrev pub input_by : Bool → world.Reading → Input
 input_by over (world.Accepted w n lines) = of_world over w n lines
 input_by over (world.Refused n why) = no_world (Refused n part.World (refusal_of why))
 input_by over (world.Ended n last) = no_world (ends_at over n part.World refusal.Syntax last)
 
--- what a text says, which goes on past the limit where it is over it
+-- the input that a text is; `over` where it goes on past the limit
 abbrev pub read_input : Bool → List ℕ → Input
 read_input over text = input_by over (read_text text)
 
--- what bytes say: the lines that stand in the first 16 MiB, and whether there is more
+-- the input that bytes are: the lines of the first 16 MiB, and whether there is more
 unfoldable pub input_of : List ℕ → Input
 input_of text = read_input (nat_lt 16777216 (length text)) (take 16777216 text)

@@ -45,7 +45,7 @@ order_by (Some a) script = session_order (session_of a script)
 abbrev pub order_of : Input → List Sent
 order_of i = order_by i.accepted i.script
 
--- both sinks have what some prefix of an order gives, each its own bytes
+-- both sinks have the bytes of a prefix of an order, each its own
 pub record IsInOrder (order : List Sent) (out trail : List ℕ) : Type 0 where
   pub sent : List Sent
   pub rest : List Sent

@@ -30,14 +30,14 @@ abbrev pub ReadsNone : Bool → List ℕ → Halt → Type 0
 ReadsNone over text (halt.Ended ending) = read_input over text ≡ no_world ending
 ReadsNone over text halt.NoMemory = Unit {0}
 
--- a line of a script says this call, which may be played, and this text is what stands behind it
+-- a script begins with a line of this call, which may be played, and this text is after it
 pub record PlaysLine (over : Bool) (policy : PolicyNames) (n : ℕ) (text : List ℕ) (who : Pid) (call : Call) (rest : List ℕ) : Type 0 where
   pub says : script_from over policy n (pieces 10 text) ≡ script (item_of who call ∷ (script_from over policy (n + 1) (pieces 10 rest)).items) (script_from over policy (n + 1) (pieces 10 rest)).ending
   pub arguments : is_call (top_of policy) call ≡ true
   pub built : is_built call ≡ true
   pub shorter : length rest < length text
 
--- a line of a script says nothing, and this text is what stands behind it
+-- a script begins with a blank line, and this text is after it
 pub record SkipsLine (over : Bool) (policy : PolicyNames) (n : ℕ) (text : List ℕ) (rest : List ℕ) : Type 0 where
   pub says : script_from over policy n (pieces 10 text) ≡ script_from over policy (n + 1) (pieces 10 rest)
   pub shorter : length rest < length text
@@ -46,7 +46,7 @@ pub record SkipsLine (over : Bool) (policy : PolicyNames) (n : ℕ) (text : List
 abbrev pub Ends : Bool → PolicyNames → ℕ → List ℕ → InputEnd → Type 0
 Ends over policy n text ending = script_from over policy n (pieces 10 text) ≡ script [] ending
 
--- the word for a fault of a line; want of memory is none
+-- the refusal of a fault of a line; out of memory is none
 abbrev pub IsRefusal : LineError → Refusal → Type 0
 IsRefusal (line_error.NoMemory e) why = ⊥
 IsRefusal fault why = why ≡ refusal_of_line fault

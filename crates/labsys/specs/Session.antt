@@ -1,4 +1,4 @@
--- What was played, and the bytes that stand for it.
+-- What was played, and its bytes.
 use Rattle.std.specs.Prelude.{ℕ, ◌+◌, List, [], ◌∷◌, ◌++◌, length}
 use Rattle.std.specs.List.{flat_map}
 use Rattle.cap_bits.specs.CapSet.{CapSet}

@@ -1,4 +1,4 @@
--- The texts that are written, but for those of the trail and of replies.
+-- The lines of the output.
 use Rattle.std.specs.Prelude.{ℕ, List, [], ◌∷◌, ◌++◌, Option, Some, None, codes}
 use Rattle.std.specs.List.{flat_map}
 use Rattle.std.specs.Option.{option_map}

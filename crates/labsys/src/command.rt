@@ -1,4 +1,4 @@
-// The words of a command line.
+// The commands of the program.
 ghost use Rattle.std.specs.Prelude.{◌≡◌};
 ghost use Rattle.labsys.specs.Commands.{command_of, is_file_word};
 
@@ -9,14 +9,14 @@ pub enum Command {
     Play,
 }
 
-// Whether bytes can name a file: there is one, and the first is no `-`.
+// Whether an argument can name a file: it is not empty, and does not begin with `-`.
 fn is_file_word(word: &[u8]) -> bool
     ensures { result ≡ is_file_word word.now }
 {
     word.first().is_some_and(|first| *first != b'-')
 }
 
-/// The command that the words name. The file of `play` is not looked at.
+/// The command that the arguments name. The file of `play` is not opened.
 pub fn command_of(words: &[String]) -> Option<Command>
     ensures { result ≡ command_of words.now }
 {

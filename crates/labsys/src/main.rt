@@ -18,7 +18,7 @@ use std::io::{self, ErrorKind};
 use std::process::ExitCode;
 use std::rt::Env;
 
-// The words after the program's own name.
+// The arguments after the program's name.
 fn words_of<R: Env + Alloc<A = Global>>(rt: &R) -> io::Result<Vec<String>> {
     let mut words = Vec::new(rt.alloc());
     for word in env::args(rt)?.skip(1) {
@@ -27,7 +27,7 @@ fn words_of<R: Env + Alloc<A = Global>>(rt: &R) -> io::Result<Vec<String>> {
     Ok(words)
 }
 
-// The name of the trail's file: the second word, or no byte where there is none.
+// The name of the trail's file: the second argument, or an empty name where there is none.
 fn trail_name(alloc: Global, words: &[String]) -> Result<String, AllocError> {
     match words {
         [_, name, ..] => name.clone(),
@@ -44,7 +44,7 @@ fn start(rt: &HostRuntime) -> io::Result<Status> {
     Ok(run(rt.alloc(), &words, &mut source, &mut out, &mut trail))
 }
 
-// How a run ended whose words could not be read: one that is no text is no command.
+// The status where the arguments cannot be read. One that is not UTF-8 is no command.
 fn status_of_words(error: &io::Error) -> Status {
     match error.kind() {
         ErrorKind::OutOfMemory => Status::NoMemory,

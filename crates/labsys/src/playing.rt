@@ -1,8 +1,6 @@
 // An input that was read, from its first byte to the last line.
 ghost use Rattle.std.specs.Prelude.{◌≡◌, ℕ, ◌≤◌, ◌+◌, ◌^◌, ◌++◌, true, OnOk, IfOk, Some, length};
 ghost use Rattle.std.specs.List.{flat_map};
-ghost use Rattle.std.specs.Io.KnownBytes.{Appends};
-ghost use Rattle.kern_model.specs.Boot.{boot};
 ghost use Rattle.kern_model.specs.Run.{played};
 ghost use Rattle.kern_model.specs.Step.{step};
 ghost use Rattle.kern_model.specs.Arguments.{is_call};
@@ -12,21 +10,22 @@ ghost use Rattle.kern_core.specs.Kernel.{state_of};
 ghost use Rattle.lab_text.specs.Policy.{top_of};
 ghost use Rattle.aud_record.specs.Written.{rec_text as rec_line, header_text as head_lines};
 ghost use Rattle.fs_path.specs.Split.{pieces};
+ghost use Rattle.io_ends.specs.Sinks.{sink_view};
 ghost use Rattle.labsys.specs.Input.{item_of, script_from, read_input};
 ghost use Rattle.labsys.specs.Texts.{end_text, label_in, caps_in, ends_text, last_text};
 ghost use Rattle.labsys.specs.Session.{call_bytes};
 ghost use Rattle.labsys.specs.Order.{call_order, order_by, order_of};
 ghost use Rattle.labsys.specs.Counts.{CountsOnce, counts};
-ghost use Rattle.labsys.specs.Playing.{AppendsPrefix, Sends, SendsPrefix, Finishes, Takes, RunDid, order_in};
+ghost use Rattle.labsys.specs.Playing.{Takes, RunDid, WritesBoth, WritesOut, WritesTrail, ends, order_in};
 
 use crate::reading::{Halt, Next, ReadWorld, next_item, read_world};
 use crate::texts::{end_line, last_line};
 use crate::{Fault, InputEnd};
 use aud_record::{header_text, rec_text};
 use cap_bits::CapSet;
-use io_ends::{LineFault, Sink, Source, Whole, read_whole, write_whole};
+use io_ends::{ReadError, Sink, Source, Whole, read_whole, write_whole};
 use kern_core::Kernel;
-use kern_model::{Call, Pid, Rec};
+use kern_model::{Call, NoMemory, Pid, Rec};
 use lab_text::Policy;
 use script_text::reply_text;
 use std::alloc::Global;
@@ -34,12 +33,9 @@ use std::alloc::Global;
 // How many bytes an input may have.
 const LIMIT: u64 = 16_777_216;
 
-// A piece to the trail.
-#[tactic(auto, unfolding(crate::specs::Counts::counted_by))]
+// Writes a piece to the trail.
 fn note<T: Sink>(trail: &mut T, piece: &[u8]) -> Result<(), Fault>
-    ensures ok { OnOk result (Appends (T.held trail.old) (T.held trail.new) piece.now) }
-    ensures prefix { AppendsPrefix (T.held trail.old) (T.held trail.new) piece.now }
-    ensures counts { (s o : ℕ) → CountsOnce result (counts s o (T.faults trail.old)) (counts s o (T.faults trail.new)) }
+    ensures { WritesTrail result piece.now (sink_view (T.held trail.old) (T.faults trail.old)) (sink_view (T.held trail.new) (T.faults trail.new)) }
 {
     match write_whole(trail, piece) {
         Ok(()) => Ok(()),
@@ -47,12 +43,9 @@ fn note<T: Sink>(trail: &mut T, piece: &[u8]) -> Result<(), Fault>
     }
 }
 
-// A piece to the output.
-#[tactic(auto, unfolding(crate::specs::Counts::counted_by))]
+// Writes a piece to the output.
 fn answer<K: Sink>(out: &mut K, piece: &[u8]) -> Result<(), Fault>
-    ensures ok { OnOk result (Appends (K.held out.old) (K.held out.new) piece.now) }
-    ensures prefix { AppendsPrefix (K.held out.old) (K.held out.new) piece.now }
-    ensures counts { (s t : ℕ) → CountsOnce result (counts s (K.faults out.old) t) (counts s (K.faults out.new) t) }
+    ensures { WritesOut result piece.now (sink_view (K.held out.old) (K.faults out.old)) (sink_view (K.held out.new) (K.faults out.new)) }
 {
     match write_whole(out, piece) {
         Ok(()) => Ok(()),
@@ -60,7 +53,7 @@ fn answer<K: Sink>(out: &mut K, piece: &[u8]) -> Result<(), Fault>
     }
 }
 
-// One piece for each record of a call.
+// Writes the records of a call to the trail, each as one piece.
 fn note_all<T: Sink>(
     alloc: Global,
     policy: &Policy,
@@ -68,9 +61,7 @@ fn note_all<T: Sink>(
     recs: &[Rec],
     trail: &mut T,
 ) -> Result<(), Fault>
-    ensures ok { OnOk result (Appends (T.held trail.old) (T.held trail.new) (flat_map (rec_line policy.now call) recs.now)) }
-    ensures prefix { AppendsPrefix (T.held trail.old) (T.held trail.new) (flat_map (rec_line policy.now call) recs.now) }
-    ensures counts { (s o : ℕ) → CountsOnce result (counts s o (T.faults trail.old)) (counts s o (T.faults trail.new)) }
+    ensures { WritesTrail result (flat_map (rec_line policy.now call) recs.now) (sink_view (T.held trail.old) (T.faults trail.old)) (sink_view (T.held trail.new) (T.faults trail.new)) }
 {
     for rec in recs {
         let text = rec_text(alloc, policy, call, rec)?;
@@ -79,7 +70,7 @@ fn note_all<T: Sink>(
     Ok(())
 }
 
-// Plays one call of the script: its records go to the trail, and then its reply goes out.
+// Plays one call of the script: its records go to the trail, and then its reply to the output.
 fn play_item<K: Sink, T: Sink>(
     alloc: Global,
     kernel: &mut Kernel,
@@ -92,10 +83,9 @@ fn play_item<K: Sink, T: Sink>(
 ) -> Result<(), Fault>
     requires arguments { is_call (state_of kernel.old).top call ≡ true }
     requires built { is_built call ≡ true }
-    ensures ok { OnOk result (Sends (K.held out.old) (K.held out.new) (T.held trail.old) (T.held trail.new) (call_order (call_bytes policy.now number (played (state_of kernel.old) (item_of who call))))) }
+    ensures writes { WritesBoth result (call_order (call_bytes policy.now number (played (state_of kernel.old) (item_of who call))))
+        (sink_view (K.held out.old) (K.faults out.old)) (sink_view (K.held out.new) (K.faults out.new)) (sink_view (T.held trail.old) (T.faults trail.old)) (sink_view (T.held trail.new) (T.faults trail.new)) }
     ensures state { OnOk result (state_of kernel.new ≡ (step (state_of kernel.old) who call).state) }
-    ensures prefix { SendsPrefix (K.held out.old) (K.held out.new) (T.held trail.old) (T.held trail.new) (call_order (call_bytes policy.now number (played (state_of kernel.old) (item_of who call)))) }
-    ensures counts { (s : ℕ) → CountsOnce result (counts s (K.faults out.old) (T.faults trail.old)) (counts s (K.faults out.new) (T.faults trail.new)) }
 {
     let outcome = kernel.call(&who, &call)?;
     note_all(alloc, policy, number, outcome.recs.items(), trail)?;
@@ -103,62 +93,47 @@ fn play_item<K: Sink, T: Sink>(
     answer(out, &text)
 }
 
-// The end line of a process, where it lives.
-fn report_end<K: Sink>(
-    alloc: Global,
-    kernel: &Kernel,
-    policy: &Policy,
-    who: &Pid,
-    out: &mut K,
-) -> Result<(), Fault>
-    ensures ok { OnOk result (Appends (K.held out.old) (K.held out.new) (end_text policy.now who.now (label_in (state_of kernel.now) who.now) (caps_in (state_of kernel.now) who.now))) }
-    ensures prefix { AppendsPrefix (K.held out.old) (K.held out.new) (end_text policy.now who.now (label_in (state_of kernel.now) who.now) (caps_in (state_of kernel.now) who.now)) }
-    ensures counts { (s t : ℕ) → CountsOnce result (counts s (K.faults out.old) t) (counts s (K.faults out.new) t) }
+// The end line of a process, or no byte where it does not live.
+fn end_of(alloc: Global, kernel: &Kernel, policy: &Policy, who: &Pid) -> Result<Vec<u8>, NoMemory>
+    ensures { IfOk result (λ text. text.items ≡ end_text policy.now who.now (label_in (state_of kernel.now) who.now) (caps_in (state_of kernel.now) who.now)) }
 {
     match (kernel.label_of(who), kernel.caps_of(who)) {
-        (Some(label), Some(caps)) => {
-            let text = end_line(alloc, policy, who, &label, &caps)?;
-            answer(out, &text)
-        }
-        _ => Ok(()),
+        (Some(label), Some(caps)) => end_line(alloc, policy, who, &label, &caps),
+        _ => Ok(Vec::new(alloc)),
     }
 }
 
-// The end lines of all that live.
-#[tactic(auto, unfolding(crate::specs::Texts::ends_text))]
+// Writes the end lines of all that live.
 fn report_ends<K: Sink>(
     alloc: Global,
     kernel: &Kernel,
     policy: &Policy,
     out: &mut K,
 ) -> Result<(), Fault>
-    ensures ok { OnOk result (Appends (K.held out.old) (K.held out.new) (ends_text policy.now (state_of kernel.now))) }
-    ensures prefix { AppendsPrefix (K.held out.old) (K.held out.new) (ends_text policy.now (state_of kernel.now)) }
-    ensures counts { (s t : ℕ) → CountsOnce result (counts s (K.faults out.old) t) (counts s (K.faults out.new) t) }
+    ensures { WritesOut result (ends_text policy.now (state_of kernel.now)) (sink_view (K.held out.old) (K.faults out.old)) (sink_view (K.held out.new) (K.faults out.new)) }
 {
     let numbers = kernel.live()?;
     for who in numbers.items() {
-        report_end(alloc, kernel, policy, who, out)?;
+        let text = end_of(alloc, kernel, policy, who)?;
+        answer(out, &text)?;
     }
     Ok(())
 }
 
-// The last line.
+// Writes the last line.
 fn report_last<K: Sink>(
     alloc: Global,
     count: u64,
     ending: InputEnd,
     out: &mut K,
 ) -> Result<(), Fault>
-    ensures ok { OnOk result (Appends (K.held out.old) (K.held out.new) (last_text count ending)) }
-    ensures prefix { AppendsPrefix (K.held out.old) (K.held out.new) (last_text count ending) }
-    ensures counts { (s t : ℕ) → CountsOnce result (counts s (K.faults out.old) t) (counts s (K.faults out.new) t) }
+    ensures { WritesOut result (last_text count ending) (sink_view (K.held out.old) (K.faults out.old)) (sink_view (K.held out.new) (K.faults out.new)) }
 {
     let text = last_line(alloc, count, ending)?;
     answer(out, &text)
 }
 
-// The end lines and the last line.
+// Writes the end lines and the last line.
 fn finish<K: Sink>(
     alloc: Global,
     kernel: &Kernel,
@@ -167,15 +142,13 @@ fn finish<K: Sink>(
     ending: InputEnd,
     out: &mut K,
 ) -> Result<(), Fault>
-    ensures ok { OnOk result (Appends (K.held out.old) (K.held out.new) (ends_text policy.now (state_of kernel.now) ++ last_text count ending)) }
-    ensures prefix { AppendsPrefix (K.held out.old) (K.held out.new) (ends_text policy.now (state_of kernel.now) ++ last_text count ending) }
-    ensures counts { (s t : ℕ) → CountsOnce result (counts s (K.faults out.old) t) (counts s (K.faults out.new) t) }
+    ensures { WritesOut result (ends_text policy.now (state_of kernel.now) ++ last_text count ending) (sink_view (K.held out.old) (K.faults out.old)) (sink_view (K.held out.new) (K.faults out.new)) }
 {
     report_ends(alloc, kernel, policy, out)?;
     report_last(alloc, count, ending, out)
 }
 
-// Plays a script from its first line on, which has this number, to its end.
+// Plays a script to its end, from its first line on, which has this number in the input.
 fn play_script<K: Sink, T: Sink>(
     alloc: Global,
     kernel: &mut Kernel,
@@ -188,9 +161,9 @@ fn play_script<K: Sink, T: Sink>(
 ) -> Result<InputEnd, Fault>
     requires small { first + length script.now ≤ 2 ^ 60 }
     requires top { (state_of kernel.old).top ≡ top_of policy.now }
-    ensures whole { IfOk result (λ e. Finishes (K.held out.old) (K.held out.new) (T.held trail.old) (T.held trail.new) (order_in policy.now 0 (state_of kernel.old) (script_from over policy.now first (pieces 10 script.now))) e (script_from over policy.now first (pieces 10 script.now)).ending) }
-    ensures prefix { SendsPrefix (K.held out.old) (K.held out.new) (T.held trail.old) (T.held trail.new) (order_in policy.now 0 (state_of kernel.old) (script_from over policy.now first (pieces 10 script.now))) }
-    ensures counts { (s : ℕ) → CountsOnce result (counts s (K.faults out.old) (T.faults trail.old)) (counts s (K.faults out.new) (T.faults trail.new)) }
+    ensures writes { WritesBoth result (order_in policy.now 0 (state_of kernel.old) (script_from over policy.now first (pieces 10 script.now)))
+        (sink_view (K.held out.old) (K.faults out.old)) (sink_view (K.held out.new) (K.faults out.new)) (sink_view (T.held trail.old) (T.faults trail.old)) (sink_view (T.held trail.new) (T.faults trail.new)) }
+    ensures ending { IfOk result (λ e. e ≡ (script_from over policy.now first (pieces 10 script.now)).ending) }
 {
     let mut rest = script;
     let mut number = first;
@@ -215,7 +188,7 @@ fn play_script<K: Sink, T: Sink>(
     }
 }
 
-// The head of the trail: its header, and the boot records.
+// Writes the head of the trail: its header and the boot records.
 fn begin<T: Sink>(
     alloc: Global,
     policy: &Policy,
@@ -223,9 +196,7 @@ fn begin<T: Sink>(
     recs: &[Rec],
     trail: &mut T,
 ) -> Result<(), Fault>
-    ensures ok { OnOk result (Appends (T.held trail.old) (T.held trail.new) (head_lines policy.now bound.now ++ flat_map (rec_line policy.now 0) recs.now)) }
-    ensures prefix { AppendsPrefix (T.held trail.old) (T.held trail.new) (head_lines policy.now bound.now ++ flat_map (rec_line policy.now 0) recs.now) }
-    ensures counts { (s o : ℕ) → CountsOnce result (counts s o (T.faults trail.old)) (counts s o (T.faults trail.new)) }
+    ensures { WritesTrail result (head_lines policy.now bound.now ++ flat_map (rec_line policy.now 0) recs.now) (sink_view (T.held trail.old) (T.faults trail.old)) (sink_view (T.held trail.new) (T.faults trail.new)) }
 {
     let text = header_text(alloc, policy, bound)?;
     note(trail, &text)?;
@@ -243,11 +214,9 @@ fn play_world<K: Sink, T: Sink>(
     requires world { IsWorld read.now.read.world }
     requires top { read.now.read.world.top ≡ top_of read.now.read.policy }
     requires small { read.now.number + length read.now.script.now ≤ 2 ^ 60 }
-    ensures whole { IfOk result (λ e. Finishes (K.held out.old) (K.held out.new) (T.held trail.old) (T.held trail.new)
-        (order_by (Some read.now.read) (script_from over read.now.read.policy read.now.number (pieces 10 read.now.script.now))) e (script_from over read.now.read.policy read.now.number (pieces 10 read.now.script.now)).ending) }
-    ensures prefix { SendsPrefix (K.held out.old) (K.held out.new) (T.held trail.old) (T.held trail.new)
-        (order_by (Some read.now.read) (script_from over read.now.read.policy read.now.number (pieces 10 read.now.script.now))) }
-    ensures counts { (s : ℕ) → CountsOnce result (counts s (K.faults out.old) (T.faults trail.old)) (counts s (K.faults out.new) (T.faults trail.new)) }
+    ensures writes { WritesBoth result (order_by (Some read.now.read) (script_from over read.now.read.policy read.now.number (pieces 10 read.now.script.now)))
+        (sink_view (K.held out.old) (K.faults out.old)) (sink_view (K.held out.new) (K.faults out.new)) (sink_view (T.held trail.old) (T.faults trail.old)) (sink_view (T.held trail.new) (T.faults trail.new)) }
+    ensures ending { IfOk result (λ e. e ≡ (script_from over read.now.read.policy read.now.number (pieces 10 read.now.script.now)).ending) }
 {
     let (mut kernel, recs) = Kernel::boot(alloc, &read.read.world)?;
     begin(
@@ -269,21 +238,20 @@ fn play_world<K: Sink, T: Sink>(
     )
 }
 
-// Without a world the last line is all that is written.
+// Writes the last line of an input without a world, which is all that is written of it.
 fn end_without_world<K: Sink>(
     alloc: Global,
     ending: InputEnd,
     out: &mut K,
 ) -> Result<InputEnd, Fault>
-    ensures ok { IfOk result (λ e. Appends (K.held out.old) (K.held out.new) (last_text 0 ending) × (e ≡ ending)) }
-    ensures prefix { AppendsPrefix (K.held out.old) (K.held out.new) (last_text 0 ending) }
-    ensures counts { (s t : ℕ) → CountsOnce result (counts s (K.faults out.old) t) (counts s (K.faults out.new) t) }
+    ensures writes { WritesOut result (last_text 0 ending) (sink_view (K.held out.old) (K.faults out.old)) (sink_view (K.held out.new) (K.faults out.new)) }
+    ensures ending { IfOk result (λ e. e ≡ ending) }
 {
     report_last(alloc, 0, ending, out)?;
     Ok(ending)
 }
 
-// Plays what a text says, which goes on past the limit where it is over it.
+// Plays the first bytes of an input; `over` where it goes on past the limit.
 fn play_text<K: Sink, T: Sink>(
     alloc: Global,
     text: &[u8],
@@ -292,9 +260,9 @@ fn play_text<K: Sink, T: Sink>(
     trail: &mut T,
 ) -> Result<InputEnd, Fault>
     requires { length text.now ≤ 16777216 }
-    ensures whole { IfOk result (λ e. Finishes (K.held out.old) (K.held out.new) (T.held trail.old) (T.held trail.new) (order_of (read_input over text.now)) e (read_input over text.now).script.ending) }
-    ensures prefix { SendsPrefix (K.held out.old) (K.held out.new) (T.held trail.old) (T.held trail.new) (order_of (read_input over text.now)) }
-    ensures counts { (s : ℕ) → CountsOnce result (counts s (K.faults out.old) (T.faults trail.old)) (counts s (K.faults out.new) (T.faults trail.new)) }
+    ensures writes { WritesBoth result (order_of (read_input over text.now))
+        (sink_view (K.held out.old) (K.faults out.old)) (sink_view (K.held out.new) (K.faults out.new)) (sink_view (T.held trail.old) (T.faults trail.old)) (sink_view (T.held trail.new) (T.faults trail.new)) }
+    ensures ending { IfOk result (λ e. e ≡ (read_input over text.now).script.ending) }
 {
     match read_world(alloc, text, over) {
         Ok(read) => play_world(alloc, &read, over, out, trail),
@@ -303,7 +271,7 @@ fn play_text<K: Sink, T: Sink>(
     }
 }
 
-// Takes all that a source has, to one byte above the limit.
+// Reads a source to its end, or to one byte past the limit.
 #[tactic(auto, unfolding(crate::specs::Counts::counted_by))]
 fn take_all<S: Source>(alloc: Global, source: &mut S) -> Result<Whole, Fault>
     ensures takes { Takes result (S.left source.old) (S.left source.new) }
@@ -311,20 +279,21 @@ fn take_all<S: Source>(alloc: Global, source: &mut S) -> Result<Whole, Fault>
 {
     match read_whole(alloc, source, LIMIT) {
         Ok(whole) => Ok(whole),
-        Err(LineFault::Failed) => Err(Fault::Read),
-        Err(LineFault::NoMemory) => Err(Fault::NoMemory),
+        Err(ReadError::Failed) => Err(Fault::Read),
+        Err(ReadError::NoMemory) => Err(Fault::NoMemory),
     }
 }
 
-/// Plays the input that a source holds: replies go out, records to the trail.
+/// Plays the input that a source holds: replies go to the output, records to the trail.
 pub fn play<S: Source, K: Sink, T: Sink>(
     alloc: Global,
     source: &mut S,
     out: &mut K,
     trail: &mut T,
 ) -> Result<InputEnd, Fault>
-    ensures plays { RunDid result (S.left source.old) (S.left source.new) (K.held out.old) (K.held out.new) (T.held trail.old) (T.held trail.new) }
-    ensures counts { CountsOnce result (counts (S.faults source.old) (K.faults out.old) (T.faults trail.old)) (counts (S.faults source.new) (K.faults out.new) (T.faults trail.new)) }
+    ensures { RunDid result (S.left source.old) (S.left source.new)
+        (ends (S.faults source.old) (sink_view (K.held out.old) (K.faults out.old)) (sink_view (T.held trail.old) (T.faults trail.old)))
+        (ends (S.faults source.new) (sink_view (K.held out.new) (K.faults out.new)) (sink_view (T.held trail.new) (T.faults trail.new))) }
 {
     let whole = take_all(alloc, source)?;
     play_text(alloc, whole.bytes.items(), whole.more, out, trail)

@@ -15,10 +15,10 @@ use world_text::{Prefix, WorldText, read_prefix};
 
 const MAX_LINE: usize = 2048;
 
-/// Why no world was read.
+/// Why no world is read.
 #[derive(Clone, Copy, Debug, PartialEq, Eq)]
 pub enum Halt {
-    /// The input ends so, inside its world.
+    /// The input ends before its world does.
     Ended(InputEnd),
     /// Memory ran out.
     NoMemory,
@@ -32,8 +32,7 @@ impl From<NoMemory> for Halt {
     }
 }
 
-/// A world that was read, with the names that it gives, and the text of its script, which begins at the line with
-/// this number.
+/// A world that was read, with the names of its labels, and the text of its script, whose first line has this number.
 #[derive(Drop)]
 pub struct ReadWorld<'a> {
     pub read: WorldText,
@@ -41,7 +40,7 @@ pub struct ReadWorld<'a> {
     pub number: u64,
 }
 
-// How an input ends at its last piece, which is no line; `over` where it goes on past the limit.
+// How an input ends at its last piece, which no line feed ends; `over` where the input goes on past the limit.
 fn ends_at(over: bool, number: u64, part: Part, why: Refusal, last: &[u8]) -> InputEnd
     ensures { result ≡ ends_at over number part why last.now }
 {
@@ -62,7 +61,7 @@ fn has_fifo(world: &World) -> bool
         .any(|object| matches!(object.body, Body::Fifo))
 }
 
-/// The world of an input; `over` where the input goes on past the limit.
+/// Reads the world of an input; `over` where the input goes on past the limit.
 pub fn read_world(alloc: Global, text: &[u8], over: bool) -> Result<ReadWorld<'_>, Halt>
     ensures { MatchResult result (λ world. Reads over text.now world.read world.number world.script.now) (λ halt. ReadsNone over text.now halt) }
 {
@@ -92,7 +91,7 @@ pub fn read_world(alloc: Global, text: &[u8], over: bool) -> Result<ReadWorld<'_
     }
 }
 
-// How a script ends at its last piece, which is no line and is not empty where the input ends there.
+// How a script ends at its last piece, which no line feed ends. An empty one ends the input whole.
 fn last_ending(over: bool, number: u64, last: &[u8]) -> InputEnd
     ensures { result ≡ last_piece over number last.now }
 {
@@ -107,7 +106,7 @@ fn last_ending(over: bool, number: u64, last: &[u8]) -> InputEnd
     ends_at(over, number, Part::Script, why, last)
 }
 
-// Why a line is refused that `read_line` refuses; want of memory refuses none.
+// Why a line is refused that `read_line` refuses. Out of memory is no refusal.
 fn refusal_of(fault: LineError) -> Result<Refusal, NoMemory>
     ensures { IfOk result (IsRefusal fault) }
 {
@@ -125,15 +124,15 @@ fn refusal_of(fault: LineError) -> Result<Refusal, NoMemory>
 /// What is next in a script.
 #[derive(Drop)]
 pub enum Next<'a> {
-    /// A call and who calls, and the text behind its line.
+    /// A call and its caller, and the text after the line.
     Item(Pid, Call, &'a [u8]),
-    /// A line that says nothing, and the text behind it.
+    /// A blank line or a comment, and the text after it.
     Blank(&'a [u8]),
-    /// The end.
+    /// How the input ends.
     Ended(InputEnd),
 }
 
-/// What is next in a script, whose line has this number; `over` where the input goes on past the limit.
+/// Reads the next line of a script, which has this number; `over` where the input goes on past the limit.
 pub fn next_item<'a>(
     alloc: Global,
     policy: &Policy,

@@ -29,8 +29,8 @@ fn status_of(played: Result<InputEnd, Fault>) -> Status
 }
 
 /// Runs the command that the words name. `play FILE` plays the world and the script that the source holds: it writes
-/// the reply to each call to the output, and before it the records of the call to the trail. The file isn't looked
-/// at: `trail` stands for it.
+/// the records of each call to the trail, and then the reply to the output. The file is not opened: `trail` stands
+/// for it.
 pub fn run<S: Source, K: Sink, T: Sink>(
     alloc: Global,
     words: &[String],
@@ -42,22 +42,22 @@ pub fn run<S: Source, K: Sink, T: Sink>(
     ensures words { (result ≡ Status.Usage) ↔ (command_of words.now ≡ None) }
     // Without a command nothing is read or written.
     ensures left_alone { LeavesAlone (command_of words.now) (source.new ≡ source.old) (out.new ≡ out.old) (trail.new ≡ trail.old) }
-    // The first fault ends the run: one is counted with status 3, 4 or 5, by the end that it tells, and none with another.
+    // The first fault ends the run: one is counted with status 3, 4 or 5, by the end that it reports, and none with another.
     ensures counts { counts (S.faults source.new) (K.faults out.new) (T.faults trail.new) ≡ counts_after result (counts (S.faults source.old) (K.faults out.old) (T.faults trail.old)) }
 
-    // At every exit both sinks have got what a prefix of the one order gives.
+    // At every exit both sinks have received the bytes of a prefix of the one order.
     ensures order { IfSome (command_of words.now) (λ command. WhereReported (reports (S.left source.old) (K.held out.old) (T.held trail.old)) (reports (S.left source.new) (K.held out.new) (T.held trail.new))
         (λ text o t. IsInOrder (due command text).order o t)) }
-    // With status 0, 2 or 7 they have got all of it.
+    // With status 0, 2 or 7 they have received all of it.
     ensures whole { IfSome (command_of words.now) (λ command. OnWhole result (WhereReported (reports (S.left source.old) (K.held out.old) (T.held trail.old)) (reports (S.left source.new) (K.held out.new) (T.held trail.new))
         (λ text o t. (o ≡ out_of (due command text).order) × (t ≡ trail_of (due command text).order)))) }
     // Which of these three it is depends on the source's bytes alone.
     ensures ending { IfSome (command_of words.now) (λ command. OnWhole result ((text : List ℕ) → S.left source.old ≡ Some text → result ≡ (due command text).status)) }
 
-    // Each reply that was written has its records in the trail, after the head of the trail.
+    // Where a reply was written, the trail has its head and the records of that call and of all before it.
     ensures covered { command_of words.now ≡ Some Command.Play → WhereReported (reports (S.left source.old) (K.held out.old) (T.held trail.old)) (reports (S.left source.new) (K.held out.new) (T.held trail.new))
         (λ text o t. WhereAccepted text (λ a script. Covered (session_of a script) o t)) }
-    // A byte of a call's record stands only after the replies to all calls before it.
+    // A byte of a call's record is written only after the replies to all calls before it.
     ensures replies_first { command_of words.now ≡ Some Command.Play → WhereReported (reports (S.left source.old) (K.held out.old) (T.held trail.old)) (reports (S.left source.new) (K.held out.new) (T.held trail.new))
         (λ text o t. WhereAccepted text (λ a script. RepliesFirst (session_of a script) o t)) }
 

@@ -15,31 +15,31 @@ pub enum Part {
 /// Why a line is refused.
 #[derive(Clone, Copy, Debug, PartialEq, Eq)]
 pub enum Refusal {
-    /// The call, or what the world has, is not built yet.
+    /// The call, or an object of the world, is not supported yet.
     NotBuilt,
-    /// It has not the form of the line that is due, or the input ends inside it or before its world does.
+    /// It does not have the form of the line that is expected there, or the input ends inside it or before the world does.
     Syntax,
     /// A level, a category or a capability of the world is unknown.
     UnknownName,
-    /// A level or a category is named twice, or the path was given before.
+    /// A level, a category or a path is given twice.
     Repeated,
-    /// The path's directory was not given or is no directory, or the root was not given.
+    /// The path's parent is not given or is not a directory, or the root is not given.
     NoParent,
-    /// The root is no directory, or its label is not the lowest.
+    /// The root is not a directory, or its label is not the lowest.
     RootLabel,
-    /// The label does not dominate that of the path's directory.
+    /// The label does not dominate that of the path's parent.
     LabelOrder,
-    /// There are too many levels, categories, objects of a label or processes of a label.
+    /// There are too many levels or categories, or too many objects or processes of one label.
     TooMany,
     /// A line of the script has more than 2,048 bytes.
     TooLong,
-    /// The tag is no number of a process.
+    /// The tag is not a process.
     BadTag,
-    /// A path of a call is none.
+    /// A path of a call is invalid.
     BadPath,
-    /// A label or a number of a process of a call is none.
+    /// A label or a process of a call is invalid.
     BadLabel,
-    /// A capability text of a call is none.
+    /// A capability text of a call is invalid.
     BadCaps,
 }
 
@@ -67,7 +67,7 @@ impl From<WorldFault> for Refusal {
 pub enum InputEnd {
     /// All of its lines were accepted.
     Whole,
-    /// This line was refused, counted from 1.
+    /// This line was refused. Lines are numbered from 1.
     Refused(u64, Part, Refusal),
     /// It goes on past the limit, and no line before that was refused.
     TooMuch,
@@ -78,7 +78,7 @@ pub enum InputEnd {
 pub enum Status {
     /// The input was played to its end.
     Done,
-    /// The words are no command.
+    /// The arguments name no command.
     Usage,
     /// A line was refused.
     Refused,
@@ -119,7 +119,7 @@ impl From<NoMemory> for Fault {
 }
 
 impl Status {
-    /// What the program prints of it to standard error: words that no clause fixes, and nothing where the output tells.
+    /// What the program prints to standard error, or nothing where the last line of the output reports the status.
     pub fn complaint(self) -> Option<&'static str>
         ensures { is_none result ≡ is_reported self }
     {

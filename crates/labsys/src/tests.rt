@@ -280,7 +280,7 @@ fn a_world_that_ends_early_leaves_no_trail(rt: HostRuntime) -> Result<(), Fail> 
     Ok(())
 }
 
-// The worked input, and behind it calls that find no file, up to the limit.
+// The worked input, and after it calls that find no file, up to the limit.
 fn longest_input(alloc: Global) -> Result<Vec<u8>, Fail> {
     let mut input = Vec::from_slice(alloc, INPUT)?;
     for _ in 2..CALLS {

@@ -1,4 +1,4 @@
-// The lines that are written, but for those of the trail and of replies.
+// The lines of the output other than replies.
 ghost use Rattle.std.specs.Prelude.{◌≡◌, IfOk};
 ghost use Rattle.labsys.specs.Texts.{life_text, part_text, refusal_text, last_text};
 
@@ -48,7 +48,7 @@ impl Refusal {
     }
 }
 
-/// The end line of a process that lives, with its label and its capability sets.
+/// The end line of a process that lives at the end, with its label and its capability sets.
 #[tactic(auto, unfolding(crate::specs::Texts::life_text))]
 pub fn end_line(
     alloc: Global,
@@ -70,7 +70,7 @@ pub fn end_line(
     Ok(text)
 }
 
-/// The last line, after so many calls.
+/// The last line, after `count` calls.
 #[tactic(auto, unfolding(crate::specs::Texts::last_text))]
 pub fn last_line(alloc: Global, count: u64, ending: InputEnd) -> Result<Vec<u8>, NoMemory>
     ensures { IfOk result (λ text. text.items ≡ last_text count ending) }

@@ -1,18 +1,23 @@
-use Rattle.std.proofs.Common.{refl, subst, ◌∙◌, List, ℕ}
-use Rattle.std.specs.Io.KnownBytes.{Appends}
-use Rattle.labsys.specs.Playing.{AppendsPrefix}
-use Rattle.labsys.proofs.Sending.{appends_longer, appends_more}
-use Rattle.labsys.proofs.CountLemmas.{counts_no_memory, counts_on}
+use Rattle.std.proofs.Common.{◌≡◌, ◌++◌, List, ℕ, sym, ◌∙◌, ap}
+use Rattle.std.specs.List.{flat_map}
+use Rattle.aud_record.specs.Written.{header_text, rec_text}
+use Rattle.labsys.specs.Order.{to_trail}
+use Rattle.labsys.proofs.Sending.{goes_on, in_order, out_of_memory, stops, to_trail-append}
 use Rattle.labsys.proofs.playing.begin.Goals as goal
 
-pub returns-in_err-note-clause-prefix : goal.returns-in_err-note-clause-prefix
-returns-in_err-note-clause-prefix g c = appends_longer _ _ _ _ (subst (λ (p : List ℕ). AppendsPrefix (g.T.Sink.held c.args.trail.now) (g.T.Sink.held c.note.new.trail) p) (c.deref.ensures.value ∙ c.in_ok-text.ensures) c.note.ensures.prefix)
+-- the header, and then the records
+header_first : (text header recs : List ℕ) → text ≡ header → to_trail text ++ to_trail recs ≡ to_trail (header ++ recs)
+header_first text header recs is = ap (λ (b : List ℕ). to_trail b ++ to_trail recs) is ∙ sym (to_trail-append header recs)
 
-pub returns-clause-prefix : goal.returns-clause-prefix
-returns-clause-prefix g c = appends_more _ _ _ _ _ (subst (λ (p : List ℕ). Appends (g.T.Sink.held c.args.trail.now) (g.T.Sink.held c.note.new.trail) p) (c.deref.ensures.value ∙ c.in_ok-text.ensures) c.in_ok-note.ensures.ok) c.note_all.ensures.prefix
+pub returns-in_err-text : goal.returns-in_err-text
+returns-in_err-text g c = λ source out. out_of_memory _ _ _ c.from_residual.ensures.1
 
-pub returns-in_err-text-clause-counts : goal.returns-in_err-text-clause-counts
-returns-in_err-text-clause-counts g c = λ s o. counts_no_memory _ _ _ refl c.from_residual.ensures.1
+pub returns-in_err-note : goal.returns-in_err-note
+returns-in_err-note g c = λ source out. in_order _ _ _ _ _
+    (header_first c.deref.result.now (header_text c.args.policy.now c.args.bound.now) (flat_map (rec_text c.args.policy.now 0) c.args.recs.now) (c.deref.ensures.value ∙ c.in_ok-text.ensures))
+    (stops _ _ _ _ _ _ (c.in_err-note.ensures source out) c.from_residual-in_err-note.ensures.1)
 
-pub returns-clause-counts : goal.returns-clause-counts
-returns-clause-counts g c = λ s o. counts_on c.note_all.result _ _ _ (c.in_ok-note.ensures.counts s o) (c.note_all.ensures.counts s o)
+pub returns : goal.returns
+returns g c = λ source out. in_order c.note_all.result _ _ _ _
+    (header_first c.deref.result.now (header_text c.args.policy.now c.args.bound.now) (flat_map (rec_text c.args.policy.now 0) c.args.recs.now) (c.deref.ensures.value ∙ c.in_ok-text.ensures))
+    (goes_on c.note_all.result _ _ _ _ _ (c.in_ok-note.ensures source out) (c.note_all.ensures source out))

@@ -1,9 +1,9 @@
-use Rattle.labsys.proofs.Sending.{appends_more}
-use Rattle.labsys.proofs.CountLemmas.{counts_on}
+use Rattle.std.proofs.Common.{sym}
+use Rattle.labsys.proofs.Sending.{goes_on, in_order, stops, to_out-append}
 use Rattle.labsys.proofs.playing.finish.Goals as goal
 
-pub returns-clause-prefix : goal.returns-clause-prefix
-returns-clause-prefix g c = appends_more _ _ _ _ _ c.in_ok-report_ends.ensures.ok c.report_last.ensures.prefix
+pub returns-in_err-report_ends : goal.returns-in_err-report_ends
+returns-in_err-report_ends g c = λ source trail. in_order _ _ _ _ _ (sym (to_out-append _ _)) (stops _ _ _ _ _ _ (c.in_err-report_ends.ensures source trail) c.from_residual.ensures.1)
 
-pub returns-clause-counts : goal.returns-clause-counts
-returns-clause-counts g c = λ s t. counts_on c.report_last.result _ _ _ (c.in_ok-report_ends.ensures.counts s t) (c.report_last.ensures.counts s t)
+pub returns : goal.returns
+returns g c = λ source trail. in_order c.report_last.result _ _ _ _ (sym (to_out-append _ _)) (goes_on c.report_last.result _ _ _ _ _ (c.in_ok-report_ends.ensures source trail) (c.report_last.ensures source trail))

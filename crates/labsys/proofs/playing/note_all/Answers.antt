@@ -1,22 +1,24 @@
-use Rattle.std.proofs.Common.{◌∙◌, ap, rules, arith}
-use Rattle.std.proofs.lemmas.Grind.{common_steps}
+use Rattle.std.proofs.Common.{◌∙◌, ap, refl}
 use Rattle.aud_record.specs.Written.{rec_text}
-use Rattle.labsys.proofs.Sending.{some_pieces, cut_pieces}
-use Rattle.labsys.specs.Counts.{Counts, counts}
-use Rattle.labsys.proofs.CountLemmas.{counts_no_memory}
+use Rattle.labsys.specs.Order.{to_trail}
+use Rattle.labsys.proofs.Sending.{all_nothing, all_pieces, one_more, piece_stops, piece_has_no_memory, to_trail-append}
 use Rattle.labsys.proofs.playing.note_all.Goals as goal
 
-pub returns-in_err-text-clause-prefix : goal.returns-in_err-text-clause-prefix
-returns-in_err-text-clause-prefix g c = some_pieces (rec_text c.args.policy.now c.args.call) c.args.recs.now c.loop-rec.rec-index _ _ c.loop-rec.invariant.noted
+pub loop-rec-init : goal.loop-rec-init
+unfolding to_trail
+loop-rec-init g c = λ source out. all_nothing _
 
-pub returns-in_err-note-clause-prefix : goal.returns-in_err-note-clause-prefix
-returns-in_err-note-clause-prefix g c = cut_pieces (rec_text c.args.policy.now c.args.call) c.args.recs.now c.loop-rec.rec-index c.rec-item.result _ _ _ _ c.loop-rec-test.true (c.deref.ensures.value ∙ c.in_ok-text.ensures.text ∙ ap (rec_text c.args.policy.now c.args.call) c.rec-item.is) c.loop-rec.invariant.noted c.note.ensures.prefix
+pub returns-in_err-text : goal.returns-in_err-text
+returns-in_err-text g c = λ source out. piece_has_no_memory to_trail to_trail-append (rec_text c.args.policy.now c.args.call) c.args.recs.now c.loop-rec.rec-index c.rec-item.result c.loop-rec-test.true
+    _ _ _ (c.loop-rec.invariant source out) c.from_residual.ensures.1
 
-pub returns-in_err-text-clause-counts : goal.returns-in_err-text-clause-counts
-returns-in_err-text-clause-counts g c = λ s o. counts_no_memory _ _ _ (ap (counts s o) c.loop-rec.invariant.still) c.from_residual.ensures.1
+pub returns-in_err-note : goal.returns-in_err-note
+returns-in_err-note g c = λ source out. piece_stops to_trail to_trail-append (rec_text c.args.policy.now c.args.call) c.args.recs.now c.loop-rec.rec-index c.rec-item.result c.loop-rec-test.true
+    _ _ c.deref.result.now _ _ _ (c.deref.ensures.value ∙ c.in_ok-text.ensures.text ∙ ap (rec_text c.args.policy.now c.args.call) c.rec-item.is) (c.loop-rec.invariant source out) (c.in_err-note.ensures source out) c.from_residual-in_err-note.ensures.1
 
 pub loop-rec-preserved : goal.loop-rec-preserved
-loop-rec-preserved g c = record {
-  noted = first_of (search rules, grind (arith, common_steps));
-  still = ap (λ (k : Counts). k.trail) (c.in_ok-note.ensures.counts 0 0) ∙ c.loop-rec.invariant.still;
-}
+loop-rec-preserved g c = λ source out. one_more to_trail to_trail-append (rec_text c.args.policy.now c.args.call) c.args.recs.now c.loop-rec.rec-index c.rec-item.result c.loop-rec-test.true
+    c.deref.result.now _ _ _ (c.deref.ensures.value ∙ c.in_ok-text.ensures.text ∙ ap (rec_text c.args.policy.now c.args.call) c.rec-item.is) (c.loop-rec.invariant source out) (c.in_ok-note.ensures source out)
+
+pub returns : goal.returns
+returns g c = λ source out. all_pieces to_trail (rec_text c.args.policy.now c.args.call) c.args.recs.now c.loop-rec.rec-index c.loop-rec-test.false _ refl _ _ (c.loop-rec.invariant source out)

@@ -1,4 +1,4 @@
-use Rattle.std.proofs.Common.{◌≡◌, refl, sym, ◌∙◌, ap, List, ℕ}
+use Rattle.std.proofs.Common.{◌≡◌, ◌++◌, sym, ◌∙◌, ap, List, ℕ}
 use Rattle.std.specs.List.{flat_map}
 use Rattle.std.proofs.lemmas.Result.{on_ok_weaker}
 use Rattle.kern_model.specs.declared.records.Rec.{Rec}
@@ -16,56 +16,36 @@ use Rattle.script_text.specs.Reply.{reply_line}
 use Rattle.labsys.specs.Input.{item_of}
 use Rattle.labsys.specs.Session.{call_bytes}
 use Rattle.labsys.specs.Texts.{reply_text}
-use Rattle.labsys.proofs.Sending.{sends_start, call_recs, call_reply, call_all}
-use Rattle.labsys.proofs.CountLemmas.{counts_no_memory, counts_on}
+use Rattle.labsys.specs.Order.{Sent, to_out, to_trail, call_order}
+use Rattle.labsys.proofs.Sending.{goes_on, in_order, out_of_memory, stops}
 use Rattle.labsys.proofs.playing.play_item.Goals as goal
 
--- the lines of records that are those of the step
-recs_are : (policy : PolicyNames) (n : ℕ) (s t : State) (who : Pid) (call : Call) (o : reported.Outcome) (recs : List Rec) → recs ≡ o.recs → IsPlayed s who call o t
-    → flat_map (rec_text policy n) recs ≡ (call_bytes policy n (played s (item_of who call))).recs
-recs_are policy n s t who call o recs e h = ap (flat_map (rec_text policy n)) (e ∙ sym (ap (λ x. x.recs) h))
+module _ (policy : PolicyNames) (n : ℕ) (s t : State) (who : Pid) (call : Call) (o : reported.Outcome) (is : IsPlayed s who call o t) (recs : List Rec) (same : recs ≡ o.recs) where
+  -- the records are those of the step
+  recs_first : to_trail (flat_map (rec_text policy n) recs) ++ to_out (call_bytes policy n (played s (item_of who call))).reply ≡ call_order (call_bytes policy n (played s (item_of who call)))
+  unfolding call_order
+  recs_first = ap (λ (rs : List Rec). to_trail (flat_map (rec_text policy n) rs) ++ to_out (call_bytes policy n (played s (item_of who call))).reply) (same ∙ sym (ap (λ x. x.recs) is))
 
--- the line of a reply that is that of the step
-reply_is : (policy : PolicyNames) (n : ℕ) (s t : State) (who : Pid) (call : Call) (o : reported.Outcome) (text : List ℕ) → text ≡ reply_line policy who (word_of (name_of call)) o.reply → IsPlayed s who call o t
-    → text ≡ (call_bytes policy n (played s (item_of who call))).reply
-unfolding reply_text
-reply_is policy n s t who call o text e h = e ∙ ap (reply_line policy who (word_of (name_of call))) (sym (ap (λ x. x.reply) h))
+  -- and the reply is that of the step
+  reply_last : (text : List ℕ) → text ≡ reply_line policy who (word_of (name_of call)) o.reply → to_trail (flat_map (rec_text policy n) recs) ++ to_out text ≡ call_order (call_bytes policy n (played s (item_of who call)))
+  unfolding reply_text
+  reply_last text e = ap (λ (b : List ℕ). to_trail (flat_map (rec_text policy n) recs) ++ to_out b) (e ∙ ap (reply_line policy who (word_of (name_of call))) (sym (ap (λ x. x.reply) is))) ∙ recs_first
 
-pub returns-in_err-outcome-clause-prefix : goal.returns-in_err-outcome-clause-prefix
-returns-in_err-outcome-clause-prefix g c = sends_start _ _ _
+pub returns-in_err-outcome-clause-writes : goal.returns-in_err-outcome-clause-writes
+returns-in_err-outcome-clause-writes g c = λ source. out_of_memory _ _ _ c.from_residual.ensures.1
 
-pub returns-in_err-note_all-clause-prefix : goal.returns-in_err-note_all-clause-prefix
-returns-in_err-note_all-clause-prefix g c =
-    call_recs _ _ _ (call_bytes c.args.policy.now c.args.number (played (state_of c.args.kernel.now) (item_of c.args.who c.args.call))) _
-    (recs_are c.args.policy.now c.args.number (state_of c.args.kernel.now) _ c.args.who c.args.call c.in_ok-outcome.outcome _ c.items.ensures c.in_ok-outcome.ensures.played) c.note_all.ensures.prefix
+pub returns-in_err-note_all-clause-writes : goal.returns-in_err-note_all-clause-writes
+returns-in_err-note_all-clause-writes g c = λ source. in_order _ _ _ _ _
+    (recs_first c.args.policy.now c.args.number (state_of c.args.kernel.now) _ c.args.who c.args.call c.in_ok-outcome.outcome c.in_ok-outcome.ensures.played _ c.items.ensures)
+    (stops _ _ _ _ _ _ (c.in_err-note_all.ensures source _) c.from_residual-in_err-note_all.ensures.1)
 
-pub returns-in_err-text-clause-prefix : goal.returns-in_err-text-clause-prefix
-returns-in_err-text-clause-prefix g c =
-    call_recs _ _ _ (call_bytes c.args.policy.now c.args.number (played (state_of c.args.kernel.now) (item_of c.args.who c.args.call))) _
-    (recs_are c.args.policy.now c.args.number (state_of c.args.kernel.now) _ c.args.who c.args.call c.in_ok-outcome.outcome _ c.items.ensures c.in_ok-outcome.ensures.played) c.note_all.ensures.prefix
+pub returns-in_err-text-clause-writes : goal.returns-in_err-text-clause-writes
+returns-in_err-text-clause-writes g c = λ source. in_order _ _ _ _ _
+    (recs_first c.args.policy.now c.args.number (state_of c.args.kernel.now) _ c.args.who c.args.call c.in_ok-outcome.outcome c.in_ok-outcome.ensures.played _ c.items.ensures)
+    (goes_on _ _ _ _ _ _ (c.in_ok-note_all.ensures source _) (out_of_memory _ _ _ c.from_residual-in_err-text.ensures.1))
 
-pub returns-clause-ok : goal.returns-clause-ok
-returns-clause-ok g c = on_ok_weaker c.answer.result
-    (call_all _ _ _ _ (call_bytes c.args.policy.now c.args.number (played (state_of c.args.kernel.now) (item_of c.args.who c.args.call))) _ c.deref.result.now
-    (recs_are c.args.policy.now c.args.number (state_of c.args.kernel.now) _ c.args.who c.args.call c.in_ok-outcome.outcome _ c.items.ensures c.in_ok-outcome.ensures.played)
-    (reply_is c.args.policy.now c.args.number (state_of c.args.kernel.now) _ c.args.who c.args.call c.in_ok-outcome.outcome c.deref.result.now (c.deref.ensures.value ∙ c.in_ok-text.ensures ∙ ap (λ w. reply_line c.args.policy.now c.args.who w c.in_ok-outcome.outcome.reply) (c.word.ensures ∙ ap word_of c.name.ensures)) c.in_ok-outcome.ensures.played)
-    c.in_ok-note_all.ensures.ok) c.answer.ensures.ok
-
-pub returns-clause-state : goal.returns-clause-state
-returns-clause-state g c = on_ok_weaker c.answer.result (λ _. sym (ap (λ x. x.state) c.in_ok-outcome.ensures.played)) c.answer.ensures.ok
-
-pub returns-clause-prefix : goal.returns-clause-prefix
-returns-clause-prefix g c =
-    call_reply _ _ _ _ (call_bytes c.args.policy.now c.args.number (played (state_of c.args.kernel.now) (item_of c.args.who c.args.call))) _ c.deref.result.now
-    (recs_are c.args.policy.now c.args.number (state_of c.args.kernel.now) _ c.args.who c.args.call c.in_ok-outcome.outcome _ c.items.ensures c.in_ok-outcome.ensures.played)
-    (reply_is c.args.policy.now c.args.number (state_of c.args.kernel.now) _ c.args.who c.args.call c.in_ok-outcome.outcome c.deref.result.now (c.deref.ensures.value ∙ c.in_ok-text.ensures ∙ ap (λ w. reply_line c.args.policy.now c.args.who w c.in_ok-outcome.outcome.reply) (c.word.ensures ∙ ap word_of c.name.ensures)) c.in_ok-outcome.ensures.played)
-    c.in_ok-note_all.ensures.ok c.answer.ensures.prefix
-
-pub returns-in_err-outcome-clause-counts : goal.returns-in_err-outcome-clause-counts
-returns-in_err-outcome-clause-counts g c = λ s. counts_no_memory _ _ _ refl c.from_residual.ensures.1
-
-pub returns-in_err-text-clause-counts : goal.returns-in_err-text-clause-counts
-returns-in_err-text-clause-counts g c = λ s. counts_no_memory _ _ _ (c.in_ok-note_all.ensures.counts s _) c.from_residual-in_err-text.ensures.1
-
-pub returns-clause-counts : goal.returns-clause-counts
-returns-clause-counts g c = λ s. counts_on c.answer.result _ _ _ (c.in_ok-note_all.ensures.counts s _) (c.answer.ensures.counts s _)
+pub returns-clause-writes : goal.returns-clause-writes
+returns-clause-writes g c = λ source. in_order c.answer.result _ _ _ _
+    (reply_last c.args.policy.now c.args.number (state_of c.args.kernel.now) _ c.args.who c.args.call c.in_ok-outcome.outcome c.in_ok-outcome.ensures.played _ c.items.ensures c.deref.result.now
+    (c.deref.ensures.value ∙ c.in_ok-text.ensures ∙ ap (λ w. reply_line c.args.policy.now c.args.who w c.in_ok-outcome.outcome.reply) (c.word.ensures ∙ ap word_of c.name.ensures)))
+    (goes_on c.answer.result _ _ _ _ _ (c.in_ok-note_all.ensures source _) (c.answer.ensures source _))

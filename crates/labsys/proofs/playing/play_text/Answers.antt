@@ -1,25 +1,25 @@
-use Rattle.std.proofs.Common.{refl, sym, subst}
+use Rattle.std.proofs.Common.{sym, ◌∙◌, ap, subst}
+use Rattle.std.proofs.lemmas.Result.{IfOk-weaker}
+use Rattle.labsys.specs.Input.{Input}
+use Rattle.labsys.specs.Order.{order_of}
 use Rattle.labsys.specs.Reading.{ReadsNone}
-use Rattle.labsys.proofs.Sending.{sends_start}
-use Rattle.labsys.proofs.InputLemmas.{without_world, without_world_whole, prefix_over, whole_over}
-use Rattle.labsys.specs.Counts.{counted_by}
+use Rattle.labsys.proofs.Sending.{in_order, stops_at_once}
+use Rattle.labsys.proofs.InputLemmas.{without_world}
 use Rattle.labsys.proofs.playing.play_text.Goals as goal
 
-pub returns-in-Ok-clause-whole : goal.returns-in-Ok-clause-whole
-returns-in-Ok-clause-whole g c = whole_over c.play_world.result _ _ _ _ _ _ (sym c.in-Ok.ensures.says) c.play_world.ensures.whole
+pub returns-in-Ok-clause-writes : goal.returns-in-Ok-clause-writes
+returns-in-Ok-clause-writes g c = λ source. in_order c.play_world.result _ _ _ _ (sym (ap order_of c.in-Ok.ensures.says)) (c.play_world.ensures.writes source)
 
-pub returns-in-Ok-clause-prefix : goal.returns-in-Ok-clause-prefix
-returns-in-Ok-clause-prefix g c = prefix_over _ _ _ _ _ _ (sym c.in-Ok.ensures.says) c.play_world.ensures.prefix
+pub returns-in-Ok-clause-ending : goal.returns-in-Ok-clause-ending
+returns-in-Ok-clause-ending g c = IfOk-weaker c.play_world.result _ _ (λ e is. is ∙ sym (ap (λ (i : Input). i.script.ending) c.in-Ok.ensures.says)) c.play_world.ensures.ending
 
-pub returns-in-Err-Ended-clause-whole : goal.returns-in-Err-Ended-clause-whole
-returns-in-Err-Ended-clause-whole g c = whole_over c.end_without_world.result _ _ _ _ _ _ (sym (subst (λ h. ReadsNone c.args.over c.args.text.now h) c.in-Err-Ended.field-0-is c.in-Err-Ended.ensures)) (without_world_whole c.end_without_world.result _ _ _ c.in-Err-Ended.ending c.end_without_world.ensures.ok)
+pub returns-in-Err-Ended-clause-writes : goal.returns-in-Err-Ended-clause-writes
+returns-in-Err-Ended-clause-writes g c = λ source. in_order c.end_without_world.result _ _ _ _
+    (without_world c.in-Err-Ended.ending ∙ sym (ap order_of (subst (λ h. ReadsNone c.args.over c.args.text.now h) c.in-Err-Ended.field-0-is c.in-Err-Ended.ensures))) (c.end_without_world.ensures.writes source _)
 
-pub returns-in-Err-Ended-clause-prefix : goal.returns-in-Err-Ended-clause-prefix
-returns-in-Err-Ended-clause-prefix g c = prefix_over _ _ _ _ _ _ (sym (subst (λ h. ReadsNone c.args.over c.args.text.now h) c.in-Err-Ended.field-0-is c.in-Err-Ended.ensures)) (without_world _ _ _ c.in-Err-Ended.ending c.end_without_world.ensures.prefix)
+pub returns-in-Err-Ended-clause-ending : goal.returns-in-Err-Ended-clause-ending
+returns-in-Err-Ended-clause-ending g c = IfOk-weaker c.end_without_world.result _ _ (λ e is. is ∙ sym (ap (λ (i : Input). i.script.ending) (subst (λ h. ReadsNone c.args.over c.args.text.now h) c.in-Err-Ended.field-0-is c.in-Err-Ended.ensures)))
+    c.end_without_world.ensures.ending
 
-pub returns-in-Err-NoMemory-clause-prefix : goal.returns-in-Err-NoMemory-clause-prefix
-returns-in-Err-NoMemory-clause-prefix g c = sends_start _ _ _
-
-pub returns-in-Err-NoMemory-clause-counts : goal.returns-in-Err-NoMemory-clause-counts
-unfolding counted_by
-returns-in-Err-NoMemory-clause-counts g c = λ s. refl
+pub returns-in-Err-NoMemory-clause-writes : goal.returns-in-Err-NoMemory-clause-writes
+returns-in-Err-NoMemory-clause-writes g c = λ source. stops_at_once _ _

@@ -1,27 +1,48 @@
-use Rattle.std.proofs.Common.{◌∙◌, ap, refl, subst, ℕ, List, rules, arith}
-use Rattle.std.proofs.lemmas.Grind.{common_steps}
+use Rattle.std.proofs.Common.{◌∙◌, ap, ℕ, List}
 use Rattle.std.specs.List.{flat_map}
 use Rattle.kern_model.specs.declared.numbers.Pid.{Pid}
+use Rattle.kern_model.specs.State.{State}
 use Rattle.kern_core.specs.Kernel.{state_of}
-use Rattle.labsys.specs.Playing.{AppendsPrefix}
+use Rattle.lab_text.specs.Policy.{PolicyNames}
 use Rattle.labsys.specs.Texts.{end_text, label_in, caps_in, ends_text}
-use Rattle.labsys.proofs.Sending.{cut_pieces}
-use Rattle.labsys.specs.Counts.{Counts}
-use Rattle.labsys.proofs.CountLemmas.{counts_no_memory}
+use Rattle.labsys.specs.Order.{to_out}
+use Rattle.labsys.proofs.Sending.{all_nothing, all_pieces, in_order, one_more, out_of_memory, piece_stops, piece_has_no_memory, to_out-append}
 use Rattle.labsys.proofs.playing.report_ends.Goals as goal
 
-pub returns-in_err-report_end-clause-prefix : goal.returns-in_err-report_end-clause-prefix
-unfolding ends_text
-returns-in_err-report_end-clause-prefix g c =
-    let f : Pid → List ℕ = λ who. end_text c.args.policy.now who (label_in (state_of c.args.kernel.now) who) (caps_in (state_of c.args.kernel.now) who) in
-    subst (λ (xs : List Pid). AppendsPrefix (g.K.Sink.held c.args.out.now) (g.K.Sink.held c.report_end.new.out) (flat_map f xs)) (c.items-who-items.ensures ∙ c.in_ok-numbers.ensures)
-    (cut_pieces f c.items-who-items.result.now c.loop-who.who-index c.who-item.result _ _ _ _ c.loop-who-test.true (ap f c.who-item.is) c.loop-who.invariant.written c.report_end.ensures.prefix)
+-- the end line of a process in a state
+abbrev line_in : PolicyNames → State → Pid → List ℕ
+line_in policy s who = end_text policy who (label_in s who) (caps_in s who)
 
-pub returns-in_err-numbers-clause-counts : goal.returns-in_err-numbers-clause-counts
-returns-in_err-numbers-clause-counts g c = λ s t. counts_no_memory _ _ _ refl c.from_residual.ensures.1
+pub returns-in_err-numbers : goal.returns-in_err-numbers
+returns-in_err-numbers g c = λ source trail. out_of_memory _ _ _ c.from_residual.ensures.1
+
+pub loop-who-init : goal.loop-who-init
+unfolding to_out
+loop-who-init g c = λ source trail. all_nothing _
+
+pub returns-in_err-text : goal.returns-in_err-text
+unfolding ends_text
+returns-in_err-text g c = λ source trail.
+    let line = line_in c.args.policy.now (state_of c.args.kernel.now) in
+    in_order _ _ _ _ _ (ap (λ (xs : List Pid). to_out (flat_map line xs)) (c.items-who-items.ensures ∙ c.in_ok-numbers.ensures))
+    (piece_has_no_memory to_out to_out-append line c.items-who-items.result.now c.loop-who.who-index c.who-item.result c.loop-who-test.true _ _ _ (c.loop-who.invariant source trail) c.from_residual-in_err-text.ensures.1)
+
+pub returns-in_err-answer : goal.returns-in_err-answer
+unfolding ends_text
+returns-in_err-answer g c = λ source trail.
+    let line = line_in c.args.policy.now (state_of c.args.kernel.now) in
+    in_order _ _ _ _ _ (ap (λ (xs : List Pid). to_out (flat_map line xs)) (c.items-who-items.ensures ∙ c.in_ok-numbers.ensures))
+    (piece_stops to_out to_out-append line c.items-who-items.result.now c.loop-who.who-index c.who-item.result c.loop-who-test.true _ _ c.deref.result.now _ _ _
+    (c.deref.ensures.value ∙ c.in_ok-text.ensures ∙ ap line c.who-item.is) (c.loop-who.invariant source trail) (c.in_err-answer.ensures source trail) c.from_residual-in_err-answer.ensures.1)
 
 pub loop-who-preserved : goal.loop-who-preserved
-loop-who-preserved g c = record {
-  written = first_of (search rules, grind (arith, common_steps));
-  still = ap (λ (k : Counts). k.out) (c.in_ok-report_end.ensures.counts 0 0) ∙ c.loop-who.invariant.still;
-}
+loop-who-preserved g c = λ source trail.
+    let line = line_in c.args.policy.now (state_of c.args.kernel.now) in
+    one_more to_out to_out-append line c.items-who-items.result.now c.loop-who.who-index c.who-item.result c.loop-who-test.true c.deref.result.now _ _ _
+    (c.deref.ensures.value ∙ c.in_ok-text.ensures ∙ ap line c.who-item.is) (c.loop-who.invariant source trail) (c.in_ok-answer.ensures source trail)
+
+pub returns : goal.returns
+unfolding ends_text
+returns g c = λ source trail.
+    let line = line_in c.args.policy.now (state_of c.args.kernel.now) in
+    all_pieces to_out line c.items-who-items.result.now c.loop-who.who-index c.loop-who-test.false _ (ap (λ (xs : List Pid). to_out (flat_map line xs)) (c.items-who-items.ensures ∙ c.in_ok-numbers.ensures)) _ _ (c.loop-who.invariant source trail)
