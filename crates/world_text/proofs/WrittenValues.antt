@@ -26,7 +26,8 @@ use Rattle.fs_path.proofs.RoundTrip.{word_spelling}
 use Rattle.fs_path.specs.Name.{Name, is_name, is_name_byte, is_dots}
 use Rattle.fs_path.specs.Options.{keep_if, then}
 use Rattle.fs_path.specs.Path.{PathValue, HasForm, written_len}
-use Rattle.fs_path.specs.PathText.{is_slash, is_empty_or_dot, starts_badly, Component, placed, counts, names_of, component_fault, first_fault, components_of, path_fault, parse_path}
+use Rattle.fs_path.specs.Split.{Piece, placed}
+use Rattle.fs_path.specs.PathText.{is_slash, is_empty_or_dot, starts_badly, counts, names_of, component_fault, first_fault, components_of, path_fault, parse_path}
 use Rattle.fs_path.specs.Words.{is_plain, is_bare, is_bare_text, has_spelling, with_quotes_if_needed}
 use Rattle.lab_lattice.specs.Label.{Label}
 use Rattle.fs_path.proofs.SplitLemmas.{any_before_end}
@@ -91,7 +92,7 @@ kept_all at [] h = refl
 kept_all at (n ∷ ns) h =
     let parts = and_parts (is_name n) (list_all is_name ns) h in
     let counted : counts (record { at = at; bytes = n }) ≡ true = ap not (name_counts n parts.0) in
-    cond-true _ _ _ counted ∙ ap (λ (cs : List Component). record { at = at; bytes = n } ∷ cs) (kept_all (at + length n + 1) ns parts.1)
+    cond-true _ _ _ counted ∙ ap (λ (cs : List Piece). record { at = at; bytes = n } ∷ cs) (kept_all (at + length n + 1) ns parts.1)
 
 names_placed : (at : ℕ) (ns : List Name) → names_of (placed at ns) ≡ ns
 names_placed at [] = refl
