@@ -1,21 +1,20 @@
 -- How the body of a call goes along its row.
 use Rattle.std.specs.Prelude.{◌≡◌}
-use Rattle.kern_model.specs.declared.checks.Check.{Check}
-use Rattle.kern_model.specs.Row.{Row, Need, CheckOutcome, Stopped, Refused, check_outcome}
+use Rattle.kern_model.specs.Row.{Row, CheckOutcome, Stopped, Refused, check_outcome}
 use Rattle.chk_rules.specs.CheckLog.{CheckLog, judge_from}
 use Rattle.chk_rules.specs.declared.stop.Stop.{Stop}
 use Rattle.chk_rules.specs.declared.stop.Stop.TheVariants as stop
 
--- a row ends as the body stops, with the exercises of `after`; of want of memory nothing is said
+-- a row ends as the body stops, with the exercises of `after`; nothing is said where memory runs out
 unfoldable pub EndsBy : CheckOutcome → CheckLog → Stop → Type 0
 EndsBy j after (stop.Denied name place) = j ≡ check_outcome after.used (Stopped name place)
 EndsBy j after (stop.Refused e) = j ≡ check_outcome after.used (Refused e)
 EndsBy j after (stop.NoMemory m) = Unit {0}
 
--- the row goes on behind the check, whatever follows it
-abbrev pub GoesOn : CheckLog → Check → CheckLog → Type 0
-GoesOn before c after = (r : Row) → judge_from before (Need c r) ≡ judge_from after r
+-- the row continues after a part of it, whatever follows
+abbrev pub Continues : {K : Type 0} → CheckLog → (K → Row) → CheckLog → (K → Row) → Type 0
+Continues {K = K} before part after rest = (k : K) → judge_from before (part k) ≡ judge_from after (rest k)
 
--- the row stops at the check, whatever follows it
-abbrev pub StopsHere : CheckLog → Check → Stop → CheckLog → Type 0
-StopsHere before c how after = (r : Row) → EndsBy (judge_from before (Need c r)) after how
+-- the row stops in a part of it, whatever follows
+abbrev pub Stops : {K : Type 0} → CheckLog → (K → Row) → Stop → CheckLog → Type 0
+Stops {K = K} before part how after = (k : K) → EndsBy (judge_from before (part k)) after how

@@ -1,8 +1,8 @@
 // What checks come to, and the exercises that they leave.
 ghost use Rattle.std.specs.Prelude.{◌≡◌, IfOk, IfErr, OnOk, OnErr};
-ghost use Rattle.kern_model.specs.Row.{verdict_of};
+ghost use Rattle.kern_model.specs.Row.{verdict_of, Row, Need};
 ghost use Rattle.chk_rules.specs.CheckLog.{check_log, noting};
-ghost use Rattle.chk_rules.specs.Ends.{GoesOn, StopsHere};
+ghost use Rattle.chk_rules.specs.Ends.{Continues, Stops};
 
 use crate::Stop;
 use cap_bits::CapSet;
@@ -100,8 +100,8 @@ impl Checks {
 /// A check that has to let the call go on: where it is denied, the call stops at it.
 #[tactic(auto, unfolding(kern_model::specs::Row::judge, crate::specs::Ends::EndsBy))]
 pub fn must(checks: &mut Checks, check: &Check) -> Result<(), Stop>
-    ensures passed { OnOk result (GoesOn checks.old check.now checks.new) }
-    ensures stop { IfErr result (λ stop. StopsHere checks.old check.now stop checks.new) }
+    ensures passed { OnOk result (Continues checks.old (λ (r : Row). Need check.now r) checks.new (λ r. r)) }
+    ensures stop { IfErr result (λ stop. Stops checks.old (λ (r : Row). Need check.now r) stop checks.new) }
     ensures subject { checks.new.subject ≡ checks.old.subject }
 {
     match checks.need(check)? {

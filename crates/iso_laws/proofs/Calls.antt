@@ -17,55 +17,31 @@ use Rattle.kern_model.specs.declared.numbers.Pid.{Pid}
 use Rattle.kern_model.specs.declared.checks.CheckName.TheVariants as check
 use Rattle.kern_model.specs.declared.checks.Place.{Place}
 use Rattle.kern_model.specs.declared.checks.Place.TheVariants.{First, Handle}
-use Rattle.kern_model.specs.declared.checks.Want.TheVariants as want
-use Rattle.kern_model.specs.declared.calls.Answer.TheVariants as answer
 use Rattle.kern_model.specs.declared.calls.Call.{Call}
 use Rattle.kern_model.specs.declared.calls.Call.TheVariants as call
-use Rattle.kern_model.specs.declared.calls.Errno.TheVariants as errno
 use Rattle.kern_model.specs.declared.objects.Object.{Object}
 use Rattle.kern_model.specs.declared.records.Rec.{Rec}
-use Rattle.kern_model.specs.declared.records.Rec.TheVariants as rec
 use Rattle.kern_model.specs.Arguments.{is_call}
-use Rattle.kern_model.specs.AttrRows.{on_path, on_open_object}
+use Rattle.kern_model.specs.AttrRows.{on_open_object, report_caps, report_label}
 use Rattle.kern_model.specs.Descriptors.{opened}
 use Rattle.kern_model.specs.FileRows.{or_not_open}
-use Rattle.kern_model.specs.Exec.{exec_caps, exec_ids}
-use Rattle.kern_model.specs.ProcessRows.{exec_row, cap_set_proc_row}
-use Rattle.kern_model.specs.Kinds.{is_dir, is_file, is_permission}
-use Rattle.kern_model.specs.Rules.{same_label, mode_allows, mac_read, mac_subject, cap_grow}
-use Rattle.kern_model.specs.Row.{Row, Need, Refuse, Commit}
+use Rattle.kern_model.specs.ProcessRows.{exec_row, take_on, cap_set_proc_row}
+use Rattle.kern_model.specs.TreeRows.{chdir_row, stand_in}
+use Rattle.kern_model.specs.Kinds.{is_permission}
+use Rattle.kern_model.specs.Rules.{same_label, of_object, mac_read, mac_subject, cap_grow}
+use Rattle.kern_model.specs.Row.{Row, Need}
 use Rattle.kern_model.specs.State.{State, Process, Change, SetProcess, changed_by, object_at}
 use Rattle.kern_model.specs.Step.{subject}
 use Rattle.kern_model.specs.Table.{row}
-use Rattle.kern_model.specs.Walk.{last_place}
+use Rattle.kern_model.specs.Walk.{on_path, read_object, last_place}
 use Rattle.kern_model.specs.Isolation.{low, crosses, Kept}
 use Rattle.kern_model.specs.Valid.{IsValid, IsDir, IsValidProcess}
 use Rattle.kern_model.proofs.MapLemmas.{some_same}
 use Rattle.iso_laws.specs.LawCalls.{has_laws}
 use Rattle.iso_laws.proofs.Part.{by_number, part_changes, part_of_low, part_of_high}
-use Rattle.iso_laws.proofs.Rows.{Alike, Ends, Passes, Gives, gives_need_if, gives_open, alike_itself, alike_open, ends_given, ends_need, ends_refuse, ends_give, ends_need_if}
-use Rattle.iso_laws.proofs.Sight.{of_object, opened_low, open_object_low, same_side, alike_reach, alike_mac_read, ends_reach, object_low, dir_there, not_false, met_rule, new_side, read_low}
+use Rattle.iso_laws.proofs.Rows.{Alike, Ends, Passes, Gives, gives_need_if, gives_open, alike_itself, alike_open, ends_given, ends_need, ends_give, ends_need_if}
+use Rattle.iso_laws.proofs.Sight.{opened_low, open_object_low, same_side, alike_reach, alike_mac_read, alike_enter, ends_reach, ends_enter, object_low, met_rule, new_side, read_low}
 use Rattle.iso_laws.proofs.Changes.{KeptProcess, kept_of, kept_process, valid_process}
-
--- ---- what calls on a path do with the object that they read there
-abbrev label_reported : Object → Row
-label_reported o = Commit [] (answer.Mark o.label) None
-
-abbrev caps_reported : Object → Row
-caps_reported o = Refuse errno.EINVAL (not (is_file o.kind)) (Commit [] (answer.Caps o.attr.caps) None)
-
-abbrev stood_in : Pid → Process → Oid → Place → Object → Row
-stood_in who p id place o =
-    Refuse errno.ENOTDIR (not (is_dir o.kind))
-    (Need (of_object check.DacSearch (mode_allows o.attr p.ids want.Execute) id place o)
-    (Commit (SetProcess who (record p { cwd = id }) ∷ []) answer.Nothing None))
-
-abbrev taken_on : CapSet → Pid → Process → Oid → Place → Object → Row
-taken_on bound who p id place o =
-    Need (of_object check.ExecKind (is_file o.kind) id place o)
-    (Need (of_object check.DacExecute (mode_allows o.attr p.ids want.Execute) id place o)
-    (Commit (SetProcess who (record p { ids = exec_ids p.ids o.attr; caps = exec_caps p.caps o.attr.caps bound }) ∷ []) answer.Nothing
-    (Some (rec.Exec who id o.attr.caps (exec_caps p.caps o.attr.caps bound)))))
 
 -- ---- a Low process
 module _ (l : Label) (s : State) (kept : Kept l s) (valid : IsValid s) (who : Pid) (p : Process) (is : map.get s.procs who ≡ Some p) (is_low : low l p.label ≡ true) where
@@ -89,7 +65,7 @@ module _ (l : Label) (s : State) (kept : Kept l s) (valid : IsValid s) (who : Pi
 
   -- the row of a call on what a path leads to, which reads it
   low_read : (path : PathValue) (r r' : Oid → Place → Object → Row) → ((id : Oid) (place : Place) → low l id.label ≡ true → Same (r id place (object_at s id)) (r' id place (object_at part_s id)))
-      → Same (on_path s p path (λ id place. Need (mac_read s p id place) (r id place (object_at s id)))) (on_path part_s p path (λ id place. Need (mac_read part_s p id place) (r' id place (object_at part_s id))))
+      → Same (on_path s p path (λ id place. read_object s p id place (r id place))) (on_path part_s p path (λ id place. read_object part_s p id place (r' id place)))
   low_read path r r' h =
       let place : Place = last_place (λ n. First n) path in
       alike_reach l s kept valid who p is_low is (λ n. First n) path _ _
@@ -97,36 +73,41 @@ module _ (l : Label) (s : State) (kept : Kept l s) (valid : IsValid s) (who : Pi
 
   -- where it goes by the object that was read
   low_read_by : (path : PathValue) (r : Oid → Place → Object → Row) → ((id : Oid) (place : Place) (o : Object) → Gives (λ cs own. part_changes l s.top cs ≡ cs) (r id place o))
-      → Same (on_path s p path (λ id place. Need (mac_read s p id place) (r id place (object_at s id)))) (on_path part_s p path (λ id place. Need (mac_read part_s p id place) (r id place (object_at part_s id))))
+      → Same (on_path s p path (λ id place. read_object s p id place (r id place))) (on_path part_s p path (λ id place. read_object part_s p id place (r id place)))
   low_read_by path r gives = low_read path r r (λ id place h. low_by id h (r id place) (gives id place (object_at s id)))
 
-  -- the row of a call on what stands on_open_object a descriptor, which goes by the object that it reads there
+  -- the row of a call on the object of a descriptor, where it goes by the object that was read
   low_open_object_by : (fd : ℕ) (r : Object → Row) → ((o : Object) → Gives (λ cs own. part_changes l s.top cs ≡ cs) (r o))
-      → Same (on_open_object s p fd (λ id place. Need (mac_read s p id place) (r (object_at s id)))) (on_open_object part_s p fd (λ id place. Need (mac_read part_s p id place) (r (object_at part_s id))))
+      → Same (on_open_object s p fd (λ id place. read_object s p id place r)) (on_open_object part_s p fd (λ id place. read_object part_s p id place r))
   low_open_object_by fd r gives =
-      subst (λ w. Same (on_open_object s p fd (λ id place. Need (mac_read s p id place) (r (object_at s id)))) (or_not_open w (λ f. Need (mac_read part_s p f.description.object Handle) (r (object_at part_s f.description.object)))))
+      subst (λ w. Same (on_open_object s p fd (λ id place. read_object s p id place r)) (or_not_open w (λ f. read_object part_s p f.description.object Handle r)))
       (sym (opened_low l s kept who p is is_low fd))
       (alike_open (crosses l) l s.top (subject who p) (opened s p fd) _ _ (λ f e.
-      low_by f.description.object (open_object_low l s kept who p is is_low fd f e) (λ o. Need (of_object check.MacRead (dominates p.label o.label) f.description.object Handle o) (r o)) (gives (object_at s f.description.object))))
+      low_by f.description.object (open_object_low l s kept who p is is_low fd f e) (λ o. Need (of_object check.MacRead (dominates p.label o.label) None f.description.object o Handle) (r o)) (gives (object_at s f.description.object))))
 
   same_bound : part_s.bound ≡ s.bound
   unfolding by_number
   same_bound = refl
 
   low_exec : (path : PathValue) → Same (exec_row s who p path) (exec_row part_s who p path)
-  low_exec path = low_read path (taken_on s.bound who p) (taken_on part_s.bound who p) (λ id place h.
-      subst (λ bound. Same (taken_on s.bound who p id place (object_at s id)) (taken_on bound who p id place (object_at part_s id))) (sym same_bound)
-      (low_by id h (taken_on s.bound who p id place) (seen_self _)))
+  low_exec path = low_read path (take_on s.bound who p) (take_on part_s.bound who p) (λ id place h.
+      subst (λ bound. Same (take_on s.bound who p id place (object_at s id)) (take_on bound who p id place (object_at part_s id))) (sym same_bound)
+      (low_by id h (take_on s.bound who p id place) (seen_self _)))
+
+  low_chdir : (path : PathValue) → Same (chdir_row s who p path) (chdir_row part_s who p path)
+  low_chdir path =
+      alike_reach l s kept valid who p is_low is (λ n. First n) path _ _
+      (λ id there. alike_enter l s kept valid who p is_low id there (last_place (λ n. First n) path) (stand_in who p id) (stand_in who p) (λ _ _. low_itself (stand_in who p id) (seen_self _)))
 
   -- each row of a Low process ends in the part as it ends in the state
   pub low_row : (c : Call) → has_laws c ≡ true → Same (row s who p c) (row part_s who p c)
-  low_row (call.Chdir path) _ = low_read_by path (stood_in who p) (λ id place o. seen_self _)
+  low_row (call.Chdir path) _ = low_chdir path
   low_row (call.Umask mode) _ = low_itself _ (seen_self _)
-  low_row (call.CapGetFile path) _ = low_read_by path (λ id place. caps_reported) (λ id place o. refl)
-  low_row (call.MacGetFile path) _ = low_read_by path (λ id place. label_reported) (λ id place o. refl)
+  low_row (call.CapGetFile path) _ = low_read_by path (λ id place. report_caps) (λ id place o. refl)
+  low_row (call.MacGetFile path) _ = low_read_by path (λ id place. report_label) (λ id place o. refl)
   low_row (call.Exec path) _ = low_exec path
-  low_row (call.CapGetFd fd) _ = low_open_object_by fd caps_reported (λ o. refl)
-  low_row (call.MacGetFd fd) _ = low_open_object_by fd label_reported (λ o. refl)
+  low_row (call.CapGetFd fd) _ = low_open_object_by fd report_caps (λ o. refl)
+  low_row (call.MacGetFd fd) _ = low_open_object_by fd report_label (λ o. refl)
   low_row call.Getpid _ = low_itself _ refl
   low_row call.Getppid _ = low_itself _ refl
   low_row call.Getids _ = low_itself _ refl
@@ -170,18 +151,16 @@ module _ (bad : Rec → Bool) (s : State) (valid : IsValid s) (who : Pid) (p : P
   meets_given : (r : Row) → Gives (λ cs own. P cs) r → Meets r
   meets_given r h = ends_given bad (subject who p) P cases.none r h
 
-  -- the row of a call on what a path leads to, which reads it
-  meets_read : (path : PathValue) (r : Oid → Place → Row) → ((id : Oid) (place : Place) → Passes bad (subject who p) (mac_read s p id place) → Meets (r id place)) → Meets (on_path s p path (λ id place. Need (mac_read s p id place) (r id place)))
-  meets_read path r h =
-      let place : Place = last_place (λ n. First n) path in
-      ends_reach bad s valid who p P cases.none is (λ n. First n) path _ (λ id there. ends_need bad (subject who p) P cases.none (mac_read s p id place) (r id place) (h id place))
+  -- the row of a call on an object that a path leads to
+  meets_path : (path : PathValue) (k : Oid → Place → Row) → ((id : Oid) (place : Place) → Meets (k id place)) → Meets (on_path s p path k)
+  meets_path path k h = ends_reach bad s valid who p P cases.none is (λ n. First n) path _ (λ id _. h id (last_place (λ n. First n) path))
 
-  meets_stood_in : (id : Oid) (place : Place) → Passes bad (subject who p) (mac_read s p id place) → Meets (stood_in who p id place (object_at s id))
-  meets_stood_in id place read =
-      ends_refuse bad (subject who p) P cases.none _ _ _ (λ dir. meets_given _ (cases.cwd id place read (dir_there s id (not_false _ dir))))
+  -- where it is read, and nothing is asked of its label
+  meets_read : (path : PathValue) (k : Oid → Place → Object → Row) → ((id : Oid) (place : Place) → Gives (λ cs own. P cs) (k id place (object_at s id))) → Meets (on_path s p path (λ id place. read_object s p id place (k id place)))
+  meets_read path k gives = meets_path path (λ id place. read_object s p id place (k id place)) (λ id place. meets_given _ (gives id place))
 
-  meets_taken_on : (id : Oid) (place : Place) → Meets (taken_on s.bound who p id place (object_at s id))
-  meets_taken_on id place = meets_given (taken_on s.bound who p id place (object_at s id)) (cases.self _ _ p.umask p.audited refl (within_meet _ _) (λ _. own.umask))
+  meets_chdir : (path : PathValue) → Meets (chdir_row s who p path)
+  meets_chdir path = meets_path path _ (λ id place. ends_enter bad s valid who p P cases.none id place (stand_in who p id) (λ read dir. meets_given _ (cases.cwd id place read dir)))
 
   -- what the caller may become has no effective capability that is not permitted
   meets_cap_set_proc : (caps : CapState) → Meets (cap_set_proc_row s who p caps)
@@ -193,11 +172,11 @@ module _ (bad : Rec → Bool) (s : State) (valid : IsValid s) (who : Pid) (p : P
   -- the changes of each row meet it
   pub row_meets : (c : Call) → (fit → is_call s.top c ≡ true) → has_laws c ≡ true → Meets (row s who p c)
   unfolding is_call
-  row_meets (call.Chdir path) args _ = meets_read path (λ id place. stood_in who p id place (object_at s id)) meets_stood_in
+  row_meets (call.Chdir path) args _ = meets_chdir path
   row_meets (call.Umask mode) args _ = meets_given _ (cases.self p.ids p.caps mode p.audited refl own.within args)
-  row_meets (call.CapGetFile path) args _ = meets_read path (λ id place. caps_reported (object_at s id)) (λ id place _. meets_given _ cases.none)
-  row_meets (call.MacGetFile path) args _ = meets_read path (λ id place. label_reported (object_at s id)) (λ id place _. meets_given _ cases.none)
-  row_meets (call.Exec path) args _ = meets_read path (λ id place. taken_on s.bound who p id place (object_at s id)) (λ id place _. meets_taken_on id place)
+  row_meets (call.CapGetFile path) args _ = meets_read path (λ id place. report_caps) (λ id place. cases.none)
+  row_meets (call.MacGetFile path) args _ = meets_read path (λ id place. report_label) (λ id place. cases.none)
+  row_meets (call.Exec path) args _ = meets_read path (take_on s.bound who p) (λ id place. cases.self _ _ p.umask p.audited refl (within_meet _ _) (λ _. own.umask))
   row_meets (call.CapGetFd fd) args _ = meets_given _ (gives_open (λ cs own. P cs) (opened s p fd) _ (λ f. cases.none))
   row_meets (call.MacGetFd fd) args _ = meets_given _ (gives_open (λ cs own. P cs) (opened s p fd) _ (λ f. cases.none))
   row_meets call.Getpid args _ = meets_given _ cases.none

@@ -26,22 +26,22 @@ use Rattle.kern_model.specs.declared.objects.Body.TheVariants as body
 use Rattle.kern_model.specs.declared.objects.Object.{Object}
 use Rattle.kern_model.specs.declared.records.Rec.{Rec}
 use Rattle.kern_model.specs.declared.records.Rec.TheVariants as rec
-use Rattle.kern_model.specs.AttrRows.{on_path, on_open_object, get_caps, set_caps, get_label, set_label}
+use Rattle.kern_model.specs.AttrRows.{on_open_object, get_caps, set_caps, get_label, set_label}
 use Rattle.kern_model.specs.Descriptors.{Opened, Descriptor, opened, closing, let_go, is_let_go, is_drained, emptied}
 use Rattle.kern_model.specs.Drawing.{IsDrawnBetween}
 use Rattle.kern_model.specs.FileRows.{or_not_open, open_object, with_bytes, with_bytes_cleared, opening, opens, open_emptying, open_present, open_found, rewriting, writing, moved, place_in}
 use Rattle.kern_model.specs.Keys.{pid_cmp_total, pid_cmp_exact, did_cmp_total, did_cmp_exact, oid_cmp_total, same_pid, same_oid, is_pid}
 use Rattle.kern_model.specs.Kinds.{is_file, is_stream, object_with, masked}
-use Rattle.kern_model.specs.Create.{attr_of, made}
+use Rattle.kern_model.specs.Create.{attr_of, made, write_directory}
 use Rattle.kern_model.specs.ProcessRows.{survives, left_by, ending_of, take_ended, signalled, send}
 use Rattle.kern_model.specs.Refusals.{is_denial}
-use Rattle.kern_model.specs.Rules.{same_label, mac_write, dac_write, held_order}
+use Rattle.kern_model.specs.Rules.{same_label, held_order}
 use Rattle.kern_model.specs.Row.{Row, Need, Soft, Refuse, Fail, Commit, need_if}
 use Rattle.kern_model.specs.State.{State, Process, Description, Change, SetProcess, DropDescription, changed_by, drawn, look, object_at, next_object}
 use Rattle.kern_model.specs.Table.{row}
 use Rattle.kern_model.specs.TreeRows.{make_row, give_way, move_row}
 use Rattle.kern_model.specs.Valid.{IsThere}
-use Rattle.kern_model.specs.Walk.{Found, Start, Entry, walk_from, walk, reach, start_of, last_place, dir_place, or_missing, to_object, to_new_name, to_entry, to_entry_of_object}
+use Rattle.kern_model.specs.Walk.{on_path, Found, Start, Entry, walk_from, walk, reach, start_of, last_place, dir_place, or_missing, to_object, to_new_name, to_entry, to_entry_of_object}
 use Rattle.kern_model.proofs.MapLemmas.{each-entries, get-insert_same}
 use Rattle.iso_laws.proofs.DrawingLemmas.{LeadsTo, Known, AllFit, fit-append, FitsAnywhere, fit_anywhere, drawn_since}
 use Rattle.iso_laws.proofs.Sight.{is_open}
@@ -286,10 +286,8 @@ module _ (There : Oid → Type 0) (s : State) (leads : LeadsTo There s) (who : P
   give_way_fair id (Some t) place rest h = fair_cond Fit (same_oid t id) _ _ none (refl, (refl, (refl, h)))
 
   move_fair : (to : PathValue) (dir : Oid) (name : Name) (id : Oid) → There id → (found : Found) → AreThere There s leads Fit found → IsFair (to_entry found (λ into new at.
-      Need (mac_write s p into (dir_place (λ n. Second n) to))
-      (Need (dac_write s p into (dir_place (λ n. Second n) to))
-      (Need (held_order s id into (dir_place (λ n. Second n) to))
-      (give_way s p id at (last_place (λ n. Second n) to) (move_row s dir name id into new))))))
+      write_directory s p into (dir_place (λ n. Second n) to) (held_order s id into (dir_place (λ n. Second n) to))
+      (give_way s p id at (last_place (λ n. Second n) to) (move_row s dir name id into new))))
   move_fair to dir name id there found seen =
       fair_entry There s leads Fit found _ seen (λ into new at _. give_way_fair id at (last_place (λ n. Second n) to) (move_row s dir name id into new) (refl, (refl, ((tt, (inl there, tt)), tt))))
 

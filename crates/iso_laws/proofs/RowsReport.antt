@@ -27,20 +27,20 @@ use Rattle.kern_model.specs.declared.objects.Body.TheVariants as body
 use Rattle.kern_model.specs.declared.objects.Object.{Object}
 use Rattle.kern_model.specs.declared.records.Rec.{Rec}
 use Rattle.kern_model.specs.Descriptors.{Opened, Descriptor, opened, closing, let_go, is_let_go, is_drained, emptied}
-use Rattle.kern_model.specs.AttrRows.{on_path, on_open_object, get_caps, set_caps, get_label, set_label}
+use Rattle.kern_model.specs.AttrRows.{on_open_object, get_caps, set_caps, get_label, set_label}
 use Rattle.kern_model.specs.FileRows.{open_object, with_bytes, with_bytes_cleared, opening, opens, open_emptying, open_present, open_found, rewriting, writing, moved, place_in}
 use Rattle.kern_model.specs.Exec.{exec_caps, exec_ids}
 use Rattle.kern_model.specs.Keys.{pid_cmp_total, pid_cmp_exact, same_pid, same_oid, is_pid}
 use Rattle.kern_model.specs.Kinds.{is_file, is_stream, object_with, masked}
 use Rattle.kern_model.specs.Lineage.{reported}
-use Rattle.kern_model.specs.Create.{attr_of, made}
+use Rattle.kern_model.specs.Create.{attr_of, made, write_directory}
 use Rattle.kern_model.specs.ProcessRows.{child_of, survives, left_by, ending_of, take_ended, signalled, send}
-use Rattle.kern_model.specs.Rules.{same_label, mac_write, dac_write, held_order}
+use Rattle.kern_model.specs.Rules.{same_label, held_order}
 use Rattle.kern_model.specs.Row.{Row, Need, Soft, Refuse, Fail, Commit}
 use Rattle.kern_model.specs.State.{State, Process, Description, Change, SetProcess, DropDescription, DrawProcess, changed, changed_by, drawn, look, object_at, next_object, next_process}
 use Rattle.kern_model.specs.Table.{row}
 use Rattle.kern_model.specs.TreeRows.{make_row, give_way, move_row}
-use Rattle.kern_model.specs.Walk.{Found, Start, Entry, walk_from, walk, reach, start_of, last_place, dir_place, or_missing, to_object, to_new_name, to_entry, to_entry_of_object}
+use Rattle.kern_model.specs.Walk.{on_path, Found, Start, Entry, walk_from, walk, reach, start_of, last_place, dir_place, or_missing, to_object, to_new_name, to_entry, to_entry_of_object}
 use Rattle.kern_model.proofs.MapLemmas.{each-entries}
 use Rattle.iso_laws.proofs.Rows.{Gives, gives_cond, gives_need_if, gives_open}
 use Rattle.iso_laws.proofs.CapsReported.{Reported, reported_same, reported_set, Quiet, reported_quiet}
@@ -187,10 +187,8 @@ module _ (s : State) (f : Pid → CapState) (has : Reported s f) (who : Pid) (p 
   give_way_calm id (Some t) place rest h = gives_cond (Calm s f) (same_oid t id) _ _ (tt, λ q. refl) h
 
   move_calm : (to : PathValue) (dir : Oid) (name : Name) (id : Oid) (found : Found) → IsCalm (to_entry found (λ into new at.
-      Need (mac_write s p into (dir_place (λ n. Second n) to))
-      (Need (dac_write s p into (dir_place (λ n. Second n) to))
-      (Need (held_order s id into (dir_place (λ n. Second n) to))
-      (give_way s p id at (last_place (λ n. Second n) to) (move_row s dir name id into new))))))
+      write_directory s p into (dir_place (λ n. Second n) to) (held_order s id into (dir_place (λ n. Second n) to))
+      (give_way s p id at (last_place (λ n. Second n) to) (move_row s dir name id into new))))
   move_calm to dir name id found = gives_entry (Calm s f) found _ (λ into new at. give_way_calm id at (last_place (λ n. Second n) to) (move_row s dir name id into new) ((tt, (tt, tt)), λ q. refl))
 
   -- ---- labels, children and ends

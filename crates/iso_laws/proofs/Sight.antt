@@ -17,10 +17,8 @@ use Rattle.kern_model.specs.declared.objects.Kind.{Kind}
 use Rattle.kern_model.specs.declared.objects.Kind.TheVariants as kind
 use Rattle.kern_model.specs.declared.objects.Object.{Object}
 use Rattle.kern_model.specs.declared.checks.Check.{Check}
-use Rattle.kern_model.specs.declared.checks.CheckName.{CheckName}
 use Rattle.kern_model.specs.declared.checks.CheckName.TheVariants as check
 use Rattle.kern_model.specs.declared.checks.Place.{Place}
-use Rattle.kern_model.specs.declared.checks.Thing.TheVariants as thing
 use Rattle.kern_model.specs.declared.checks.Verdict.TheVariants.{Passed, Exercised, Denied}
 use Rattle.kern_model.specs.declared.checks.Want.TheVariants as want
 use Rattle.kern_model.specs.declared.calls.Errno.TheVariants as errno
@@ -30,7 +28,7 @@ use Rattle.kern_model.specs.Keys.{oid_cmp_total, oid_cmp_exact, pid_cmp_total, p
 use Rattle.kern_model.specs.Descriptors.{Opened, opened}
 use Rattle.kern_model.specs.Kinds.{is_dir}
 use Rattle.kern_model.specs.State.{State, Process, Description, Change, drawn, object_at, look, stub, stub_object, root}
-use Rattle.kern_model.specs.Rules.{cap_of, same_label, mode_allows, mac_read, dac_search}
+use Rattle.kern_model.specs.Rules.{cap_of, same_label, mode_allows, of_object, mac_read, dac_search}
 use Rattle.kern_model.specs.Row.{Row, Need, Refuse, Subject, verdict_of, is_denied, noted, exercise_with, may}
 use Rattle.kern_model.specs.Walk.{Found, Start, Entry, walk_from, walk, reach, start_of, enter, or_missing, to_object}
 use Rattle.kern_model.specs.Step.{subject}
@@ -39,11 +37,6 @@ use Rattle.kern_model.specs.Valid.{IsValid, IsThere, IsDir}
 use Rattle.kern_model.proofs.MapLemmas.{get-select_kept, get-select_dropped, get_or-found, get_or-absent, get_or-same, never_some, some_same}
 use Rattle.iso_laws.proofs.Part.{by_number, shown, low_oid, low_pid, low_did, low_spot, same}
 use Rattle.iso_laws.proofs.Rows.{Alike, Ends, Passes, alike_same, alike_hidden, alike_refuse, alike_missing, ends_need, ends_refuse, ends_missing}
-
--- ---- checks
--- a check of an object without a new label
-abbrev pub of_object : CheckName → Bool → Oid → Place → Object → Check
-of_object name holds id place o = record { name = name; holds = holds; thing = thing.Object id; thing_label = o.label; new_label = None; place = place }
 
 pub failed_verdict : (a : Subject) (c : Check) → c.holds ≡ false → verdict_of a c ≡ cond (may a.effective (cap_of c.name)) Exercised Denied
 unfolding verdict_of
@@ -188,14 +181,14 @@ module _ (bad : Rec → Bool) (s : State) (valid : IsValid s) (who : Pid) (p : P
   abbrev Meets : Row → Type 0
   Meets r = Ends bad (subject who p) P r
 
-  pub ends_enter : (dir : Oid) (place : Place) (r : Row) → (IsDir s.objects dir → Meets r) → Meets (enter s p dir place r)
-  ends_enter dir place r h = ends_need bad (subject who p) P none _ _ (λ _. ends_refuse bad (subject who p) P none _ _ _ (λ is. ends_need bad (subject who p) P none _ _ (λ _. h (dir_there s dir (not_false _ is)))))
+  pub ends_enter : (dir : Oid) (place : Place) (r : Row) → (Passes bad (subject who p) (mac_read s p dir place) → IsDir s.objects dir → Meets r) → Meets (enter s p dir place r)
+  ends_enter dir place r h = ends_need bad (subject who p) P none _ _ (λ read. ends_refuse bad (subject who p) P none _ _ _ (λ is. ends_need bad (subject who p) P none _ _ (λ _. h read (dir_there s dir (not_false _ is)))))
 
   pub ends_walk_from : (place : ℕ → Place) (at : ℕ) (dir : Oid) (names : List Name) (k : Found → Row) → IsThere s.objects dir → ((found : Found) → FoundIn s found → Meets (k found)) → Meets (walk_from s p place at dir names k)
   ends_walk_from place at dir [] k there h = h (Start dir) there
-  ends_walk_from place at dir (name ∷ []) k there h = ends_enter dir (place at) _ (λ is. h (Entry dir name (look s dir name)) (is, refl))
+  ends_walk_from place at dir (name ∷ []) k there h = ends_enter dir (place at) _ (λ _ is. h (Entry dir name (look s dir name)) (is, refl))
   ends_walk_from place at dir (name ∷ next ∷ names) k there h =
-      ends_enter dir (place at) _ (λ _. ends_missing bad (subject who p) P none (look s dir name) _ (λ id e. ends_walk_from place (at + 1) id (next ∷ names) k (led_there s valid dir name id e) h))
+      ends_enter dir (place at) _ (λ _ _. ends_missing bad (subject who p) P none (look s dir name) _ (λ id e. ends_walk_from place (at + 1) id (next ∷ names) k (led_there s valid dir name id e) h))
 
   pub ends_walk : map.get s.procs who ≡ Some p → (place : ℕ → Place) (path : PathValue) (k : Found → Row) → ((found : Found) → FoundIn s found → Meets (k found)) → Meets (walk s p place path k)
   ends_walk is place path k h = ends_walk_from place 0 (start_of p path) path.names k (start_there s valid who p path is) h
@@ -294,7 +287,7 @@ module _ (l : Label) (s : State) (kept : Kept l s) (valid : IsValid s) (who : Pi
   pub alike_mac_read : (id : Oid) → IsThere s.objects id → (place : Place) (r : Row) (r' : Oid → Row) → (low l id.label ≡ true → Same r (r' id)) → Same (Need (mac_read s p id place) r) (Need (mac_read (by_number l s) p (shown l s.top id) place) (r' (shown l s.top id)))
   alike_mac_read id there place r r' rest =
       elim (low l id.label) as (λ b. low l id.label ≡ b → Same (Need (mac_read s p id place) r) (Need (mac_read (by_number l s) p (cond b id (stub s.top)) place) (r' (cond b id (stub s.top))))) [
-        | true ↦ λ h. alike_same (crosses l) l s.top (subject who p) _ _ r (r' id) (ap (λ o. of_object check.MacRead (dominates p.label o.label) id place o) (object_low l s id h)) (λ _. rest h)
+        | true ↦ λ h. alike_same (crosses l) l s.top (subject who p) _ _ r (r' id) (ap (λ o. of_object check.MacRead (dominates p.label o.label) None id o place) (object_low l s id h)) (λ _. rest h)
         | false ↦ λ h.
             let top : low l s.top ≡ false = top_high l s kept who p is_low id there h valid in
             let stub_label : (object_at (by_number l s) (stub s.top)).label ≡ s.top = ap (λ o. o.label) (object_stub l s top) in
@@ -311,7 +304,7 @@ module _ (l : Label) (s : State) (kept : Kept l s) (valid : IsValid s) (who : Pi
       (λ d. Refuse errno.ENOTDIR (not (is_dir (object_at (by_number l s) d).kind)) (Need (dac_search (by_number l s) p d place) (r' d)))
       (λ h. alike_refuse (crosses l) l s.top (subject who p) errno.ENOTDIR _ _ _ _ (ap (λ o. not (is_dir o.kind)) (object_low l s dir h))
       (λ is. alike_same (crosses l) l s.top (subject who p) (dac_search s p dir place) (dac_search (by_number l s) p dir place) r (r' dir)
-      (ap (λ o. of_object check.DacSearch (mode_allows o.attr p.ids want.Execute) dir place o) (object_low l s dir h)) (λ _. rest h (dir_there s dir (not_false _ is)))))
+      (ap (λ o. of_object check.DacSearch (mode_allows o.attr p.ids want.Execute) None dir o place) (object_low l s dir h)) (λ _. rest h (dir_there s dir (not_false _ is)))))
 
   -- what a walk found, in the part
   abbrev pub part_found : Found → Found

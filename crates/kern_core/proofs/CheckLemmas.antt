@@ -4,11 +4,11 @@ use Rattle.std.proofs.Common.{ap, sym, ◌∙◌}
 use Rattle.kern_model.specs.declared.calls.Errno.TheVariants.{EPERM}
 use Rattle.kern_model.specs.declared.checks.Check.{Check}
 use Rattle.kern_model.specs.declared.checks.Verdict.TheVariants.{Passed, Exercised, Denied}
-use Rattle.kern_model.specs.Row.{Subject, Fail, Stopped, Refused, may, verdict_of}
+use Rattle.kern_model.specs.Row.{Row, Need, Subject, Fail, Stopped, Refused, may, verdict_of}
 use Rattle.kern_model.specs.Rules.{cap_of}
 use Rattle.kern_model.proofs.RowLemmas.{judge-stop, judge-fail}
 use Rattle.chk_rules.specs.CheckLog.{CheckLog}
-use Rattle.chk_rules.specs.Ends.{GoesOn}
+use Rattle.chk_rules.specs.Ends.{Continues}
 
 -- denied, where the rule fails and no capability helps
 denied : (a : Subject) (c : Check) → cap_of c.name ≡ None → c.holds ≡ false → Denied ≡ verdict_of a c
@@ -16,7 +16,7 @@ unfolding verdict_of
 denied a c no_cap fails = sym (ap (λ h. cond h Passed (cond (may a.effective (cap_of c.name)) Exercised Denied)) fails ∙ ap (λ o. cond (may a.effective o) Exercised Denied) no_cap)
 
 -- a check without a capability lets the row go on where its rule holds alone
-pub holds_where_passed : (a b : CheckLog) (c : Check) → cap_of c.name ≡ None → GoesOn a c b → c.holds ≡ true
+pub holds_where_passed : (a b : CheckLog) (c : Check) → cap_of c.name ≡ None → Continues a (λ (r : Row). Need c r) b (λ r. r) → c.holds ≡ true
 holds_where_passed a b c no_cap goes =
     elim c.holds as (λ h. c.holds ≡ h → h ≡ true) [
       | true ↦ λ _. refl

@@ -13,7 +13,7 @@ use Rattle.kern_model.specs.State.{State, Process, SetProcess}
 use Rattle.kern_model.proofs.MapLemmas.{some_same}
 use Rattle.kern_model.proofs.RowLemmas.{judge-give}
 use Rattle.chk_rules.specs.CheckLog.{CheckLog, judge_from}
-use Rattle.chk_rules.specs.Ends.{GoesOn}
+use Rattle.chk_rules.specs.Ends.{Continues}
 use Rattle.chk_rules.specs.declared.stop.Stop.{Stop}
 use Rattle.chk_rules.specs.declared.stop.Stop.TheVariants as stop
 use Rattle.kern_core.specs.RowCompletes.{RowCompletes, Keeps}
@@ -30,7 +30,7 @@ module _ (s : State) (who : Pid) (check : Process → Check) (new : Process → 
   abbrev row_of : Process → Row
   row_of p = Need (check p) (Commit (SetProcess who (new p) ∷ []) answer own)
 
-  pub plays_own : (q p : Process) → Some q ≡ map.get s.procs who → map.get s.procs who ≡ Some p → (procs : FinMap pid_cmp Process) → procs ≡ map.insert s.procs who (new q) → (a b : CheckLog) (c : Check) → c ≡ check q → GoesOn a c b → RowCompletes s a (row_of p) (record s { procs = procs }) b (record { answer = answer; own = own })
+  pub plays_own : (q p : Process) → Some q ≡ map.get s.procs who → map.get s.procs who ≡ Some p → (procs : FinMap pid_cmp Process) → procs ≡ map.insert s.procs who (new q) → (a b : CheckLog) (c : Check) → c ≡ check q → Continues a (λ (r : Row). Need c r) b (λ r. r) → RowCompletes s a (row_of p) (record s { procs = procs }) b (record { answer = answer; own = own })
   plays_own q p found there procs left a b c is go =
       let done = Commit (SetProcess who (new q) ∷ []) answer own in
       subst (λ x. RowCompletes s a (row_of x) (record s { procs = procs }) b (record { answer = answer; own = own })) (some_same q p (found ∙ there))

@@ -1,8 +1,9 @@
 // The walk of a path.
 ghost use Rattle.std.specs.Prelude.{◌≡◌, ◌≤◌, ◌+◌, [], ◌∷◌, IfOk, IfErr, OnOk, length};
-ghost use Rattle.kern_model.specs.Walk.{start_of};
+ghost use Rattle.kern_model.specs.Walk.{enter, start_of};
+ghost use Rattle.chk_rules.specs.Ends.{Continues, Stops};
 ghost use Rattle.kern_core.specs.Tables.{state_of_tables};
-ghost use Rattle.kern_core.specs.Walks.{object_found, Enters, StopsAt, FindsFrom, StopsFrom, PassesTo, PassStops, Reaches, StopsReaching};
+ghost use Rattle.kern_core.specs.Walks.{object_found, found_of, walk_names, pass_name, reach_object};
 
 use crate::checks::{dac_search, mac_read};
 use crate::process::{Proc, root_directory};
@@ -34,8 +35,8 @@ impl Found {
 impl Tables {
     /// Walks a path to an object that is there.
     pub fn reach(&self, checks: &mut Checks, process: &Proc, path: &Path) -> Result<Oid, Stop>
-        ensures reached { IfOk result (λ id. Reaches (state_of_tables self.now) process.now path.now checks.old id checks.new) }
-        ensures stop { IfErr result (λ stop. StopsReaching (state_of_tables self.now) process.now path.now checks.old stop checks.new) }
+        ensures reached { IfOk result (λ id. Continues checks.old (reach_object (state_of_tables self.now) process.now path.now) checks.new (λ k. k id)) }
+        ensures stop { IfErr result (λ stop. Stops checks.old (reach_object (state_of_tables self.now) process.now path.now) stop checks.new) }
         ensures subject { checks.new.subject ≡ checks.old.subject }
     {
         let found = self.walk(checks, process, path)?;
@@ -44,8 +45,8 @@ impl Tables {
 
     /// Walks a path from where it starts. Its last name may be absent.
     pub fn walk(&self, checks: &mut Checks, process: &Proc, path: &Path) -> Result<Found, Stop>
-        ensures found { IfOk result (λ found. FindsFrom (state_of_tables self.now) process.now 0 (start_of process.now path.now) path.now.names checks.old found checks.new) }
-        ensures stop { IfErr result (λ stop. StopsFrom (state_of_tables self.now) process.now 0 (start_of process.now path.now) path.now.names checks.old stop checks.new) }
+        ensures found { IfOk result (λ found. Continues checks.old (walk_names (state_of_tables self.now) process.now 0 (start_of process.now path.now) path.now.names) checks.new (λ k. k (found_of found))) }
+        ensures stop { IfErr result (λ stop. Stops checks.old (walk_names (state_of_tables self.now) process.now 0 (start_of process.now path.now) path.now.names) stop checks.new) }
         ensures subject { checks.new.subject ≡ checks.old.subject }
     {
         let start = if path.absolute {
@@ -66,8 +67,8 @@ impl Tables {
         names: &[Name],
     ) -> Result<Found, Stop>
         requires { at + length names.now ≤ 32 }
-        ensures found { IfOk result (λ found. FindsFrom (state_of_tables self.now) process.now at dir names.now checks.old found checks.new) }
-        ensures stop { IfErr result (λ stop. StopsFrom (state_of_tables self.now) process.now at dir names.now checks.old stop checks.new) }
+        ensures found { IfOk result (λ found. Continues checks.old (walk_names (state_of_tables self.now) process.now at dir names.now) checks.new (λ k. k (found_of found))) }
+        ensures stop { IfErr result (λ stop. Stops checks.old (walk_names (state_of_tables self.now) process.now at dir names.now) stop checks.new) }
         ensures subject { checks.new.subject ≡ checks.old.subject }
     {
         match names {
@@ -90,8 +91,8 @@ impl Tables {
         dir: Oid,
         name: &Name,
     ) -> Result<Found, Stop>
-        ensures found { IfOk result (λ found. FindsFrom (state_of_tables self.now) process.now at dir (name.now ∷ []) checks.old found checks.new) }
-        ensures stop { IfErr result (λ stop. StopsAt (state_of_tables self.now) process.now (Place.First at) dir checks.old stop checks.new) }
+        ensures found { IfOk result (λ found. Continues checks.old (walk_names (state_of_tables self.now) process.now at dir (name.now ∷ [])) checks.new (λ k. k (found_of found))) }
+        ensures stop { IfErr result (λ stop. Stops checks.old (enter (state_of_tables self.now) process.now dir (Place.First at)) stop checks.new) }
         ensures subject { checks.new.subject ≡ checks.old.subject }
     {
         self.enter(checks, process, Place::First(at), &dir)?;
@@ -111,8 +112,8 @@ impl Tables {
         dir: Oid,
         name: &Name,
     ) -> Result<Oid, Stop>
-        ensures passed { IfOk result (λ next. PassesTo (state_of_tables self.now) process.now (Place.First at) dir name.now checks.old next checks.new) }
-        ensures stop { IfErr result (λ stop. PassStops (state_of_tables self.now) process.now (Place.First at) dir name.now checks.old stop checks.new) }
+        ensures passed { IfOk result (λ next. Continues checks.old (pass_name (state_of_tables self.now) process.now (Place.First at) dir name.now) checks.new (λ k. k next)) }
+        ensures stop { IfErr result (λ stop. Stops checks.old (pass_name (state_of_tables self.now) process.now (Place.First at) dir name.now) stop checks.new) }
         ensures subject { checks.new.subject ≡ checks.old.subject }
     {
         self.enter(checks, process, Place::First(at), &dir)?;
@@ -128,8 +129,8 @@ impl Tables {
         place: Place,
         dir: &Oid,
     ) -> Result<(), Stop>
-        ensures entered { OnOk result (Enters (state_of_tables self.now) process.now place dir.now checks.old checks.new) }
-        ensures stop { IfErr result (λ stop. StopsAt (state_of_tables self.now) process.now place dir.now checks.old stop checks.new) }
+        ensures entered { OnOk result (Continues checks.old (enter (state_of_tables self.now) process.now dir.now place) checks.new (λ r. r)) }
+        ensures stop { IfErr result (λ stop. Stops checks.old (enter (state_of_tables self.now) process.now dir.now place) stop checks.new) }
         ensures subject { checks.new.subject ≡ checks.old.subject }
     {
         let object = self.metadata(dir);

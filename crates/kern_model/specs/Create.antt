@@ -14,10 +14,13 @@ use Rattle.kern_model.specs.State.{State, Process, Change, SetObject, SetEntry, 
 use Rattle.kern_model.specs.Rules.{mac_write, dac_write, created_order}
 use Rattle.kern_model.specs.Row.{Row, Need, Refuse}
 
--- an entry may be written into a directory: the caller writes it, by label and mode, the order of labels holds, and it is not removed
+-- a directory is written: the caller writes it, by label and mode, and the order of labels holds
+abbrev pub write_directory : State → Process → Oid → Place → Check → Row → Row
+write_directory s p dir place order rest = Need (mac_write s p dir place) (Need (dac_write s p dir place) (Need order rest))
+
+-- a directory gets a new entry: it is written, and is not removed
 abbrev pub enter_in : State → Process → Oid → Place → Check → Row → Row
-enter_in s p dir place order rest =
-    Need (mac_write s p dir place) (Need (dac_write s p dir place) (Need order (Refuse errno.ENOENT (is_removed s dir) rest)))
+enter_in s p dir place order rest = write_directory s p dir place order (Refuse errno.ENOENT (is_removed s dir) rest)
 
 -- an object may be made in a directory
 abbrev pub make_in : State → Process → Oid → Place → Row → Row

@@ -2,6 +2,7 @@
 use Rattle.std.specs.Prelude.{ℕ, ◌+◌, ◌&&◌, ◌||◌, ◌==◌, not, nat_le, Bool, cond, List, [], ◌∷◌, ◌++◌, length, Option, None, Some}
 use Rattle.std.specs.List.{flat_map}
 use Rattle.std.specs.FinMap as map
+use Rattle.cap_bits.specs.CapSet.{CapSet}
 use Rattle.cap_bits.specs.declared.state.CapState.{CapState}
 use Rattle.fs_path.specs.Path.{PathValue}
 use Rattle.lab_lattice.specs.Label.{Label}
@@ -13,16 +14,19 @@ use Rattle.kern_model.specs.declared.calls.Errno.TheVariants as errno
 use Rattle.kern_model.specs.declared.calls.Signal.{Signal}
 use Rattle.kern_model.specs.declared.calls.Signal.TheVariants as signal
 use Rattle.kern_model.specs.declared.numbers.Ids.{Ids}
+use Rattle.kern_model.specs.declared.checks.Place.{Place}
+use Rattle.kern_model.specs.declared.numbers.Oid.{Oid}
 use Rattle.kern_model.specs.declared.numbers.Pid.{Pid}
+use Rattle.kern_model.specs.declared.objects.Object.{Object}
 use Rattle.kern_model.specs.declared.records.Rec.TheVariants as rec
-use Rattle.kern_model.specs.AttrRows.{on_path}
 use Rattle.kern_model.specs.Descriptors.{Descriptor, closing}
 use Rattle.kern_model.specs.Exec.{exec_caps, exec_ids}
 use Rattle.kern_model.specs.Keys.{same_pid, is_pid}
 use Rattle.kern_model.specs.Maps.{any_entry}
-use Rattle.kern_model.specs.Rules.{same_label, mac_read, mac_write_process, mac_subject, dac_execute, exec_kind, kill_rule, cap_grow, setuid_rule, setgid_rule, setuid_all, setgid_all}
+use Rattle.kern_model.specs.Rules.{same_label, mac_write_process, mac_subject, dac_execute, exec_kind, kill_rule, cap_grow, setuid_rule, setgid_rule, setuid_all, setgid_all}
 use Rattle.kern_model.specs.Row.{Row, Need, Soft, Refuse, Fail, Commit, need_if}
-use Rattle.kern_model.specs.State.{State, Process, Change, SetProcess, DropProcess, DrawProcess, drawn, next_process, object_at}
+use Rattle.kern_model.specs.State.{State, Process, Change, SetProcess, DropProcess, DrawProcess, drawn, next_process}
+use Rattle.kern_model.specs.Walk.{on_path, read_object}
 
 -- ---- children
 
@@ -93,14 +97,17 @@ kill_row s who p target sig = Need (mac_write_process p target target.label) (se
 
 -- ---- programs
 
+-- a program that was read is executed: the caller takes on the credentials that it gives
+abbrev pub take_on : CapSet → Pid → Process → Oid → Place → Object → Row
+take_on bound who p id place o =
+    Need (exec_kind id o place)
+    (Need (dac_execute p id o place)
+    (Commit (SetProcess who (record p { ids = exec_ids p.ids o.attr; caps = exec_caps p.caps o.attr.caps bound }) ∷ []) answer.Nothing
+    (Some (rec.Exec who id o.attr.caps (exec_caps p.caps o.attr.caps bound)))))
+
 -- `exec PATH`
 abbrev pub exec_row : State → Pid → Process → PathValue → Row
-exec_row s who p path = on_path s p path (λ id place.
-    Need (mac_read s p id place)
-    (Need (exec_kind s id place)
-    (Need (dac_execute s p id place)
-    (Commit (SetProcess who (record p { ids = exec_ids p.ids (object_at s id).attr; caps = exec_caps p.caps (object_at s id).attr.caps s.bound }) ∷ [])
-    answer.Nothing (Some (rec.Exec who id (object_at s id).attr.caps (exec_caps p.caps (object_at s id).attr.caps s.bound)))))))
+exec_row s who p path = on_path s p path (λ id place. read_object s p id place (take_on s.bound who p id place))
 
 -- ---- what a process tells of itself
 

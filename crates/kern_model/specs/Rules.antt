@@ -21,6 +21,7 @@ use Rattle.kern_model.specs.declared.numbers.Ids.{Ids}
 use Rattle.kern_model.specs.declared.numbers.Oid.{Oid}
 use Rattle.kern_model.specs.declared.numbers.Pid.{Pid}
 use Rattle.kern_model.specs.declared.objects.Attr.{Attr}
+use Rattle.kern_model.specs.declared.objects.Object.{Object}
 use Rattle.kern_model.specs.Maps.{any_entry}
 use Rattle.kern_model.specs.Keys.{Spot, same_oid}
 use Rattle.kern_model.specs.Kinds.{is_dir, is_file, has_set_id}
@@ -114,8 +115,13 @@ mode_allows attr ids w = bit_at attr.mode (class_shift attr ids + want_bit w) ==
 
 -- ---- checks of an object, with its present label
 
+-- of an object as it is
+abbrev pub of_object : CheckName → Bool → Option Label → Oid → Object → Place → Check
+of_object name holds new id o place = record { name = name; holds = holds; thing = thing.Object id; thing_label = o.label; new_label = new; place = place }
+
+-- of the object with a number
 abbrev pub on_object : State → CheckName → Bool → Option Label → Oid → Place → Check
-on_object s name holds new id place = record { name = name; holds = holds; thing = thing.Object id; thing_label = (object_at s id).label; new_label = new; place = place }
+on_object s name holds new id place = of_object name holds new id (object_at s id) place
 
 -- the caller's label dominates the object's
 abbrev pub mac_read : State → Process → Oid → Place → Check
@@ -162,12 +168,12 @@ abbrev pub dac_write : State → Process → Oid → Place → Check
 dac_write s p id place = on_object s check.DacWrite (mode_allows (object_at s id).attr p.ids want.Write) None id place
 
 -- the class has the execute bit of the file
-abbrev pub dac_execute : State → Process → Oid → Place → Check
-dac_execute s p id place = on_object s check.DacExecute (mode_allows (object_at s id).attr p.ids want.Execute) None id place
+abbrev pub dac_execute : Process → Oid → Object → Place → Check
+dac_execute p id o place = of_object check.DacExecute (mode_allows o.attr p.ids want.Execute) None id o place
 
 -- the object is a regular file
-abbrev pub exec_kind : State → Oid → Place → Check
-exec_kind s id place = on_object s check.ExecKind (is_file (object_at s id).kind) None id place
+abbrev pub exec_kind : Oid → Object → Place → Check
+exec_kind id o place = of_object check.ExecKind (is_file o.kind) None id o place
 
 -- the effective user is the owner
 abbrev pub is_owner : State → Process → Oid → Bool

@@ -14,12 +14,12 @@ use Rattle.kern_model.specs.declared.objects.Body.TheVariants as body
 use Rattle.kern_model.specs.Entries.{is_empty, is_removed, is_under, link_count, names_in}
 use Rattle.kern_model.specs.Keys.{same_oid}
 use Rattle.kern_model.specs.Kinds.{is_dir, object_with, masked}
-use Rattle.kern_model.specs.Create.{make_in, enter_in, attr_of, made, has_object_number}
-use Rattle.kern_model.specs.Rules.{mac_read, mac_write, dac_read, dac_search, dac_write, held_order, link_dir, unlink_dir}
+use Rattle.kern_model.specs.Create.{make_in, enter_in, write_directory, attr_of, made, has_object_number}
+use Rattle.kern_model.specs.Rules.{mac_write, dac_read, dac_write, held_order, link_dir, unlink_dir}
 use Rattle.kern_model.specs.Row.{Row, Need, Refuse, Commit}
 use Rattle.kern_model.specs.State.{State, Process, SetEntry, DropEntry, SetProcess, object_at}
 use Rattle.kern_model.specs.Stat.{stat_of}
-use Rattle.kern_model.specs.Walk.{walk, reach, to_new_name, to_entry, to_entry_of_object, last_place, dir_place}
+use Rattle.kern_model.specs.Walk.{enter, walk, on_path, read_object, to_new_name, to_entry, to_entry_of_object, last_place, dir_place}
 
 -- ---- making
 
@@ -66,9 +66,9 @@ unlink_row s who p path = walk s p (λ n. First n) path (λ found. to_entry_of_o
 
 -- `link PATH PATH`
 abbrev pub link_row : State → Pid → Process → PathValue → PathValue → Row
-link_row s who p path to = reach s p (λ n. First n) path (λ id.
-    Need (mac_write s p id (last_place (λ n. First n) path))
-    (Need (link_dir s id (last_place (λ n. First n) path))
+link_row s who p path to = on_path s p path (λ id place.
+    Need (mac_write s p id place)
+    (Need (link_dir s id place)
     (Refuse errno.EMLINK (nat_le MAX_LINKS (link_count s id))
     (walk s p (λ n. Second n) to (λ found. to_new_name found (λ dir name.
     enter_in s p dir (dir_place (λ n. Second n) to) (held_order s id dir (dir_place (λ n. Second n) to))
@@ -98,31 +98,28 @@ abbrev pub rename_row : State → Pid → Process → PathValue → PathValue �
 rename_row s who p path to = walk s p (λ n. First n) path (λ found. to_entry_of_object found (λ dir name id.
     leave_from s p path dir id
     (walk s p (λ n. Second n) to (λ target. to_entry target (λ into new at.
-    Need (mac_write s p into (dir_place (λ n. Second n) to))
-    (Need (dac_write s p into (dir_place (λ n. Second n) to))
-    (Need (held_order s id into (dir_place (λ n. Second n) to))
+    write_directory s p into (dir_place (λ n. Second n) to) (held_order s id into (dir_place (λ n. Second n) to))
     (give_way s p id at (last_place (λ n. Second n) to)
-    (move_row s dir name id into new)))))))))
+    (move_row s dir name id into new)))))))
 
 -- ---- reading
 
 -- `readdir PATH`
 abbrev pub readdir_row : State → Pid → Process → PathValue → Row
-readdir_row s who p path = reach s p (λ n. First n) path (λ id.
-    Need (mac_read s p id (last_place (λ n. First n) path))
-    (Refuse errno.ENOTDIR (not (is_dir (object_at s id).kind))
-    (Need (dac_read s p id (last_place (λ n. First n) path))
+readdir_row s who p path = on_path s p path (λ id place.
+    read_object s p id place (λ o.
+    Refuse errno.ENOTDIR (not (is_dir o.kind))
+    (Need (dac_read s p id place)
     (Commit [] (answer.Names (names_in s id)) None))))
 
 -- `stat PATH`
 abbrev pub stat_row : State → Pid → Process → PathValue → Row
-stat_row s who p path = reach s p (λ n. First n) path (λ id.
-    Need (mac_read s p id (last_place (λ n. First n) path)) (Commit [] (answer.Stat (stat_of s id)) None))
+stat_row s who p path = on_path s p path (λ id place. read_object s p id place (λ o. Commit [] (answer.Stat (stat_of s id)) None))
+
+-- the caller gets another current directory
+abbrev pub stand_in : Pid → Process → Oid → Row
+stand_in who p id = Commit (SetProcess who (record p { cwd = id }) ∷ []) answer.Nothing None
 
 -- `chdir PATH`
 abbrev pub chdir_row : State → Pid → Process → PathValue → Row
-chdir_row s who p path = reach s p (λ n. First n) path (λ id.
-    Need (mac_read s p id (last_place (λ n. First n) path))
-    (Refuse errno.ENOTDIR (not (is_dir (object_at s id).kind))
-    (Need (dac_search s p id (last_place (λ n. First n) path))
-    (Commit (SetProcess who (record p { cwd = id }) ∷ []) answer.Nothing None))))
+chdir_row s who p path = on_path s p path (λ id place. enter s p id place (stand_in who p id))

@@ -4,10 +4,12 @@ use Rattle.fs_path.specs.Name.{Name}
 use Rattle.fs_path.specs.Path.{PathValue}
 use Rattle.kern_model.specs.declared.numbers.Oid.{Oid}
 use Rattle.kern_model.specs.declared.checks.Place.{Place}
+use Rattle.kern_model.specs.declared.checks.Place.TheVariants.{First}
 use Rattle.kern_model.specs.declared.calls.Errno.TheVariants as errno
+use Rattle.kern_model.specs.declared.objects.Object.{Object}
 use Rattle.kern_model.specs.Kinds.{is_dir}
 use Rattle.kern_model.specs.State.{State, Process, object_at, look, root}
-use Rattle.kern_model.specs.Rules.{mac_read, dac_search}
+use Rattle.kern_model.specs.Rules.{mac_read, mac_write, dac_search}
 use Rattle.kern_model.specs.Row.{Row, Need, Refuse, Fail}
 
 -- what a walk found: where a path without names starts, or the last directory, the last name, and what it leads to if that is there
@@ -72,3 +74,15 @@ to_entry_of_object found k = to_entry found (λ dir name object. or_missing obje
 -- the walk of a path to an object that is there
 abbrev pub reach : State → Process → (ℕ → Place) → PathValue → (Oid → Row) → Row
 reach s p place path k = walk s p place path (λ found. to_object found k)
+
+-- the row of a call on what a path leads to
+abbrev pub on_path : State → Process → PathValue → (Oid → Place → Row) → Row
+on_path s p path k = reach s p (λ n. First n) path (λ id. k id (last_place (λ n. First n) path))
+
+-- an object is read, by label, and the row goes on with it
+abbrev pub read_object : State → Process → Oid → Place → (Object → Row) → Row
+read_object s p id place k = Need (mac_read s p id place) (k (object_at s id))
+
+-- an object is written, by label, and the row goes on with it
+abbrev pub write_object : State → Process → Oid → Place → (Object → Row) → Row
+write_object s p id place k = Need (mac_write s p id place) (k (object_at s id))
