@@ -1,16 +1,13 @@
-use Rattle.std.proofs.Common.{◌≡◌, ◌∙◌, ap, sym, subst, refl, ◌∷◌, [], ◌++◌, true, false, ℕ, ◌≤◌, length, count_by, codes, arith, Bool, List}
+use Rattle.std.proofs.Common.{◌≡◌, ◌∙◌, ap, sym, subst, refl, ◌∷◌, [], ◌++◌, true, ℕ, ◌≤◌, length, count_by, codes, arith, Bool, List}
 use Rattle.std.proofs.lemmas.Bool.{and_from}
 use Rattle.std.proofs.lemmas.List.Sums.{count_by-le-length}
-use Rattle.cap_bits.specs.CapSet.{CapSet, no_caps, is_within, has-within}
+use Rattle.cap_bits.specs.CapSet.{CapSet, no_caps, has-within}
 use Rattle.cap_bits.specs.State.{no_flags}
 use Rattle.fs_path.specs.Name.{Name, is_name}
-use Rattle.fs_path.specs.Path.{HasForm, written_len}
+use Rattle.fs_path.specs.Path.{HasForm}
 use Rattle.kern_model.specs.declared.limits.TheConstants.{MAX_OBJECTS, MAX_PROCS}
-use Rattle.kern_model.specs.declared.numbers.Ids.{Ids}
-use Rattle.kern_model.specs.declared.objects.Attr.{Attr}
 use Rattle.kern_model.specs.declared.objects.Body.{Body}
 use Rattle.kern_model.specs.declared.objects.Body.TheVariants as body
-use Rattle.kern_model.specs.declared.world.World.{World}
 use Rattle.kern_model.specs.declared.world.WorldObject.{WorldObject}
 use Rattle.kern_model.specs.declared.world.WorldProc.{WorldProc}
 use Rattle.kern_model.specs.Rules.{same_label}

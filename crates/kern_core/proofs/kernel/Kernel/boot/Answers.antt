@@ -5,9 +5,7 @@ use Rattle.lab_lattice.specs.Label.{label_cmp}
 use Rattle.kern_model.specs.declared.limits.TheConstants.{MAX_OBJECTS}
 use Rattle.kern_model.specs.declared.world.WorldObject.{WorldObject}
 use Rattle.kern_model.specs.declared.world.WorldProc.{WorldProc}
-use Rattle.kern_model.specs.Boot.{boot_objects, boot_processes}
 use Rattle.kern_model.specs.State.{State}
-use Rattle.kern_model.specs.Valid.{IsValid}
 use Rattle.kern_model.specs.World.{objects_at}
 use Rattle.kern_core.specs.Starts.{RoomForObjects, CanStart}
 use Rattle.kern_core.specs.Kernel.{state_of}
