@@ -1,6 +1,6 @@
 -- The clauses of the top call, from what a run did.
 use Rattle.std.specs.Prelude.{Result, IfOk, IfSome, Ok, Err, None, Some}
-use Rattle.std.proofs.Common.{◌≡◌, ℕ, List, ◌++◌, [], refl, sym, ◌∙◌, ap, subst, arith}
+use Rattle.std.proofs.Common.{◌≡◌, ℕ, List, ◌++◌, refl, sym, ◌∙◌, ap, subst}
 use Rattle.std.specs.declared.option.Option.{Option}
 use Rattle.std.specs.Io.KnownBytes.{Appends, Consumes}
 use Rattle.lab_lattice.specs.Label.{Label}

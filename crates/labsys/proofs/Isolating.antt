@@ -9,7 +9,7 @@ use Rattle.iso_laws.proofs.Laws.{isolated_prefix, isolated_whole, two_worlds_agr
 use Rattle.labsys.specs.Input.{Accepted, Script}
 use Rattle.labsys.specs.Session.{CallBytes, session_of, bytes_of, replies_of}
 use Rattle.labsys.proofs.AcceptedLemmas.{IsPlayable}
-use Rattle.labsys.proofs.Coverage.{Split, Within, Past, split}
+use Rattle.labsys.proofs.Coverage.{Within, Past, split}
 use Rattle.labsys.specs.Clauses.{Written, Isolated, IsolatedWhole, SameBelow, TwoInputs, TwoWhole, run_of}
 
 -- ---- written replies

@@ -14,7 +14,7 @@ use Rattle.labsys.specs.declared.status.Fault.{Fault}
 use Rattle.labsys.specs.Input.{Accepted, Script, script}
 use Rattle.aud_record.specs.Written.{header_text, rec_text}
 use Rattle.labsys.specs.Texts.{ends_text, last_text}
-use Rattle.labsys.specs.Session.{session_of, call_bytes, bytes_from, head_text, tail_text}
+use Rattle.labsys.specs.Session.{call_bytes, bytes_from, head_text, tail_text}
 use Rattle.labsys.specs.Order.{Sent, to_out, to_trail, call_order, session_order, order_by}
 use Rattle.labsys.specs.Playing.{Ends, SendsAll, StopsBy, Writes, tail_from, order_in}
 use Rattle.labsys.proofs.Sending.{all_nothing, all_more, stops, goes_on, in_order}

@@ -11,7 +11,7 @@ use Rattle.io_ends.specs.Faults.{AppendsPart, counted}
 use Rattle.io_ends.specs.Sinks.{SinkView, sink_view}
 use Rattle.labsys.specs.declared.status.Fault.{Fault}
 use Rattle.labsys.specs.declared.status.Fault.TheVariants.{Write, Trail, NoMemory}
-use Rattle.labsys.specs.Counts.{Counts, counts, counted_by}
+use Rattle.labsys.specs.Counts.{counts, counted_by}
 use Rattle.labsys.specs.Order.{Sent, ToOut, ToTrail, out_of, trail_of, to_out, to_trail}
 use Rattle.labsys.specs.Playing.{Ends, ends, Sends, SendsPrefix, SendsAll, StopsBy, Writes}
 

@@ -1,6 +1,5 @@
 use Rattle.std.proofs.Common.{◌≡◌, ◌++◌, sym, ◌∙◌, ap, List, ℕ}
 use Rattle.std.specs.List.{flat_map}
-use Rattle.std.proofs.lemmas.Result.{on_ok_weaker}
 use Rattle.kern_model.specs.declared.records.Rec.{Rec}
 use Rattle.kern_model.specs.declared.records.Outcome as reported
 use Rattle.kern_model.specs.declared.calls.Call.{Call}
@@ -16,7 +15,7 @@ use Rattle.script_text.specs.Reply.{reply_line}
 use Rattle.labsys.specs.Input.{item_of}
 use Rattle.labsys.specs.Session.{call_bytes}
 use Rattle.labsys.specs.Texts.{reply_text}
-use Rattle.labsys.specs.Order.{Sent, to_out, to_trail, call_order}
+use Rattle.labsys.specs.Order.{to_out, to_trail, call_order}
 use Rattle.labsys.proofs.Sending.{goes_on, in_order, out_of_memory, stops}
 use Rattle.labsys.proofs.playing.play_item.Goals as goal
 
