@@ -2,6 +2,7 @@
 use Rattle.std.specs.Prelude.{◌≡◌, ℕ, true, ◌||◌, nat_lt, cond, List, ◌∷◌, length, map, Option, None, Some, Ok, Err}
 use Rattle.fs_path.specs.declared.words.LineWord.{LineWord}
 use Rattle.fs_path.specs.Words.{is_blank, words_of}
+use Rattle.kern_model.specs.declared.limits.TheConstants.{MAX_LINE}
 use Rattle.kern_model.specs.Arguments.{is_call, is_number}
 use Rattle.kern_model.specs.Named.{call_named}
 use Rattle.kern_model.specs.declared.calls.CallName.{CallName}
@@ -36,7 +37,7 @@ parse_words policy (Some words) = parse_item policy words
 -- what a line says, or its first fault
 unfoldable pub parse_line : PolicyNames → List ℕ → Reading Line
 parse_line policy text =
-    cond (nat_lt 2048 (length text)) (Err error.TooLong)
+    cond (nat_lt MAX_LINE (length text)) (Err error.TooLong)
     (cond (is_blank text) (Ok line.Blank)
     (parse_words policy (words_of text)))
 
