@@ -20,7 +20,7 @@ pub bound_is : {A B : Type 0} (r : Result A Fault) (f : A → Result B Fault) (y
 bound_is (Ok x) f y h = (x, refl, h)
 bound_is (Err e) f y h = absurd (cc)
 
--- the word of a value is read, and what stands behind it is left
+-- the word of a value is read, and what stands after it is left
 pub word_round_trip : {X : Type 0} (listed : Bool) (parsed : List ℕ → Option X) (word rest : List ℕ) (x : X) → IsWord word → is_apart rest ≡ true → parsed word ≡ Some x → parse_word listed parsed (word ++ rest) ≡ Ok (x, rest)
 unfolding parse_word
 word_round_trip listed parsed word rest x is ends h =
@@ -30,7 +30,7 @@ pub field_round_trip : {X : Type 0} (listed : Bool) (parsed : List ℕ → Optio
 unfolding parse_field after_space
 field_round_trip listed parsed word rest x is ends h = word_round_trip listed parsed word rest x is ends h
 
--- a word that was read stands in front of what is left
+-- a word that was read stands before what is left
 pub record Reads {X : Type 0} (parsed : List ℕ → Option X) (text rest : List ℕ) (x : X) : Type 0 where
   pub word : List ℕ
   pub says : parsed word ≡ Some x
@@ -59,7 +59,7 @@ field_is listed parsed left rest x h =
     let due = bound_is (after_space left) (parse_word listed parsed) (x, rest) h in
     (due.0, space_is left due.0 due.1, word_is listed parsed due.0 rest x due.2)
 
--- a word behind a space, and what stands behind it
+-- a word after a space, and what stands after it
 pub after_text_is : {left text word rest parsed tail : List ℕ} → left ≡ 32 ∷ text → text ≡ word ++ rest → word ≡ parsed → rest ≡ tail → left ≡ 32 ∷ parsed ++ tail
 after_text_is space parts is after = space ∙ ap (λ t. 32 ∷ t) parts ∙ (λ i. 32 ∷ is i ++ after i)
 

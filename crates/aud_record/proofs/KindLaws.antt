@@ -32,7 +32,7 @@ form_wide event.Deny who = (refl, λ call. (refl, λ errno. (refl, λ check. (re
 form_wide event.Switch who = (refl, λ on. tt)
 form_wide event.Note who = (refl, λ bytes. tt)
 
--- a record that a form makes is of its kind and about its process, has the words of its values behind that, and fits where they do
+-- a record that a form makes is of its kind and about its process, has the words of its values after that, and fits where they do
 pub record IsOfKind (p : PolicyNames) (e : Event) (who : Pid) (vs : Values (form_of e who)) : Type 0 where
   pub kind : event_of (made (form_of e who) vs) ≡ e
   pub about : who_of (made (form_of e who) vs) ≡ who

@@ -5,7 +5,7 @@ use Rattle.std.proofs.lemmas.Grind.{flat_map-append}
 use Rattle.std.specs.Prelude.{IfOk}
 use Rattle.fs_path.specs.Words.{after_spaces}
 
--- a line is a front with words behind it
+-- a line is a prefix with words after it
 pub record IsAfter (prefix : List ℕ) (words : List (List ℕ)) (line : List ℕ) : Type 0 where
   pub is : line ≡ prefix ++ after_spaces words
 

@@ -42,7 +42,7 @@ from_call p x = parse_field true (named event_word all_events) x.1 >>= from_kind
 
 -- ---- what is written is read again
 
--- the words behind the number of the process
+-- the words after the number of the process
 rest_round_trip : (p : PolicyNames) (r : Rec) → MakePolicy p → all_hold (rest_tests p r) ≡ true → parse_form p (form_of (event_of r) (who_of r)) (after_spaces (rest_words p r)) ≡ Ok r
 rest_round_trip p r h fits =
     let form = form_of (event_of r) (who_of r) in
@@ -136,7 +136,7 @@ line_is p line call r h =
     (line_made p line first.0.1 second.0.1 third.0.1 first.0.0 second.0.0 third.0.0 last.0 (word_is false (canonical_number (2 ^ 64)) line first.0.1 first.0.0 first.1)
     (field_is true (named event_word all_events) first.0.1 second.0.1 second.0.0 second.1) (field_is false (canonical_pid p) second.0.1 third.0.1 third.0.0 third.1) (form_is p (form_of second.0.0 third.0.0) third.0.1 last.0 last.1))
 
--- what was read of a text: its front is the line of the record, which fits
+-- what was read of a text: its prefix is the line of the record, which fits
 pub record IsRead (p : PolicyNames) (text : List ℕ) (read : ReadRec) : Type 0 where
   pub small : read.call < 2 ^ 64
   pub fit : rec_fits p read.rec ≡ true

@@ -41,7 +41,7 @@ canonical_pid p word = option_map (λ (x : ℕ × Label). record { label = x.1; 
 abbrev pub canonical_oid : PolicyNames → List ℕ → Option Oid
 canonical_oid p word = option_map (λ (x : ℕ × Label). record { label = x.1; n = x.0 }) (canonical_numbered p word)
 
--- what stands behind a front, where it is there
+-- what stands after a prefix, where it is there
 abbrev pub after_prefix : List ℕ → List ℕ → Option (List ℕ)
 after_prefix [] word = Some word
 after_prefix (f ∷ fs) [] = None

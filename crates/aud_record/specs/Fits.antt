@@ -100,7 +100,7 @@ abbrev pub ending_fits : Ending → Bool
 ending_fits (ending.Exit code) = nat_lt code (2 ^ 8)
 ending_fits _ = true
 
--- what has to hold of a record behind the process that it is about
+-- what has to hold of a record after the process that it is about
 abbrev pub rest_tests : PolicyNames → Rec → List Bool
 rest_tests p (rec.Boot who label caps) = is_valid p label ∷ []
 rest_tests p (rec.Fork who child) = pid_fits p child ∷ []

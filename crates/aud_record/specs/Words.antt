@@ -1,4 +1,4 @@
--- The words of a line, one space between each and the next. A fault tells how many bytes of the line stand from its place on.
+-- The words of a line, one space between each and the next. A fault gives how many bytes of the line stand from its place on.
 use Rattle.std.specs.Prelude.{◌≡◌, ℕ, ◌+◌, ◌==◌, ◌&&◌, not, nat_lt, Bool, false, cond, List, [], ◌∷◌, length, take, drop, Option, None, Some, Result, Ok, Err}
 use Rattle.std.specs.List.{prefix_len}
 use Rattle.fs_path.specs.Words.{is_space}
@@ -7,7 +7,7 @@ use Rattle.aud_record.specs.declared.fault.Fault.TheVariants as fault
 
 -- ---- where a word ends
 
--- how many bytes of a quoted word stand behind its opening quote: the closing one is the first without a backslash before it that counts, and a backslash counts unless one that counts stands before it
+-- how many bytes of a quoted word stand after its opening quote: the closing one is the first without a backslash before it that counts, and a backslash counts unless one that counts stands before it
 abbrev pub quoted_len : Bool → List ℕ → ℕ
 quoted_len escaped [] = 0
 quoted_len escaped (b ∷ bs) = cond (b == 34 && not escaped) 1 (1 + quoted_len (b == 92 && not escaped) bs)
@@ -39,12 +39,12 @@ abbrev pub Gives : {X Y : Type 0} → (X → Y) → Result X Fault → Result Y 
 Gives view (Ok x) read = read ≡ Ok (view x)
 Gives view (Err f) read = Fails f read
 
--- the same where the function answers the value, and what stands behind it is left
+-- the same where the function answers the value, and what stands after it is left
 abbrev pub Reads : {X : Type 0} → Result X Fault → Result (X × List ℕ) Fault → List ℕ → Type 0
 Reads (Ok x) read left = read ≡ Ok (x, left)
 Reads (Err f) read left = Fails f read
 
--- what stands behind the space that is due
+-- what stands after the space that is due
 unfoldable pub after_space : List ℕ → Result (List ℕ) Fault
 after_space [] = Err (fault.Syntax 0)
 after_space (b ∷ bs) = cond (is_space b) (Ok bs) (Err (fault.Syntax (length (b ∷ bs))))
@@ -58,7 +58,7 @@ ended x (b ∷ bs) = Err (fault.Syntax (cond (is_space b) (length bs) (length (b
 unfoldable pub fault_of : Bool → List ℕ → Fault
 fault_of listed left = cond (listed && nat_lt 0 (length (first_word left))) (fault.UnknownWord (length left)) (fault.Syntax (length left))
 
--- what a word says and what stands behind it
+-- what a word says and what stands after it
 abbrev pub worded : {X : Type 0} → Bool → List ℕ → Option X → Result (X × List ℕ) Fault
 worded listed left (Some x) = Ok (x, after_word left)
 worded listed left None = Err (fault_of listed left)
@@ -67,6 +67,6 @@ worded listed left None = Err (fault_of listed left)
 unfoldable pub parse_word : {X : Type 0} → Bool → (List ℕ → Option X) → List ℕ → Result (X × List ℕ) Fault
 parse_word listed parsed left = worded listed left (parsed (first_word left))
 
--- what the word behind a space says
+-- what the word after a space says
 unfoldable pub parse_field : {X : Type 0} → Bool → (List ℕ → Option X) → List ℕ → Result (X × List ℕ) Fault
 parse_field listed parsed left = after_space left >>= parse_word listed parsed

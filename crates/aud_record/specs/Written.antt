@@ -22,7 +22,7 @@ switch_word on = cond on (codes "on") (codes "off")
 unfoldable pub line_of : List (List ℕ) → List ℕ
 line_of words = line_text words ++ 10 ∷ []
 
--- the words behind the number of the process that a record is about; an ending is two words
+-- the words after the number of the process that a record is about; an ending is two words
 abbrev pub rest_words : PolicyNames → Rec → List (List ℕ)
 rest_words p (rec.Boot who label caps) = label_text p label ∷ caps_word caps ∷ []
 rest_words p (rec.Fork who child) = pid_text p child ∷ []
@@ -42,7 +42,7 @@ rest_words p (rec.Note who bytes) = quoted_text bytes ∷ []
 abbrev pub rec_words : PolicyNames → Rec → List (List ℕ)
 rec_words p r = event_word (event_of r) ∷ pid_text p (who_of r) ∷ rest_words p r
 
--- a record behind the number of its call
+-- a record after the number of its call
 unfoldable pub rec_text : PolicyNames → ℕ → Rec → List ℕ
 rec_text p call r = line_of (decimal call ∷ rec_words p r)
 

@@ -3,7 +3,7 @@ ghost use Rattle.std.specs.Prelude.{◌≡◌};
 
 use crate::NoMemory;
 
-/// Why a line is no record. A fault tells how many bytes of the line stand from its place on.
+/// Why a line is no record. A fault gives how many bytes of the line stand from its place on.
 #[derive(Clone, Copy, Debug, PartialEq, Eq)]
 pub enum Fault {
     /// What stands there is not what is due.

@@ -1,4 +1,4 @@
-// The words of each kind of record behind the number of the process.
+// The words of each kind of record after the number of the process.
 ghost use Rattle.std.specs.Prelude.{◌≡◌};
 ghost use Rattle.aud_record.specs.Forms.{form_of, exit_form, parse_form};
 ghost use Rattle.aud_record.specs.Words.{Gives};

@@ -76,7 +76,7 @@ fn first_record(alloc: Global, policy: &Policy, text: &[u8]) -> Result<ReadRec, 
     })
 }
 
-/// The record with which a text begins, whatever stands behind it. The first fault of the line counts, from the left.
+/// The record with which a text begins, whatever stands after it. The first fault of the line counts, from the left.
 pub fn rec_read(alloc: Global, policy: &Policy, text: &[u8]) -> Result<ReadRec, RecError>
     // What is read is written so, and its labels are valid.
     ensures found { IfOk result (λ read. (take read.used text.now ≡ rec_text policy.now read.call read.rec) × (has_valid_labels policy.now read.rec ≡ true)) }

@@ -6,7 +6,7 @@ ghost use Rattle.aud_record.specs.Words.{Gives, Reads, quoted_len, word_len, fir
 
 use crate::fault::Fault;
 
-// How many bytes of a quoted word stand behind its opening quote.
+// How many bytes of a quoted word stand after its opening quote.
 fn quoted_len(text: &[u8]) -> usize
     ensures value { result ≡ quoted_len false text.now }
     ensures within { result ≤ length text.now }
@@ -45,7 +45,7 @@ fn word_len(left: &[u8]) -> usize
     }
 }
 
-// What stands behind the space that is due.
+// What stands after the space that is due.
 #[tactic(auto, unfolding(crate::specs::Words::after_space))]
 fn after_space(left: &[u8]) -> Result<&[u8], Fault>
     ensures { Gives (λ rest. rest.now) result (after_space left.now) }
@@ -56,7 +56,7 @@ fn after_space(left: &[u8]) -> Result<&[u8], Fault>
     }
 }
 
-/// The word that is due, and what stands behind it.
+/// The word that is due, and what stands after it.
 #[derive(Clone, Copy)]
 pub struct Due<'a> {
     // What is left from the word on.
@@ -98,14 +98,14 @@ impl<'a> Words<'a> {
         Due::first(self.left)
     }
 
-    /// The word behind the space that is due.
+    /// The word after the space that is due.
     pub fn next(&self) -> Result<Due<'a>, Fault>
         ensures { Gives (λ due. due.left.now) result (after_space self.now.left.now) }
     {
         Ok(Due::first(after_space(self.left)?))
     }
 
-    /// What the word says, where it says something. What stands behind it is left then.
+    /// What the word says, where it says something. What stands after it is left then.
     #[tactic(auto, unfolding(crate::specs::Words::fault_of))]
     pub fn or_syntax<T>(&mut self, due: Due<'a>, parsed: Option<T>) -> Result<T, Fault>
         ensures { Reads result (worded false due.entry.left.now parsed) self.new.left.now }
@@ -115,7 +115,7 @@ impl<'a> Words<'a> {
         Ok(value)
     }
 
-    /// Which value of a list the word says, where it says one. What stands behind it is left then.
+    /// Which value of a list the word says, where it says one. What stands after it is left then.
     #[tactic(auto, unfolding(crate::specs::Words::fault_of))]
     pub fn or_unknown<T>(&mut self, due: Due<'a>, parsed: Option<T>) -> Result<T, Fault>
         ensures { Reads result (worded true due.entry.left.now parsed) self.new.left.now }

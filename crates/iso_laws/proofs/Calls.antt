@@ -55,7 +55,7 @@ module _ (l : Label) (s : State) (kept : Kept l s) (valid : IsValid s) (who : Pi
   seen_self : (q : Process) → part_changes l s.top (SetProcess who q ∷ []) ≡ SetProcess who q ∷ []
   seen_self q = part_of_low l s.top (SetProcess who q ∷ []) (kept.procs who p is ∙ is_low, tt)
 
-  -- a row that asks for nothing but the caller, which it tells or sets
+  -- a row that asks for nothing but the caller, which it reports or sets
   low_itself : (r : Row) → Gives (λ cs own. part_changes l s.top cs ≡ cs) r → Same r r
   low_itself r h = alike_itself (crosses l) l s.top (subject who p) r h
 

@@ -1,4 +1,4 @@
--- The capability sets of living processes, as records tell them: over changes, and at the start.
+-- The capability sets of living processes, as records give them: over changes, and at the start.
 use Rattle.std.specs.Prelude.{◌≡◌, ⊤, ◌+◌, true, false, List, [], ◌∷◌, ◌++◌, Some, refl, cond, unwrap_or}
 use Rattle.std.specs.List.{AllByRecursion}
 use Rattle.std.proofs.Common.{sym, ◌∙◌, ap}
@@ -24,12 +24,12 @@ use Rattle.kern_model.proofs.MapLemmas.{each-insert, each-remove, same_key, some
 abbrev pub Reported : State → (Pid → CapState) → Type 0
 Reported s f = (who : Pid) (p : Process) → map.get s.procs who ≡ Some p → p.caps ≡ f who
 
--- records behind others go on from what those tell
+-- records after others go on from what those give
 pub reported-append : (bound : CapSet) (f : Pid → CapState) (xs ys : List Rec) (q : Pid) → reported bound f (xs ++ ys) q ≡ reported bound (reported bound f xs) ys q
 reported-append bound f [] ys q = refl
 reported-append bound f (x ∷ xs) ys q = reported-append bound (caps_after bound f x) xs ys q
 
--- what is told the same holds the same
+-- what is given the same holds the same
 pub reported_same : (s : State) (f g : Pid → CapState) → ((q : Pid) → f q ≡ g q) → Reported s f → Reported s g
 reported_same s f g same has who p e = has who p e ∙ same who
 
@@ -87,6 +87,6 @@ reported_processes bound [] s f has = has
 reported_processes bound (w ∷ ws) s f has =
     reported_processes bound ws (boot_process s w) _ (reported_set (changed s (DrawProcess w.label (drawn s.process_numbers w.label + 1))) f (λ q. w.caps) has (next_process s w.label) (process_of w) refl)
 
--- the records of a start tell the sets of its processes
+-- the records of a start give the sets of its processes
 pub reported_booted : (w : World) → Reported (boot w) (caps_of w.bound (boot_recs w))
 reported_booted w = reported_processes w.bound w.procs (furnished w) (λ q. no_flags) (reported_furnished (λ q. no_flags) w)

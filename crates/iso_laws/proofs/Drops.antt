@@ -95,7 +95,7 @@ unfolding verdict_of
 granted_grow a who p caps h = only_passed (may_become p.caps caps) h
 
 module _ (s : State) (f : Pid → CapState) (has : Reported s f) (who : Pid) (p : Process) (is : map.get s.procs who ≡ Some p) (a : Subject) where
-  -- what an end leaves behind the exercises
+  -- what an end leaves after the exercises
   abbrev OwnDrops : CallName → End → Type 0
   OwnDrops name e = AllDrop s.bound f (own_of who p name e)
 

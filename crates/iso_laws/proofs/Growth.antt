@@ -39,7 +39,7 @@ either_parent Q true f cap who q g = g
 either_parent Q false f cap who q g = g
 
 -- ---- where a capability is from
--- what follows from a capability that is permitted behind these records, if the same follows from each place that it may be from
+-- what follows from a capability that is permitted after these records, if the same follows from each place that it may be from
 module _ (bound : CapSet) (cap : Cap) (Q : Type 0) where
   abbrev Had : CapState → Type 0
   Had caps = has caps.p cap ≡ true → Q
@@ -84,7 +84,7 @@ module _ (bound : CapSet) (first others : List Rec) (starts : AreStarts first) (
   abbrev at_start : Pid → CapState
   at_start q = caps_of bound first q
 
-  -- what the exec formula gives by a record behind the starts
+  -- what the exec formula gives by a record after the starts
   given_later : (q : Pid) (cap : Cap) (before after : List Rec) (id : Oid) (file new : CapState) → others ≡ before ++ rec.Exec (ancestor after q) id file new ∷ after
       → has (exec_caps (reported bound at_start before (ancestor after q)) file bound).p cap ≡ true → FromExec bound Recs q cap
   given_later q cap before after id file new e h =
@@ -100,7 +100,7 @@ module _ (bound : CapSet) (first others : List Rec) (starts : AreStarts first) (
             ∙ sym (has-exec_permitted (reported bound at_start before (ancestor after q)) file bound cap) ∙ h;
       }
 
-  -- what a process, or the one that it descends from, started with is what the starts tell of it
+  -- what a process, or the one that it descends from, started with is what the starts give of it
   started_with : (q : Pid) (caps : CapState) → StartedWith Recs q caps → at_start (ancestor others q) ≡ caps
   started_with q caps with =
       let who : Pid = ancestor with.after q in

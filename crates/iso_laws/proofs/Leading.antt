@@ -72,7 +72,7 @@ or_none : (x y : Option WorldObject) → option_or x y ≡ None → x ≡ None
 or_none None y e = refl
 or_none (Some o) y e = e
 
--- what is not given behind others was not given before
+-- what is not given after others was not given before
 pub not_before : (os ps : List WorldObject) (names : List Name) → given (os ++ ps) names ≡ None → given os names ≡ None
 not_before os ps names e = or_none (given os names) (given ps names) (sym (given-append os ps names) ∙ e)
 

@@ -1,4 +1,4 @@
--- The capability sets of processes are those that the records tell.
+-- The capability sets of processes are those that the records give.
 use Rattle.std.specs.Prelude.{◌≡◌, Bool, true, false, List, [], ◌∷◌, ◌++◌, Option, Some, None, refl, cond}
 use Rattle.std.specs.List.{flat_map}
 use Rattle.std.proofs.Common.{sym, ◌∙◌, ap}
@@ -38,7 +38,7 @@ exercise_unreported : (a : Subject) (bound : CapSet) (f : Pid → CapState) (q :
 exercise_unreported a bound f q c None = refl
 exercise_unreported a bound f q c (Some cap) = refl
 
--- exercises tell nothing of capability sets
+-- exercises say nothing of capability sets
 pub used_unreported : (a : Subject) (bound : CapSet) (f : Pid → CapState) (q : Pid) (r : Row) → reported bound f (judge a [] r).used q ≡ f q
 used_unreported a bound f q r =
     used_is (λ used. reported bound f used q ≡ f q) a
@@ -49,7 +49,7 @@ denied_unreported : (bound : CapSet) (f : Pid → CapState) (q : Pid) (b : Bool)
 denied_unreported bound f q true who name check place = refl
 denied_unreported bound f q false who name check place = refl
 
--- what an end leaves behind the exercises tells the sets in the state after it
+-- what an end leaves after the exercises gives the sets in the state after it
 end_reports : (s : State) (who : Pid) (p : Process) (name : CallName) (f : Pid → CapState) → Reported s f → (a : Subject) (r : Row) → Gives (MatchesRecord s f) r
     → Reported (state_after s (judge a [] r).end) (reported s.bound f (own_of who p name (judge a [] r).end))
 end_reports s who p name f has a r h =
@@ -67,7 +67,7 @@ module _ (s : State) (who : Pid) (c : Call) (f : Pid → CapState) (has : Report
       (λ q. sym (reported-append s.bound f j.used own q))
       (end_reports s who p (name_of c) before has' (subject who p) (row s who p c) (row_reports s before has' who p is c))
 
-  -- the records of a step tell the sets after it
+  -- the records of a step give the sets after it
   pub reported_after : Reported (step s who c).state (reported s.bound f (step s who c).recs)
   unfolding step
   reported_after =
@@ -77,7 +77,7 @@ module _ (s : State) (who : Pid) (c : Call) (f : Pid → CapState) (has : Report
       ] refl
 
 -- ---- a run
--- the records of a run tell the sets after it
+-- the records of a run give the sets after it
 reported_after_run : (items : List ScriptItem) (s : State) (bound : CapSet) (f : Pid → CapState) → s.bound ≡ bound → Reported s f → Reported (state_after_run s items) (reported bound f (flat_map (λ (p : CallRecord). p.recs) (run s items)))
 reported_after_run [] s bound f is has = has
 reported_after_run (i ∷ is) s bound f same has =

@@ -5,7 +5,7 @@ use Rattle.std.proofs.lemmas.List.{append_assoc}
 use Rattle.kern_model.specs.Prefixes.{IsPrefix, Agree}
 
 module _ {X : Type 0} where
-  -- the front of a front is a front
+  -- a prefix of a prefix is a prefix
   pub prefix_through : (xs ys zs : List X) → IsPrefix xs ys → IsPrefix ys zs → IsPrefix xs zs
   prefix_through xs ys zs f g = record {
     rest = f.rest ++ g.rest;

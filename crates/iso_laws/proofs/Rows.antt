@@ -103,7 +103,7 @@ module _ (bad : Rec → Bool) (a : Subject) where
   used_before used (Fail e) = λ h. h
   used_before used (Commit cs answer own) = λ h. h
 
-  -- what is known where a row goes on behind a check
+  -- what is known where a row goes on after a check
   passed : (c : Check) (used : List Rec) (r : Row) → is_denied (verdict_of a c) ≡ false → list_any bad (judge a (noted a c (verdict_of a c) used) r).used ≡ false → Passes bad a c
   passed c used r granted h = record { granted = granted; inside = noted_back c _ used (used_before _ r h) }
 
@@ -177,7 +177,7 @@ module _ (bad : Rec → Bool) (l top : Label) (a : Subject) where
   alike_missing None k k' g h = alike_fail errno.ENOENT
   alike_missing (Some id) k k' g h = h id refl
 
-  -- what stands behind a descriptor, if that is open
+  -- what a descriptor refers to, if that is open
   pub alike_open : (o : Option Opened) (k k' : Opened → Row) → ((f : Opened) → o ≡ Some f → Alike bad l top a (k f) (k' f)) → Alike bad l top a (or_not_open o k) (or_not_open o k')
   alike_open None k k' h = alike_fail errno.EBADF
   alike_open (Some f) k k' h = h f refl

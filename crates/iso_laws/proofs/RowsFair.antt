@@ -47,7 +47,7 @@ use Rattle.iso_laws.proofs.DrawingLemmas.{LeadsTo, Known, AllFit, fit-append, Fi
 use Rattle.iso_laws.proofs.Sight.{is_open}
 
 -- ---- what every row is
--- a record that a call of this process may leave as its own: none of a start, and of the process itself where it tells of
+-- a record that a call of this process may leave as its own: none of a start, and of the process itself where it names
 -- a child, of a program or of sets
 abbrev pub IsOwn : Pid → Rec → Type 0
 IsOwn who (rec.Boot q label caps) = ⊥
@@ -85,7 +85,7 @@ module _ (P : List Change → Option Rec → Type 0) where
   fair_missing None k h = refl
   fair_missing (Some id) k h = h id refl
 
--- ---- rows on_open_object a walk, in a state whose entries lead to these objects
+-- ---- rows after a walk, in a state whose entries lead to these objects
 module _ (There : Oid → Type 0) (s : State) (leads : LeadsTo There s) (P : List Change → Option Rec → Type 0) where
   -- a walk found an object of these, or an entry that leads to one if it is there
   abbrev AreThere : Found → Type 0
@@ -173,7 +173,7 @@ module _ (m : FinMap label_cmp ℕ) (l : Label) where
   second_is_above : drawn m l ≤ drawn m l + 2
   second_is_above = omega arith
 
-  -- the next number, and the one on_open_object it
+  -- the next number, and the one after it
   next_drawn : IsDrawnBetween m (map.insert m l (drawn m l + 1)) l (drawn m l + 1)
   next_drawn = drawn_since m m l (drawn m l + 1) (drawn m l + 1) (omega arith) (omega arith)
 
@@ -185,7 +185,7 @@ module _ (m : FinMap label_cmp ℕ) (l : Label) where
 
 -- ---- the rows
 module _ (There : Oid → Type 0) (s : State) (leads : LeadsTo There s) (who : Pid) (p : Process) (is : map.get s.procs who ≡ Some p) where
-  -- a child is born where the own record tells of it
+  -- a child is born where the own record names it
   abbrev pub Child : Option Rec → Pid → Type 0
   Child own q = own ≡ Some (rec.Fork who q)
 
@@ -214,7 +214,7 @@ module _ (There : Oid → Type 0) (s : State) (leads : LeadsTo There s) (who : P
   on_path_fair : (path : PathValue) (k : Oid → Place → Row) → ((id : Oid) (place : Place) → There id → IsFair (k id place)) → IsFair (on_path s p path k)
   on_path_fair path k h = fair_reach There s leads Fit who p is (λ n. First n) path _ (λ id there. h id (last_place (λ n. First n) path) there)
 
-  -- what stands on_open_object a descriptor is there
+  -- what a descriptor stands for is there
   record IsHeld (f : Opened) : Type 0 where
     description : IsThere s.descriptions f.did
     object : There f.description.object

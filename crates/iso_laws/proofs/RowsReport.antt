@@ -1,4 +1,4 @@
--- The row of each call: its own record tells the capability sets after its changes.
+-- The row of each call: its own record gives the capability sets after its changes.
 use Rattle.std.specs.Prelude.{◌≡◌, ℕ, ◌+◌, ◌==◌, length, Bool, true, false, not, ◌&&◌, ◌||◌, List, [], ◌∷◌, ◌++◌, Option, Some, None, refl, cond, unwrap_or}
 use Rattle.std.specs.List.{AllByRecursion, flat_map}
 use Rattle.std.specs.Option.{option_to_list}
@@ -45,7 +45,7 @@ use Rattle.kern_model.proofs.MapLemmas.{each-entries}
 use Rattle.iso_laws.proofs.Rows.{Gives, gives_cond, gives_need_if, gives_open}
 use Rattle.iso_laws.proofs.CapsReported.{Reported, reported_same, reported_set, Quiet, reported_quiet}
 
--- ---- rows on_open_object a walk or a descriptor
+-- ---- rows after a walk or a descriptor
 module _ (P : List Change → Option Rec → Type 0) where
   gives_missing : (o : Option Oid) (k : Oid → Row) → ((id : Oid) → Gives P (k id)) → Gives P (or_missing o k)
   gives_missing None k h = tt
@@ -114,11 +114,11 @@ module _ (f : Pid → CapState) where
   )
 
 -- ---- the rows
--- after the changes each living process has the sets that the own record tells
+-- after the changes each living process has the sets that the own record gives
 abbrev pub MatchesRecord : State → (Pid → CapState) → List Change → Option Rec → Type 0
 MatchesRecord s f cs own = Reported (changed_by s cs) (reported s.bound f (option_to_list own))
 
--- the changes leave each process its sets, and the own record tells of none
+-- the changes leave each process its sets, and the own record is of none
 abbrev pub Calm : State → (Pid → CapState) → List Change → Option Rec → Type 0
 Calm s f cs own = AllByRecursion (Quiet f) cs × ((q : Pid) → reported s.bound f (option_to_list own) q ≡ f q)
 
@@ -129,7 +129,7 @@ calm_reports s f has (Refuse e b r) h = calm_reports s f has r h
 calm_reports s f has (Fail e) h = tt
 calm_reports s f has (Commit cs answer own) h = reported_same (changed_by s cs) f (reported s.bound f (option_to_list own)) (λ q. sym (h.1 q)) (reported_quiet cs s f has h.0)
 
--- the calls whose records tell sets
+-- the calls whose records give sets
 abbrev pub reports_sets : Call → Bool
 reports_sets call.Fork = true
 reports_sets (call.Exec path) = true
@@ -255,7 +255,7 @@ module _ (s : State) (f : Pid → CapState) (has : Reported s f) (who : Pid) (p 
   row_calm (call.AudSwitch on) _ = ((own, tt), λ q. refl)
   row_calm c reports = absurd (true≢false reports)
 
-  -- the own record of each row tells the sets after its changes
+  -- the own record of each row gives the sets after its changes
   pub row_reports : (c : Call) → Gives (MatchesRecord s f) (row s who p c)
   row_reports call.Fork = reported_set (changed s (DrawProcess p.label (drawn s.process_numbers p.label + 1))) f (λ q. f who) has (next_process s p.label) (child_of who p) own
   row_reports (call.Exec path) = gives_reach (MatchesRecord s f) s p (λ n. First n) path _ (λ id.

@@ -1,4 +1,4 @@
--- Whole runs: what Low tags are told is told in the part, as far as nothing crosses.
+-- Whole runs: what Low tags are answered is answered in the part, as far as nothing crosses.
 use Rattle.std.specs.Prelude.{◌≡◌, ℕ, Bool, true, false, List, [], ◌∷◌, ◌++◌, refl, cond, take, drop}
 use Rattle.std.proofs.Common.{sym, ◌∙◌, ap, subst, take-append-drop}
 use Rattle.std.proofs.lemmas.Bool.{and_parts}
@@ -43,11 +43,11 @@ module _ (l : Label) where
   answers-append [] qs = refl
   answers-append (p ∷ ps) qs = ap (λ xs. cond (low l p.who.label) (answered p ∷ xs) xs) (answers-append ps qs) ∙ put (low l p.who.label) (answered p) (answers l ps) (answers l qs)
 
-  -- what the first calls tell is a front of what all tell
+  -- what the first calls answer is a prefix of what all answer
   pub answers_of_first : (m : ℕ) (ps : List CallRecord) → IsPrefix (answers l (take m ps)) (answers l ps)
   answers_of_first m ps = record { rest = answers l (drop m ps); whole_is = ap (answers l) (sym (take-append-drop m ps)) ∙ answers-append (take m ps) (drop m ps) }
 
-  -- what was told before something crossed is a front of all that is told alone, and all of it where nothing crossed
+  -- what was answered before something crossed is a prefix of all that is answered alone, and all of it where nothing crossed
   pub record IsReported (ps : List CallRecord) (whole : List Answered) : Type 0 where
     pub rest : List Answered
     pub whole_is : whole ≡ answers l (up_to l ps) ++ rest
@@ -72,7 +72,7 @@ module _ (l : Label) where
     all = λ e. let no : [] ≡ p ∷ ps = ap (λ t. cond t [] (p ∷ up_to l ps)) (sym crosses) ∙ e in cc;
   }
 
-  -- what Low tags are told from a state is what the part tells alone, until something crosses
+  -- what Low tags are answered from a state is what the part answers alone, until something crosses
   pub reported_alone : (items : List ScriptItem) (s : State) → have_laws items ≡ true → is_script s.top items ≡ true → IsValid s → Kept l s → IsReported (run s items) (all_answers (run (part l s) (part_script l items)))
   reported_alone [] s laws args valid kept = record { rest = []; whole_is = refl; all = λ _. refl }
   reported_alone (i ∷ is) s laws args valid kept =
@@ -93,13 +93,13 @@ module _ (l : Label) where
             ] refl
       ] refl
 
-  -- each front of what was told before something crossed is a front of all that is told alone
+  -- each prefix of what was answered before something crossed is a prefix of all that is answered alone
   pub prefix_alone : (items : List ScriptItem) (m : ℕ) (s : State) → have_laws items ≡ true → is_script s.top items ≡ true → IsValid s → Kept l s → IsPrefix (answers l (take m (up_to l (run s items)))) (all_answers (run (part l s) (part_script l items)))
   prefix_alone items m s laws args valid kept =
       let reported = reported_alone items s laws args valid kept in
       prefix_through _ _ _ (answers_of_first m (up_to l (run s items))) (record { rest = reported.rest; whole_is = reported.whole_is })
 
-  -- where nothing crosses, Low tags are told just what the part tells alone
+  -- where nothing crosses, Low tags are answered just what the part answers alone
   pub whole_alone : (items : List ScriptItem) (s : State) → have_laws items ≡ true → is_script s.top items ≡ true → IsValid s → Kept l s → up_to l (run s items) ≡ run s items → answers l (run s items) ≡ all_answers (run (part l s) (part_script l items))
   whole_alone items s laws args valid kept e =
       let reported = reported_alone items s laws args valid kept in

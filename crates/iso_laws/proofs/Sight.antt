@@ -347,7 +347,7 @@ module _ (l : Label) (s : State) (kept : Kept l s) (valid : IsValid s) (who : Pi
   pub alike_reach : map.get s.procs who ≡ Some p → (place : ℕ → Place) (path : PathValue) (k k' : Oid → Row) → ((id : Oid) → IsThere s.objects id → Same (k id) (k' (shown l s.top id))) → Same (reach s p place path k) (reach (by_number l s) p place path k')
   alike_reach is place path k k' h = alike_walk is place path _ _ (alike_to_object k k' h)
 
--- ---- what stands behind a descriptor
+-- ---- what a descriptor refers to
 -- a descriptor of a process that is open
 pub record IsOpen (s : State) (p : Process) (fd : ℕ) (f : Opened) : Type 0 where
   pub fd_is : map.get p.fds fd ≡ Some f.did
@@ -369,7 +369,7 @@ module _ (l : Label) (s : State) (kept : Kept l s) (who : Pid) (p : Process) (is
   fd_low : (did : Did) → map.get p.fds fd ≡ Some did → low l did.label ≡ true
   fd_low did at = kept.fds who p fd did is at ∙ kept.procs who p is ∙ is_low
 
-  -- behind a descriptor of a Low process stands the same in the part
+  -- a descriptor of a Low process refers to the same in the part
   pub opened_low : opened (by_number l s) p fd ≡ opened s p fd
   unfolding opened
   opened_low =

@@ -68,7 +68,7 @@ started_before seen rs q h =
       };
     }
 
--- each living process has started, and each that is told to be permitted something
+-- each living process has started, and each that is permitted something by the records
 pub record AllStarted (s : State) (f : Pid → CapState) (seen : List Rec) : Type 0 where
   pub living : (q : Pid) → IsThere s.procs q → HasStarted seen q
   pub permitted : (q : Pid) (cap : Cap) → has (f q).p cap ≡ true → HasStarted seen q
@@ -118,7 +118,7 @@ module _ (s : State) (who : Pid) (me : IsThere s.procs who) where
     caller : (q : Pid) → q ≡ who → HasStarted seen q
     caller q same = subst (HasStarted seen) (sym same) started
 
-    -- where the own record tells sets of a process, it is the caller
+    -- where the own record gives sets of a process, it is the caller
     of_caller : (q w : Pid) (cap : Cap) (new : CapState) → w ≡ who → has (cond (same_pid q w) new (f q)).p cap ≡ true → HasStarted seen q
     of_caller q w cap new reports = by_test (λ b. has (cond b new (f q)).p cap ≡ true → HasStarted seen q) (same_pid q w) (λ t _. caller q (same_key pid_cmp_exact q w t ∙ reports)) (λ _. permitted q cap)
 

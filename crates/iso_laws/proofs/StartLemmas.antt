@@ -84,7 +84,7 @@ abbrev pub StartsOther : Pid → Rec → Type 0
 StartsOther who (rec.Boot q label caps) = q ≡ who → ⊥
 StartsOther who _ = ⊥
 
--- records behind a start are starts of others
+-- records after a start are starts of others
 abbrev pub OthersAfter : Rec → List Rec → Type 0
 OthersAfter (rec.Boot who label caps) rs = AllByRecursion (StartsOther who) rs
 OthersAfter _ rs = ⊥
@@ -151,7 +151,7 @@ among (b ∷ first) others (x ∷ before) who label caps after none e =
     let tail : first ++ others ≡ before ++ rec.Boot who label caps ∷ after = cc in
     among_cons b first others before x (rec.Boot who label caps) after head (among first others before who label caps after none tail)
 
--- behind a start, starts are of others
+-- after a start, starts are of others
 pub after_start : (before : List Rec) (r : Rec) (rest : List Rec) → AreStarts (before ++ r ∷ rest) → OthersAfter r rest
 after_start [] r rest h = h.0
 after_start (b ∷ before) r rest h = after_start before r rest h.1
@@ -168,7 +168,7 @@ start_once first others starts none before between after who label label' caps c
     let following : AllByRecursion (StartsOther who) one.rest = after_start before (rec.Boot who label caps) one.rest (subst AreStarts one.first_is starts) in
     other_here who between (rec.Boot who label' caps') two.rest (subst (AllByRecursion (StartsOther who)) two.first_is following) refl
 
--- ---- what starts tell
+-- ---- what starts give
 other_pid : (a q : Pid) → (q ≡ a → ⊥) → same_pid a q ≡ false
 other_pid a q other =
     elim (same_pid a q) as (λ b. same_pid a q ≡ b → b ≡ false) [ true ↦ λ t. absurd (other (sym (same_key pid_cmp_exact a q t))) | false ↦ λ _. refl ] refl
@@ -178,12 +178,12 @@ module _ (bound : CapSet) where
   other_reported f who (rec.Boot q label caps) other = ap (λ b. cond b caps (f who)) (other_pid who q other)
   other_reported f who r other = absurd other
 
-  -- starts of others tell nothing of a process
+  -- starts of others say nothing of a process
   others_reported : (f : Pid → CapState) (who : Pid) (rs : List Rec) → AllByRecursion (StartsOther who) rs → reported bound f rs who ≡ f who
   others_reported f who [] h = refl
   others_reported f who (r ∷ rs) h = others_reported (caps_after bound f r) who rs h.1 ∙ other_reported f who r h.0
 
-  -- a start tells the sets of its process, whatever starts there are before and behind it
+  -- a start gives the sets of its process, whatever starts there are before and after it
   pub start_reported : (f : Pid → CapState) (before : List Rec) (who : Pid) (label : Label) (caps : CapState) (rest : List Rec) → AreStarts (before ++ rec.Boot who label caps ∷ rest) → reported bound f (before ++ rec.Boot who label caps ∷ rest) who ≡ caps
   start_reported f [] who label caps rest h =
       others_reported (caps_after bound f (rec.Boot who label caps)) who rest h.0 ∙ ap (λ b. cond b caps (f who)) ((eq_by_cmp_equiv pid_cmp_total).refl who)

@@ -5,7 +5,7 @@ use Rattle.kern_model.specs.declared.calls.Call.{Call}
 use Rattle.kern_model.specs.declared.calls.Call.TheVariants as call
 use Rattle.kern_model.specs.declared.world.ScriptItem.{ScriptItem}
 
--- whether a call tells or sets what its caller is, or tells the label or the capability sets of an object
+-- whether a call reports or sets what its caller is, or reports the label or the capability sets of an object
 abbrev pub has_laws : Call → Bool
 has_laws (call.Chdir path) = true
 has_laws (call.Umask mode) = true

@@ -25,7 +25,7 @@ keeps_same (stop.Denied name place) s t e = e
 keeps_same (stop.Refused n) s t e = e
 keeps_same (stop.NoMemory m) s t e = tt
 
--- a process that changes itself behind one check
+-- a process that changes itself after one check
 module _ (s : State) (who : Pid) (check : Process → Check) (new : Process → Process) (answer : Answer) (own : Option Rec) where
   abbrev row_of : Process → Row
   row_of p = Need (check p) (Commit (SetProcess who (new p) ∷ []) answer own)

@@ -1,4 +1,4 @@
--- How a call is played along its row, and what is told of it.
+-- How a call is played along its row, and what is reported of it.
 use Rattle.std.specs.Prelude.{◌≡◌, Bool, List, [], ◌∷◌, ◌++◌, None, Result, Ok, Err, cond}
 use Rattle.std.specs.Option.{option_to_list}
 use Rattle.kern_model.specs.declared.calls.CallName.{CallName}
@@ -22,7 +22,7 @@ pub record RowCompletes (s : State) (before : CheckLog) (r : Row) (t : State) (a
   pub ends : judge_from before r ≡ check_outcome after.used (Done changes played.answer played.own)
   pub state : t ≡ changed_by s changes
 
--- a call that stopped left the state as it was; of want of memory nothing is said
+-- a call that stopped left the state as it was; where memory ran out nothing is claimed
 unfoldable pub Keeps : Stop → State → State → Type 0
 Keeps (stop.Denied name place) s t = t ≡ s
 Keeps (stop.Refused e) s t = t ≡ s
@@ -38,7 +38,7 @@ pub record Reports (o : Outcome) (r : Reply) (rs : List Rec) : Type 0 where
   pub reply : o.reply ≡ r
   pub recs : o.recs ≡ rs
 
--- the outcome tells how a call went, with its exercises first; there is none where memory ran out
+-- the outcome says how a call went, with its exercises first; there is none where memory ran out
 abbrev pub OutcomeOf : CheckLog → Pid → Bool → CallName → Result Effect Stop → Outcome → Type 0
 OutcomeOf a who audited name (Ok played) o = Reports o (reply.Done played.answer) (a.used ++ option_to_list played.own)
 OutcomeOf a who audited name (Err (stop.Denied check place)) o = Reports o (reply.Denied (denial_of check) check place) (a.used ++ cond audited (rec.Deny who name (denial_of check) check place ∷ []) [])

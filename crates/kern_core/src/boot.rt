@@ -92,7 +92,7 @@ impl Tables {
         }
     }
 
-    // Makes a process under the next number of its label, in the root directory, and tells the number.
+    // Makes a process under the next number of its label, in the root directory, and returns the number.
     fn boot_process(&mut self, process: &WorldProc) -> Result<Pid, NoMemory>
         requires number { drawn self.old.process_numbers process.now.label < MAX_PROCS }
         requires within { is_within process.now.caps.e process.now.caps.p ≡ true }

@@ -1,4 +1,4 @@
-// What is told of a call.
+// What is reported of a call.
 ghost use Rattle.std.specs.Prelude.{◌≡◌, [], None, IfOk, IsOk};
 ghost use Rattle.kern_model.specs.declared.calls.Reply.TheVariants as reply;
 ghost use Rattle.kern_model.specs.declared.calls.Errno.TheVariants as errno;
@@ -25,7 +25,7 @@ pub fn no_process(alloc: Global) -> Outcome
     }
 }
 
-/// The outcome of a call that was played or stopped: behind the exercises stands the call's own record, or that of
+/// The outcome of a call that was played or stopped: after the exercises stands the call's own record, or that of
 /// the denial where the caller's switch is on. No memory is taken where the call is done and leaves no record of its own.
 pub fn report(
     checks: Checks,

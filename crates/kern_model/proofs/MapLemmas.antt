@@ -210,7 +210,7 @@ module _ {K X : Type 0} {R : K → K → Ordering} (o : IsTotalOrder R) (exact :
   passing-cons : (e : K × X) (es : List (K × X)) (b : Bool) → p e.0 e.1 ≡ b → passing (e ∷ es) ≡ cond b 1 0 + passing es
   passing-cons e es b t = sum_by-cons (λ (e : K × X). cond (p e.0 e.1) 1 0) e es ∙ ap (λ b. cond b 1 0 + passing es) t
 
-  -- the first entry is found, and so is each behind it
+  -- the first entry is found, and so is each after it
   found_first : (e : K × X) (es : List (K × X)) → find R e.0 (e ∷ es) ≡ Some e.1
   found_first e es = ap (λ r. cond (is_eq r) (Some e.1) (find R e.0 es)) (tied_itself o e.0)
 

@@ -13,12 +13,12 @@ use Rattle.kern_model.specs.Keys.{same_oid, same_did}
 use Rattle.kern_model.specs.Kinds.{is_fifo}
 use Rattle.kern_model.specs.State.{State, Process, Description, Change, SetObject, DropDescription, object_at}
 
--- what stands behind an open descriptor
+-- what an open descriptor refers to
 pub record Opened : Type 0 where
   pub did : Did
   pub description : Description
 
--- what stands behind a descriptor of a process, if that is open
+-- what a descriptor of a process refers to, if that is open
 unfoldable pub opened : State → Process → ℕ → Option Opened
 opened s p fd = option_and_then (λ did. option_map (λ d. record { did = did; description = d }) (table.get s.descriptions did)) (table.get p.fds fd)
 

@@ -1,4 +1,4 @@
--- What the entries of directories tell: what a directory contains, which names an object has, what lies under what.
+-- What the entries of directories say: what a directory contains, which names an object has, what lies under what.
 use Rattle.std.specs.Prelude.{ℕ, zero, suc, ◌&&◌, ◌||◌, not, Bool, false, cond, List, [], ◌∷◌, length, Option, None, Some}
 use Rattle.std.specs.List.{find, flat_map}
 use Rattle.std.specs.Option.{option_map}

@@ -34,7 +34,7 @@ abbrev pub or_not_open : Option Opened → (Opened → Row) → Row
 or_not_open None k = Fail errno.EBADF
 or_not_open (Some f) k = k f
 
--- the row goes on with what stands behind a descriptor, and fails where it is not open
+-- the row goes on with what a descriptor refers to, and fails where it is not open
 abbrev pub on_descriptor : State → Process → ℕ → (Opened → Row) → Row
 on_descriptor s p fd k = or_not_open (opened s p fd) k
 
@@ -143,7 +143,7 @@ pipe_mode = 384
 abbrev pub on_pipe : State → Process → Bool → Description
 on_pipe s p reads = record { object = next_object s p.label; reads = reads; writes = not reads; appends = false; offset = 0 }
 
--- the number behind the next one of a description
+-- the number after the next one of a description
 abbrev pub second_description : State → Process → Did
 second_description s p = record { label = p.label; n = drawn s.description_numbers p.label + 2 }
 
@@ -168,7 +168,7 @@ pipe_row s who p =
 abbrev pub taken_from : Object → Opened → ℕ → List ℕ
 taken_from o f n = take n (drop f.description.offset o.bytes)
 
--- bytes come out: of a file from the offset, which moves behind them, of a pipe or FIFO from the front
+-- bytes come out: of a file from the offset, which moves after them, of a pipe or FIFO from the front
 abbrev pub reading : State → Opened → ℕ → Row
 reading s f n =
     cond (is_stream (open_object s f).kind)
@@ -205,7 +205,7 @@ rewriting s f bytes k =
     cond (length bytes == 0) (k [])
     (rewritten s f.description.object Handle (λ change. k (change ∷ [])) (written_over (open_object s f).bytes (place_in (open_object s f) f) bytes))
 
--- a piece goes into a file, and the offset moves behind it
+-- a piece goes into a file, and the offset moves after it
 abbrev pub writing : State → Opened → List ℕ → Row
 writing s f bytes =
     Refuse errno.EINVAL (nat_lt (length (open_object s f).bytes) (place_in (open_object s f) f))

@@ -95,17 +95,17 @@ pub record Answered : Type 0 where
 abbrev pub answered : CallRecord → Answered
 answered p = record { who = p.who; head = p.head; reply = p.reply }
 
--- what Low tags were told, in order
+-- what Low tags were answered, in order
 abbrev pub answers : Label → List CallRecord → List Answered
 answers l [] = []
 answers l (p ∷ ps) = cond (low l p.who.label) (answered p ∷ answers l ps) (answers l ps)
 
--- all that was told
+-- all that was answered
 abbrev pub all_answers : List CallRecord → List Answered
 all_answers [] = []
 all_answers (p ∷ ps) = answered p ∷ all_answers ps
 
--- what the part of a world tells to the part of a script, with nothing else there
+-- what the part of a world answers to the part of a script, with nothing else there
 abbrev pub alone : Label → World → List ScriptItem → List Answered
 alone l w items = all_answers (run (part l (boot w)) (part_script l items))
 

@@ -1,4 +1,4 @@
--- Kinds of objects, their modes, and what is told of an object.
+-- Kinds of objects, their modes, and what is reported of an object.
 use Rattle.std.specs.Prelude.{ℕ, ◌/◌, ◌%◌, ◌==◌, ◌&&◌, ◌||◌, nat_lt, Bool, true, false, List, [], bit_and}
 use Rattle.std.specs.Int.{bit_at, bit_not, w16}
 use Rattle.lab_lattice.specs.Label.{Label}

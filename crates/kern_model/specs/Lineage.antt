@@ -1,4 +1,4 @@
--- The capability sets that records tell of a process, and how capabilities come into them.
+-- The capability sets that records give of a process, and how capabilities come into them.
 use Rattle.std.specs.Prelude.{◌≡◌, true, false, ◌&&◌, ◌||◌, List, [], ◌∷◌, ◌++◌, cond}
 use Rattle.std.specs.List.{flat_map}
 use Rattle.cap_bits.specs.CapSet.{CapSet, has, is_within}
@@ -17,7 +17,7 @@ use Rattle.kern_model.specs.Keys.{same_pid}
 use Rattle.kern_model.specs.Boot.{boot, boot_recs}
 use Rattle.kern_model.specs.Run.{CallRecord, run}
 
--- what a record makes of the sets that were told of each process before it: a start and `cap_set_proc` give those in the
+-- what a record makes of the sets that were given of each process before it: a start and `cap_set_proc` give those in the
 -- record, a child has its parent's, a program makes the exec formula of them, and any other record leaves them
 abbrev pub caps_after : CapSet → (Pid → CapState) → Rec → Pid → CapState
 caps_after bound before (rec.Boot who label caps) q = cond (same_pid q who) caps (before q)

@@ -109,7 +109,7 @@ take_on bound who p id place o =
 abbrev pub exec_row : State → Pid → Process → PathValue → Row
 exec_row s who p path = on_path s p path (λ id place. read_object s p id place (take_on s.bound who p id place))
 
--- ---- what a process tells of itself
+-- ---- what a process reports of itself
 
 -- `getpid`
 abbrev pub getpid_row : State → Pid → Process → Row

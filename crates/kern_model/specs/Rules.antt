@@ -1,4 +1,4 @@
--- The rules of the checks, and what stands behind a check that fails.
+-- The rules of the checks, and what stands after a check that fails.
 use Rattle.std.specs.Prelude.{ℕ, ◌+◌, ◌==◌, ◌&&◌, ◌||◌, not, Bool, false, Option, Some, None, cond, unwrap_or}
 use Rattle.std.specs.List.{list_any}
 use Rattle.std.specs.Int.{bit_at}

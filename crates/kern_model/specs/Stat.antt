@@ -1,4 +1,4 @@
--- What calls tell of an object.
+-- What calls report of an object.
 use Rattle.std.specs.Prelude.{ℕ, length}
 use Rattle.kern_model.specs.declared.numbers.Oid.{Oid}
 use Rattle.kern_model.specs.declared.objects.Kind.{Kind}
@@ -31,6 +31,6 @@ stat_by s id o = record {
   label = o.label;
 }
 
--- what `stat` tells of an object
+-- what `stat` reports of an object
 unfoldable pub stat_of : State → Oid → StatAnswer
 stat_of s id = stat_by s id (object_at s id)

@@ -33,7 +33,7 @@ pub record Process : Type 0 where
   pub parent : Option Pid
   -- its children that ended and were not awaited yet, the first to end first
   pub ended : List (Pid × Ending)
-  -- the descriptions behind its descriptors
+  -- the descriptions that its descriptors refer to
   pub fds : FinMap nat_cmp Did
 
 -- an open description, which descriptors share: the object, what it is open for, and where it stands in a file

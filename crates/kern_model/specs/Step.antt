@@ -39,7 +39,7 @@ changes_of (Done changes answer own) = changes
 abbrev pub state_after : State → End → State
 state_after s e = changed_by s (changes_of e)
 
--- what a call leaves behind its exercises: a deny record where a check stopped it and the caller's switch is on, or its own record where it is done
+-- what a call leaves after its exercises: a deny record where a check stopped it and the caller's switch is on, or its own record where it is done
 abbrev pub own_of : Pid → Process → CallName → End → List Rec
 own_of who p name (Stopped check place) = cond p.audited (rec.Deny who name (denial_of check) check place ∷ []) []
 own_of who p name (Refused e) = []
@@ -56,6 +56,6 @@ step_by s who call (Some p) = settled s who p (name_of call) (judge (subject who
 unfoldable pub step : State → Pid → Call → StepResult
 step s who call = step_by s who call (map.get s.procs who)
 
--- what was told and left is what the call table says, and so is the new state
+-- what was answered and left is what the call table says, and so is the new state
 abbrev pub IsPlayed : State → Pid → Call → declared.Outcome → State → Type 0
 IsPlayed s who call reported t = step s who call ≡ record { state = t; reply = reported.reply; recs = reported.recs }

@@ -43,7 +43,7 @@ parent_names (name ∷ next ∷ names) = name ∷ parent_names (next ∷ names)
 abbrev pub given : List WorldObject → List Name → Option WorldObject
 given os names = find (λ (o : WorldObject). same_names o.path.names names) os
 
--- an object may stand behind others: its path was not given, its directory was, and its label dominates the directory's
+-- an object may come after others: its path was not given, its directory was, and its label dominates the directory's
 pub record IsPlaced (before : List WorldObject) (o : WorldObject) : Type 0 where
   pub new : given before o.path.names ≡ None
   pub parent : WorldObject
@@ -51,7 +51,7 @@ pub record IsPlaced (before : List WorldObject) (o : WorldObject) : Type 0 where
   pub parent_dir : parent.body ≡ body.Dir
   pub order : dominates o.label parent.label ≡ true
 
--- each of these may stand behind those before it
+-- each of these may come after those before it
 abbrev pub ArePlaced : List WorldObject → List WorldObject → Type 0
 ArePlaced before [] = Unit {0}
 ArePlaced before (o ∷ os) = IsPlaced before o × ArePlaced (before ++ o ∷ []) os

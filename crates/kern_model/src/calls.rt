@@ -18,7 +18,7 @@ pub struct OpenFlags {
     pub a: bool,
 }
 
-/// From where an offset is counted: the front, the present offset or the end.
+/// From where an offset is counted: the start, the present offset or the end.
 #[derive(Clone, Copy, Debug, PartialEq, Eq)]
 pub enum Whence {
     Set,
@@ -61,7 +61,7 @@ pub enum Call {
     Pipe,
     /// Makes a FIFO.
     Mkfifo(Path, Mode),
-    /// What is the object behind the descriptor?
+    /// What is the object that the descriptor refers to?
     Fstat(Fd),
     /// Makes a directory.
     Mkdir(Path, Mode),
@@ -89,17 +89,17 @@ pub enum Call {
     CapGetFile(Path),
     /// Sets the capability sets of a file.
     CapSetFile(Path, CapState),
-    /// What capability sets has the file behind the descriptor?
+    /// What capability sets has the file that the descriptor refers to?
     CapGetFd(Fd),
-    /// Sets the capability sets of the file behind the descriptor.
+    /// Sets the capability sets of the file that the descriptor refers to.
     CapSetFd(Fd, CapState),
     /// What label has the object that the path leads to?
     MacGetFile(Path),
     /// Sets the label of an object.
     MacSetFile(Path, Label),
-    /// What label has the object behind the descriptor?
+    /// What label has the object that the descriptor refers to?
     MacGetFd(Fd),
-    /// Sets the label of the object behind the descriptor.
+    /// Sets the label of the object that the descriptor refers to.
     MacSetFd(Fd, Label),
     /// Makes a child that is like the caller.
     Fork,

@@ -132,7 +132,7 @@ impl CheckName {
 }
 
 /// Where the thing of a check stands in a call: a directory or object of its first or second path, counted from
-/// the start of the path, the object behind a descriptor, a named process, or the caller.
+/// the start of the path, the object that a descriptor refers to, a named process, or the caller.
 #[derive(Clone, Copy, Debug, PartialEq, Eq)]
 pub enum Place {
     First(u8),

@@ -11,7 +11,7 @@ pub trait Calls {
     /// Its state, which only a call that is done changes.
     ghost state: { Self → State };
 
-    /// Plays a call of a process. After want of memory nothing is said of the state.
+    /// Plays a call of a process. After memory ran out nothing is promised of the state.
     fn call(&mut self, who: &Pid, call: &Call) -> Result<Outcome, NoMemory>
         requires arguments { is_call (state self.old).top call.now ≡ true }
         ensures played { IfOk result (λ outcome. IsPlayed (state self.old) who.now call.now outcome (state self.new)) };

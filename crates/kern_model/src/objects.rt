@@ -1,4 +1,4 @@
-// Objects, and what is told of them.
+// Objects, and what is reported of them.
 use crate::{Gid, Mode, Oid, Uid};
 use cap_bits::CapState;
 use fs_path::ByteList;
@@ -41,7 +41,7 @@ pub struct Object {
     pub bytes: ByteList,
 }
 
-/// What `stat` and `fstat` tell of an object.
+/// What `stat` and `fstat` report of an object.
 #[derive(Clone, Copy, Debug, PartialEq, Eq)]
 pub struct StatAnswer {
     pub kind: Kind,

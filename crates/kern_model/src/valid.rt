@@ -50,7 +50,7 @@ fn may_hold(parent: &WorldObject, object: &WorldObject) -> bool
     matches!(parent.body, Body::Dir) && object.label.dominates(&parent.label)
 }
 
-// Whether an object may stand behind others.
+// Whether an object may come after others.
 fn is_placed(before: &[WorldObject], object: &WorldObject) -> bool
     ensures { Decides result (IsPlaced before.now object.now) }
 {
@@ -64,7 +64,7 @@ fn is_placed(before: &[WorldObject], object: &WorldObject) -> bool
     }
 }
 
-// Whether each object but the first may stand behind those before it.
+// Whether each object but the first may come after those before it.
 fn are_placed(objects: &[WorldObject]) -> bool
     requires { 1 ≤ length objects.now }
     ensures { Decides result (ArePlaced (take 1 objects.now) (drop 1 objects.now)) }

@@ -48,7 +48,7 @@ pub nothing_left : (left : Option (List ℕ)) → IsAtEnd left → left_of left 
 nothing_left None h = refl
 nothing_left (Some bytes) h = h
 
--- the input of all bytes is told by those that were kept
+-- the input of all bytes is given by those that were kept
 pub record IsInput (w : Whole) (got : List ℕ) (now : Option (List ℕ)) (text : List ℕ) : Type 0 where
   pub input : input_of (got ++ left_of now) ≡ read_input w.more text
   pub small : length text ≤ 16777216

@@ -54,7 +54,7 @@ caps word = caps_by (parse_caps word)
 
 -- ---- numbers of processes
 
--- the number of a process, from 1 to 4,095, of what stands before and behind `@`
+-- the number of a process, from 1 to 4,095, of what stands before and after `@`
 abbrev pub process : PolicyNames → List ℕ × List ℕ → Option Pid
 process policy parts = option_and_then (λ n. option_map (λ at. record { label = at; n = n }) (parse_label policy parts.1)) (numeral 10 10 1 4095 parts.0)
 

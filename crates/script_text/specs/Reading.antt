@@ -6,7 +6,7 @@ use Rattle.script_text.specs.declared.fault.LineError.TheVariants as error
 abbrev pub Reading : Type 0 → Type 0
 Reading X = Result X LineError
 
--- the place of a fault in the order in which faults are judged; want of memory stands before them, and no word has it
+-- the place of a fault in the order in which faults are judged; out of memory stands before them, and no word has it
 abbrev pub rank : LineError → ℕ
 rank (error.NoMemory m) = 0
 rank error.TooLong = 1
@@ -32,12 +32,12 @@ unfoldable pub made : {A B : Type 0} → (A → B) → Reading A → Reading B
 made make (Ok a) = Ok (make a)
 made make (Err e) = Err e
 
--- a cause for which something else than a value was said, or that memory ran out
+-- a cause for which something else than a value was parsed, or that memory ran out
 abbrev pub IsCause : {X : Type 0} → Reading X → LineError → Type 0
 IsCause parsed (error.NoMemory m) = Unit {0}
 IsCause parsed e = parsed ≡ Err e
 
--- an answer is what was said, unless memory ran out
+-- an answer is what was parsed, unless memory ran out
 abbrev pub Answers : {X : Type 0} → Reading X → Reading X → Type 0
 Answers parsed (Ok x) = parsed ≡ Ok x
 Answers parsed (Err e) = IsCause parsed e

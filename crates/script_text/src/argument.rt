@@ -41,7 +41,7 @@ pub fn caps(word: &LineWord) -> Result<CapState, LineError>
     cap_from_text(word.bytes.items()).map_err(|_| LineError::BadCaps)
 }
 
-// The number of a process, of what stands before and behind `@`.
+// The number of a process, of what stands before and after `@`.
 fn process(policy: &Policy, number: &[u8], label: &[u8]) -> Option<Pid>
     ensures { result ≡ argument.process policy.now (number.now, label.now) }
 {

@@ -52,7 +52,7 @@ record IsFirst (o : WorldObject) : Type 0 where
   is_dir : o.body ≡ body.Dir
   lowest : o.label ≡ bottom
 
--- the first object is a root, and each other one may stand behind those before it
+-- the first object is a root, and each other one may come after those before it
 abbrev AreRooted : List WorldObject → Type 0
 AreRooted [] = Unit {0}
 AreRooted (first ∷ others) = IsFirst first × ArePlaced (first ∷ []) others
@@ -105,7 +105,7 @@ unless_sound : (b : Bool) (fault : WorldFault) (parsed : Parsed) → (b ≡ fals
 unless_sound true fault parsed h = refuses fault
 unless_sound false fault parsed h = h refl
 
--- a fault is told, or what comes is sound
+-- a fault is reported, or what comes is sound
 first_sound : (b : Bool) (fault : WorldFault) (rest : Option WorldFault) (parsed : Parsed) → (b ≡ false → SoundParsed (refuse_or rest parsed)) → SoundParsed (refuse_or (cond b (Some fault) rest) parsed)
 first_sound true fault rest parsed h = refuses fault
 first_sound false fault rest parsed h = h refl
@@ -204,7 +204,7 @@ dir_body (body.File bytes) h = absurd (cc)
 dir_body body.Fifo h = absurd (cc)
 dir_body body.Pipe h = absurd (cc)
 
--- an object with these names that may go behind no others is a root
+-- an object with these names that may come after no others is a root
 first_is : (o : WorldObject) (names : List Name) → o.path.names ≡ names → not (is_root names || is_directory (directory_of [] names)) ≡ false
     → (is_root names && not (is_dir (kind_of o.body) && dominates bottom o.label)) ≡ false → IsFirst o
 first_is o [] e parent root =
@@ -212,7 +212,7 @@ first_is o [] e parent root =
     record { no_names = e; is_dir = dir_body o.body parts.0; lowest = dominates_both o.label bottom (dominates_bottom o.label) parts.1 }
 first_is o (n ∷ ns) e parent root = absurd (cc)
 
--- an object may stand behind others whose first is a root
+-- an object may come after others whose first is a root
 placed_is : (first : WorldObject) (others : List WorldObject) (o : WorldObject) (names : List Name) → o.path.names ≡ names → first.path.names ≡ []
     → is_some (given (first ∷ others) names) ≡ false → not (is_root names || is_directory (directory_of (first ∷ others) names)) ≡ false
     → not (is_above o.label (directory_of (first ∷ others) names)) ≡ false → IsPlaced (first ∷ others) o
@@ -436,7 +436,7 @@ line_sound expecting line h =
 
 -- ---- texts
 
--- what a reading accepts is sound, and its script begins behind a line
+-- what a reading accepts is sound, and its script begins after a line
 record SoundReading (at : ℕ) (r : Reading) : Type 0 where
   world_is : (w : WorldText) (n : ℕ) (script : List (List ℕ)) → r ≡ Accepted w n script → SoundWorld w
   number_is : (w : WorldText) (n : ℕ) (script : List (List ℕ)) → r ≡ Accepted w n script → at < n
@@ -480,6 +480,6 @@ accepted_top text w n script e = ((text_sound text).world_is w n script e).top
 pub accepted_policy : (text : List ℕ) (w : WorldText) (n : ℕ) (script : List (List ℕ)) → read_text text ≡ Accepted w n script → MakePolicy w.policy
 accepted_policy text w n script e = ((text_sound text).world_is w n script e).policy
 
--- its script begins behind the first line
+-- its script begins after the first line
 pub accepted_number : (text : List ℕ) (w : WorldText) (n : ℕ) (script : List (List ℕ)) → read_text text ≡ Accepted w n script → 2 ≤ n
 accepted_number text w n script e = let past = (text_sound text).number_is w n script e in omega arith

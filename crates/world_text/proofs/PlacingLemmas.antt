@@ -24,7 +24,7 @@ first_fault repeated parent wrong above full =
 abbrev pub wrong_root : WorldObject → Bool
 wrong_root o = is_root o.path.names && not (is_dir (kind_of o.body) && dominates bottom o.label)
 
--- the faults are told by what stands at the object's directory
+-- the faults are found by what stands at the object's directory
 pub fault_reported : (t : Tree) (o : WorldObject) (d : Option PathEntry) (repeated parent wrong above full : Bool)
     → d ≡ option_map path_entry_of (directory_of t.objects o.path.names)
     → is_some (given t.objects o.path.names) ≡ repeated → (is_root o.path.names || is_standing_dir d) ≡ parent → wrong_root o ≡ wrong → is_above_standing o.label d ≡ above → nat_le 65535 (objects_at o.label t.objects) ≡ full

@@ -58,20 +58,20 @@ use Rattle.world_text.proofs.WrittenValues.{path_round_trip, path_spelling, labe
 abbrev text_of : List LineWord → List ℕ
 text_of words = line_text (map spelling words)
 
--- the reading goes on behind a line
+-- the reading goes on after a line
 step_on : (n : ℕ) (expecting next : Expecting) (words : List LineWord) (more : List (List LineWord)) → parse_line expecting (text_of words) ≡ GoesOn next
     → reading n expecting (written_pieces (words ∷ more)) ≡ reading (n + 1) next (written_pieces more)
 unfolding reading
 step_on n expecting next words [] e = ap (λ (parsed : Parsed). after parsed n ([] ∷ []) (λ expecting. reading (n + 1) expecting ([] ∷ []))) e
 step_on n expecting next words (m ∷ ms) e = ap (λ (parsed : Parsed). after parsed n (written_pieces (m ∷ ms)) (λ expecting. reading (n + 1) expecting (written_pieces (m ∷ ms)))) e
 
--- the world begins behind the last line
+-- the world begins after the last line
 step_last : (n : ℕ) (expecting : Expecting) (w : WorldText) (words : List LineWord) → parse_line expecting (text_of words) ≡ Begins w
     → reading n expecting (written_pieces (words ∷ [])) ≡ Accepted w (n + 1) ([] ∷ [])
 unfolding reading
 step_last n expecting w words e = ap (λ (parsed : Parsed). after parsed n ([] ∷ []) (λ expecting. reading (n + 1) expecting ([] ∷ []))) e
 
--- the line of each item puts it behind those before it
+-- the line of each item puts it after those before it
 abbrev EachAdds : {X : Type 0} → (X → List LineWord) → (List X → Expecting) → List X → List X → Type 0
 EachAdds words expecting done [] = Unit {0}
 EachAdds words expecting done (x ∷ xs) = (parse_line (expecting done) (text_of (words x)) ≡ GoesOn (expecting (done ++ x ∷ []))) × EachAdds words expecting (done ++ x ∷ []) xs
@@ -271,7 +271,7 @@ placed_adds policy bound first rest o root p room =
     cond-false _ _ _ (ap is_some p.new) ∙ cond-false _ _ _ (ap not (or_right (is_root o.path.names) _ dir)) ∙ cond-false _ _ _ (and_left _ _ below.0)
     ∙ cond-false _ _ _ (ap not (ap (is_above o.label) below.1 ∙ p.order)) ∙ cond-false _ _ _ room)
 
--- the lines of objects behind the root
+-- the lines of objects after the root
 objects_add : (policy : PolicyNames) (bound : CapSet) (first : WorldObject) (rest os : List WorldObject) → MakePolicy policy → first.path.names ≡ [] → ArePlaced (first ∷ rest) os
     → AllByRecursion (λ (o : WorldObject). is_valid policy o.label ≡ true) os → AllByRecursion (λ (o : WorldObject). IsCanonicalObject o) os
     → AllByRecursion (λ (o : WorldObject). is_file (kind_of o.body) ≡ false → o.attr.caps ≡ no_flags) os → AllByRecursion IsShort (map (object_words policy) os)

@@ -74,7 +74,7 @@ name_counts n h = let parts = name_parts n h in by_bytes n parts.some parts.no_d
 
 -- ---- paths
 
--- names, each behind a slash
+-- names, each after a slash
 abbrev after_slashes : List Name → List ℕ
 after_slashes names = flat_map (λ (name : Name). 47 ∷ name) names
 

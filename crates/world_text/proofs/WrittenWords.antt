@@ -82,7 +82,7 @@ first_piece (b ∷ bs) rest high =
     let parts = and_parts (is_high b) (list_all is_high bs) high in
     cond-false (b == 10) ([] ∷ pieces 10 (bs ++ 10 ∷ rest)) (onto_first b (pieces 10 (bs ++ 10 ∷ rest))) (no_feed b parts.0) ∙ ap (onto_first b) (first_piece bs rest parts.1)
 
--- lines as they are written, and the piece behind the last line feed
+-- lines as they are written, and the piece after the last line feed
 abbrev pub written_pieces : List (List LineWord) → List (List ℕ)
 written_pieces lines = map (λ words. line_text (map spelling words)) lines ++ [] ∷ []
 

@@ -57,7 +57,7 @@ or_else (Some parsed) other = parsed
 
 -- ---- head lines
 
--- the words behind a keyword, which is bare
+-- the words after a keyword, which is bare
 abbrev pub after_keyword : List ℕ → List LineWord → Option (List (List ℕ))
 after_keyword keyword [] = None
 after_keyword keyword (w ∷ ws) = cond (not w.quoted && same_bytes w.bytes keyword) (Some (map (λ (w : LineWord). w.bytes) ws)) None
@@ -126,7 +126,7 @@ object_fields_of path mode uid gid label =
     then (path_of path) (λ path. then (mode_of mode) (λ mode. then (number_of uid) (λ owner. then (number_of gid) (λ group. then (label_form label) (λ label.
     Some (record { path = path; mode = mode; owner = owner; group = group; label = label }))))))
 
--- an object goes behind those before it, if it can
+-- an object comes after those before it, if it can
 abbrev pub parse_object : PolicyNames → CapSet → Tree → WorldObject → Parsed
 parse_object policy bound t o = refuse_or (object_fault t o) (GoesOn (at.Tree policy bound (record t { objects = t.objects ++ o ∷ [] })))
 
@@ -168,7 +168,7 @@ proc_caps_of word = then (caps_of word) (λ caps. keep_if (may_start caps) caps)
 abbrev pub ids_of : ProcFields → Ids
 ids_of o = record { ruid = o.user; euid = o.user; suid = o.user; rgid = o.group; egid = o.group; sgid = o.group; groups = o.groups }
 
--- a process goes behind those before it, if it can
+-- a process comes after those before it, if it can
 abbrev pub parse_process : PolicyNames → CapSet → Tree → WorldProc → Parsed
 parse_process policy bound t w = refuse_or (process_fault t w) (GoesOn (at.Tree policy bound (record t { procs = t.procs ++ w ∷ [] })))
 

@@ -26,7 +26,7 @@ names_cmp = slice_cmp (slice_cmp nat_cmp)
 abbrev pub count_in : BTreeMap Label ℕ → Label → ℕ
 count_in counts l = unwrap_or (get label_cmp counts l) 0
 
--- the index tells what was given, and the counts how many objects and processes have a label
+-- the index says what was given, and the counts how many objects and processes have a label
 pub record IsIndexed (t : Tree) (index : BTreeMap (List Name) PathEntry) (object_counts proc_counts : BTreeMap Label ℕ) : Type 0 where
   pub stands : (q : List Name) → get names_cmp index q ≡ option_map path_entry_of (given t.objects q)
   pub objects_are : (l : Label) → count_in object_counts l ≡ objects_at l t.objects

@@ -1,4 +1,4 @@
--- Why an object or a process can't go behind those before it.
+-- Why an object or a process can't come after those before it.
 use Rattle.std.specs.Prelude.{◌&&◌, ◌||◌, ◌==◌, not, nat_le, Bool, true, false, cond, List, [], ◌∷◌, length, Option, None, Some, is_some}
 use Rattle.fs_path.specs.Name.{Name}
 use Rattle.lab_lattice.specs.Label.{Label, bottom, dominates}
@@ -30,7 +30,7 @@ abbrev pub is_root : List Name → Bool
 is_root [] = true
 is_root (n ∷ ns) = false
 
--- why an object can't go behind those before it, if it can't: its path was given, its directory was not, it is the root and
+-- why an object can't come after those before it, if it can't: its path was given, its directory was not, it is the root and
 -- no directory of the bottom label, its label does not dominate the directory's, or no number of its label is left
 unfoldable pub object_fault : Tree → WorldObject → Option WorldFault
 object_fault t o =
@@ -40,7 +40,7 @@ object_fault t o =
     (cond (not (is_above o.label (directory_of t.objects o.path.names))) (Some LabelOrder)
     (cond (nat_le 65535 (objects_at o.label t.objects)) (Some TooMany) None))))
 
--- why a process can't go behind those before it, if it can't: there is no root yet, or no number of its label is left
+-- why a process can't come after those before it, if it can't: there is no root yet, or no number of its label is left
 unfoldable pub process_fault : Tree → WorldProc → Option WorldFault
 process_fault t w =
     cond (length t.objects == 0) (Some NoParent)

@@ -30,7 +30,7 @@ after (Refuses fault) n rest more = Refused n fault
 after (GoesOn expecting) n rest more = more expecting
 after (Begins world) n rest more = Accepted world (n + 1) rest
 
--- the pieces of a text between line feeds, from line n on; the last has no line feed behind it
+-- the pieces of a text between line feeds, from line n on; the last has no line feed after it
 unfoldable pub reading : ℕ → Expecting → List (List ℕ) → Reading
 reading n expecting [] = Ended n []
 reading n expecting (last ∷ []) = Ended n last
@@ -67,7 +67,7 @@ abbrev pub IsNotRead : Reading → WorldError → Type 0
 IsNotRead r (error.NoMemory _) = Unit {0}
 IsNotRead r e = error_of r ≡ Some e
 
--- what the front of a text says, as it is answered
+-- what the prefix of a text says, as it is answered
 abbrev pub IsPrefix : Reading → Prefix → Type 0
 IsPrefix (Accepted world n script) (prefix.World w m rest) = (world ≡ w) × (n ≡ m) × (script ≡ pieces 10 rest.now)
 IsPrefix (Refused n fault) (prefix.Refused m why) = (n ≡ m) × (fault ≡ why)

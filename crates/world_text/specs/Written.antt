@@ -28,7 +28,7 @@ bare bytes = record { quoted = false; bytes = bytes }
 abbrev pub quoted : List ℕ → LineWord
 quoted bytes = record { quoted = true; bytes = bytes }
 
--- the text of a path: `/`, or each name behind a `/`
+-- the text of a path: `/`, or each name after a `/`
 abbrev pub path_text : List Name → List ℕ
 path_text [] = codes "/"
 path_text (name ∷ names) = flat_map (λ (name : Name). 47 ∷ name) (name ∷ names)
@@ -56,7 +56,7 @@ body_keyword (body.File bytes) = codes "file"
 body_keyword body.Fifo = codes "fifo"
 body_keyword body.Pipe = codes "pipe"
 
--- capabilities behind a file's content, where their text is not `=`
+-- capabilities after a file's content, where their text is not `=`
 abbrev pub caps_words : CapState → List LineWord
 caps_words caps = cond (same_bytes (caps_text caps) (codes "=")) [] (quoted (caps_text caps) ∷ [])
 
@@ -76,7 +76,7 @@ unfoldable pub process_words : PolicyNames → WorldProc → List LineWord
 process_words policy p =
     bare (codes "proc") ∷ bare (label_text policy p.label) ∷ bare (decimal p.ids.euid) ∷ bare (decimal p.ids.egid) ∷ bare (groups_text p.ids.groups) ∷ quoted (caps_text p.caps) ∷ []
 
--- the line behind which the script begins
+-- the line after which the script begins
 abbrev pub script_words : List LineWord
 script_words = names_words (codes "script") []
 
@@ -85,7 +85,7 @@ abbrev pub lines_of : WorldText → List (List LineWord)
 lines_of w =
     head_words w.policy w.world.bound ++ (map (object_words w.policy) w.world.objects ++ (map (process_words w.policy) w.world.procs ++ script_words ∷ []))
 
--- the number of the line behind these
+-- the number of the line after these
 abbrev pub next_number : WorldText → ℕ
 next_number w = length (lines_of w) + 1
 

@@ -207,7 +207,7 @@ impl WorldBuilder {
         count_at(&self.proc_counts, label) >= MAX_PROCS
     }
 
-    /// Why an object can't go behind those before it, if it can't.
+    /// Why an object can't come after those before it, if it can't.
     pub fn object_fault(
         &self,
         alloc: Global,
@@ -234,7 +234,7 @@ impl WorldBuilder {
         Ok(None)
     }
 
-    /// Why a process can't go behind those before it, if it can't.
+    /// Why a process can't come after those before it, if it can't.
     #[tactic(auto, unfolding(crate::specs::Placing::process_fault))]
     pub fn process_fault(&self, process: &WorldProc) -> Option<WorldFault>
         ensures { result ≡ process_fault self.now process.now }

@@ -26,7 +26,7 @@ pub enum Expecting {
     Format,
     /// The names of the levels.
     Levels,
-    /// The names of the categories, behind these of the levels.
+    /// The names of the categories, after these of the levels.
     Categories(LevelNames),
     /// The bound.
     Bound(Policy),
@@ -63,7 +63,7 @@ impl Model for LevelNames {
     ghost invariant = { λ l. names_fault l.names [] ≡ None };
 }
 
-// The words behind a keyword, which is bare.
+// The words after a keyword, which is bare.
 fn after_keyword<'a>(keyword: &[u8], words: &'a [LineWord]) -> Option<&'a [LineWord]>
     ensures { MatchOption result (after_keyword keyword.now words.now ≡ None) (λ rest. after_keyword keyword.now words.now ≡ Some (bytes_in rest.now)) }
 {
@@ -322,7 +322,7 @@ fn owned_in(
     }))
 }
 
-// Puts an object behind those before it.
+// Puts an object after those before it.
 fn parse_object(
     alloc: Global,
     policy: Policy,
@@ -341,7 +341,7 @@ fn parse_object(
     }
 }
 
-// Puts a process behind those before it.
+// Puts a process after those before it.
 fn parse_process(
     policy: Policy,
     bound: CapSet,

@@ -18,7 +18,7 @@ enum Answer {
 
 use Answer::{Ended, Refused, World};
 
-// A text: what stands in front, a part, how often it stands behind that, and what stands behind the parts.
+// A text: what stands first, a part, how often it stands after that, and what stands after the parts.
 type Text = (&'static [u8], &'static [u8], usize, &'static [u8]);
 
 // Three levels and two categories.
@@ -160,7 +160,7 @@ const HEADS: &[(Text, Answer)] = &[
     ),
 ];
 
-// What stands behind the root, which is line 5.
+// What stands after the root, which is line 5.
 const TREES: &[(Text, Answer)] = &[
     ((b"script\n", b"1@unc", 1, b""), World(7)),
     ((b" script # no comment\n", b"", 0, b""), Refused(6, Syntax)),
@@ -414,7 +414,7 @@ fn cause(answer: Answer) -> Option<WorldError> {
     }
 }
 
-// The first of the texts that comes out otherwise, behind those that stand before each.
+// The first of the texts that comes out otherwise, after those that stand before each.
 fn other(alloc: Global, before: &[&[u8]], texts: &[(Text, Answer)]) -> Result<Option<usize>, Fail> {
     for (place, (text, wanted)) in texts.iter().enumerate() {
         let text = canonical(alloc, before, *text)?;

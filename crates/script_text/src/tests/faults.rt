@@ -5,7 +5,7 @@ use crate::{LineError, read_line};
 use std::alloc::Global;
 use std::test::Fail;
 
-// A line: what stands in front, and how often a byte stands behind that.
+// A line: what stands first, and how often a byte stands after that.
 type Text = (&'static [u8], usize, u8);
 
 const LONG: [(Text, Option<LineError>); 5] = [
