@@ -9,6 +9,7 @@ use Rattle.kern_model.specs.declared.objects.Body.{Body}
 use Rattle.kern_model.specs.declared.objects.Body.TheVariants as body
 use Rattle.kern_model.specs.declared.world.WorldObject.{WorldObject}
 use Rattle.kern_model.specs.declared.world.WorldProc.{WorldProc}
+use Rattle.kern_model.specs.declared.limits.TheConstants.{MAX_LINE}
 use Rattle.kern_model.specs.World.{IsWorld}
 use Rattle.line_text.specs.Ranges.{are_bytes, are_numbers, IsNumber}
 use Rattle.world_text.specs.declared.world.WorldText.{WorldText}
@@ -34,7 +35,7 @@ pub record IsWrittenIds (ids : Ids) : Type 0 where
 
 -- a line that is not too long
 abbrev pub IsShort : List LineWord → Type 0
-IsShort words = length (line_text (map spelling words)) ≤ 2048
+IsShort words = length (line_text (map spelling words)) ≤ MAX_LINE
 
 -- a world, whose highest label is that of the names beside it
 pub record IsWorldText (w : WorldText) : Type 0 where

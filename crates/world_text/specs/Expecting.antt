@@ -18,6 +18,7 @@ use Rattle.lab_lattice.specs.Label.{Label}
 use Rattle.lab_text.specs.Names.{Names, same_bytes, is_label_name, are_distinct}
 use Rattle.lab_text.specs.Policy.{PolicyNames, top_of}
 use Rattle.lab_text.specs.Text.{is_label_text, parse_label}
+use Rattle.kern_model.specs.declared.limits.TheConstants.{MAX_LINE}
 use Rattle.kern_model.specs.declared.numbers.Ids.{Ids}
 use Rattle.kern_model.specs.declared.objects.Body.{Body}
 use Rattle.kern_model.specs.declared.objects.Body.TheVariants as body
@@ -231,6 +232,6 @@ parse_words (at.Tree policy bound t) ws = parse_tree_line policy bound t ws
 -- what a line says: it is too long, it is blank, or its words count
 unfoldable pub parse_line : Expecting → List ℕ → Parsed
 parse_line expecting line =
-    unless (nat_lt 2048 (length line)) Syntax
+    unless (nat_lt MAX_LINE (length line)) Syntax
     (cond (is_blank line) (GoesOn expecting)
     (with_form (words_of line) Syntax (parse_words expecting)))

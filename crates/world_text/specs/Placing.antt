@@ -2,6 +2,7 @@
 use Rattle.std.specs.Prelude.{◌&&◌, ◌||◌, ◌==◌, not, nat_le, Bool, true, false, cond, List, [], ◌∷◌, length, Option, None, Some, is_some}
 use Rattle.fs_path.specs.Name.{Name}
 use Rattle.lab_lattice.specs.Label.{Label, bottom, dominates}
+use Rattle.kern_model.specs.declared.limits.TheConstants.{MAX_OBJECTS, MAX_PROCS}
 use Rattle.kern_model.specs.declared.world.WorldObject.{WorldObject}
 use Rattle.kern_model.specs.declared.world.WorldProc.{WorldProc}
 use Rattle.kern_model.specs.Kinds.{kind_of}
@@ -38,10 +39,10 @@ object_fault t o =
     (cond (not (is_root o.path.names || is_directory (directory_of t.objects o.path.names))) (Some NoParent)
     (cond (is_root o.path.names && not (is_dir (kind_of o.body) && dominates bottom o.label)) (Some RootLabel)
     (cond (not (is_above o.label (directory_of t.objects o.path.names))) (Some LabelOrder)
-    (cond (nat_le 65535 (objects_at o.label t.objects)) (Some TooMany) None))))
+    (cond (nat_le MAX_OBJECTS (objects_at o.label t.objects)) (Some TooMany) None))))
 
 -- why a process can't come after those before it, if it can't: there is no root yet, or no number of its label is left
 unfoldable pub process_fault : Tree → WorldProc → Option WorldFault
 process_fault t w =
     cond (length t.objects == 0) (Some NoParent)
-    (cond (nat_le 4095 (procs_at w.label t.procs)) (Some TooMany) None)
+    (cond (nat_le MAX_PROCS (procs_at w.label t.procs)) (Some TooMany) None)

@@ -2,8 +2,8 @@
 ghost use Rattle.std.specs.Prelude.{◌≡◌, ◌+◌, ◌<◌, ◌==◌, ◌&&◌, ◌||◌, not, [], ◌∷◌, ◌++◌, nat_le, is_some, IfOk, OnOk, cond, length, None};
 ghost use Rattle.std.specs.Option.{option_map};
 ghost use Rattle.lab_lattice.specs.Label.{Label, bottom, dominates};
-ghost use Rattle.kern_model.specs.Kinds.{kind_of};
-ghost use Rattle.kern_model.specs.Kinds.{is_dir};
+ghost use Rattle.kern_model.specs.declared.limits.TheConstants.{MAX_OBJECTS, MAX_PROCS};
+ghost use Rattle.kern_model.specs.Kinds.{kind_of, is_dir};
 ghost use Rattle.kern_model.specs.Rules.{same_label};
 ghost use Rattle.kern_model.specs.World.{given, objects_at, procs_at};
 ghost use Rattle.world_text.specs.PathEntry.{path_entry_of, count_in, is_standing_dir, is_above_standing};
@@ -11,20 +11,17 @@ ghost use Rattle.world_text.specs.Placing.{directory_of, is_root, object_fault, 
 
 use crate::{NoMemory, WorldFault};
 use fs_path::{List, Name, NameList, Path};
+use kern_model::limits::{MAX_OBJECTS, MAX_PROCS};
 use kern_model::{Body, ObjectList, ProcList, WorldObject, WorldProc};
 use lab_lattice::{Label, Lattice, bottom};
 use std::alloc::Global;
 use std::collections::BTreeMap;
 use std::marker::Model;
 
-const MAX_OBJECTS: u32 = 65_535;
-
-const MAX_PROCS: u32 = 4_095;
-
 /// How many there are at each label.
-type Counts = BTreeMap<Label, u32>;
+type Counts = BTreeMap<Label, usize>;
 
-fn count_at(counts: &Counts, label: &Label) -> u32
+fn count_at(counts: &Counts, label: &Label) -> usize
     ensures { result ≡ count_in counts.now label.now }
 {
     counts.get(label).copied().unwrap_or(0)
@@ -32,7 +29,7 @@ fn count_at(counts: &Counts, label: &Label) -> u32
 
 // Counts one more.
 fn count_one(counts: &mut Counts, label: &Label) -> Result<(), NoMemory>
-    requires { count_in counts.old label.now < 65535 }
+    requires { count_in counts.old label.now < MAX_OBJECTS }
     ensures { OnOk result ((l : Label) → count_in counts.new l ≡ count_in counts.old l + cond (same_label label.now l) 1 0) }
 {
     let count = count_at(counts, label);
@@ -195,14 +192,14 @@ impl WorldBuilder {
 
     // Whether no number of the label is left for an object.
     fn is_full_of_objects(&self, label: &Label) -> bool
-        ensures { result ≡ nat_le 65535 (objects_at label.now self.now.objects) }
+        ensures { result ≡ nat_le MAX_OBJECTS (objects_at label.now self.now.objects) }
     {
         count_at(&self.object_counts, label) >= MAX_OBJECTS
     }
 
     // Whether no number of the label is left for a process.
     fn is_full_of_procs(&self, label: &Label) -> bool
-        ensures { result ≡ nat_le 4095 (procs_at label.now self.now.procs) }
+        ensures { result ≡ nat_le MAX_PROCS (procs_at label.now self.now.procs) }
     {
         count_at(&self.proc_counts, label) >= MAX_PROCS
     }
