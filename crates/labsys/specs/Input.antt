@@ -8,6 +8,7 @@ use Rattle.kern_model.specs.declared.numbers.Pid.{Pid}
 use Rattle.kern_model.specs.declared.world.World.{World}
 use Rattle.kern_model.specs.declared.world.WorldObject.{WorldObject}
 use Rattle.kern_model.specs.declared.world.ScriptItem.{ScriptItem}
+use Rattle.kern_model.specs.declared.limits.TheConstants.{MAX_INPUT, MAX_LINE}
 use Rattle.kern_model.specs.Names.{name_of, word_of}
 use Rattle.kern_core.specs.Built.{is_built}
 use Rattle.lab_text.specs.Policy.{PolicyNames}
@@ -50,7 +51,7 @@ no_world ending = record { accepted = None; script = script [] ending }
 
 -- how an input ends at a last piece that goes on past the limit: the piece is refused where it is too long for a line
 abbrev pub cut_off : ℕ → Part → Refusal → List ℕ → InputEnd
-cut_off n p why last = cond (nat_lt 2048 (length last)) (Refused n p why) TooMuch
+cut_off n p why last = cond (nat_lt MAX_LINE (length last)) (Refused n p why) TooMuch
 
 -- how an input ends inside its world at a last piece that no line feed ends; `over` where the input goes on past the limit
 abbrev pub ends_at : Bool → ℕ → Part → Refusal → List ℕ → InputEnd
@@ -79,7 +80,7 @@ after_line (Ok (line.One who call)) n more = cond (is_built call) (script (item_
 
 -- why a last piece is refused that no line feed ends: it is too long, or it does not end
 abbrev pub unended : List ℕ → Refusal
-unended last = cond (nat_lt 2048 (length last)) refusal.TooLong refusal.Syntax
+unended last = cond (nat_lt MAX_LINE (length last)) refusal.TooLong refusal.Syntax
 
 -- how a script ends at its last piece, which no line feed ends
 abbrev pub last_piece : Bool → ℕ → List ℕ → InputEnd
@@ -128,4 +129,4 @@ read_input over text = input_by over (read_text text)
 
 -- the input that bytes are: the lines of the first 16 MiB, and whether there is more
 unfoldable pub input_of : List ℕ → Input
-input_of text = read_input (nat_lt 16777216 (length text)) (take 16777216 text)
+input_of text = read_input (nat_lt MAX_INPUT (length text)) (take MAX_INPUT text)

@@ -9,6 +9,7 @@ use Rattle.io_ends.specs.Whole.{IsWhole}
 use Rattle.labsys.specs.declared.status.InputEnd.{InputEnd}
 use Rattle.labsys.specs.declared.status.InputEnd.TheVariants.{Whole as AllRead}
 use Rattle.labsys.specs.declared.status.Fault.{Fault}
+use Rattle.kern_model.specs.declared.limits.TheConstants.{MAX_INPUT}
 use Rattle.kern_model.specs.State.{State}
 use Rattle.kern_model.specs.Run.{run, state_after_run}
 use Rattle.lab_text.specs.Policy.{PolicyNames}
@@ -92,8 +93,8 @@ left_of (Some bytes) = bytes
 pub record Takes (result : Result Whole Fault) (left now : Option (List ℕ)) : Type 0 where
   pub got : List ℕ
   pub took : Consumes left now got
-  pub few : length got ≤ 16777217
-  pub shows : IfOk result (λ w. IsWhole w got 16777216 now)
+  pub few : length got ≤ MAX_INPUT + 1
+  pub shows : IfOk result (λ w. IsWhole w got MAX_INPUT now)
 
 -- how a run ended: as its input did, and where that was whole at the end of the source
 pub record EndsAs (ending is : InputEnd) (left : Option (List ℕ)) : Type 0 where
@@ -104,6 +105,6 @@ pub record EndsAs (ending is : InputEnd) (left : Option (List ℕ)) : Type 0 whe
 pub record RunDid (result : Result InputEnd Fault) (left left' : Option (List ℕ)) (before after : Ends) : Type 0 where
   pub taken : List ℕ
   pub took : Consumes left left' taken
-  pub few : length taken ≤ 16777217
+  pub few : length taken ≤ MAX_INPUT + 1
   pub writes : Writes result (order_of (input_of (taken ++ left_of left'))) before after
   pub ending : IfOk result (λ e. EndsAs e (input_of (taken ++ left_of left')).script.ending left')

@@ -25,13 +25,11 @@ use aud_record::{header_text, rec_text};
 use cap_bits::CapSet;
 use io_ends::{ReadError, Sink, Source, Whole, read_whole, write_whole};
 use kern_core::Kernel;
+use kern_model::limits::MAX_INPUT;
 use kern_model::{Call, NoMemory, Pid, Rec};
 use lab_text::Policy;
 use script_text::reply_text;
 use std::alloc::Global;
-
-// How many bytes an input may have.
-const LIMIT: u64 = 16_777_216;
 
 // Writes a piece to the trail.
 fn note<T: Sink>(trail: &mut T, piece: &[u8]) -> Result<(), Fault>
@@ -259,7 +257,7 @@ fn play_text<K: Sink, T: Sink>(
     out: &mut K,
     trail: &mut T,
 ) -> Result<InputEnd, Fault>
-    requires { length text.now ≤ 16777216 }
+    requires { length text.now ≤ MAX_INPUT }
     ensures writes { WritesBoth result (order_of (read_input over text.now))
         (sink_view (K.held out.old) (K.faults out.old)) (sink_view (K.held out.new) (K.faults out.new)) (sink_view (T.held trail.old) (T.faults trail.old)) (sink_view (T.held trail.new) (T.faults trail.new)) }
     ensures ending { IfOk result (λ e. e ≡ (read_input over text.now).script.ending) }
@@ -277,7 +275,7 @@ fn take_all<S: Source>(alloc: Global, source: &mut S) -> Result<Whole, Fault>
     ensures takes { Takes result (S.left source.old) (S.left source.new) }
     ensures counts { (o t : ℕ) → CountsOnce result (counts (S.faults source.old) o t) (counts (S.faults source.new) o t) }
 {
-    match read_whole(alloc, source, LIMIT) {
+    match read_whole(alloc, source, MAX_INPUT) {
         Ok(whole) => Ok(whole),
         Err(ReadError::Failed) => Err(Fault::Read),
         Err(ReadError::NoMemory) => Err(Fault::NoMemory),

@@ -7,13 +7,12 @@ ghost use Rattle.labsys.specs.declared.reading.Halt.TheVariants as halt;
 use crate::{InputEnd, Part, Refusal};
 use fs_path::next_line;
 use kern_core::built;
+use kern_model::limits::MAX_LINE;
 use kern_model::{Body, Call, NoMemory, Pid, World};
 use lab_text::Policy;
 use script_text::{Line, LineError, read_line};
 use std::alloc::Global;
 use world_text::{Prefix, WorldText, read_prefix};
-
-const MAX_LINE: usize = 2048;
 
 /// Why no world is read.
 #[derive(Clone, Copy, Debug, PartialEq, Eq)]

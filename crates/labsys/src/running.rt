@@ -1,7 +1,8 @@
 // The top call.
-ghost use Rattle.std.specs.Prelude.{◌≡◌, ◌↔◌, None, Some, List, ℕ, IfSome};
+ghost use Rattle.std.specs.Prelude.{◌≡◌, ◌↔◌, ◌+◌, None, Some, List, ℕ, IfSome};
 ghost use Rattle.std.specs.Io.KnownBytes.{IsAtEnd};
 ghost use Rattle.lab_lattice.specs.Label.{Label};
+ghost use Rattle.kern_model.specs.declared.limits.TheConstants.{MAX_INPUT};
 ghost use Rattle.labsys.specs.Session.{session_of};
 ghost use Rattle.labsys.specs.Order.{out_of, trail_of, IsInOrder};
 ghost use Rattle.labsys.specs.Commands.{LeavesAlone, command_of, due};
@@ -84,7 +85,7 @@ pub fn run<S: Source, K: Sink, T: Sink>(
     // The input is read to its end where it was accepted whole.
     ensures to_the_end { command_of words.now ≡ Some Command.Play → result ≡ Status.Done → IsAtEnd (S.left source.new) }
     // No more of it is read than the limit and one byte.
-    ensures few { TakesAtMost 16777217 (S.left source.old) (S.left source.new) }
+    ensures few { TakesAtMost (MAX_INPUT + 1) (S.left source.old) (S.left source.new) }
 {
     match command_of(words) {
         Some(Command::Play) => status_of(play(alloc, source, out, trail)),
