@@ -14,7 +14,7 @@ use Rattle.world_text.specs.declared.expecting.Parsed.{Parsed}
 use Rattle.world_text.specs.declared.expecting.Parsed.TheVariants.{Refuses, GoesOn, Begins}
 use Rattle.world_text.specs.CanBeRead.{IsWorldText, HasShortLines}
 use Rattle.world_text.specs.Expecting.{parse_line}
-use Rattle.world_text.specs.Written.{next_number}
+use Rattle.world_text.specs.Written.{next_number, written}
 
 -- how the reading of a world ends
 pub data Reading : Type 0 where
@@ -83,6 +83,11 @@ IsWithin size _ = Unit {0}
 abbrev pub IsAcceptedWorld : Prefix → Type 0
 IsAcceptedWorld (prefix.World w n rest) = IsWorldText w
 IsAcceptedWorld _ = Unit {0}
+
+-- a text is the written form of the world that was read
+abbrev pub IsWorldWritten : Reading → List ℕ → Type 0
+IsWorldWritten (Accepted world n script) text = text ≡ written world
+IsWorldWritten _ text = ⊥
 
 -- a text is read, and another one, which is its world written, is read as the same world where its lines are short
 abbrev pub RoundTrips : Reading → Reading → Type 0
