@@ -1,10 +1,10 @@
 #!/usr/bin/env python3
 """Lists the files of definitions that the clauses of `run` use, crate by crate.
 
-    definitions.py            prints them, with the lines of each crate
-    definitions.py --check    prints nothing, and fails where the README's list is another one
+    definitions.py            prints the list, and how many lines the files have together
+    definitions.py --check    fails where the README has another list
 
-A file is used where a clause of `run` imports it, or a file that is used does.
+A file is used where `running.rt` imports it, or another file that is used imports it.
 """
 import pathlib
 import re
@@ -17,7 +17,7 @@ USE = re.compile(r"^\s*(?:ghost )?(?:pub )?use Rattle\.(\w+)\.(specs|proofs)\.([
 
 
 def file_of(crate, folder, path):
-    """The file that a path names, which may go on with a name inside it; none where it is a type of the code."""
+    """The file of an import, whose path may end with a name in the file; none where the import is a type of the code."""
     parts = path.rstrip(".").split(".")
     for count in range(len(parts), 0, -1):
         file = (CRATES / crate / folder).joinpath(*parts[:count]).with_suffix(".antt")
@@ -27,7 +27,7 @@ def file_of(crate, folder, path):
 
 
 def used():
-    """All files that are used, from the clauses of `run` on."""
+    """All files that are used."""
     found, todo = set(), [RUN]
     while todo:
         for crate, folder, path in USE.findall(todo.pop().read_text(encoding="utf-8")):
@@ -39,7 +39,7 @@ def used():
 
 
 def by_crate(files):
-    """The names of files, sorted, for each folder that has some."""
+    """The files of each folder, sorted."""
     crates = {}
     for file in sorted(files):
         crates.setdefault(str(file.parent.relative_to(CRATES)), []).append(file)
@@ -57,7 +57,7 @@ def main():
     if sys.argv[1:] == ["--check"]:
         listed = [line for line in (TOP / "README.md").read_text(encoding="utf-8").splitlines() if line.startswith("| `crates/")]
         if listed != rows:
-            print("README.md lists other definitions than the clauses of run use; tests/definitions.py prints the list")
+            print("the list of definitions in README.md is out of date; tests/definitions.py prints the present one")
             sys.exit(1)
         return
     lines = 0

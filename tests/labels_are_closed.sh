@@ -1,5 +1,6 @@
 #!/bin/sh
-# Refuses a crate above the labels' own two that looks into a label. A test may make labels of their parts.
+# Refuses a crate, other than lab_lattice and lab_text, that depends on the parts of a label. A test may make labels from
+# their parts.
 cd "$(dirname "$0")/../crates" || exit 1
 above=$(ls | grep -v -e '^lab_lattice$' -e '^lab_text$')
 allowed='lab_lattice\.specs\.Label\.|lab_lattice::\{?(Label|Lattice|bottom)(, (Label|Lattice|bottom))*\}?;|lab_lattice::bottom\(\)'
@@ -10,7 +11,7 @@ done | grep -vE "$allowed|^[a-z_]+/src/tests[./]"; for crate in $above; do
     grep -rnE "^ *unfolding.*$opening|unfolding\(.*lab_lattice|unfold .*$opening.* in " --include='*.rt' --include='*.antt' "$crate/src" "$crate"/specs "$crate"/proofs 2>/dev/null
 done)
 if [ -n "$found" ]; then
-    echo "a label's inside is named:"
+    echo "these lines depend on the parts of a label:"
     echo "$found"
     exit 1
 fi

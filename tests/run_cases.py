@@ -1,21 +1,23 @@
 #!/usr/bin/env python3
-"""Runs cases against a command and compares status, out and trail byte for byte.
+"""Runs a command on cases, and compares its exit status and each byte of its output and its trail.
 
-    run_cases.py --cmd "PATH" [FOLDER or FILE ...]
+    run_cases.py --cmd COMMAND [FOLDER or FILE ...]
 
-Without a folder or file it runs every case below this file.
+Without a folder or file it runs every case below the folder of this script.
 
-A case is a text file of sections, each begun by a line `== NAME`, in this order:
+A case is a text file. It has these sections, in this order, each after a line `== NAME`:
 
-    == note       one sentence: what the case shows (may be absent)
-    == words      the words of the command line, one a line
-    == input      the bytes of standard input; `== input, without the last newline`
-                  drops the last LF, and `== input from` has one line of Python
-                  whose value is the bytes
+    == note       one sentence: what the case shows; may be absent
+    == words      the words of the command line, one on each line
+    == input      the bytes of standard input
     == status     the exit status
-    == out        the bytes of standard output; also `== out from`
-    == trail      the bytes of the file that the second word names; also
-                  `== trail from`; absent where no file may be made
+    == out        the bytes of standard output
+    == trail      the bytes of the file that the second word names; absent where the
+                  command may make no file
+
+A title `== input, without the last newline` drops the last line feed of the section. A
+title `== input from` has one line of Python after it, whose value is the bytes; `== out
+from` and `== trail from` likewise.
 
 The command runs in an empty temporary folder of its own.
 """
@@ -37,7 +39,7 @@ class BadCase(Exception):
 
 
 def read_case(path):
-    """The sections as a dict from name to bytes (`words` a list, `status` a number, `trail` maybe absent)."""
+    """The sections by their names, as bytes; `words` is a list and `status` a number."""
     with open(path, "rb") as f:
         lines = f.read().split(b"\n")
     if lines[-1] != b"":
@@ -99,7 +101,7 @@ def first_difference(want, got):
 
 
 def run_case(cmd, path, timeout):
-    """The lines that tell what is wrong; none where the case passed."""
+    """Lines that say what is wrong; none where the case passed."""
     try:
         case = read_case(path)
     except (BadCase, OSError, ValueError, SyntaxError, NameError) as e:
@@ -142,8 +144,8 @@ def find(paths):
 
 def main():
     ap = argparse.ArgumentParser(description="Runs cases against a command.")
-    ap.add_argument("--cmd", required=True, help="the command, as one word of a shell line")
-    ap.add_argument("--timeout", type=int, default=120, help="seconds for one case")
+    ap.add_argument("--cmd", required=True, help="the command and its first words, as a shell would split them")
+    ap.add_argument("--timeout", type=int, default=120, help="the most seconds for one case")
     ap.add_argument("--jobs", type=int, default=os.cpu_count() or 1)
     ap.add_argument("paths", nargs="*")
     a = ap.parse_args()
