@@ -15,7 +15,7 @@ use Rattle.lab_lattice.specs.Cats.{CatSet, has_cat, cats_cover}
 use Rattle.lab_lattice.specs.Laws.{has-cover, cover-has, same_cats}
 use Rattle.lab_lattice.specs.Label.{Label}
 use Rattle.lab_lattice.specs.Level.{level_covers}
-use Rattle.lab_lattice.specs.Pair.{pair_parts, covers_first, covers_second}
+use Rattle.lab_lattice.specs.Laws.{pair_parts, covers_first, covers_second}
 use Rattle.lab_text.specs.Names.{Names, same_bytes, is_label_name, is_letter, is_name_part, are_distinct, place_of}
 use Rattle.lab_text.specs.Policy.{PolicyNames, MakePolicy, top_of, is_valid}
 use Rattle.lab_text.specs.Text.{is_colon, is_comma, LabelWords, parts_of, label_words, is_label_text, places_of, label_of, parse_label, Breaks, first_unknown, unknown_in, SaysNone, names_in, past_mark, label_text}
