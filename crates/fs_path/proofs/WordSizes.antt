@@ -1,13 +1,10 @@
 -- No word of a line has more bytes than the line.
-use Rattle.std.specs.Prelude.{◌≡◌, ℕ, zero, suc, ◌≤◌, false, cond, Bool, ◌==◌, List, [], ◌∷◌, length, drop, Option, Some, None, refl}
+use Rattle.std.specs.Prelude.{◌≡◌, ℕ, zero, suc, ◌≤◌, List, [], ◌∷◌, length, Option, Some, None}
 use Rattle.std.proofs.Common.{subst, arith}
-use Rattle.std.specs.List.{AllByRecursion, prefix_len, take_while}
+use Rattle.std.specs.List.{AllByRecursion}
 use Rattle.std.specs.Option.{option_and_then, option_map}
-use Rattle.std.proofs.lemmas.Bool.{cond_both}
-use Rattle.std.proofs.lemmas.List.{length-take}
 use Rattle.fs_path.specs.declared.words.LineWord.{LineWord}
-use Rattle.fs_path.specs.Split.{onto_piece}
-use Rattle.fs_path.specs.Words.{is_bare, first_item, items_within, items_of, quoted_word, leading_word, apart, is_apart, first_word, trim_spaces, words_by, words_within, words_of}
+use Rattle.fs_path.specs.Words.{first_word, trim_spaces, words_by, words_within, words_of}
 use Rattle.fs_path.proofs.WordSteps.{WordFits, first_fits, past_shorter}
 
 -- each word has at most n bytes

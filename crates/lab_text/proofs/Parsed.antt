@@ -24,26 +24,6 @@ use Rattle.lab_text.proofs.PolicyFacts.{policy_facts, unlisted_unplaced, place_o
 use Rattle.lab_text.specs.declared.text.LabelError.{LabelError}
 use Rattle.lab_text.specs.declared.text.LabelError.TheVariants as error
 
--- ---- the place of a fault
-
-no_further_than : (text : List ℕ) (a b : ℕ) → Breaks text a → Breaks text b → a < b → ⊥
-no_further_than text a b s t lt =
-    let short : take (a + 1) (take b text) ≡ take (a + 1) text = take-take (a + 1) b text (omega arith) in
-    let whole : take (a + 1) text ++ drop (a + 1) (take b text) ≡ take b text = ap (λ f. f ++ drop (a + 1) (take b text)) (sym short) ∙ take-append-drop (a + 1) (take b text) in
-    let within : a < length text = let w = t.within in omega arith in
-    both_ways (is_label_text (take b text ++ t.so_far.rest))
-    (ap (λ f. is_label_text (f ++ t.so_far.rest)) (sym whole) ∙ ap is_label_text (append_assoc (take (a + 1) text) (drop (a + 1) (take b text)) t.so_far.rest)
-    ∙ s.no_further within (drop (a + 1) (take b text) ++ t.so_far.rest))
-    t.so_far.is_label
-
--- a text breaks at one place
-pub breaks_once : {text : List ℕ} {a b : ℕ} → Breaks text a → Breaks text b → a ≡ b
-breaks_once {text} {a} {b} s t = elim (cases_order a b) [
-  | inl e ↦ e
-  | inr (inl lt) ↦ absurd (no_further_than text a b s t lt)
-  | inr (inr lt) ↦ absurd (no_further_than text b a t s lt)
-]
-
 -- ---- words
 
 -- the names of a text of a label's form
