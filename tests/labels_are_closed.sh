@@ -3,7 +3,7 @@
 # their parts.
 cd "$(dirname "$0")/../crates" || exit 1
 above=$(ls | grep -v -e '^lab_lattice$' -e '^lab_text$')
-allowed='lab_lattice\.specs\.Label\.|lab_lattice::\{?(Label|Lattice|bottom)(, (Label|Lattice|bottom))*\}?;|lab_lattice::bottom\(\)'
+allowed='lab_lattice\.specs\.Label\.|lab_lattice\.proofs\.Labels\.|lab_lattice::\{?(Label|Lattice|bottom)(, (Label|Lattice|bottom))*\}?;|lab_lattice::bottom\(\)'
 opening='\b(bottom|dominates|label_cmp)\b'
 found=$(for crate in $above; do
     grep -rnE 'lab_lattice(\.specs|\.proofs|::)' --include='*.rt' --include='*.antt' "$crate/src" "$crate"/specs "$crate"/proofs 2>/dev/null

@@ -6,7 +6,8 @@ use Rattle.std.specs.Option.{option_and_then, option_map}
 use Rattle.std.proofs.lemmas.Bool.{and_parts, and_from, cond_both, eqb-true, leb-true, lt-ltb, or_cases}
 use Rattle.std.proofs.lemmas.List.{append-nil}
 use Rattle.fs_path.proofs.RoundTrip.{line_round_trip}
-use Rattle.fs_path.specs.Words.{is_plain, is_bare, is_apart, hex_value, hex_pair, escaped, first_item, onto_piece, items_within, items_of, quoted_word, leading_word, apart, first_word, trim_spaces, words_by, words_of, quoted_text, has_spelling}
+use Rattle.fs_path.specs.Split.{onto_piece}
+use Rattle.fs_path.specs.Words.{is_plain, is_bare, is_apart, hex_value, hex_pair, escaped, first_item, items_within, items_of, quoted_word, leading_word, apart, first_word, trim_spaces, words_by, words_of, quoted_text, has_spelling}
 use Rattle.fs_path.proofs.WordSteps.{words_are}
 use Rattle.fs_path.specs.declared.words.LineWord.{LineWord}
 use Rattle.line_text.specs.Ranges.{are_bytes}

@@ -6,8 +6,8 @@ use Rattle.std.proofs.lemmas.Bool.{and_parts, and_from, and_right, or_parts, con
 use Rattle.std.proofs.lemmas.Option.{some_pair_parts}
 use Rattle.std.proofs.lemmas.List.{length-append, take_at, drop_at}
 use Rattle.std.proofs.lemmas.List.Folds.{list_all-append}
-use Rattle.fs_path.specs.Split.{split_once}
-use Rattle.fs_path.specs.Words.{is_space, is_plain, is_bare, is_bare_text, is_apart, hex_digit, item_text, quoted_text, onto_piece}
+use Rattle.fs_path.specs.Split.{onto_piece, split_once}
+use Rattle.fs_path.specs.Words.{is_space, is_plain, is_bare, is_bare_text, is_apart, hex_digit, item_text, quoted_text}
 use Rattle.aud_record.specs.Words.{quoted_len, word_len, first_word, after_word}
 
 -- ---- cuts

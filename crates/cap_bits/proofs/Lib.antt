@@ -1,5 +1,4 @@
 pub mod Caps
 pub mod Names
 pub mod CapSets
-pub mod States
 pub mod Words

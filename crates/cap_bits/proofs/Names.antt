@@ -1,6 +1,6 @@
 -- A word in any case of its letters names the capability whose name it is in lower case.
 use Rattle.std.proofs.Common.{◌≡◌, ℕ, List, Bool, refl, ap, sym, ◌∙◌}
-use Rattle.std.specs.Prelude.{◌↔◌, IsTrue, ◌≢◌, true, false, [], ◌∷◌, Option, Some, None, MatchOption, cond}
+use Rattle.std.specs.Prelude.{◌↔◌, IsTrue, Some}
 use Rattle.std.specs.Cmp.Lexicographic.{bytes_decides}
 use Rattle.std.specs.Str.{str_to_ascii_lowercase, bytes_eq}
 use Rattle.std.proofs.lemmas.Bool.Decides.{same_from_decides}
@@ -59,30 +59,3 @@ first_of_name AuditWrite = refl
 pub cap_named_by : (word : List ℕ) (cap : Cap) → str_to_ascii_lowercase word ≡ cap_name cap → cap_named word ≡ Some cap
 unfolding cap_named is_name_of
 cap_named_by word cap e = ap (λ (name : List ℕ). find (λ other. bytes_eq (cap_name other) name) all_caps) e ∙ first_of_name cap
-
-found_passes : (test : Cap → Bool) (caps : List Cap) (cap : Cap) → find test caps ≡ Some cap → test cap ≡ true
-found_passes test [] cap e = cc
-found_passes test (x ∷ xs) cap e =
-    elim (test x) as (λ b. test x ≡ b → cond b (Some x) (find test xs) ≡ Some cap → test cap ≡ true) [
-      | true ↦ λ passes here. let same : x ≡ cap = cc in ap test (sym same) ∙ passes
-      | false ↦ λ _ later. found_passes test xs cap later
-    ] refl e
-
--- what a word names has the word as its name, in lower case
-pub name_of_named : (word : List ℕ) (cap : Cap) → cap_named word ≡ Some cap → str_to_ascii_lowercase word ≡ cap_name cap
-unfolding cap_named is_name_of
-name_of_named word cap e = sym ((bytes_decides (cap_name cap) (str_to_ascii_lowercase word)).0 (found_passes (is_name_of word) all_caps cap e))
-
--- no two capabilities have one name
-pub same_name : (a b : Cap) → cap_name a ≡ cap_name b → a ≡ b
-same_name a b e =
-    let one : Some a ≡ Some b = sym (first_of_name a) ∙ ap (λ (name : List ℕ). find (λ other. bytes_eq (cap_name other) name) all_caps) e ∙ first_of_name b in
-    cc
-
--- the capability that a word names: the one with the word as its name, and none where there is no such one
-abbrev pub IsNamedBy : List ℕ → Option Cap → Type 0
-IsNamedBy word found = MatchOption found ((cap : Cap) → str_to_ascii_lowercase word ≢ cap_name cap) (λ cap. str_to_ascii_lowercase word ≡ cap_name cap)
-
-pub cap_named_is : (word : List ℕ) (found : Option Cap) → found ≡ cap_named word → IsNamedBy word found
-cap_named_is word None e = λ cap named. let some : cap_named word ≡ Some cap = cap_named_by word cap named in cc
-cap_named_is word (Some cap) e = name_of_named word cap (sym e)

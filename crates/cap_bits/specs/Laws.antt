@@ -1,4 +1,5 @@
--- The laws that the types of this crate keep: capabilities and sets of them are compared and stored as what they are.
+-- The laws that implementations of traits cite, with their proofs: capabilities and sets of them are compared as what they are,
+-- and a set is stored as the bits of a number. Rattle takes what an implementation cites from `specs/` alone.
 use Rattle.std.specs.Prelude.{◌≡◌, ℕ, ◌<◌, Bool, true, List, [], ◌∷◌, cond, refl, ◌&&◌, ◌==◌, zero, suc, ◌+◌, ◌*◌, ◌/◌, ◌%◌, ◌^◌, map}
 use Rattle.std.specs.Cmp.{IsTotalOrder, nat_cmp_total, IsEquivalence, both_ways, decided}
 use Rattle.std.specs.FinMap.{IsAntisymmetric}

@@ -1,5 +1,5 @@
 -- The three sets of a process or a file, and their flags.
-use Rattle.std.specs.Prelude.{Bool, true, false, cond}
+use Rattle.std.specs.Prelude.{Bool, cond}
 use Rattle.cap_bits.specs.declared.cap.Cap.{Cap}
 use Rattle.cap_bits.specs.declared.state.Flag.{Flag}
 use Rattle.cap_bits.specs.declared.state.Flag.TheVariants.{Effective, Inheritable, Permitted}
@@ -29,10 +29,3 @@ abbrev pub with_flag : CapState → Cap → Flag → Bool → CapState
 with_flag s cap Effective raised = record s { e = set_to s.e cap raised }
 with_flag s cap Inheritable raised = record s { i = set_to s.i cap raised }
 with_flag s cap Permitted raised = record s { p = set_to s.p cap raised }
-
--- whether two flags are one
-abbrev pub same_flag : Flag → Flag → Bool
-same_flag Effective Effective = true
-same_flag Inheritable Inheritable = true
-same_flag Permitted Permitted = true
-same_flag _ _ = false

@@ -14,7 +14,7 @@ pub enum Cap {
     DacReadSearch,
     /// Writing an object against its mode.
     DacWrite,
-    /// What else only an object's owner may do.
+    /// Doing anything else that only an object's owner may do.
     Fowner,
     /// Keeping a file's set-id bits where a change would clear them.
     Fsetid,

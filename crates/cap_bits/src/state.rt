@@ -9,7 +9,7 @@ use crate::{Cap, CapSet};
 pub enum Flag {
     /// What the process may use now.
     Effective,
-    /// What it keeps over a change of its program.
+    /// What it keeps when it executes a file.
     Inheritable,
     /// What it may make effective.
     Permitted,

@@ -12,7 +12,7 @@ use Rattle.cap_bits.specs.Laws.{cap_cmp_exact, cap_cmp_total}
 use Rattle.cap_bits.specs.CapSet.{CapSet, has, all_of_caps, same_cap}
 use Rattle.cap_bits.proofs.CapSets.{same_cap-decides, has-no_caps, has-union_of, has-minus_of}
 use Rattle.cap_bits.specs.Laws.{has-all_of_caps, same_caps}
-use Rattle.cap_bits.specs.State.{no_flags, has_flag, same_flag}
+use Rattle.cap_bits.specs.State.{no_flags, has_flag}
 use Rattle.cap_bits.specs.declared.cap.Cap.{Cap}
 use Rattle.cap_bits.specs.declared.state.CapState.{CapState}
 use Rattle.cap_bits.specs.declared.state.Flag.{Flag}
@@ -71,6 +71,13 @@ with_or_without caps set false q = has-minus_of set caps q ∙ but (has set q) (
     but true false = refl
     but false true = refl
     but false false = refl
+
+-- whether two flags are one
+abbrev same_flag : Flag → Flag → Bool
+same_flag Effective Effective = true
+same_flag Inheritable Inheritable = true
+same_flag Permitted Permitted = true
+same_flag _ _ = false
 
 flag_after : (caps : CapSet) (raised : Bool) (s : CapState) (g : Flag) (q : Cap) (f : Flag) → has_flag (put_flag caps raised s g) q f ≡ cond (same_flag f g && has caps q) raised (has_flag s q f)
 flag_after caps raised s Effective q Effective = with_or_without caps s.e raised q

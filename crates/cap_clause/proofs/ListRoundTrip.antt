@@ -11,7 +11,7 @@ use Rattle.std.proofs.lemmas.List.Folds.{list_all-append}
 use Rattle.std.proofs.lemmas.List.Splits.{slice_split_at, slice_split_none}
 use Rattle.std.proofs.lemmas.Map.Views.{any-filter_same}
 use Rattle.cap_bits.specs.Cap.{cap_name, cap_named, all_caps}
-use Rattle.cap_bits.proofs.Names.{cap_named_by}
+use Rattle.cap_bits.proofs.Names.{cap_named_by, lower_name}
 use Rattle.cap_bits.specs.CapSet.{CapSet, has, no_caps, all_of_caps, with_cap, union_of, same_cap, same_sets}
 use Rattle.cap_bits.proofs.CapSets.{same_cap-decides, has-no_caps, has-union_of, has-with_cap}
 use Rattle.cap_bits.specs.Laws.{same_sets-decides, same_caps}
@@ -116,23 +116,12 @@ lists_some caps q there = by_list (caps_of caps) refl
 
 -- ---- names
 
-lower_byte : (b : ℕ) → is_name_byte b ≡ true → to_ascii_lowercase b ≡ b
-lower_byte b is =
-    let range = name_byte_range b is in
-    cond-false _ _ _ (le-ltb b 65 (omega arith)) ∙ cond-false _ _ _ (le-ltb b 91 (omega arith))
-
-lower_name : (bytes : List ℕ) → list_all is_name_byte bytes ≡ true → str_to_ascii_lowercase bytes ≡ bytes
-lower_name [] all = refl
-lower_name (b ∷ bs) all =
-    let parts = and_parts (is_name_byte b) (list_all is_name_byte bs) all in
-    (λ i. lower_byte b parts.0 i ∷ lower_name bs parts.1 i)
-
 -- a capability's name names it
 name_round_trip : (cap : Cap) → caps_named (cap_name cap) ≡ Some (with_cap no_caps cap)
 unfolding caps_named
 name_round_trip cap =
     ap (λ (word : List ℕ). cond (str_eq_ignore_ascii_case (codes "all") word) (Some all_of_caps) (option_map (λ c. with_cap no_caps c) (cap_named (cap_name cap)))) (name_is cap).1
-    ∙ ap (option_map (λ c. with_cap no_caps c)) (cap_named_by (cap_name cap) cap (lower_name (cap_name cap) (name_is cap).0))
+    ∙ ap (option_map (λ c. with_cap no_caps c)) (cap_named_by (cap_name cap) cap (lower_name cap))
 
 abbrev with_one : CapSet → Cap → CapSet
 with_one caps cap = union_of caps (with_cap no_caps cap)

@@ -15,6 +15,7 @@ use Rattle.cap_bits.specs.declared.state.CapState.{CapState}
 use Rattle.cap_bits.specs.declared.state.Flag.{Flag}
 use Rattle.cap_bits.specs.declared.state.Flag.TheVariants.{Effective, Inheritable, Permitted}
 use Rattle.fs_path.specs.Split.{placed}
+use Rattle.fs_path.specs.Words.{is_plain, is_bare}
 use Rattle.cap_clause.specs.Clauses.{is_blank, is_operator, flag_of, is_flag, are_some, has_bytes, clauses_of, pieces_of, caps_listed, first_fault_or, unless_fault, first_operator, after_operator, all_flags, clause_fault, with_clause, parse_list, first_fault, piece_fault}
 use Rattle.cap_clause.proofs.Groups.{same_from, has-group_of, assigned, assigned_none, groups_round_trip}
 use Rattle.cap_clause.proofs.ListRoundTrip.{is_name_byte, is_list_byte, name_byte_range, joined_all, split_joined, list_bytes, ListsSome, lists_some, among_caps, list_round_trip, BeginsAsList, list_begins}
@@ -182,19 +183,7 @@ set_round_trip caps = elim (same_sets caps no_caps) as (λ v. same_sets caps no_
   | false ↦ λ some. let lists = nonempty caps some in read_as_list (list_text caps) (list_begins caps lists) ∙ list_round_trip 0 caps lists
 ] refl
 
--- two sets with one text are one
-pub set_text_exact : (a b : CapSet) → set_text a ≡ set_text b → a ≡ b
-set_text_exact a b same = one_ok a b (parse_set (set_text a)) (set_round_trip a) (ap parse_set same ∙ set_round_trip b)
-
 -- ---- words of a line
-
--- a byte that stands for itself between quotes: 0x20 to 0x7e, but not `"` and `\`
-abbrev pub is_plain : ℕ → Bool
-is_plain b = nat_le 32 b && nat_le b 126 && not (b == 34) && not (b == 92)
-
--- a byte that a bare word may have: a plain one, but no space
-abbrev pub is_bare : ℕ → Bool
-is_bare b = is_plain b && not (b == 32)
 
 plain_name : (b : ℕ) → is_name_byte b ≡ true → is_plain b ≡ true
 plain_name b is =

@@ -7,7 +7,7 @@ pub enum CapTextError {
     Empty,
     /// The piece of a list that begins at this place is no name.
     UnknownName(usize),
-    /// A list or the flags of an action end at this place, and neither an operator follows nor, after an action, the end of the clause.
+    /// There is no operator at this place: the clause ends after its list, or the byte after an action's flags is none.
     NoOperator(usize),
     /// There is no flag at this place, after `+` or `-`.
     NoFlag(usize),

@@ -1,4 +1,4 @@
--- Who asks in a call, and the exercises so far.
+-- Whose call is checked, and the exercises so far.
 use Rattle.std.specs.Prelude.{List, []}
 use Rattle.cap_bits.specs.CapSet.{CapSet}
 use Rattle.lab_lattice.specs.Label.{Label}
@@ -8,19 +8,19 @@ use Rattle.kern_model.specs.declared.checks.Verdict.{Verdict}
 use Rattle.kern_model.specs.declared.records.Rec.{Rec}
 use Rattle.kern_model.specs.Row.{Subject, Row, CheckOutcome, noted, judge}
 
--- who asks, and the exercises so far
+-- whose call is checked, and the exercises so far
 pub record CheckLog : Type 0 where
   pub subject : Subject
   pub used : List Rec
 
--- the first check of a call is yet to be made
+-- the log before the first check of a call
 abbrev pub check_log : Pid → Label → CapSet → CheckLog
 check_log who label effective = record { subject = record { who = who; label = label; effective = effective }; used = [] }
 
--- a check came to this verdict
+-- the log after a check with this verdict
 abbrev pub noting : CheckLog → Check → Verdict → CheckLog
-noting a c v = record a { used = noted a.subject c v a.used }
+noting log c v = record log { used = noted log.subject c v log.used }
 
 -- how a row ends from here
 abbrev pub judge_from : CheckLog → Row → CheckOutcome
-judge_from a r = judge a.subject a.used r
+judge_from log r = judge log.subject log.used r

@@ -1,11 +1,11 @@
--- How the body of a call goes along its row.
+-- How the body of a call follows its row.
 use Rattle.std.specs.Prelude.{◌≡◌}
 use Rattle.kern_model.specs.Row.{Row, CheckOutcome, Stopped, Refused, check_outcome}
 use Rattle.chk_rules.specs.CheckLog.{CheckLog, judge_from}
 use Rattle.chk_rules.specs.declared.stop.Stop.{Stop}
 use Rattle.chk_rules.specs.declared.stop.Stop.TheVariants as stop
 
--- a row ends as the body stops, with the exercises of `after`; nothing is said where memory runs out
+-- a row ends as the body stops, with the exercises in `after`; where memory runs out nothing is said
 unfoldable pub EndsBy : CheckOutcome → CheckLog → Stop → Type 0
 EndsBy j after (stop.Denied name place) = j ≡ check_outcome after.used (Stopped name place)
 EndsBy j after (stop.Refused e) = j ≡ check_outcome after.used (Refused e)

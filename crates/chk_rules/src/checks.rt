@@ -1,4 +1,4 @@
-// What checks come to, and the exercises that they leave.
+// The checks of a call: their verdicts, and the exercises that they leave.
 ghost use Rattle.std.specs.Prelude.{◌≡◌, IfOk, IfErr, OnOk, OnErr};
 ghost use Rattle.kern_model.specs.Row.{verdict_of, Row, Need};
 ghost use Rattle.chk_rules.specs.CheckLog.{check_log, noting};
@@ -11,7 +11,7 @@ use lab_lattice::Label;
 use std::alloc::Global;
 use std::marker::Model;
 
-/// The checks of one call: who asks, with which effective capabilities, and the exercises so far.
+/// The checks of one call: whose call it is, with which effective capabilities, and the exercises so far.
 #[derive(Drop)]
 pub struct Checks {
     who: Pid,
@@ -47,7 +47,7 @@ impl Checks {
         }
     }
 
-    /// What a check comes to. Where its capability is used, an exercise is added.
+    /// The verdict of a check. Where its capability is exercised, a record of that is added.
     #[tactic(auto, unfolding(kern_model::specs::Row::verdict_of))]
     pub fn need(&mut self, check: &Check) -> Result<Verdict, NoMemory>
         ensures verdict { IfOk result (λ verdict. verdict ≡ verdict_of self.old.subject check.now) }

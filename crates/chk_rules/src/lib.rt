@@ -1,4 +1,4 @@
-//! The checks of calls: their rules, what they come to, and how a call stops at one.
+//! The checks of calls: their rules, their verdicts, and how a call stops at one.
 #![tactic(auto)]
 
 mod checks;

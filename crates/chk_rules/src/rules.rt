@@ -7,7 +7,7 @@ ghost use Rattle.kern_model.specs.Rules.{class_shift, is_member, mode_allows as 
 use kern_model::{Attr, Gid, Ids, Want};
 use lab_lattice::{Label, Lattice};
 
-/// The rule of mac_read: whether the process's label dominates that of the thing.
+/// The rule of `mac_read`: whether the process's label dominates that of the thing.
 pub fn mac_read_ok(process: &Label, thing: &Label) -> bool
     ensures { result ≡ dominates process.now thing.now }
 {
@@ -23,7 +23,7 @@ pub fn mode_allows(attr: &Attr, ids: &Ids, want: Want) -> bool
     (attr.mode >> (shift_of_class(attr, ids) + bit_of(want))) & 1 == 1
 }
 
-// Where the bits of the class stand that counts.
+// The place of the lowest bit of the caller's class.
 fn shift_of_class(attr: &Attr, ids: &Ids) -> u16
     ensures shift { result ≡ class_shift attr.now ids.now }
     ensures few { result ≤ 6 }
@@ -51,7 +51,7 @@ fn is_among(group: Gid, groups: &[Gid]) -> bool
     groups.iter().any(|g| *g == group)
 }
 
-// The bit of a class that answers what is wanted.
+// The place, within a class, of the bit for what is wanted.
 fn bit_of(want: Want) -> u16
     ensures bit { result ≡ want_bit want }
     ensures few { result ≤ 2 }

@@ -1,4 +1,4 @@
-// What no clause says: that checks come to a verdict with ample memory.
+// Verdicts with ample memory: no clause says that there is one.
 use crate::{Checks, Stop, must};
 use cap_bits::{Cap, CapSet};
 use kern_model::{Check, CheckName, NoMemory, Pid, Place, Thing, Verdict};

@@ -3,6 +3,7 @@ use Rattle.std.specs.Prelude.{◌≡◌, ℕ, suc, ◌+◌, ◌≤◌, ◌<◌, 
 use Rattle.std.proofs.Common.{sym, ◌∙◌, ap, arith}
 use Rattle.std.specs.List.{filter, list_all, onto_first, position, prefix_len, starts_with}
 use Rattle.std.specs.Option.{option_map, option_or}
+use Rattle.std.proofs.Math.Bool.{and-true}
 use Rattle.std.proofs.lemmas.Bool.Decides.{nat_tests}
 use Rattle.std.proofs.lemmas.Bool.{ltb-false, leb-false, le-leb, and_from, and_parts, or_parts}
 use Rattle.std.proofs.lemmas.List.Sums.{sum_by-cons}
@@ -65,7 +66,7 @@ written_kept at (p ∷ ps) = by_head (counts (record { at = at; bytes = p })) (w
 
 -- ---- components without a fault
 
-cond_none : {T : Type 0} (v : Bool) (e : T) (o : Option T) → cond v (Some e) o ≡ None → (v ≡ false) × (o ≡ None)
+pub cond_none : {T : Type 0} (v : Bool) (e : T) (o : Option T) → cond v (Some e) o ≡ None → (v ≡ false) × (o ≡ None)
 cond_none true e o h = absurd (cc)
 cond_none false e o h = (refl, h)
 
@@ -113,14 +114,10 @@ some_byte : (bytes : List ℕ) → is_empty_or_dot bytes ≡ false → 1 ≤ len
 some_byte [] h = absurd (cc)
 some_byte (b ∷ bs) h = omega arith
 
-and_true : (v : Bool) → (v && true) ≡ v
-and_true true = refl
-and_true false = refl
-
 no_dots : (bytes : List ℕ) → is_empty_or_dot bytes ≡ false → starts_badly bytes ≡ false → is_dots bytes ≡ false
 no_dots [] h k = refl
-no_dots (a ∷ []) h k = sym (and_true (a == 46)) ∙ h
-no_dots (a ∷ b ∷ []) h k = ap (λ v. a == 46 && v) (sym (and_true (b == 46))) ∙ (or_parts _ _ k).0
+no_dots (a ∷ []) h k = sym (and-true (a == 46)) ∙ h
+no_dots (a ∷ b ∷ []) h k = ap (λ v. a == 46 && v) (sym (and-true (b == 46))) ∙ (or_parts _ _ k).0
 no_dots (a ∷ b ∷ d ∷ ds) h k = refl
 
 -- a component that counts, and has no slash and no fault, is a name

@@ -15,7 +15,8 @@ use Rattle.std.proofs.Math.Nat.{div-div-eq-div-mul}
 use Rattle.fs_path.specs.declared.words.LineWord.{LineWord}
 use Rattle.fs_path.specs.Options.{keep_if}
 use Rattle.fs_path.specs.Values.{is_digit, digits_value, numeral, number_of, mode_of, numbers_of, few_numbers, groups_of, mode_text, after_commas, groups_text}
-use Rattle.fs_path.specs.Words.{is_space, is_plain, is_bare, is_bare_text, hex_value, hex_pair, escaped, first_item, onto_piece, items_of, quoted_word, leading_word, apart, is_apart, first_word, trim_spaces, words_by, words_of, hex_digit, item_text, quoted_text, has_spelling, with_quotes_if_needed, spelling, after_spaces, line_text}
+use Rattle.fs_path.specs.Split.{onto_piece}
+use Rattle.fs_path.specs.Words.{is_space, is_plain, is_bare, is_bare_text, hex_value, hex_pair, escaped, first_item, items_of, quoted_word, leading_word, apart, is_apart, first_word, trim_spaces, words_by, words_of, hex_digit, item_text, quoted_text, has_spelling, with_quotes_if_needed, spelling, after_spaces, line_text}
 use Rattle.fs_path.proofs.WordSteps.{items_next, words_are, words_first}
 
 -- ---- items between quotes

@@ -6,8 +6,7 @@ use Rattle.std.proofs.lemmas.Bool.{ltb-true, ltb-false, lt-ltb}
 use Rattle.std.proofs.lemmas.Bool.Decides.{nat_tests}
 use Rattle.std.proofs.lemmas.List.{take_all, take_rest}
 use Rattle.std.proofs.lemmas.List.Splits.{join_with_byte-slice_split, slice_split_first}
-use Rattle.fs_path.specs.Words.{onto_piece}
-use Rattle.fs_path.specs.Split.{split_once, pieces, pieces_of_rest, after_first_of}
+use Rattle.fs_path.specs.Split.{onto_piece, split_once, pieces, pieces_of_rest, after_first_of}
 
 -- ---- the parts by the place
 

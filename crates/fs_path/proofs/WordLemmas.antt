@@ -2,7 +2,8 @@
 use Rattle.std.proofs.Common.{◌≡◌, ℕ, List, [], ◌∷◌, ◌++◌, get_or, refl, sym, ◌∙◌, ap, append_assoc, Option, Some, None}
 use Rattle.std.specs.Option.{option_map}
 use Rattle.fs_path.specs.declared.words.LineWord.{LineWord}
-use Rattle.fs_path.specs.Words.{first_item, onto_piece, items_of, first_word, trim_spaces, words_by, words_of}
+use Rattle.fs_path.specs.Split.{onto_piece}
+use Rattle.fs_path.specs.Words.{first_item, items_of, first_word, trim_spaces, words_by, words_of}
 use Rattle.fs_path.proofs.WordSteps.{items_next, words_are, words_first}
 
 -- the bytes that were read, before those of the rest

@@ -4,9 +4,10 @@ use Rattle.std.proofs.Common.{get_or, ◌∙◌, ap, subst, arith}
 use Rattle.std.specs.List.{prefix_len, take_while}
 use Rattle.std.specs.Option.{option_and_then, option_map}
 use Rattle.std.proofs.lemmas.Bool.{cond_both, ne_eqb}
-use Rattle.std.proofs.lemmas.List.{length-drop}
+use Rattle.std.proofs.lemmas.List.{length-drop, length-take}
 use Rattle.fs_path.specs.declared.words.LineWord.{LineWord}
-use Rattle.fs_path.specs.Words.{is_space, is_plain, is_bare, hex_value, hex_pair, escaped, first_item, onto_piece, items_within, items_of, quoted_word, leading_word, apart, is_apart, first_word, trim_spaces, words_by, words_within, words_of}
+use Rattle.fs_path.specs.Split.{onto_piece}
+use Rattle.fs_path.specs.Words.{is_space, is_plain, is_bare, hex_value, hex_pair, escaped, first_item, items_within, items_of, quoted_word, leading_word, apart, is_apart, first_word, trim_spaces, words_by, words_within, words_of}
 
 -- ---- items between quotes
 
@@ -71,67 +72,71 @@ items_next (b ∷ bs) more x no_quote first = items_cons b x bs more (ne_eqb b 3
 
 -- ---- words
 
--- less than n bytes come after a word
-abbrev Below : {W : Type 0} → ℕ → Option (W × List ℕ) → Type 0
-Below n None = Unit {0}
-Below n (Some p) = length p.1 < n
+-- what was read between quotes and the text after it have fewer than n bytes together
+abbrev ItemsFit : ℕ → Option (List ℕ × List ℕ) → Type 0
+ItemsFit n None = Unit {0}
+ItemsFit n (Some p) = length p.0 + length p.1 < n
 
--- a quote closes the items, and the text after it is shorter
-items_shorter : (n : ℕ) (text : List ℕ) → Below (length text) (items_within n text)
-items_shorter zero text = tt
-items_shorter (suc n) [] = tt
-items_shorter (suc n) (b ∷ bs) =
-    let fewer : length bs < length (b ∷ bs) = omega arith in
-    cond_both (b == 34) (Some ([], bs)) (option_and_then (λ (p : ℕ × List ℕ). onto_piece p.0 (items_within n p.1)) (first_item (b ∷ bs))) (Below (length (b ∷ bs))) (λ _. fewer)
-    (λ _. by_item (λ t. items_shorter n t) (first_item (b ∷ bs)) (item_shorter b bs))
+items_fit : (n : ℕ) (text : List ℕ) → ItemsFit (length text) (items_within n text)
+items_fit zero text = tt
+items_fit (suc n) [] = tt
+items_fit (suc n) (b ∷ bs) =
+    let fewer : 0 + length bs < length (b ∷ bs) = omega arith in
+    cond_both (b == 34) (Some ([], bs)) (option_and_then (λ (p : ℕ × List ℕ). onto_piece p.0 (items_within n p.1)) (first_item (b ∷ bs))) (ItemsFit (length (b ∷ bs))) (λ _. fewer)
+    (λ _. by_item (λ t. items_fit n t) (first_item (b ∷ bs)) (item_shorter b bs))
   where
-    onto : (x k : ℕ) (o : Option (List ℕ × List ℕ)) → Below k o → k ≤ length bs → Below (length (b ∷ bs)) (onto_piece x o)
-    onto x k None short le = tt
-    onto x k (Some p) short le = omega arith
+    onto : (x k : ℕ) (o : Option (List ℕ × List ℕ)) → ItemsFit k o → k ≤ length bs → ItemsFit (length (b ∷ bs)) (onto_piece x o)
+    onto x k None fit le = tt
+    onto x k (Some p) fit le = omega arith
 
-    by_item : ((t : List ℕ) → Below (length t) (items_within n t)) → (o : Option (ℕ × List ℕ)) → AtMost (length bs) o → Below (length (b ∷ bs)) (option_and_then (λ (p : ℕ × List ℕ). onto_piece p.0 (items_within n p.1)) o)
-    by_item round_trip None short = tt
-    by_item round_trip (Some p) short = onto p.0 (length p.1) (items_within n p.1) (round_trip p.1) short
+    by_item : ((t : List ℕ) → ItemsFit (length t) (items_within n t)) → (o : Option (ℕ × List ℕ)) → AtMost (length bs) o → ItemsFit (length (b ∷ bs)) (option_and_then (λ (p : ℕ × List ℕ). onto_piece p.0 (items_within n p.1)) o)
+    by_item fit None short = tt
+    by_item fit (Some p) short = onto p.0 (length p.1) (items_within n p.1) (fit p.1) short
 
-begun_shorter : (text : List ℕ) → Below (length text) (leading_word text)
-begun_shorter [] = tt
-begun_shorter (b ∷ bs) =
-    cond_both (b == 34) (option_map quoted_word (items_of bs)) (cond (is_bare b) (Some bare) None) (Below (length (b ∷ bs))) (λ _. by_items (items_of bs) (items_shorter (length bs) bs))
-    (λ _. cond_both (is_bare b) (Some bare) None (Below (length (b ∷ bs))) (λ some. by_count some) (λ _. tt))
+-- a word has at most n bytes, and the text after it has fewer
+abbrev pub WordFits : ℕ → Option (LineWord × List ℕ) → Type 0
+WordFits n None = Unit {0}
+WordFits n (Some p) = (length p.0.bytes ≤ n) × (length p.1 < n)
+
+leading_fits : (text : List ℕ) → WordFits (length text) (leading_word text)
+leading_fits [] = tt
+leading_fits (b ∷ bs) =
+    cond_both (b == 34) (option_map quoted_word (items_of bs)) (cond (is_bare b) (Some bare) None) (WordFits (length (b ∷ bs))) (λ _. by_items (items_of bs) (items_fit (length bs) bs))
+    (λ _. cond_both (is_bare b) (Some bare) None (WordFits (length (b ∷ bs))) (λ some. by_count some) (λ _. tt))
   where
     bare : LineWord × List ℕ
     bare = (record { quoted = false; bytes = take_while is_bare (b ∷ bs) }, drop (prefix_len is_bare (b ∷ bs)) (b ∷ bs))
 
-    by_items : (o : Option (List ℕ × List ℕ)) → Below (length bs) o → Below (length (b ∷ bs)) (option_map quoted_word o)
-    by_items None short = tt
-    by_items (Some p) short = omega arith
+    by_items : (o : Option (List ℕ × List ℕ)) → ItemsFit (length bs) o → WordFits (length (b ∷ bs)) (option_map quoted_word o)
+    by_items None fit = tt
+    by_items (Some p) fit = (omega arith, omega arith)
 
-    by_count : is_bare b ≡ true → length (drop (prefix_len is_bare (b ∷ bs)) (b ∷ bs)) < length (b ∷ bs)
+    by_count : is_bare b ≡ true → WordFits (length (b ∷ bs)) (Some bare)
     by_count some =
         let count = ap (λ v. cond v (1 + prefix_len is_bare bs) 0) some in
-        omega (arith, count, length-drop (prefix_len is_bare (b ∷ bs)) (b ∷ bs))
+        (omega (arith, length-take (prefix_len is_bare (b ∷ bs)) (b ∷ bs)), omega (arith, count, length-drop (prefix_len is_bare (b ∷ bs)) (b ∷ bs)))
 
-first_shorter : (text : List ℕ) → Below (length text) (first_word text)
-first_shorter text = by_word (leading_word text) (begun_shorter text)
+pub first_fits : (text : List ℕ) → WordFits (length text) (first_word text)
+first_fits text = by_word (leading_word text) (leading_fits text)
   where
-    by_word : (o : Option (LineWord × List ℕ)) → Below (length text) o → Below (length text) (option_and_then apart o)
-    by_word None short = tt
-    by_word (Some p) short = cond_both (is_apart p.1) (Some p) None (Below (length text)) (λ _. short) (λ _. tt)
+    by_word : (o : Option (LineWord × List ℕ)) → WordFits (length text) o → WordFits (length text) (option_and_then apart o)
+    by_word None fits = tt
+    by_word (Some p) fits = cond_both (is_apart p.1) (Some p) None (WordFits (length text)) (λ _. fits) (λ _. tt)
 
 pub word_shorter : (text rest : List ℕ) (w : LineWord) → first_word text ≡ Some (w, rest) → length rest < length text
-word_shorter text rest w is = subst (Below (length text)) is (first_shorter text)
+word_shorter text rest w is = (subst (WordFits (length text)) is (first_fits text)).1
 
 pub past_shorter : (text : List ℕ) → length (trim_spaces text) ≤ length text
 past_shorter text = omega (arith, length-drop (prefix_len is_space text) text)
 
 by_same : (f g : List ℕ → Option (List LineWord)) (text : List ℕ) → ((rest : List ℕ) → length rest < length text → f rest ≡ g rest) → words_by f text ≡ words_by g text
 by_same f g [] same = refl
-by_same f g (b ∷ bs) same = by_word (first_word (b ∷ bs)) (first_shorter (b ∷ bs))
+by_same f g (b ∷ bs) same = by_word (first_word (b ∷ bs)) (first_fits (b ∷ bs))
   where
-    by_word : (o : Option (LineWord × List ℕ)) → Below (length (b ∷ bs)) o
+    by_word : (o : Option (LineWord × List ℕ)) → WordFits (length (b ∷ bs)) o
         → option_and_then (λ (p : LineWord × List ℕ). option_map (λ ws. p.0 ∷ ws) (f p.1)) o ≡ option_and_then (λ (p : LineWord × List ℕ). option_map (λ ws. p.0 ∷ ws) (g p.1)) o
-    by_word None short = refl
-    by_word (Some p) short = ap (option_map (λ ws. p.0 ∷ ws)) (same p.1 short)
+    by_word None fits = refl
+    by_word (Some p) fits = ap (option_map (λ ws. p.0 ∷ ws)) (same p.1 fits.1)
 
 -- no more words are read where more may be
 words_same : (n m : ℕ) (text : List ℕ) → length text ≤ n → length text ≤ m → words_within n text ≡ words_within m text

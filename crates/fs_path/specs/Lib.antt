@@ -3,5 +3,5 @@ pub mod Name
 pub mod Path
 pub mod PathText
 pub mod Values
-pub mod Words
 pub mod Split
+pub mod Words

@@ -41,8 +41,8 @@ names_of cs = map (λ c. c.bytes) cs
 abbrev pub starts_badly : List ℕ → Bool
 starts_badly bytes = are_same bytes (46 ∷ 46 ∷ []) || starts_with ◌==◌ bytes (0 ∷ [])
 
--- the fault of a component, before which `count` others count: at its first byte that it is too long, then a byte 0 or
--- `..`, then that it is one too many; after its first byte a byte 0
+-- the fault of a component that comes after `count` others: it is too long, it is `..` or its first byte is 0, it is one too
+-- many, a later byte is 0; the first of these that holds
 unfoldable pub component_fault : ℕ → Piece → Option PathError
 component_fault count c =
     cond (nat_lt 63 (length c.bytes)) (Some (error.NameTooLong c.at))
@@ -50,7 +50,7 @@ component_fault count c =
     (cond (nat_le 32 count) (Some error.TooDeep)
     (option_map (λ i. error.BadByte (c.at + i)) (position (λ b. b == 0) c.bytes))))
 
--- the first fault of components, before which `count` others count
+-- the first fault of components that come after `count` others
 abbrev pub first_fault : ℕ → List Piece → Option PathError
 first_fault count [] = None
 first_fault count (c ∷ cs) = option_or (component_fault count c) (first_fault (count + 1) cs)

@@ -1,7 +1,11 @@
 -- A text split at a byte.
 use Rattle.std.specs.Prelude.{ℕ, ◌+◌, ◌==◌, cond, List, [], ◌∷◌, length, Option, Some, None}
 use Rattle.std.specs.List.{after_first, list_any, slice_split}
-use Rattle.fs_path.specs.Words.{onto_piece}
+
+-- a byte before the first of two texts
+abbrev pub onto_piece : ℕ → Option (List ℕ × List ℕ) → Option (List ℕ × List ℕ)
+onto_piece x None = None
+onto_piece x (Some p) = Some (x ∷ p.0, p.1)
 
 -- the text before the first `at`, and the text after it
 unfoldable pub split_once : ℕ → List ℕ → Option (List ℕ × List ℕ)

@@ -2,6 +2,7 @@
 use Rattle.std.specs.Prelude.{ℕ, zero, suc, ◌+◌, ◌*◌, ◌-◌, ◌/◌, ◌%◌, ◌==◌, ◌&&◌, ◌||◌, not, nat_le, nat_lt, Bool, true, false, cond, List, [], ◌∷◌, ◌++◌, length, drop, Option, None, Some}
 use Rattle.std.specs.List.{flat_map, list_all, take_while, prefix_len}
 use Rattle.std.specs.Option.{option_and_then, option_map}
+use Rattle.fs_path.specs.Split.{onto_piece}
 use Rattle.fs_path.specs.declared.words.LineWord.{LineWord}
 
 abbrev pub is_space : ℕ → Bool
@@ -39,10 +40,6 @@ escaped (b ∷ bs) = cond (b == 34 || b == 92) (Some (b, bs)) (cond (b == 120) (
 abbrev pub first_item : List ℕ → Option (ℕ × List ℕ)
 first_item [] = None
 first_item (b ∷ bs) = cond (b == 92) (escaped bs) (cond (is_plain b) (Some (b, bs)) None)
-
-abbrev pub onto_piece : ℕ → Option (List ℕ × List ℕ) → Option (List ℕ × List ℕ)
-onto_piece x None = None
-onto_piece x (Some p) = Some (x ∷ p.0, p.1)
 
 -- the bytes that up to n items denote, up to the closing quote, and the text after that
 abbrev pub items_within : ℕ → List ℕ → Option (List ℕ × List ℕ)

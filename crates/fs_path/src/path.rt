@@ -79,7 +79,7 @@ fn starts_badly(bytes: &[u8]) -> bool
     bytes == b"..".as_slice() || bytes.starts_with(&[0])
 }
 
-// What is wrong with a component that begins at `at`, before which `count` others count.
+// What is wrong with a component that begins at `at` and comes after `count` others.
 #[tactic(auto, using(std::proofs::lemmas::Bool::Decides::nat_tests), unfolding(crate::specs::PathText::component_fault))]
 fn component_fault(count: usize, at: usize, bytes: &[u8]) -> Option<PathError>
     requires { at + length bytes.now < 2 ^ 64 }

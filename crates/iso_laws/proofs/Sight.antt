@@ -9,7 +9,8 @@ use Rattle.cap_bits.specs.declared.cap.Cap.{Cap}
 use Rattle.cap_bits.specs.declared.cap.Cap.TheVariants as cap
 use Rattle.fs_path.specs.Name.{Name}
 use Rattle.fs_path.specs.Path.{PathValue}
-use Rattle.lab_lattice.specs.Label.{Label, dominates, dominates_through, dominates_bottom, label_cmp_total, label_cmp_exact}
+use Rattle.lab_lattice.specs.Label.{Label, dominates}
+use Rattle.lab_lattice.proofs.Labels.{dominates_through, dominates_bottom, label_cmp_total, label_cmp_exact}
 use Rattle.kern_model.specs.declared.numbers.Pid.{Pid}
 use Rattle.kern_model.specs.declared.numbers.Oid.{Oid}
 use Rattle.kern_model.specs.declared.numbers.Did.{Did}

@@ -9,7 +9,8 @@ use Rattle.std.specs.FinMap.{FinMap}
 use Rattle.cap_bits.specs.CapSet.{CapSet}
 use Rattle.cap_bits.specs.declared.cap.Cap.{Cap}
 use Rattle.cap_bits.specs.declared.state.CapState.{CapState}
-use Rattle.lab_lattice.specs.Label.{Label, label_cmp, label_cmp_total}
+use Rattle.lab_lattice.specs.Label.{Label, label_cmp}
+use Rattle.lab_lattice.proofs.Labels.{label_cmp_total}
 use Rattle.kern_model.specs.declared.calls.Call.{Call}
 use Rattle.kern_model.specs.declared.calls.CallName.{CallName}
 use Rattle.kern_model.specs.declared.checks.Check.{Check}

@@ -5,7 +5,8 @@ use Rattle.std.proofs.lemmas.Bool.{and_from}
 use Rattle.std.proofs.lemmas.List.Sums.{sum_by_push}
 use Rattle.std.specs.FinMap as map
 use Rattle.std.specs.FinMap.{FinMap}
-use Rattle.lab_lattice.specs.Label.{Label, dominates, dominates_itself, label_cmp, label_cmp_total, label_cmp_exact}
+use Rattle.lab_lattice.specs.Label.{Label, dominates, label_cmp}
+use Rattle.lab_lattice.proofs.Labels.{dominates_itself, label_cmp_total, label_cmp_exact}
 use Rattle.kern_model.specs.Rules.{same_label}
 use Rattle.kern_model.specs.State.{drawn}
 use Rattle.kern_model.specs.Valid.{IsDrawn}

@@ -5,7 +5,8 @@ use Rattle.std.specs.FinMap.{FinMap}
 use Rattle.std.proofs.lemmas.List.Sums.{sum_by-cons}
 use Rattle.std.proofs.Common.{ap, sym, ◌∙◌, subst, arith, get_or, drop, drop-cons, add-one, suc, append_assoc}
 use Rattle.fs_path.specs.Name.{Name}
-use Rattle.lab_lattice.specs.Label.{Label, label_cmp, label_cmp_total, label_cmp_exact, dominates_itself}
+use Rattle.lab_lattice.specs.Label.{Label, label_cmp}
+use Rattle.lab_lattice.proofs.Labels.{label_cmp_total, label_cmp_exact, dominates_itself}
 use Rattle.kern_model.specs.declared.limits.TheConstants.{MAX_OBJECTS, MAX_PROCS}
 use Rattle.kern_model.specs.declared.numbers.Oid.{Oid}
 use Rattle.kern_model.specs.declared.numbers.Pid.{Pid}

@@ -10,7 +10,8 @@ use Rattle.std.proofs.lemmas.List.Sums.{sum_by-cons}
 use Rattle.std.proofs.lemmas.List.Elements.{All-from_recursion, recursion_from_All}
 use Rattle.std.proofs.lemmas.List.{drop_more}
 use Rattle.fs_path.specs.Name.{Name}
-use Rattle.lab_lattice.specs.Label.{Label, bottom, dominates, dominates_both}
+use Rattle.lab_lattice.specs.Label.{Label, bottom, dominates}
+use Rattle.lab_lattice.proofs.Labels.{dominates_both}
 use Rattle.kern_model.specs.declared.limits.TheConstants.{MAX_OBJECTS, MAX_PROCS}
 use Rattle.kern_model.specs.declared.objects.Body.TheVariants as body
 use Rattle.kern_model.specs.declared.world.World.{World}

@@ -1,2 +1,4 @@
-mod Words
-mod Pairs
+pub mod CatSets
+pub mod Words
+pub mod Pairs
+pub mod Labels

@@ -1,22 +1,23 @@
 -- What operations on a number's bits do to the set of categories that the number denotes.
-use Rattle.std.proofs.Common.{◌≡◌, ℕ, ◌*◌, ◌/◌, ◌%◌, ◌^◌, ◌<◌, ◌≤◌, true, false, ap, sym, ◌∙◌, arith, bit_and, bit_or}
-use Rattle.std.specs.Prelude.{◌||◌, ◌&&◌, ◌==◌, nat_eq, nat_lt, min}
+use Rattle.std.specs.Prelude.{◌≡◌, ℕ, ◌*◌, ◌/◌, ◌%◌, ◌^◌, ◌<◌, ◌≤◌, true, false, ◌||◌, ◌&&◌, ◌==◌, nat_eq, nat_lt, min, bit_and, bit_or}
+use Rattle.std.specs.Int.{bit_at}
 use Rattle.std.specs.Ordering.{nat_cmp}
 use Rattle.std.specs.Cmp.{both_ways}
+use Rattle.std.proofs.Common.{ap, sym, ◌∙◌, arith}
 use Rattle.std.proofs.lemmas.Bool.{and_left}
 use Rattle.std.proofs.lemmas.Bool.Decides.{nat_tests, Decides-eqb, same_from_decides}
 use Rattle.std.proofs.lemmas.Nat.{and_le_l, or_lt, one_shl, pow_below}
-use Rattle.std.proofs.lemmas.Nat.Bits.{bit_at-zero, shr_and_one, bit_at-lt, bit_at_and}
-use Rattle.lab_lattice.specs.Word.{in_word, cats_of_word}
-use Rattle.lab_lattice.specs.Laws.{in-power, in-or, same_sets-decides, has-no_cats, has-one_cat, has-cats_join, has-cats_meet, same_cats, cover_itself, cover_both, cats_meet_first, cats_meet_second, cats_meet_over, has-cats_of_word, has-short_word, word_back}
-use Rattle.lab_lattice.specs.Cats.{CatSet, has_cat, no_cats, one_cat, cats_cover, cats_join, cats_meet, cats_number, cats_cmp, same_sets}
-use Rattle.std.specs.Int.{bit_at}
+use Rattle.std.proofs.lemmas.Nat.Bits.{bit_at-lt, bit_at-zero, bit_at_and, shr_and_one}
+use Rattle.lab_lattice.specs.Cats.{CatSet, has_cat, no_cats, one_cat, cats_join, cats_meet, cats_cover, same_sets}
+use Rattle.lab_lattice.specs.Word.{in_word, cats_of_word, word_of_cats, cats_cmp}
+use Rattle.lab_lattice.specs.Laws.{has-cats_join, has-cats_meet, same_cats, cats_reflexive, cats_antisymmetric, cats_meet_first, cats_meet_second, cats_meet_greatest, same_sets-decides, in-power, in-or, has-cats_of_word, has-short_word, word_back}
+use Rattle.lab_lattice.proofs.CatSets.{has-no_cats, has-one_cat}
 
-both : (x y : ℕ) → x < 2 → y < 2 → (min x y == 1) ≡ (x == 1 && y == 1)
-both x y p q = grind (arith, nat_tests)
+both_bits : (x y : ℕ) → x < 2 → y < 2 → (min x y == 1) ≡ (x == 1 && y == 1)
+both_bits x y p q = grind (arith, nat_tests)
 
 in-and : (a b q : ℕ) → in_word (bit_and a b) q ≡ (in_word a q && in_word b q)
-in-and a b q = ap (λ x. x == 1) (bit_at_and a b q) ∙ both (bit_at a q) (bit_at b q) (bit_at-lt a q) (bit_at-lt b q)
+in-and a b q = ap (λ x. x == 1) (bit_at_and a b q) ∙ both_bits (bit_at a q) (bit_at b q) (bit_at-lt a q) (bit_at-lt b q)
 
 -- a number below 2 ^ 64 denotes the set whose members are its bits
 cats_by_bits : (word : ℕ) (s : CatSet) → word < 2 ^ 64 → ((q : ℕ) → in_word word q ≡ has_cat s q) → cats_of_word word ≡ s
@@ -41,18 +42,18 @@ word_meet a b h k = cats_by_bits (bit_and a b) _ (omega (arith, and_le_l a b)) (
 
 -- of two sets of which the first covers the second, the second is what both have
 met : (x y : CatSet) → cats_cover x y ≡ true → cats_meet x y ≡ y
-met x y e = cover_both _ y (cats_meet_over x y y e (cover_itself y)) (cats_meet_second x y)
+met x y e = cats_antisymmetric _ y (cats_meet_greatest x y y e (cats_reflexive y)) (cats_meet_second x y)
 
 pub word_cover : (a b : ℕ) → a < 2 ^ 64 → b < 2 ^ 64 → nat_eq (bit_and a b) b ≡ cats_cover (cats_of_word a) (cats_of_word b)
 word_cover a b h k = both_ways _ _
     (λ e. let same : cats_meet (cats_of_word a) (cats_of_word b) ≡ cats_of_word b = sym (word_meet a b h k) ∙ ap cats_of_word ((Decides-eqb (bit_and a b) b).0 e) in
     ap (cats_cover (cats_of_word a)) (sym same) ∙ cats_meet_first (cats_of_word a) (cats_of_word b))
     (λ e. (Decides-eqb (bit_and a b) b).1
-    (sym (word_back (bit_and a b) (omega (arith, and_le_l a b))) ∙ ap cats_number (word_meet a b h k ∙ met _ _ e) ∙ word_back b k))
+    (sym (word_back (bit_and a b) (omega (arith, and_le_l a b))) ∙ ap word_of_cats (word_meet a b h k ∙ met _ _ e) ∙ word_back b k))
 
 pub word_same : (a b : ℕ) → a < 2 ^ 64 → b < 2 ^ 64 → nat_eq a b ≡ same_sets (cats_of_word a) (cats_of_word b)
 word_same a b h k = same_from_decides (nat_eq a b) (same_sets (cats_of_word a) (cats_of_word b))
-    (λ e. ap cats_of_word ((Decides-eqb a b).0 e), λ e. (Decides-eqb a b).1 (sym (word_back a h) ∙ ap cats_number e ∙ word_back b k))
+    (λ e. ap cats_of_word ((Decides-eqb a b).0 e), λ e. (Decides-eqb a b).1 (sym (word_back a h) ∙ ap word_of_cats e ∙ word_back b k))
     (same_sets-decides _ _)
 
 pub word_cmp : (a b : ℕ) → a < 2 ^ 64 → b < 2 ^ 64 → nat_cmp a b ≡ cats_cmp (cats_of_word a) (cats_of_word b)

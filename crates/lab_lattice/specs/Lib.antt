@@ -1,6 +1,6 @@
 pub mod Level
 pub mod Cats
 pub mod Word
-pub mod Laws
 pub mod Pair
 pub mod Label
+pub mod Laws

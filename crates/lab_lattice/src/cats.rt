@@ -2,7 +2,8 @@
 ghost use Rattle.std.specs.Prelude.{◌≡◌, ◌<◌, ◌↔◌, IsSome, IfSome, refl};
 ghost use Rattle.std.specs.Cmp.{partial_equiv_from_equiv, po};
 ghost use Rattle.std.specs.Ordering.{as_partial_cmp};
-ghost use Rattle.lab_lattice.specs.Cats.{no_cats, one_cat, has_cat, same_sets, cats_cmp};
+ghost use Rattle.lab_lattice.specs.Cats.{no_cats, one_cat, has_cat, same_sets};
+ghost use Rattle.lab_lattice.specs.Word.{cats_cmp};
 ghost use Rattle.lab_lattice.specs.Laws.{same_sets-equiv, same_sets-ties, cats_cmp_total};
 
 use crate::Lattice;
@@ -21,8 +22,8 @@ pub struct Cats {
 
 impl Model for Cats {
     ghost use Rattle.std.specs.Prelude.{◌<◌, ◌^◌};
-    ghost use Rattle.lab_lattice.specs.Cats.{CatSet, cats_code, cats_number};
-    ghost use Rattle.lab_lattice.specs.Word.{cats_of_word};
+    ghost use Rattle.lab_lattice.specs.Cats.{CatSet, cats_code};
+    ghost use Rattle.lab_lattice.specs.Word.{cats_of_word, word_of_cats};
     ghost use Rattle.lab_lattice.specs.Laws.{word_back};
 
     ghost Value = { CatSet };
@@ -33,7 +34,7 @@ impl Model for Cats {
 
     ghost invariant = { λ s. s.word < 2 ^ 64 };
 
-    ghost inverse = { λ cats. record { word = cats_number cats } };
+    ghost inverse = { λ cats. record { word = word_of_cats cats } };
 
     ghost inverse_ok = { λ s h. λ i. record { word = word_back s.word h i } };
 }
@@ -68,7 +69,7 @@ impl Cats {
 
 impl Lattice for Cats {
     ghost use Rattle.lab_lattice.specs.Cats.{cats_cover, cats_join, cats_meet};
-    ghost use Rattle.lab_lattice.specs.Laws.{cover_itself, cover_through, cover_both, cats_join_first, cats_join_second, cats_join_under, cats_meet_first, cats_meet_second, cats_meet_over};
+    ghost use Rattle.lab_lattice.specs.Laws.{cats_reflexive, cats_transitive, cats_antisymmetric, cats_join_first, cats_join_second, cats_join_least, cats_meet_first, cats_meet_second, cats_meet_greatest};
 
     ghost covers = { cats_cover };
 
@@ -76,23 +77,23 @@ impl Lattice for Cats {
 
     ghost meet = { cats_meet };
 
-    ghost reflexive = { cover_itself };
+    ghost reflexive = { cats_reflexive };
 
-    ghost transitive = { cover_through };
+    ghost transitive = { cats_transitive };
 
-    ghost antisymmetric = { cover_both };
+    ghost antisymmetric = { cats_antisymmetric };
 
     ghost join_above_first = { cats_join_first };
 
     ghost join_above_second = { cats_join_second };
 
-    ghost join_least = { cats_join_under };
+    ghost join_least = { cats_join_least };
 
     ghost meet_below_first = { cats_meet_first };
 
     ghost meet_below_second = { cats_meet_second };
 
-    ghost meet_greatest = { cats_meet_over };
+    ghost meet_greatest = { cats_meet_greatest };
 
     fn dominates(&self, other: &Self) -> bool {
         self.word & other.word == other.word

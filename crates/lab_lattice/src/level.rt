@@ -56,7 +56,7 @@ impl Level {
 
 impl Lattice for Level {
     ghost use Rattle.lab_lattice.specs.Level.{level_covers, level_join, level_meet};
-    ghost use Rattle.lab_lattice.specs.Laws.{level_itself, level_through, level_both, join_first, join_second, join_under, meet_first, meet_second, meet_over};
+    ghost use Rattle.lab_lattice.specs.Laws.{level_reflexive, level_transitive, level_antisymmetric, level_join_first, level_join_second, level_join_least, level_meet_first, level_meet_second, level_meet_greatest};
 
     ghost covers = { level_covers };
 
@@ -64,23 +64,23 @@ impl Lattice for Level {
 
     ghost meet = { level_meet };
 
-    ghost reflexive = { level_itself };
+    ghost reflexive = { level_reflexive };
 
-    ghost transitive = { level_through };
+    ghost transitive = { level_transitive };
 
-    ghost antisymmetric = { level_both };
+    ghost antisymmetric = { level_antisymmetric };
 
-    ghost join_above_first = { join_first };
+    ghost join_above_first = { level_join_first };
 
-    ghost join_above_second = { join_second };
+    ghost join_above_second = { level_join_second };
 
-    ghost join_least = { join_under };
+    ghost join_least = { level_join_least };
 
-    ghost meet_below_first = { meet_first };
+    ghost meet_below_first = { level_meet_first };
 
-    ghost meet_below_second = { meet_second };
+    ghost meet_below_second = { level_meet_second };
 
-    ghost meet_greatest = { meet_over };
+    ghost meet_greatest = { level_meet_greatest };
 
     fn dominates(&self, other: &Self) -> bool {
         self.number >= other.number

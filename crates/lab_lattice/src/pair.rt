@@ -10,7 +10,8 @@ pub struct Pair<A, B> {
 }
 
 impl<A: Lattice, B: Lattice> Lattice for Pair<A, B> {
-    ghost use Rattle.lab_lattice.specs.Pair.{pair_covers, pair_of, pair_itself, pair_through, pair_both, pair_join_first, pair_join_second, pair_join_under, pair_meet_first, pair_meet_second, pair_meet_over};
+    ghost use Rattle.lab_lattice.specs.Pair.{pair_covers, pair_of};
+    ghost use Rattle.lab_lattice.specs.Laws.{pair_reflexive, pair_transitive, pair_antisymmetric, pair_join_first, pair_join_second, pair_join_least, pair_meet_first, pair_meet_second, pair_meet_greatest};
 
     ghost covers = { pair_covers A.covers B.covers };
 
@@ -18,23 +19,23 @@ impl<A: Lattice, B: Lattice> Lattice for Pair<A, B> {
 
     ghost meet = { pair_of A.meet B.meet };
 
-    ghost reflexive = { pair_itself A.covers B.covers A.reflexive B.reflexive };
+    ghost reflexive = { pair_reflexive A.covers B.covers A.reflexive B.reflexive };
 
-    ghost transitive = { pair_through A.covers B.covers A.transitive B.transitive };
+    ghost transitive = { pair_transitive A.covers B.covers A.transitive B.transitive };
 
-    ghost antisymmetric = { pair_both A.covers B.covers A.antisymmetric B.antisymmetric };
+    ghost antisymmetric = { pair_antisymmetric A.covers B.covers A.antisymmetric B.antisymmetric };
 
     ghost join_above_first = { pair_join_first A.covers B.covers A.join B.join A.join_above_first B.join_above_first };
 
     ghost join_above_second = { pair_join_second A.covers B.covers A.join B.join A.join_above_second B.join_above_second };
 
-    ghost join_least = { pair_join_under A.covers B.covers A.join B.join A.join_least B.join_least };
+    ghost join_least = { pair_join_least A.covers B.covers A.join B.join A.join_least B.join_least };
 
     ghost meet_below_first = { pair_meet_first A.covers B.covers A.meet B.meet A.meet_below_first B.meet_below_first };
 
     ghost meet_below_second = { pair_meet_second A.covers B.covers A.meet B.meet A.meet_below_second B.meet_below_second };
 
-    ghost meet_greatest = { pair_meet_over A.covers B.covers A.meet B.meet A.meet_greatest B.meet_greatest };
+    ghost meet_greatest = { pair_meet_greatest A.covers B.covers A.meet B.meet A.meet_greatest B.meet_greatest };
 
     fn dominates(&self, other: &Self) -> bool {
         self.first.dominates(&other.first) && self.second.dominates(&other.second)
@@ -61,7 +62,8 @@ impl<A: Lattice, B: Lattice> Lattice for Pair<A, B> {
 
 impl<A: Ord, B: Ord> PartialOrd for Pair<A, B> {
     ghost use Rattle.std.specs.Ordering.{as_partial_cmp};
-    ghost use Rattle.lab_lattice.specs.Pair.{pair_cmp, pair_partial_order};
+    ghost use Rattle.lab_lattice.specs.Pair.{pair_cmp};
+    ghost use Rattle.lab_lattice.specs.Laws.{pair_partial_order};
 
     ghost partial_cmp = { as_partial_cmp (pair_cmp A.cmp B.cmp) };
 
@@ -74,7 +76,8 @@ impl<A: Ord, B: Ord> PartialOrd for Pair<A, B> {
 
 impl<A: Ord, B: Ord> Ord for Pair<A, B> {
     ghost use Rattle.std.specs.Prelude.{refl};
-    ghost use Rattle.lab_lattice.specs.Pair.{pair_cmp, pair_cmp_total, pair_ties};
+    ghost use Rattle.lab_lattice.specs.Pair.{pair_cmp};
+    ghost use Rattle.lab_lattice.specs.Laws.{pair_cmp_total, pair_ties};
 
     ghost cmp = { pair_cmp A.cmp B.cmp };
 

@@ -1,4 +1,4 @@
-// What the order of labels is, at a few values.
+// The order of labels at a few values.
 use crate::{Cats, Dual, Label, Lattice, Level, Pair, bottom};
 
 // The set of these categories, all below 64.
@@ -53,7 +53,7 @@ fn labels_are_listed_by_level_and_then_by_number(rt: HostRuntime) {
 }
 
 #[test]
-fn turned_round(rt: HostRuntime) {
+fn dual_order(rt: HostRuntime) {
     let (low, high) = (
         Dual {
             inner: label(2, &[1, 3]),

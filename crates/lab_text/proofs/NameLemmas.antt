@@ -8,7 +8,8 @@ use Rattle.std.proofs.lemmas.Bool.Decides.{nat_tests}
 use Rattle.std.proofs.Math.Bool.{or-false}
 use Rattle.std.proofs.lemmas.Option.{same_Some}
 use Rattle.lab_lattice.specs.Cats.{CatSet, has_cat, no_cats, one_cat, cats_join}
-use Rattle.lab_lattice.specs.Laws.{has-no_cats, has-one_cat, has-cats_join, same_cats}
+use Rattle.lab_lattice.specs.Laws.{has-cats_join, same_cats}
+use Rattle.lab_lattice.proofs.CatSets.{has-no_cats, has-one_cat}
 use Rattle.fs_path.specs.Split.{pieces, pieces_of_rest}
 use Rattle.fs_path.proofs.SplitLemmas.{position_found, position_missing}
 use Rattle.lab_text.specs.Names.{Names, same_bytes, place_of}

@@ -15,7 +15,7 @@ use Rattle.lab_lattice.specs.Cats.{CatSet, has_cat, cats_cover}
 use Rattle.lab_lattice.specs.Laws.{has-cover, cover-has, same_cats}
 use Rattle.lab_lattice.specs.Label.{Label}
 use Rattle.lab_lattice.specs.Level.{level_covers}
-use Rattle.lab_lattice.specs.Pair.{pair_parts, covers_first, covers_second}
+use Rattle.lab_lattice.specs.Laws.{pair_parts, covers_first, covers_second}
 use Rattle.lab_text.specs.Names.{Names, same_bytes, is_label_name, is_letter, is_name_part, are_distinct, place_of}
 use Rattle.lab_text.specs.Policy.{PolicyNames, MakePolicy, top_of, is_valid}
 use Rattle.lab_text.specs.Text.{is_colon, is_comma, LabelWords, parts_of, label_words, is_label_text, places_of, label_of, parse_label, Breaks, first_unknown, unknown_in, SaysNone, names_in, past_mark, label_text}
@@ -23,26 +23,6 @@ use Rattle.fs_path.proofs.SplitLemmas.{position_found}
 use Rattle.lab_text.proofs.PolicyFacts.{policy_facts, unlisted_unplaced, place_of_own}
 use Rattle.lab_text.specs.declared.text.LabelError.{LabelError}
 use Rattle.lab_text.specs.declared.text.LabelError.TheVariants as error
-
--- ---- the place of a fault
-
-no_further_than : (text : List ℕ) (a b : ℕ) → Breaks text a → Breaks text b → a < b → ⊥
-no_further_than text a b s t lt =
-    let short : take (a + 1) (take b text) ≡ take (a + 1) text = take-take (a + 1) b text (omega arith) in
-    let whole : take (a + 1) text ++ drop (a + 1) (take b text) ≡ take b text = ap (λ f. f ++ drop (a + 1) (take b text)) (sym short) ∙ take-append-drop (a + 1) (take b text) in
-    let within : a < length text = let w = t.within in omega arith in
-    both_ways (is_label_text (take b text ++ t.so_far.rest))
-    (ap (λ f. is_label_text (f ++ t.so_far.rest)) (sym whole) ∙ ap is_label_text (append_assoc (take (a + 1) text) (drop (a + 1) (take b text)) t.so_far.rest)
-    ∙ s.no_further within (drop (a + 1) (take b text) ++ t.so_far.rest))
-    t.so_far.is_label
-
--- a text breaks at one place
-pub breaks_once : {text : List ℕ} {a b : ℕ} → Breaks text a → Breaks text b → a ≡ b
-breaks_once {text} {a} {b} s t = elim (cases_order a b) [
-  | inl e ↦ e
-  | inr (inl lt) ↦ absurd (no_further_than text a b s t lt)
-  | inr (inr lt) ↦ absurd (no_further_than text b a t s lt)
-]
 
 -- ---- words
 

@@ -7,10 +7,10 @@ use Rattle.std.proofs.lemmas.Bool.Decides.{nat_tests}
 use Rattle.std.proofs.lemmas.Cmp.{nat_list_eq_equiv}
 use Rattle.std.proofs.lemmas.List.Folds.{list_any_at}
 use Rattle.std.proofs.lemmas.List.Sums.{position_or_len_is}
+use Rattle.fs_path.proofs.PathLaws.{cond_none}
 use Rattle.fs_path.proofs.SplitLemmas.{any_before_end}
 use Rattle.lab_text.specs.Names.{Names, same_bytes, is_label_name, are_distinct, place_of}
 use Rattle.lab_text.specs.Policy.{PolicyNames, names_fault, MakePolicy}
-use Rattle.lab_text.specs.declared.policy.PolicyError.{PolicyError}
 
 -- what holds of names that make a policy
 pub record HasPolicyFacts (p : PolicyNames) : Type 0 where
@@ -22,10 +22,6 @@ pub record HasPolicyFacts (p : PolicyNames) : Type 0 where
   pub levels_apart : are_distinct p.levels ≡ true
   pub cats_apart : are_distinct p.cats ≡ true
 
-no_fault : (b : Bool) (e : PolicyError) (o : Option PolicyError) → cond b (Some e) o ≡ None → (b ≡ false) × (o ≡ None)
-no_fault true e o h = absurd (cc)
-no_fault false e o h = (refl, h)
-
 not_false : (b : Bool) → not b ≡ false → b ≡ true
 not_false true h = refl
 not_false false h = cc
@@ -36,10 +32,10 @@ at_least_one n h = grind (arith, nat_tests)
 pub policy_facts : (p : PolicyNames) → MakePolicy p → HasPolicyFacts p
 unfolding names_fault
 policy_facts p h =
-    let one = no_fault _ _ _ h in
-    let two = no_fault _ _ _ one.1 in
-    let three = no_fault _ _ _ two.1 in
-    let four = no_fault _ _ _ three.1 in
+    let one = cond_none _ _ _ h in
+    let two = cond_none _ _ _ one.1 in
+    let three = cond_none _ _ _ two.1 in
+    let four = cond_none _ _ _ three.1 in
     let sizes = or_parts (nat_lt 16 (length p.levels)) (nat_lt 64 (length p.cats)) two.0 in
     let names = and_parts (list_all is_label_name p.levels) (list_all is_label_name p.cats) (not_false _ three.0) in
     let apart = and_parts (are_distinct p.levels) (are_distinct p.cats) (not_false _ four.0) in

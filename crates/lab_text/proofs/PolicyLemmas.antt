@@ -5,7 +5,8 @@ use Rattle.std.specs.FinSet as set
 use Rattle.std.specs.List.{range_with_len}
 use Rattle.std.proofs.lemmas.Bool.Decides.{nat_tests}
 use Rattle.lab_lattice.specs.Cats.{CatSet, has_cat, no_cats, one_cat, cats_join}
-use Rattle.lab_lattice.specs.Laws.{has-no_cats, has-one_cat, has-cats_join, same_cats}
+use Rattle.lab_lattice.specs.Laws.{has-cats_join, same_cats}
+use Rattle.lab_lattice.proofs.CatSets.{has-no_cats, has-one_cat}
 use Rattle.lab_text.specs.Names.{same_bytes, place_of}
 use Rattle.lab_text.specs.Policy.{PolicyNames, MakePolicy, top_of}
 use Rattle.fs_path.proofs.SplitLemmas.{position_found}

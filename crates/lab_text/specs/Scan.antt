@@ -7,7 +7,7 @@ use Rattle.lab_text.specs.declared.scan.Scan.{Scan}
 abbrev pub mark_of : Bool → ℕ
 mark_of in_cats = cond in_cats 44 58
 
--- what a byte leads to, where some text of a label's form goes on with it
+-- the state after one more byte, where some label's text goes on with it
 abbrev pub step : Scan → ℕ → Option Scan
 step s byte =
     cond (s.len == 0) (cond (is_letter byte) (Some (record { in_cats = s.in_cats; len = 1 })) None)

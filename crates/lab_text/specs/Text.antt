@@ -59,7 +59,8 @@ pub record CanGoOn (prefix : List ℕ) : Type 0 where
   pub rest : List ℕ
   pub is_label : is_label_text (prefix ++ rest) ≡ true
 
--- a text has not the form of a label's, and this is the first place at which no text of that form can go on as it does, or its length
+-- a text has not the form of a label's, and this is the first place at which no text of that form goes on as it does, or its length
+-- where it ends too early
 pub record Breaks (text : List ℕ) (at : ℕ) : Type 0 where
   pub is_none : is_label_text text ≡ false
   pub within : at ≤ length text

@@ -33,7 +33,7 @@ pub enum PolicyError {
     NoMemory(NoMemory),
 }
 
-/// The names of a world's levels, lowest first, and of its categories. A level or category has its place in its list as number.
+/// The names of a world's levels, lowest first, and of its categories. The number of each is its place in its list, from 0.
 #[derive(Debug, Drop)]
 pub struct Policy {
     levels: Vec<Word>,

@@ -7,16 +7,16 @@ use crate::names::{is_letter, is_name_part};
 
 const MAX_NAME: usize = 31;
 
-// How far the reading of a text has come.
+// How far a text has been read.
 #[derive(Clone, Copy)]
 struct Scan {
-    // Whether the colon was passed.
+    // Whether the colon was read.
     in_cats: bool,
-    // How many bytes of the name at hand were passed.
+    // How many bytes of the current name were read.
     len: usize,
 }
 
-// What a byte leads to, where some text of a label's form goes on with it.
+// The state after one more byte, or `None` where no label's text goes on with it.
 fn step(scan: Scan, byte: u8) -> Option<Scan>
     ensures { result ≡ step scan byte }
 {
@@ -39,7 +39,8 @@ fn step(scan: Scan, byte: u8) -> Option<Scan>
     })
 }
 
-// The first place at which no text of a label's form can go on as this one does, or its length; none where it has that form.
+// The first place at which no label's text goes on as this one does, or its length where it ends too early. `None` where it has
+// the form of a label's text.
 pub fn syntax_fault(text: &[u8]) -> Option<usize>
     ensures { MatchOption result (is_label_text text.now ≡ true) (Breaks text.now) }
 {

@@ -1,4 +1,4 @@
-// Tables of texts and what they denote.
+// Texts of labels, pairs of labels and policies, against tables.
 use crate::LabelError::{Syntax, UnknownCategory, UnknownLevel};
 use crate::*;
 use lab_lattice::Lattice;
@@ -160,7 +160,7 @@ fn policies(rt: HostRuntime) {
 }
 
 #[test]
-fn ends_of_a_policy(rt: HostRuntime) -> Result<(), Fail> {
+fn top_and_bottom(rt: HostRuntime) -> Result<(), Fail> {
     let policy = policy_of(rt.alloc(), THREE, TWO)?;
     assert_eq!(rt; mac_from_text(&policy, b"sec:a,b"), Ok(top(&policy)));
     assert_eq!(rt; mac_from_text(&policy, b"unc"), Ok(bottom(&policy)));
@@ -170,7 +170,7 @@ fn ends_of_a_policy(rt: HostRuntime) -> Result<(), Fail> {
 }
 
 #[test]
-fn number_of_a_label(rt: HostRuntime) -> Result<(), Fail> {
+fn number_drawn_at_a_label(rt: HostRuntime) -> Result<(), Fail> {
     let policy = policy_of(rt.alloc(), THREE, TWO)?;
     let label = mac_from_text(&policy, b"sec:b,a")?;
     let mut text = Vec::new(rt.alloc());

@@ -15,8 +15,8 @@ use std::alloc::Global;
 /// Why a text denotes no label. Places are bytes, counted from 0.
 #[derive(Clone, Copy, Debug, PartialEq, Eq)]
 pub enum LabelError {
-    /// The text is neither a name nor a name, `:` and a comma list of names: no such text has the byte at this place after the
-    /// bytes before it, or the text ends too early, at this place.
+    /// The text is neither a name nor a name, `:` and names with commas between them. This is the first place at which no such
+    /// text goes on as it does, or its length where it ends too early.
     Syntax(usize),
     /// The name of the level, which begins at this place, is not in the policy.
     UnknownLevel(usize),

@@ -36,19 +36,19 @@ impl Model for Creds {
     ghost invariant = { λ c. is_within c.caps.e c.caps.p ≡ true };
 }
 
-/// The rule of the change fails.
+/// The check `cap_grow` does not allow the change.
 #[derive(Clone, Copy, Debug, PartialEq, Eq)]
 pub struct NotAllowed;
 
-// Whether a state can be had from another: what is permitted was, what is effective is permitted, what is inheritable
-// was inheritable or permitted.
+// Whether a process with the old sets may get the new ones: what is permitted was permitted, what is effective is permitted,
+// and what is inheritable was inheritable or permitted.
 fn may_become(old: &CapState, new: &CapState) -> bool
     ensures { result ≡ may_become old.now new.now }
 {
     new.p.within(&old.p) && new.e.within(&new.p) && new.i.within(&old.i.union(old.p))
 }
 
-/// The same users and groups once more.
+/// A copy of the users and groups.
 pub fn copy_ids(ids: &Ids) -> Result<Ids, NoMemory>
     ensures { IfOk result (λ copy. copy ≡ ids.now) }
 {
@@ -83,7 +83,7 @@ impl Creds {
         Ok(())
     }
 
-    /// The same credentials once more.
+    /// A copy of the credentials.
     pub fn copy(&self) -> Result<Creds, NoMemory>
         ensures { IfOk result (λ copy. copy ≡ self.now) }
     {

@@ -20,7 +20,8 @@ use Rattle.fs_path.proofs.ValueRanges.{mode_range, groups_few}
 use Rattle.fs_path.specs.Values.{number_of, mode_of, groups_of}
 use Rattle.fs_path.proofs.WordSizes.{words_fit}
 use Rattle.fs_path.specs.Words.{words_of, is_blank}
-use Rattle.lab_lattice.specs.Label.{Label, dominates, bottom, dominates_both, dominates_bottom}
+use Rattle.lab_lattice.specs.Label.{Label, dominates, bottom}
+use Rattle.lab_lattice.proofs.Labels.{dominates_both, dominates_bottom}
 use Rattle.lab_text.specs.Names.{Names, same_bytes, is_label_name, are_distinct}
 use Rattle.lab_text.specs.Policy.{PolicyNames, names_fault, MakePolicy, top_of}
 use Rattle.lab_text.specs.Text.{parse_label}

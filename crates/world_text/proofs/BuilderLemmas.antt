@@ -11,7 +11,8 @@ use Rattle.std.specs.Cmp.Lexicographic.{slice_cmp, lists_ties, texts_ties, point
 use Rattle.std.proofs.lemmas.Bool.{and_from, and_parts}
 use Rattle.std.proofs.lemmas.List.Sums.{sum_by-append}
 use Rattle.fs_path.specs.Name.{Name}
-use Rattle.lab_lattice.specs.Label.{Label, dominates, dominates_itself, dominates_both, label_cmp, label_cmp_total, label_cmp_exact}
+use Rattle.lab_lattice.specs.Label.{Label, dominates, label_cmp}
+use Rattle.lab_lattice.proofs.Labels.{dominates_itself, dominates_both, label_cmp_total, label_cmp_exact}
 use Rattle.kern_model.specs.declared.world.WorldObject.{WorldObject}
 use Rattle.kern_model.specs.declared.world.WorldProc.{WorldProc}
 use Rattle.kern_model.specs.Rules.{same_label}

@@ -18,7 +18,8 @@ use Rattle.fs_path.specs.Options.{then}
 use Rattle.fs_path.specs.Path.{PathValue}
 use Rattle.fs_path.specs.Values.{mode_text, groups_text}
 use Rattle.fs_path.specs.Words.{has_spelling, with_quotes_if_needed, spelling, line_text}
-use Rattle.lab_lattice.specs.Label.{Label, dominates, bottom, dominates_itself}
+use Rattle.lab_lattice.specs.Label.{Label, dominates, bottom}
+use Rattle.lab_lattice.proofs.Labels.{dominates_itself}
 use Rattle.lab_text.proofs.PolicyFacts.{policy_facts}
 use Rattle.lab_text.specs.Names.{Names, same_bytes, is_label_name}
 use Rattle.lab_text.specs.Policy.{PolicyNames, MakePolicy, is_valid}

@@ -3,7 +3,7 @@ use crate::{Name, Path, PathError};
 use std::alloc::Global;
 use std::test::Fail;
 
-// A text: its beginning, a part, how often the part follows, and its end.
+// A text: its prefix, a part, how often the part is repeated after it, and its suffix.
 type Text = (&'static [u8], &'static [u8], usize, &'static [u8]);
 
 // Whether a path starts at the root, and its names.
@@ -45,13 +45,13 @@ const FAULTS: [(Text, PathError); 16] = [
     ((b"", b"a/", 32, b"x\0"), PathError::TooDeep),
 ];
 
-fn canonical(alloc: Global, text: Text) -> Result<Vec<u8>, Fail> {
-    let (prefix, part, times, back) = text;
+fn text_of(alloc: Global, text: Text) -> Result<Vec<u8>, Fail> {
+    let (prefix, part, times, suffix) = text;
     let mut bytes = Vec::from_slice(alloc, prefix)?;
     for _ in 0..times {
         bytes.extend_from_slice(part)?;
     }
-    bytes.extend_from_slice(back)?;
+    bytes.extend_from_slice(suffix)?;
     Ok(bytes)
 }
 
@@ -69,7 +69,7 @@ fn is_path(path: &Path, parts: Parts) -> bool {
 #[test]
 fn paths(rt: HostRuntime) -> Result<(), Fail> {
     for (text, parts) in PATHS {
-        let text = canonical(rt.alloc(), text)?;
+        let text = text_of(rt.alloc(), text)?;
         let path = Path::read(rt.alloc(), &text)?;
         assert!(rt; is_path(&path, parts), "{text:?}");
     }
@@ -79,7 +79,7 @@ fn paths(rt: HostRuntime) -> Result<(), Fail> {
 #[test]
 fn faults(rt: HostRuntime) -> Result<(), Fail> {
     for (text, fault) in FAULTS {
-        let text = canonical(rt.alloc(), text)?;
+        let text = text_of(rt.alloc(), text)?;
         assert_eq!(rt;
             Path::read(rt.alloc(), &text).err(),
             Some(fault),

@@ -6,16 +6,16 @@ use crate::{
 use std::alloc::Global;
 
 // Whether a line is read as these words, each with whether it is quoted.
-fn reads(alloc: Global, line: &[u8], due: &[(bool, &[u8])]) -> Result<bool, NoMemory> {
+fn reads(alloc: Global, line: &[u8], expected: &[(bool, &[u8])]) -> Result<bool, NoMemory> {
     let Some(words) = words_of(alloc, line)? else {
         return Ok(false);
     };
     let words = words.items();
-    if words.len() != due.len() {
+    if words.len() != expected.len() {
         return Ok(false);
     }
-    for (word, due) in words.iter().zip(due) {
-        if word.quoted != due.0 || word.bytes.items() != due.1 {
+    for (word, expected) in words.iter().zip(expected) {
+        if word.quoted != expected.0 || word.bytes.items() != expected.1 {
             return Ok(false);
         }
     }
@@ -76,13 +76,13 @@ fn lines_of_no_form_are_refused(rt: HostRuntime) -> Result<(), NoMemory> {
 }
 
 #[test]
-fn some_lines_say_nothing(rt: HostRuntime) {
+fn blank_lines(rt: HostRuntime) {
     let blank: [&[u8]; 5] = [b"", b"  ", b"#", b"# \"", b"  #a"];
     for line in blank {
         assert!(rt; is_blank(line), "{line:?}");
     }
-    let telling: [&[u8]; 4] = [b"a", b" a #", b"\"#\"", b"\t"];
-    for line in telling {
+    let others: [&[u8]; 4] = [b"a", b" a #", b"\"#\"", b"\t"];
+    for line in others {
         assert!(rt; !is_blank(line), "{line:?}");
     }
 }
@@ -127,9 +127,9 @@ fn groups(rt: HostRuntime) -> Result<(), NoMemory> {
             &[0, 1, 2, 3, 4, 5, 6, 7, 8, 9, 10, 11, 12, 13, 14, 15],
         ),
     ];
-    for (word, due) in read {
+    for (word, expected) in read {
         match groups_of(alloc, word)? {
-            Some(groups) => assert_eq!(rt; groups.items(), due),
+            Some(groups) => assert_eq!(rt; groups.items(), expected),
             None => assert!(rt; false, "{word:?}"),
         }
     }

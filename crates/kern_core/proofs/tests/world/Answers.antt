@@ -13,7 +13,8 @@ use Rattle.kern_model.specs.declared.world.WorldObject.{WorldObject}
 use Rattle.kern_model.specs.declared.world.WorldProc.{WorldProc}
 use Rattle.kern_model.specs.Rules.{same_label}
 use Rattle.kern_model.specs.World.{IsWorld, IsWorldObject, IsWorldProc}
-use Rattle.lab_lattice.specs.Label.{Label, bottom, dominates, dominates_itself, dominates_bottom}
+use Rattle.lab_lattice.specs.Label.{Label, bottom, dominates}
+use Rattle.lab_lattice.proofs.Labels.{dominates_itself, dominates_bottom}
 use Rattle.kern_core.proofs.tests.world.Goals as goal
 
 abbrev made : List Name → Label → ℕ → Body → WorldObject

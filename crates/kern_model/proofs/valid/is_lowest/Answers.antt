@@ -1,6 +1,7 @@
 use Rattle.std.proofs.Common.{◌∙◌, ap}
 use Rattle.std.proofs.lemmas.Bool.Decides.{Decides-at}
-use Rattle.lab_lattice.specs.Label.{Label, bottom, dominates, dominates_both, dominates_bottom, dominates_itself}
+use Rattle.lab_lattice.specs.Label.{Label, bottom, dominates}
+use Rattle.lab_lattice.proofs.Labels.{dominates_both, dominates_bottom, dominates_itself}
 use Rattle.kern_model.proofs.valid.is_lowest.Goals as goal
 
 pub returns : goal.returns

@@ -1,5 +1,5 @@
 use Rattle.std.proofs.Common.{◌∙◌}
-use Rattle.lab_lattice.specs.Cats.{cats_cmp}
+use Rattle.lab_lattice.specs.Word.{cats_cmp}
 use Rattle.lab_lattice.proofs.Words.{word_cmp}
 use Rattle.lab_lattice.proofs.cats.CatsOrd.cmp.Goals as goal
 

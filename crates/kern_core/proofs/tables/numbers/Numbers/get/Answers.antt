@@ -1,6 +1,6 @@
 use Rattle.std.proofs.Common.{ap, sym, ◌∙◌}
 use Rattle.std.specs.FinMap as map
-use Rattle.lab_lattice.specs.Label.{label_cmp_total}
+use Rattle.lab_lattice.proofs.Labels.{label_cmp_total}
 use Rattle.kern_model.proofs.TableLemmas.{get_at}
 use Rattle.kern_core.proofs.tables.numbers.Numbers.get.Goals as goal
 

@@ -1,6 +1,6 @@
 use Rattle.std.proofs.Common.{ap, ◌∙◌}
 use Rattle.std.specs.FinMap as map
-use Rattle.lab_lattice.specs.Label.{label_cmp_total, label_cmp_exact}
+use Rattle.lab_lattice.proofs.Labels.{label_cmp_total, label_cmp_exact}
 use Rattle.kern_model.proofs.TableLemmas.{one_set}
 use Rattle.kern_core.proofs.tables.numbers.Numbers.set.Goals as goal
 
