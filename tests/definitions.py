@@ -1,10 +1,11 @@
 #!/usr/bin/env python3
-"""Lists the files of definitions that the clauses of `run` use, crate by crate.
+"""Lists the definitions that the clauses of `run` use: what a reader of its contract has to believe.
 
-    definitions.py            prints the list, and how many lines the files have together
-    definitions.py --check    fails where the README has another list
+    definitions.py            prints the files that have such definitions, and how many lines these take
+    definitions.py --print    prints the definitions
+    definitions.py --check    prints nothing, and fails where the README lists other files
 
-A file is used where `running.rt` imports it, or another file that is used imports it.
+A definition is used where the file of `run` imports it, or a definition that is used names it.
 """
 import pathlib
 import re
@@ -13,59 +14,120 @@ import sys
 TOP = pathlib.Path(__file__).resolve().parent.parent
 CRATES = TOP / "crates"
 RUN = CRATES / "labsys" / "src" / "running.rt"
-USE = re.compile(r"^\s*(?:ghost )?(?:pub )?use Rattle\.(\w+)\.(specs|proofs)\.([\w.]+)", re.M)
+USE = re.compile(r"^\s*(?:ghost )?(?:pub )?use Rattle\.(\w+)\.specs\.([\w.]+?)(?:\.\{([^}]*)\})?(?: as (\w+))?;?$", re.M)
+HEAD = re.compile(r"^(\s*)(?:(?:unfoldable|abbrev|pub) )*(?:(record|data) (\S+)|(\S+) :(?= ))")
+NAME = re.compile(r"[\w'◌-]+(?:\.[\w'-]+)*")
 
 
-def file_of(crate, folder, path):
-    """The file of an import, whose path may end with a name in the file; none where the import is a type of the code."""
-    parts = path.rstrip(".").split(".")
-    for count in range(len(parts), 0, -1):
-        file = (CRATES / crate / folder).joinpath(*parts[:count]).with_suffix(".antt")
-        if file.exists():
-            return file
-    return None
+class File:
+    """A file of definitions: its imports, and its definitions by their names."""
+
+    def __init__(self, path):
+        text = path.read_text(encoding="utf-8")
+        self.path = path
+        self.names = {}
+        self.modules = {}
+        for crate, module, names, alias in USE.findall(text):
+            target = CRATES / crate / "specs" / (module.replace(".", "/") + ".antt")
+            if not target.exists():
+                continue
+            if names:
+                for name in names.split(","):
+                    name, _, other = name.strip().partition(" as ")
+                    self.names[other or name] = (target, name)
+            else:
+                self.modules[alias or module.rsplit(".", 1)[-1]] = target
+        self.blocks = {}
+        for block in blocks_of(text) if path.suffix == ".antt" else []:
+            for name in block.names:
+                self.blocks[name] = block
+
+    def uses(self, text):
+        """The definitions that a text of this file names, each as a file and a name."""
+        for token in NAME.findall(text):
+            first, _, rest = token.partition(".")
+            if first in self.modules and rest:
+                yield self.modules[first], rest.split(".")[0]
+            elif first in self.names:
+                yield self.names[first]
+            elif first in self.blocks:
+                yield self.path, first
 
 
-def used():
-    """All files that are used."""
-    found, todo = set(), [RUN]
-    while todo:
-        for crate, folder, path in USE.findall(todo.pop().read_text(encoding="utf-8")):
-            file = file_of(crate, folder, path) if (CRATES / crate).is_dir() else None
-            if file is not None and file not in found:
-                found.add(file)
-                todo.append(file)
+class Block:
+    """A definition with the comment above it: its name, the names of its constructors, its lines."""
+
+    def __init__(self, name, lines):
+        self.names = [name]
+        self.lines = lines
+
+
+def blocks_of(text):
+    """The definitions of a text, in order."""
+    found, comment, block, indent = [], [], None, ""
+    for line in text.splitlines():
+        head = HEAD.match(line)
+        if not line.strip() or line.startswith(("use ", "pub use ", "module ")):
+            comment, block = [], None
+        elif block and line.startswith(indent + "  "):
+            block.lines.append(line)
+            if block.data and head:
+                block.names.append(head[4])
+        elif line.strip().startswith("--"):
+            comment.append(line)
+        elif head and not (block and head[4] in block.names):
+            indent = head[1]
+            block = Block(head[3] or head[4], comment + [line])
+            block.data = head[2] == "data"
+            found.append(block)
+            comment = []
+        elif found and line.split()[0] in found[-1].names:
+            block = found[-1]
+            block.lines.append(line)
     return found
 
 
-def by_crate(files):
-    """The files of each folder, sorted."""
-    crates = {}
-    for file in sorted(files):
-        crates.setdefault(str(file.parent.relative_to(CRATES)), []).append(file)
-    return crates
+def used():
+    """The definitions that are used, from the clauses of `run` on, as a set of blocks for each file."""
+    files, found = {RUN: File(RUN)}, {}
+    todo = list(files[RUN].uses(RUN.read_text(encoding="utf-8")))
+    while todo:
+        path, name = todo.pop()
+        file = files.setdefault(path, None) or files.update({path: File(path)}) or files[path]
+        block = file.blocks.get(name)
+        if block is not None and block not in found.setdefault(path, set()):
+            found[path].add(block)
+            todo.extend(file.uses("\n".join(block.lines)))
+    return {path: [b for b in dict.fromkeys(files[path].blocks.values()) if b in blocks] for path, blocks in sorted(found.items()) if blocks}
 
 
-def row(folder, files):
-    names = ", ".join(f"`{file.stem}`" for file in files)
-    return f"| `crates/{folder}` | {names} |"
+def rows_of(definitions):
+    """A row of the README's table for each folder."""
+    folders = {}
+    for path in definitions:
+        folders.setdefault(path.parent.relative_to(CRATES), []).append(f"`{path.stem}`")
+    return [f"| `crates/{folder}` | {', '.join(names)} |" for folder, names in folders.items()]
+
+
+def print_definitions(definitions):
+    for path, blocks in definitions.items():
+        print(f"== {path.relative_to(TOP)}\n")
+        for block in blocks:
+            print("\n".join(block.lines), end="\n\n")
 
 
 def main():
-    crates = by_crate(used())
-    rows = [row(folder, files) for folder, files in crates.items()]
+    definitions = used()
+    rows = rows_of(definitions)
     if sys.argv[1:] == ["--check"]:
         listed = [line for line in (TOP / "README.md").read_text(encoding="utf-8").splitlines() if line.startswith("| `crates/")]
         if listed != rows:
-            print("the list of definitions in README.md is out of date; tests/definitions.py prints the present one")
-            sys.exit(1)
-        return
-    lines = 0
-    for text, files in zip(rows, crates.values()):
-        count = sum(file.read_text(encoding="utf-8").count("\n") for file in files)
-        lines += count
-        print(text)
-    print(f"{lines:,} lines")
+            sys.exit("README.md lists other files than those of the definitions that run uses; tests/definitions.py prints the list")
+    elif sys.argv[1:] == ["--print"]:
+        print_definitions(definitions)
+    else:
+        print("\n".join(rows))
+        print(f"{sum(len(b.lines) for blocks in definitions.values() for b in blocks):,} lines")
 
 
 if __name__ == "__main__":
