@@ -5,7 +5,7 @@ use Rattle.std.specs.declared.option.Option.{Option}
 use Rattle.std.specs.Io.KnownBytes.{Appends, Consumes}
 use Rattle.std.proofs.KnownBytes.{Appends-trans}
 
--- The rest of the piece is still to be written.
+-- the rest of the piece is still to be written
 pub record Underway (piece rest : List ℕ) (old new : Option (List ℕ)) (before now : ℕ) : Type 0 where
   pub part : List ℕ
   pub piece_is : piece ≡ part ++ rest
@@ -22,7 +22,7 @@ underway_more piece rest a b c f f' f'' n u w l = record {
   still = l ∙ u.still;
 }
 
--- The bytes that are held are those that were taken.
+-- the bytes that are held are those that were taken
 pub record Reading (bytes : List ℕ) (most : ℕ) (old new : Option (List ℕ)) (before now : ℕ) : Type 0 where
   pub took : Consumes old new bytes
   pub small : length bytes ≤ most

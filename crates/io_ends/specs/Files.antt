@@ -2,7 +2,7 @@
 use Rattle.std.specs.Prelude.{ℕ, List}
 use Rattle.std.specs.declared.option.Option.{Option}
 
--- The bytes that the reader has left, where it reports them, and how many faults there were.
+-- the bytes that the reader has left, where it reports them, and how many faults there were
 pub record ReaderState : Type 0 where
   pub reported : Option (List ℕ)
   pub faults : ℕ

@@ -3,30 +3,30 @@ use Rattle.std.specs.Prelude.{◌≡◌, ℕ, ◌-◌, ◌==◌, ◌||◌, Bool,
 use Rattle.std.specs.List.{list_any}
 use Rattle.io_ends.specs.Faults.{counted}
 
--- The call of this number is among those that are to fail.
+-- the call of this number is among those that are to fail
 abbrev pub is_listed : List ℕ → ℕ → Bool
 is_listed fails call = list_any (λ n. n == call) fails
 
--- A source in memory: the bytes that are left, the calls that are to fail, and how many calls and faults there were.
+-- a source in memory: the bytes that are left, the calls that are to fail, and how many calls and faults there were
 pub record SourceState : Type 0 where
   pub left : List ℕ
   pub fails : List ℕ
   pub calls : ℕ
   pub faults : ℕ
 
--- A call that is not listed read as many bytes as fit, and no other part of the source changed.
+-- a call that is not listed read as many bytes as fit, and no other part of the source changed
 pub record ReadGives (count : ℕ) (buf : List ℕ) (before after : SourceState) : Type 0 where
   pub unlisted : is_listed before.fails (counted before.calls) ≡ false
   pub count_is : count ≡ min (length buf) (length before.left)
   pub given : take count buf ≡ take count before.left
   pub after_is : after ≡ record before { left = drop count before.left; calls = counted before.calls }
 
--- A listed call was counted as a fault, and took nothing.
+-- a listed call was counted as a fault, and took nothing
 pub record ReadFails (before after : SourceState) : Type 0 where
   pub listed : is_listed before.fails (counted before.calls) ≡ true
   pub after_is : after ≡ record before { calls = counted before.calls; faults = counted before.faults }
 
--- A sink in memory: the bytes that it holds, how many it has room for in all, the calls that are to fail, and how many calls and faults there were.
+-- a sink in memory: the bytes that it holds, how many it has room for in all, the calls that are to fail, and how many calls and faults there were
 pub record SinkState : Type 0 where
   pub held : List ℕ
   pub room : ℕ
@@ -34,17 +34,17 @@ pub record SinkState : Type 0 where
   pub calls : ℕ
   pub faults : ℕ
 
--- The next call with a piece that is not empty is listed, or the room is full.
+-- the next call with a piece that is not empty is listed, or the room is full
 abbrev pub will_fail : SinkState → Bool
 will_fail s = is_listed s.fails (counted s.calls) || nat_le s.room (length s.held)
 
--- A call appended its whole piece, or as much of it as there was room for.
+-- a call appended its whole piece, or as much of it as there was room for
 pub record WriteTakes (count : ℕ) (piece : List ℕ) (before after : SinkState) : Type 0 where
   pub may : will_fail before ≡ false
   pub count_is : count ≡ min (length piece) (before.room - length before.held)
   pub after_is : after ≡ record before { held = before.held ++ take count piece; calls = counted before.calls }
 
--- A call was counted as a fault, and appended nothing.
+-- a call was counted as a fault, and appended nothing
 pub record WriteFails (before after : SinkState) : Type 0 where
   pub may_not : will_fail before ≡ true
   pub after_is : after ≡ record before { calls = counted before.calls; faults = counted before.faults }

@@ -2,7 +2,7 @@
 use Rattle.std.specs.Prelude.{ℕ, List}
 use Rattle.std.specs.declared.option.Option.{Option}
 
--- The bytes that a sink holds, where it reports them, and how many faults it has counted.
+-- the bytes that a sink holds, where it reports them, and how many faults it has counted
 pub record SinkView : Type 0 where
   pub held : Option (List ℕ)
   pub faults : ℕ
