@@ -26,7 +26,7 @@ use Rattle.kern_model.specs.declared.world.World.{World}
 use Rattle.kern_model.specs.declared.world.WorldProc.{WorldProc}
 use Rattle.kern_model.specs.declared.world.ScriptItem.{ScriptItem}
 use Rattle.kern_model.specs.Boot.{boot, boot_recs, boot_process, started, furnished}
-use Rattle.kern_model.specs.Keys.{pid_cmp_total}
+use Rattle.kern_model.proofs.KeyLaws.{pid_cmp_total}
 use Rattle.kern_model.specs.Lineage.{caps_after, reported, caps_of, all_recs}
 use Rattle.kern_model.specs.Names.{name_of}
 use Rattle.kern_model.specs.Row.{Row, Subject, End, judge, verdict_of, is_denied, exercise_with}

@@ -15,7 +15,8 @@ use Rattle.kern_model.specs.declared.numbers.Pid.{Pid}
 use Rattle.kern_model.specs.declared.records.Rec.{Rec}
 use Rattle.kern_model.specs.declared.records.Rec.TheVariants as rec
 use Rattle.kern_model.specs.Exec.{exec_caps, exec_permitted}
-use Rattle.kern_model.specs.Keys.{pid_cmp_exact, same_pid}
+use Rattle.kern_model.specs.Keys.{same_pid}
+use Rattle.kern_model.proofs.KeyLaws.{pid_cmp_exact}
 use Rattle.kern_model.specs.Lineage.{caps_after, reported, caps_of, origin, ancestor, StartedWith, FromExec}
 use Rattle.kern_model.specs.Boot.{boot, boot_recs, furnished}
 use Rattle.kern_model.specs.Run.{CallRecord, run}

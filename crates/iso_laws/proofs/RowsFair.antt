@@ -30,7 +30,8 @@ use Rattle.kern_model.specs.AttrRows.{on_open_object, get_caps, set_caps, get_la
 use Rattle.kern_model.specs.Descriptors.{Opened, Descriptor, opened, closing, let_go, is_let_go, is_drained, emptied}
 use Rattle.kern_model.specs.Drawing.{IsDrawnBetween}
 use Rattle.kern_model.specs.FileRows.{or_not_open, open_object, with_bytes, with_bytes_cleared, opening, opens, open_emptying, open_present, open_found, rewriting, writing, moved, place_in}
-use Rattle.kern_model.specs.Keys.{pid_cmp_total, pid_cmp_exact, did_cmp_total, did_cmp_exact, oid_cmp_total, same_pid, same_oid, is_pid}
+use Rattle.kern_model.specs.Keys.{same_pid, same_oid, is_pid}
+use Rattle.kern_model.proofs.KeyLaws.{pid_cmp_total, pid_cmp_exact, did_cmp_total, did_cmp_exact, oid_cmp_total}
 use Rattle.kern_model.specs.Kinds.{is_file, is_stream, object_with, masked}
 use Rattle.kern_model.specs.Create.{attr_of, made, write_directory}
 use Rattle.kern_model.specs.ProcessRows.{survives, left_by, ending_of, take_ended, signalled, send}

@@ -30,7 +30,8 @@ use Rattle.kern_model.specs.Descriptors.{Opened, Descriptor, opened, closing, le
 use Rattle.kern_model.specs.AttrRows.{on_open_object, get_caps, set_caps, get_label, set_label}
 use Rattle.kern_model.specs.FileRows.{open_object, with_bytes, with_bytes_cleared, opening, opens, open_emptying, open_present, open_found, rewriting, writing, moved, place_in}
 use Rattle.kern_model.specs.Exec.{exec_caps, exec_ids}
-use Rattle.kern_model.specs.Keys.{pid_cmp_total, pid_cmp_exact, same_pid, same_oid, is_pid}
+use Rattle.kern_model.specs.Keys.{same_pid, same_oid, is_pid}
+use Rattle.kern_model.proofs.KeyLaws.{pid_cmp_total, pid_cmp_exact}
 use Rattle.kern_model.specs.Kinds.{is_file, is_stream, object_with, masked}
 use Rattle.kern_model.specs.Lineage.{reported}
 use Rattle.kern_model.specs.Create.{attr_of, made, write_directory}

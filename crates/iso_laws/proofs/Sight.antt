@@ -24,7 +24,7 @@ use Rattle.kern_model.specs.declared.checks.Want.TheVariants as want
 use Rattle.kern_model.specs.declared.calls.Errno.TheVariants as errno
 use Rattle.kern_model.specs.declared.records.Rec.{Rec}
 use Rattle.kern_model.specs.Maps.{get_or}
-use Rattle.kern_model.specs.Keys.{oid_cmp_total, oid_cmp_exact, pid_cmp_total, pid_cmp_exact, did_cmp_total, did_cmp_exact, spot_cmp_total, spot_cmp_exact}
+use Rattle.kern_model.proofs.KeyLaws.{oid_cmp_total, oid_cmp_exact, pid_cmp_total, pid_cmp_exact, did_cmp_total, did_cmp_exact, spot_cmp_total, spot_cmp_exact}
 use Rattle.kern_model.specs.Descriptors.{Opened, opened}
 use Rattle.kern_model.specs.Kinds.{is_dir}
 use Rattle.kern_model.specs.State.{State, Process, Description, Change, drawn, object_at, look, stub, stub_object, root}

@@ -28,7 +28,8 @@ use Rattle.kern_model.specs.declared.world.WorldObject.{WorldObject}
 use Rattle.kern_model.specs.declared.world.WorldProc.{WorldProc}
 use Rattle.kern_model.specs.Boot.{object_of, process_of, entry_for, boot_object, boot_process, boot_objects, boot_processes, nothing, furnished, boot, started, boot_recs}
 use Rattle.kern_model.specs.Exec.{exec_caps}
-use Rattle.kern_model.specs.Keys.{pid_cmp, pid_cmp_total, pid_cmp_exact, same_pid}
+use Rattle.kern_model.specs.Keys.{pid_cmp, same_pid}
+use Rattle.kern_model.proofs.KeyLaws.{pid_cmp_total, pid_cmp_exact}
 use Rattle.kern_model.specs.Lineage.{caps_after, reported, caps_of, all_recs, ancestor, StartedWith, HasStarted}
 use Rattle.kern_model.specs.Names.{name_of}
 use Rattle.kern_model.specs.Row.{Row, Subject, End, Stopped, Refused, Done, judge, exercise_with}

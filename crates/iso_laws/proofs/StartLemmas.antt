@@ -22,7 +22,8 @@ use Rattle.kern_model.specs.declared.world.ScriptItem.{ScriptItem}
 use Rattle.kern_model.specs.declared.world.WorldProc.{WorldProc}
 use Rattle.kern_model.specs.Boot.{boot_process, started}
 use Rattle.kern_model.specs.Drawing.{NeverFalls}
-use Rattle.kern_model.specs.Keys.{pid_cmp_total, pid_cmp_exact, same_pid}
+use Rattle.kern_model.specs.Keys.{same_pid}
+use Rattle.kern_model.proofs.KeyLaws.{pid_cmp_total, pid_cmp_exact}
 use Rattle.kern_model.specs.Lineage.{caps_after, reported, origin, ancestor, StartOnce}
 use Rattle.kern_model.specs.Names.{name_of}
 use Rattle.kern_model.specs.Row.{Row, Subject, End, Stopped, Refused, Done, judge, exercise_with}

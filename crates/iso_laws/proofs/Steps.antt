@@ -8,7 +8,7 @@ use Rattle.kern_model.specs.declared.numbers.Pid.{Pid}
 use Rattle.kern_model.specs.declared.calls.Call.{Call}
 use Rattle.kern_model.specs.Arguments.{is_call}
 use Rattle.kern_model.specs.Maps.{where_key}
-use Rattle.kern_model.specs.Keys.{pid_cmp_total, pid_cmp_exact}
+use Rattle.kern_model.proofs.KeyLaws.{pid_cmp_total, pid_cmp_exact}
 use Rattle.kern_model.specs.Names.{name_of}
 use Rattle.kern_model.specs.State.{State, Process, Change, changed, changed_by}
 use Rattle.kern_model.specs.Row.{Stopped, Refused, Done, CheckOutcome, judge, check_outcome}
