@@ -27,6 +27,13 @@ pub record LeadsTo (There : Oid → Type 0) (s : State) : Type 0 where
   pub procs : (who : Pid) (p : Process) → map.get s.procs who ≡ Some p → There p.cwd
   pub descriptions : (did : Did) (d : Description) → map.get s.descriptions did ≡ Some d → There d.object
 
+-- any object will do
+abbrev pub Anything : Oid → Type 0
+Anything id = ⊤
+
+pub lead_anywhere : (s : State) → LeadsTo Anything s
+lead_anywhere s = record { root_there = tt; entries = λ spot id e. tt; procs = λ who p e. tt; descriptions = λ did d e. tt }
+
 -- what leads to an object leads to one that is there
 abbrev pub IsClosed : State → Type 0
 IsClosed s = LeadsTo (IsThere s.objects) s

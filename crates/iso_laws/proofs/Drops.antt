@@ -42,7 +42,10 @@ use Rattle.iso_laws.proofs.Steps.{fixed_after}
 use Rattle.iso_laws.proofs.Booting.{fixed_booted}
 use Rattle.iso_laws.proofs.CapsReported.{Reported, reported_same, reported_booted}
 use Rattle.iso_laws.proofs.Lineage.{used_unreported, reported_after}
-use Rattle.iso_laws.proofs.RowsReport.{Calm, row_calm, gives_reach}
+use Rattle.iso_laws.proofs.CalmRows.{Calm}
+use Rattle.iso_laws.proofs.DrawingLemmas.{Anything, lead_anywhere}
+use Rattle.iso_laws.proofs.Records.{row_calm}
+use Rattle.iso_laws.proofs.WalkLemmas.{gives_reach}
 
 -- ---- records
 -- what a record of `cap_set_proc` makes permitted was permitted
@@ -100,13 +103,13 @@ module _ (s : State) (f : Pid → CapState) (has : Reported s f) (who : Pid) (p 
   OwnDrops name e = AllDrop s.bound f (own_of who p name e)
 
   end_drops : (Q : List Change → Option Rec → Type 0) → ((cs : List Change) (own : Option Rec) → Q cs own → AllDrop s.bound f (option_to_list own)) → (name : CallName) (r : Row) → Gives Q r → OwnDrops name (judge a [] r).end
-  end_drops Q drops name r = end_is (OwnDrops name) Q (denied_drops s.bound f p.audited who name) (λ e. tt) (λ cs answer own. drops cs own) a [] r
+  end_drops Q drops name r = end_is (OwnDrops name) Q (denied_drops s.bound f p.audited who name) (λ e _. tt) (λ cs answer own. drops cs own) a [] r
 
   own_drops : (c : Call) → OwnDrops (name_of c) (judge a [] (row s who p c)).end
   unfolding judge
-  own_drops call.Fork = end_drops (λ cs own. AllDrop s.bound f (option_to_list own)) (λ cs own h. h) (name_of call.Fork) (row s who p call.Fork) (tt, tt)
+  own_drops call.Fork = end_drops (λ cs own. AllDrop s.bound f (option_to_list own)) (λ cs own h. h) (name_of call.Fork) (row s who p call.Fork) (refl, (tt, tt))
   own_drops (call.Exec path) =
-      end_drops (λ cs own. AllDrop s.bound f (option_to_list own)) (λ cs own h. h) (name_of (call.Exec path)) (row s who p (call.Exec path)) (gives_reach (λ cs own. AllDrop s.bound f (option_to_list own)) s p (λ n. First n) path _ (λ id. (tt, tt)))
+      end_drops (λ cs own. AllDrop s.bound f (option_to_list own)) (λ cs own h. h) (name_of (call.Exec path)) (row s who p (call.Exec path)) (gives_reach Anything s (lead_anywhere s) who p is (λ cs own. AllDrop s.bound f (option_to_list own)) (λ n. First n) path _ (λ id _. (tt, tt)))
   own_drops (call.CapSetProc caps) =
       let name : CallName = name_of (call.CapSetProc caps) in
       let grow : Check = cap_grow who p caps in

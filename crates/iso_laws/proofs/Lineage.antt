@@ -31,7 +31,8 @@ use Rattle.iso_laws.proofs.Rows.{Gives, used_is, end_is}
 use Rattle.iso_laws.proofs.Steps.{fixed_after}
 use Rattle.iso_laws.proofs.Booting.{fixed_booted}
 use Rattle.iso_laws.proofs.CapsReported.{Reported, reported-append, reported_same, reported_booted}
-use Rattle.iso_laws.proofs.RowsReport.{MatchesRecord, row_reports}
+use Rattle.iso_laws.proofs.CalmRows.{MatchesRecord}
+use Rattle.iso_laws.proofs.Records.{row_reports}
 
 -- ---- a step
 exercise_unreported : (a : Subject) (bound : CapSet) (f : Pid → CapState) (q : Pid) (c : Check) (with : Option Cap) → reported bound f (exercise_with a c with) q ≡ f q
@@ -54,7 +55,7 @@ end_reports : (s : State) (who : Pid) (p : Process) (name : CallName) (f : Pid �
     → Reported (state_after s (judge a [] r).end) (reported s.bound f (own_of who p name (judge a [] r).end))
 end_reports s who p name f has a r h =
     end_is (λ e. Reported (state_after s e) (reported s.bound f (own_of who p name e))) (MatchesRecord s f)
-    (λ check place. reported_same s f _ (λ q. denied_unreported s.bound f q p.audited who name check place) has) (λ e. has) (λ cs answer own h. h) a [] r h
+    (λ check place. reported_same s f _ (λ q. denied_unreported s.bound f q p.audited who name check place) has) (λ e _. has) (λ cs answer own h. h) a [] r h
 
 module _ (s : State) (who : Pid) (c : Call) (f : Pid → CapState) (has : Reported s f) where
   settled_reports : (p : Process) → map.get s.procs who ≡ Some p → Reported (settled s who p (name_of c) (judge (subject who p) [] (row s who p c))).state (reported s.bound f (settled s who p (name_of c) (judge (subject who p) [] (row s who p c))).recs)

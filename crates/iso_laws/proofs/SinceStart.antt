@@ -46,9 +46,9 @@ use Rattle.iso_laws.proofs.Steps.{by_process, judged_row, fixed_after}
 use Rattle.iso_laws.proofs.Booting.{fixed_booted}
 use Rattle.iso_laws.proofs.CapsReported.{reported-append}
 use Rattle.iso_laws.proofs.Lineage.{used_unreported}
-use Rattle.iso_laws.proofs.DrawingLemmas.{born_all}
-use Rattle.iso_laws.proofs.RowsFair.{ReportsOwn}
-use Rattle.iso_laws.proofs.GoingOn.{EndsFair, Fitting, row_ends, Anything, lead_anywhere}
+use Rattle.iso_laws.proofs.DrawingLemmas.{born_all, Anything, lead_anywhere}
+use Rattle.iso_laws.proofs.FitRows.{ReportsOwn, Fitting}
+use Rattle.iso_laws.proofs.GoingOn.{EndGives, row_ends}
 use Rattle.iso_laws.proofs.StartLemmas.{ancestor-append}
 
 -- ---- over further records
@@ -133,13 +133,13 @@ module _ (s : State) (who : Pid) (me : IsThere s.procs who) where
     permitted_own (Some (rec.CapSetProc w caps)) reports q cap h = of_caller q w cap caps reports h
     permitted_own (Some r) reports q cap h = permitted q cap h
 
-    permitted_end : (p : Process) (name : CallName) (e : End) → EndsFair (Fitting Anything s who) e → (q : Pid) (cap : Cap) → has (reported bound f (own_of who p name e) q).p cap ≡ true → HasStarted seen (ancestor (own_of who p name e) q)
+    permitted_end : (p : Process) (name : CallName) (e : End) → EndGives (Fitting Anything s who) e → (q : Pid) (cap : Cap) → has (reported bound f (own_of who p name e) q).p cap ≡ true → HasStarted seen (ancestor (own_of who p name e) q)
     permitted_end p name (Stopped check place) fair q cap h =
         subst (HasStarted seen) (sym (denied_origin p.audited who name check place q)) (permitted q cap (ap (λ (c : CapState). has c.p cap) (sym (denied_reported bound f p.audited who name check place q)) ∙ h))
     permitted_end p name (Refused e) fair q cap h = permitted q cap h
     permitted_end p name (Done cs answer own) fair q cap h = permitted_own own fair.1 q cap h
 
-  lived_end : (p : Process) (name : CallName) (e : End) → EndsFair (Fitting Anything s who) e → (q : Pid) → IsThere (state_after s e).procs q → IsThere s.procs (ancestor (own_of who p name e) q)
+  lived_end : (p : Process) (name : CallName) (e : End) → EndGives (Fitting Anything s who) e → (q : Pid) → IsThere (state_after s e).procs q → IsThere s.procs (ancestor (own_of who p name e) q)
   lived_end p name (Stopped check place) fair q there = subst (IsThere s.procs) (sym (denied_origin p.audited who name check place q)) there
   lived_end p name (Refused e) fair q there = there
   lived_end p name (Done cs answer own) fair q there = lived own fair.1 q (born_all Anything _ s cs s fair.0 (λ k was. inl was) q there)
@@ -150,7 +150,7 @@ module _ (s : State) (f : Pid → CapState) (seen : List Rec) (all : AllStarted 
       let me : IsThere s.procs who = record { value = p; is = is } in
       let used : List Rec = (judged_row s who c p).used in
       let own : List Rec = own_of who p (name_of c) (judged_row s who c p).end in
-      let fair : EndsFair (Fitting Anything s who) (judged_row s who c p).end = row_ends Anything s (lead_anywhere s) who p is c in
+      let fair : EndGives (Fitting Anything s who) (judged_row s who c p).end = row_ends Anything s (lead_anywhere s) who p is c in
       let origin_is : (q : Pid) → ancestor own q ≡ ancestor (used ++ own) q = λ q. sym (ancestor-append used own q ∙ used_origin (subject who p) (row s who p c) (ancestor own q)) in
       let permitted : (q : Pid) (cap : Cap) → has (reported s.bound f used q).p cap ≡ true → HasStarted seen q = λ q cap h. all.permitted q cap (ap (λ (x : CapState). has x.p cap) (sym (used_unreported (subject who p) s.bound f q (row s who p c))) ∙ h) in
       record {

@@ -34,9 +34,10 @@ use Rattle.kern_model.specs.Step.{step, subject, own_of}
 use Rattle.kern_model.proofs.MapLemmas.{same_key, get_or-found, get-insert_same}
 use Rattle.iso_laws.proofs.Rows.{used_is}
 use Rattle.iso_laws.proofs.Steps.{by_process, judged_row}
-use Rattle.iso_laws.proofs.DrawingLemmas.{falls_nowhere}
-use Rattle.iso_laws.proofs.RowsFair.{IsOwn, ReportsOwn, all-append}
-use Rattle.iso_laws.proofs.GoingOn.{EndsFair, Fitting, row_ends, Anything, lead_anywhere}
+use Rattle.iso_laws.proofs.DrawingLemmas.{falls_nowhere, Anything, lead_anywhere}
+use Rattle.iso_laws.proofs.AllLemmas.{all-append}
+use Rattle.iso_laws.proofs.FitRows.{IsOwn, ReportsOwn, Fitting}
+use Rattle.iso_laws.proofs.GoingOn.{EndGives, row_ends}
 
 -- ---- no call leaves a record of a start
 -- a record that is none of a start
@@ -66,7 +67,7 @@ reported_no_start : (who : Pid) (own : Option Rec) → ReportsOwn who own → No
 reported_no_start who None h = tt
 reported_no_start who (Some r) h = (own_is_no_start who r h, tt)
 
-own_no_start : (s : State) (who : Pid) (p : Process) (name : CallName) (e : End) → EndsFair (Fitting Anything s who) e → NoStarts (own_of who p name e)
+own_no_start : (s : State) (who : Pid) (p : Process) (name : CallName) (e : End) → EndGives (Fitting Anything s who) e → NoStarts (own_of who p name e)
 own_no_start s who p name (Stopped check place) h = denied_no_start p.audited who name check place
 own_no_start s who p name (Refused e) h = tt
 own_no_start s who p name (Done cs answer own) h = reported_no_start who own h.1

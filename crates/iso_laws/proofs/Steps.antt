@@ -22,7 +22,8 @@ use Rattle.iso_laws.specs.Laws.{LowStepReply, LowStepRecords, LowStepState, Othe
 use Rattle.iso_laws.proofs.Part.{by_number, top-changed, low_pid, same, part_changes, part_by_number, by_number-changed_by, fixed_by}
 use Rattle.iso_laws.proofs.Rows.{part_end, part_judged, bad_prefix, never, none_never}
 use Rattle.iso_laws.proofs.Sight.{get_process}
-use Rattle.iso_laws.proofs.Calls.{Cases, low_row, row_meets, hidden_cases, kept_cases, valid_cases}
+use Rattle.iso_laws.proofs.Cases.{Cases, hidden_cases, kept_cases, valid_cases}
+use Rattle.iso_laws.proofs.Isolation.{low_row, row_meets}
 
 module _ (s : State) (who : Pid) (c : Call) where
   abbrev pub judged_row : Process → CheckOutcome
