@@ -1,4 +1,4 @@
--- What holds of each change that goes with descriptors that close, and with a process that ends.
+-- What holds of each change that is made where descriptors close, and where a process ends.
 use Rattle.std.specs.Prelude.{◌≡◌, Bool, not, ◌&&◌, ◌||◌, [], ◌∷◌, Some, cond}
 use Rattle.std.specs.List.{AllByRecursion, flat_map}
 use Rattle.std.specs.FinMap as map

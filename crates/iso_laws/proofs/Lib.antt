@@ -9,7 +9,7 @@ pub mod WalkLemmas
 pub mod ClosingLemmas
 pub mod LowRows
 pub mod Cases
-pub mod CapsReported
+pub mod CapsLemmas
 pub mod CalmRows
 pub mod FitRows
 pub mod files

@@ -15,7 +15,7 @@ use Rattle.kern_model.specs.State.{State, Process, Description, Change, SetObjec
 use Rattle.kern_model.specs.Isolation.{low, part, shows, label_in, Kept}
 use Rattle.kern_model.proofs.MapLemmas.{select_agree, select-insert_kept, select-insert_dropped, select-remove_kept, select-remove_dropped}
 
--- what an entry that leads to it leads to in the part
+-- where an entry for an object leads in the part
 abbrev pub shown : Label → Label → Oid → Oid
 shown l top id = cond (low l id.label) id (stub top)
 

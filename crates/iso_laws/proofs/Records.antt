@@ -9,7 +9,7 @@ use Rattle.kern_model.specs.declared.numbers.Pid.{Pid}
 use Rattle.kern_model.specs.State.{State, Process}
 use Rattle.kern_model.specs.Table.{row}
 use Rattle.iso_laws.proofs.CalmRows.{MatchesRecord, IsCalm, calm_reports}
-use Rattle.iso_laws.proofs.CapsReported.{Reported}
+use Rattle.iso_laws.proofs.CapsLemmas.{HaveCaps}
 use Rattle.iso_laws.proofs.Rows.{Gives}
 use Rattle.iso_laws.proofs.files.Records as files
 use Rattle.iso_laws.proofs.tree.Records as tree
@@ -24,7 +24,7 @@ reports_sets (call.Exec path) = true
 reports_sets (call.CapSetProc caps) = true
 reports_sets _ = false
 
-module _ (s : State) (f : Pid → CapState) (has : Reported s f) (who : Pid) (p : Process) (is : map.get s.procs who ≡ Some p) where
+module _ (s : State) (f : Pid → CapState) (has : HaveCaps s f) (who : Pid) (p : Process) (is : map.get s.procs who ≡ Some p) where
   -- each other call leaves each process its sets
   pub row_calm : (c : Call) → reports_sets c ≡ false → IsCalm s f (row s who p c)
   row_calm (call.OpenPath path flags mode) _ = files.open_calm s f has who p is path flags mode

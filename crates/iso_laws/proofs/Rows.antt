@@ -1,4 +1,4 @@
--- What holds of whole rows, composed along their items, as long as no exercise is one that a test calls bad.
+-- What holds of a row, from what holds of its items. A test says which exercises are bad.
 use Rattle.std.specs.Prelude.{◌≡◌, Bool, true, false, ◌||◌, List, [], ◌∷◌, ◌++◌, Option, Some, None, refl, cond}
 use Rattle.std.specs.List.{list_any}
 use Rattle.std.specs.Option.{option_map}
@@ -36,7 +36,7 @@ pub when : (P : CheckOutcome → Type 0) (b : Bool) (x y : CheckOutcome) → (b 
 when P true x y f g = f refl
 when P false x y f g = g refl
 
--- two answers to one test
+-- two choices by one test
 both : (P : CheckOutcome → CheckOutcome → Type 0) (b : Bool) (x y x' y' : CheckOutcome) → (b ≡ true → P x x') → (b ≡ false → P y y') → P (cond b x y) (cond b x' y')
 both P true x y x' y' f g = f refl
 both P false x y x' y' f g = g refl
@@ -71,15 +71,15 @@ pub record Ends (bad : Rec → Bool) (a : Subject) (P : List Change → Type 0) 
   pub ends : (used : List Rec) → list_any bad (judge a used r).used ≡ false → P (changes_of (judge a used r).end)
 
 module _ (bad : Rec → Bool) where
-  -- where none of all is bad, none of the first is
+  -- where no record of two lists is bad, none of the first list is
   pub bad_prefix : (xs ys : List Rec) → list_any bad (xs ++ ys) ≡ false → list_any bad xs ≡ false
   bad_prefix [] ys h = refl
   bad_prefix (x ∷ xs) ys h = let h' = or_false (bad x) (list_any bad (xs ++ ys)) h in false_or _ _ h'.0 (bad_prefix xs ys h'.1)
 
-  -- nor is any of the last
-  pub bad_back : (xs ys : List Rec) → list_any bad (xs ++ ys) ≡ false → list_any bad ys ≡ false
-  bad_back [] ys h = h
-  bad_back (x ∷ xs) ys h = let h' = or_false (bad x) (list_any bad (xs ++ ys)) h in bad_back xs ys h'.1
+  -- and none of the second
+  pub bad_suffix : (xs ys : List Rec) → list_any bad (xs ++ ys) ≡ false → list_any bad ys ≡ false
+  bad_suffix [] ys h = h
+  bad_suffix (x ∷ xs) ys h = let h' = or_false (bad x) (list_any bad (xs ++ ys)) h in bad_suffix xs ys h'.1
 
 module _ (bad : Rec → Bool) (a : Subject) where
   noted_prefix : (c : Check) (v : Verdict) (used : List Rec) → list_any bad (noted a c v used) ≡ false → list_any bad used ≡ false
@@ -87,12 +87,12 @@ module _ (bad : Rec → Bool) (a : Subject) where
   noted_prefix c Exercised used h = bad_prefix bad used _ h
   noted_prefix c Denied used h = h
 
-  noted_back : (c : Check) (v : Verdict) (used : List Rec) → list_any bad (noted a c v used) ≡ false → list_any bad (noted a c v []) ≡ false
-  noted_back c Passed used h = refl
-  noted_back c Exercised used h = bad_back bad used _ h
-  noted_back c Denied used h = refl
+  noted_suffix : (c : Check) (v : Verdict) (used : List Rec) → list_any bad (noted a c v used) ≡ false → list_any bad (noted a c v []) ≡ false
+  noted_suffix c Passed used h = refl
+  noted_suffix c Exercised used h = bad_suffix bad used _ h
+  noted_suffix c Denied used h = refl
 
-  -- the exercises so far stay
+  -- where no exercise after a row is bad, none before it is
   pub used_before : (used : List Rec) (r : Row) → list_any bad (judge a used r).used ≡ false → list_any bad used ≡ false
   unfolding judge
   used_before used (Need c r) =
@@ -106,7 +106,7 @@ module _ (bad : Rec → Bool) (a : Subject) where
 
   -- what is known where a row goes on after a check
   passed : (c : Check) (used : List Rec) (r : Row) → is_denied (verdict_of a c) ≡ false → list_any bad (judge a (noted a c (verdict_of a c) used) r).used ≡ false → Passes bad a c
-  passed c used r granted h = record { granted = granted; inside = noted_back c _ used (used_before _ r h) }
+  passed c used r granted h = record { granted = granted; inside = noted_suffix c _ used (used_before _ r h) }
 
 -- ---- two rows that end alike
 module _ (bad : Rec → Bool) (l top : Label) (a : Subject) where
@@ -274,7 +274,7 @@ end_is P Q stopped refused done a used (Refuse e b r) h = when (λ j. P j.end) b
 end_is P Q stopped refused done a used (Fail e) h = refused e h
 end_is P Q stopped refused done a used (Commit cs answer own) h = done cs answer own h
 
--- a row of which the part sees each change ends there as it does
+-- a row of which the part sees each change as it is ends in the part as in the state
 pub alike_itself : (bad : Rec → Bool) (l top : Label) (a : Subject) (r : Row) → Gives (λ cs own. part_changes l top cs ≡ cs) r → Alike bad l top a r r
 alike_itself bad l top a (Need c r) h = alike_need bad l top a c r r (λ _. alike_itself bad l top a r h)
 alike_itself bad l top a (Soft c r w) h = alike_soft bad l top a c r w r w (λ _. alike_itself bad l top a r h.0) (alike_itself bad l top a w h.1)

@@ -11,10 +11,10 @@ use Rattle.kern_model.specs.AttrRows.{chmod_row, chown_row, cap_get_file_row, ca
 use Rattle.kern_model.specs.Rules.{same_label}
 use Rattle.kern_model.specs.State.{State, Process, object_at}
 use Rattle.iso_laws.proofs.CalmRows.{Calm, IsCalm, nothing_calm, calm_reach, calm_path, calm_open_object}
-use Rattle.iso_laws.proofs.CapsReported.{Reported}
+use Rattle.iso_laws.proofs.CapsLemmas.{HaveCaps}
 use Rattle.iso_laws.proofs.Rows.{gives_cond}
 
-module _ (s : State) (f : Pid → CapState) (has : Reported s f) (who : Pid) (p : Process) (is : map.get s.procs who ≡ Some p) where
+module _ (s : State) (f : Pid → CapState) (has : HaveCaps s f) (who : Pid) (p : Process) (is : map.get s.procs who ≡ Some p) where
   pub chmod_calm : (path : PathValue) (mode : ℕ) → IsCalm s f (chmod_row s who p path mode)
   chmod_calm path mode = calm_reach s f has who p is path _ (λ id. (((tt, tt), λ q. refl), ((tt, tt), λ q. refl)))
 

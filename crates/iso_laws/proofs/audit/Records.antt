@@ -6,9 +6,9 @@ use Rattle.kern_model.specs.declared.numbers.Pid.{Pid}
 use Rattle.kern_model.specs.AuditRows.{aud_write_row, aud_switch_row}
 use Rattle.kern_model.specs.State.{State, Process}
 use Rattle.iso_laws.proofs.CalmRows.{IsCalm}
-use Rattle.iso_laws.proofs.CapsReported.{Reported}
+use Rattle.iso_laws.proofs.CapsLemmas.{HaveCaps}
 
-module _ (s : State) (f : Pid → CapState) (has : Reported s f) (who : Pid) (p : Process) (is : map.get s.procs who ≡ Some p) where
+module _ (s : State) (f : Pid → CapState) (has : HaveCaps s f) (who : Pid) (p : Process) (is : map.get s.procs who ≡ Some p) where
   pub aud_write_calm : (bytes : List ℕ) → IsCalm s f (aud_write_row s who p bytes)
   aud_write_calm bytes = (tt, λ q. refl)
 

@@ -21,11 +21,11 @@ use Rattle.kern_model.specs.State.{State, Process, Change, object_at, next_objec
 use Rattle.kern_model.specs.Walk.{Found, Start, Entry, last_place}
 use Rattle.iso_laws.proofs.AllLemmas.{all-append}
 use Rattle.iso_laws.proofs.CalmRows.{Calm, IsCalm, nothing_calm, calm_walk, calm_descriptor}
-use Rattle.iso_laws.proofs.CapsReported.{Reported, Quiet}
+use Rattle.iso_laws.proofs.CapsLemmas.{HaveCaps, Quiet}
 use Rattle.iso_laws.proofs.ClosingLemmas.{each_closing}
 use Rattle.iso_laws.proofs.Rows.{gives_cond, gives_need_if}
 
-module _ (s : State) (f : Pid → CapState) (has : Reported s f) (who : Pid) (p : Process) (is : map.get s.procs who ≡ Some p) where
+module _ (s : State) (f : Pid → CapState) (has : HaveCaps s f) (who : Pid) (p : Process) (is : map.get s.procs who ≡ Some p) where
   own : p.caps ≡ f who
   own = has who p is
 

@@ -18,19 +18,19 @@ use Rattle.kern_model.specs.Exec.{exec_caps, exec_ids}
 use Rattle.kern_model.specs.ProcessRows.{umask_row, fork_row, exec_row, exit_row, wait_row, kill_row, getpid_row, getppid_row, getids_row, setuid_row, setgid_row, cap_get_proc_row, cap_set_proc_row, mac_get_proc_row, mac_set_proc_row, child_of, ending_of, take_ended, signalled, send}
 use Rattle.kern_model.specs.State.{State, Process, DrawProcess, changed, drawn, next_process, object_at}
 use Rattle.iso_laws.proofs.CalmRows.{MatchesRecord, Calm, IsCalm, nothing_calm}
-use Rattle.iso_laws.proofs.CapsReported.{Reported, reported_set, Quiet}
+use Rattle.iso_laws.proofs.CapsLemmas.{HaveCaps, have_set, Quiet}
 use Rattle.iso_laws.proofs.ClosingLemmas.{each_ending}
 use Rattle.iso_laws.proofs.DrawingLemmas.{Anything, lead_anywhere}
 use Rattle.iso_laws.proofs.Rows.{Gives, gives_need_if}
 use Rattle.iso_laws.proofs.WalkLemmas.{gives_reach}
 
-module _ (s : State) (f : Pid → CapState) (has : Reported s f) (who : Pid) (p : Process) (is : map.get s.procs who ≡ Some p) where
+module _ (s : State) (f : Pid → CapState) (has : HaveCaps s f) (who : Pid) (p : Process) (is : map.get s.procs who ≡ Some p) where
   own : p.caps ≡ f who
   own = has who p is
 
   -- ---- children and ends
   pub fork_reports : Gives (MatchesRecord s f) (fork_row s who p)
-  fork_reports = (refl, reported_set (changed s (DrawProcess p.label (drawn s.process_numbers p.label + 1))) f (λ q. f who) has (next_process s p.label) (child_of who p) own)
+  fork_reports = (refl, have_set (changed s (DrawProcess p.label (drawn s.process_numbers p.label + 1))) f (λ q. f who) has (next_process s p.label) (child_of who p) own)
 
   take_calm : (es : List (Pid × Ending)) → IsCalm s f (take_ended who p es)
   take_calm [] = refl
@@ -61,7 +61,7 @@ module _ (s : State) (f : Pid → CapState) (has : Reported s f) (who : Pid) (p 
   pub exec_reports : (path : PathValue) → Gives (MatchesRecord s f) (exec_row s who p path)
   exec_reports path = gives_reach Anything s (lead_anywhere s) who p is (MatchesRecord s f) (λ n. First n) path _ (λ id _.
       let o : Object = object_at s id in
-      reported_set s f (λ q. exec_caps (f q) o.attr.caps s.bound) has who (record p { ids = exec_ids p.ids o.attr; caps = exec_caps p.caps o.attr.caps s.bound }) (ap (λ c. exec_caps c o.attr.caps s.bound) own))
+      have_set s f (λ q. exec_caps (f q) o.attr.caps s.bound) has who (record p { ids = exec_ids p.ids o.attr; caps = exec_caps p.caps o.attr.caps s.bound }) (ap (λ c. exec_caps c o.attr.caps s.bound) own))
 
   -- ---- what a process reports and sets of itself
   pub getpid_calm : IsCalm s f (getpid_row s who p)
@@ -89,7 +89,7 @@ module _ (s : State) (f : Pid → CapState) (has : Reported s f) (who : Pid) (p 
   umask_calm mode = ((own, tt), λ q. refl)
 
   pub cap_set_proc_reports : (caps : CapState) → Gives (MatchesRecord s f) (cap_set_proc_row s who p caps)
-  cap_set_proc_reports caps = reported_set s f (λ q. caps) has who (record p { caps = caps }) refl
+  cap_set_proc_reports caps = have_set s f (λ q. caps) has who (record p { caps = caps }) refl
 
   pub mac_set_proc_calm : (new : Label) → IsCalm s f (mac_set_proc_row s who p new)
   mac_set_proc_calm new = gives_need_if (Calm s f) _ _ _ ((own, tt), λ q. refl)

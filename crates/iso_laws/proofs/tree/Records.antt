@@ -18,12 +18,12 @@ use Rattle.kern_model.specs.State.{State, Process}
 use Rattle.kern_model.specs.TreeRows.{make_row, mkfifo_row, mkdir_row, rmdir_row, link_row, unlink_row, rename_row, readdir_row, stat_row, chdir_row, give_way, move_row}
 use Rattle.kern_model.specs.Walk.{Found, walk, reach, last_place, dir_place, to_entry, to_entry_of_object}
 use Rattle.iso_laws.proofs.CalmRows.{Calm, IsCalm, nothing_calm, calm_walk, calm_reach}
-use Rattle.iso_laws.proofs.CapsReported.{Reported}
+use Rattle.iso_laws.proofs.CapsLemmas.{HaveCaps}
 use Rattle.iso_laws.proofs.DrawingLemmas.{Anything}
 use Rattle.iso_laws.proofs.Rows.{gives_cond}
 use Rattle.iso_laws.proofs.WalkLemmas.{gives_new_name, gives_entry, gives_entry_of_object, there_anywhere}
 
-module _ (s : State) (f : Pid → CapState) (has : Reported s f) (who : Pid) (p : Process) (is : map.get s.procs who ≡ Some p) where
+module _ (s : State) (f : Pid → CapState) (has : HaveCaps s f) (who : Pid) (p : Process) (is : map.get s.procs who ≡ Some p) where
   reached_calm : (path : PathValue) (k : Oid → Row) → ((id : Oid) → IsCalm s f (k id)) → IsCalm s f (reach s p (λ n. First n) path k)
   reached_calm = calm_reach s f has who p is
 
