@@ -27,7 +27,7 @@ use Rattle.iso_laws.proofs.WalkLemmas.{gives_walk, gives_reach, gives_path, give
 abbrev pub MatchesRecord : State → (Pid → CapState) → List Change → Option Rec → Type 0
 MatchesRecord s f cs own = HaveCaps (changed_by s cs) (caps_after s.bound f (option_to_list own))
 
--- the changes leave each process its sets, and the own record is of none
+-- the changes leave each process its sets, and so does the own record
 abbrev pub Calm : State → (Pid → CapState) → List Change → Option Rec → Type 0
 Calm s f cs own = AllByRecursion (Quiet f) cs × ((q : Pid) → caps_after s.bound f (option_to_list own) q ≡ f q)
 

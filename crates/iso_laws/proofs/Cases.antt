@@ -1,4 +1,4 @@
--- What the changes of each row meet: a law holds for a row where it holds for each kind of effect.
+-- What the changes of a row meet. A law of changes holds of a row where it holds of each kind of effect.
 use Rattle.std.specs.Prelude.{◌≡◌, ℕ, ◌≤◌, length, Bool, true, false, not, List, [], ◌∷◌, Option, Some, refl}
 use Rattle.std.proofs.Common.{sym, ◌∙◌, ap, subst}
 use Rattle.std.specs.FinMap as map
@@ -29,7 +29,7 @@ use Rattle.iso_laws.proofs.Rows.{Ends, Passes, Gives, ends_given}
 use Rattle.iso_laws.proofs.Sight.{same_side, ends_reach, new_side, read_low}
 use Rattle.iso_laws.proofs.Changes.{KeptProcess, kept_of, kept_process, valid_process}
 
--- what each row's changes meet, from what they meet at each kind of effect; where the arguments fit, what they set is as it has to be
+-- a law of changes holds of each kind of effect; where the arguments fit, what the effect sets is in its range
 pub record Cases (bad : Rec → Bool) (s : State) (who : Pid) (p : Process) (fit : Type 0) (P : List Change → Type 0) : Type 0 where
   pub none : P []
   -- other users, capability sets, umask or audit switch
@@ -41,11 +41,11 @@ pub record Cases (bad : Rec → Bool) (s : State) (who : Pid) (p : Process) (fit
   pub cwd : (id : Oid) (place : Place) → Passes bad (subject who p) (mac_read s p id place) → IsDir s.objects id → P (SetProcess who (record p { cwd = id }) ∷ [])
 
 -- ---- what the rows of every process share
--- a law of changes, of any own record
+-- a law of changes, whatever the own record is
 abbrev pub OfChanges : (List Change → Type 0) → List Change → Option Rec → Type 0
 OfChanges P cs own = P cs
 
--- unless something is bad, the changes of the row meet it
+-- the changes of the row meet a law, unless an exercise is bad
 abbrev pub Meets : (Rec → Bool) → Pid → Process → (List Change → Type 0) → Row → Type 0
 Meets bad who p P r = Ends bad (subject who p) P r
 

@@ -26,7 +26,7 @@ use Rattle.kern_model.proofs.KeyLaws.{oid_cmp_total}
 use Rattle.kern_model.proofs.MapLemmas.{get-insert_same}
 use Rattle.iso_laws.proofs.DrawingLemmas.{LeadsTo, AllFit, drawn_since}
 use Rattle.iso_laws.proofs.Rows.{Gives}
-use Rattle.iso_laws.proofs.WalkLemmas.{AreThere, IsHeld, gives_walk, gives_reach, gives_path, gives_descriptor, gives_open_object}
+use Rattle.iso_laws.proofs.WalkLemmas.{AreThere, RefersThere, gives_walk, gives_reach, gives_path, gives_descriptor, gives_open_object}
 
 -- a record that a call of this process may leave as its own: none of a start, and of the process itself where it names
 -- a child, a program or sets
@@ -89,7 +89,7 @@ module _ (There : Oid → Type 0) (s : State) (leads : LeadsTo There s) (who : P
   pub fit_path : (path : PathValue) (k : Oid → Place → Row) → ((id : Oid) (place : Place) → There id → IsFit There s who (k id place)) → IsFit There s who (on_path s p path k)
   fit_path = gives_path There s leads who p is (Fitting There s who)
 
-  pub fit_descriptor : (fd : ℕ) (k : Opened → Row) → ((f : Opened) → IsHeld There s f → IsFit There s who (k f)) → IsFit There s who (on_descriptor s p fd k)
+  pub fit_descriptor : (fd : ℕ) (k : Opened → Row) → ((f : Opened) → RefersThere There s f → IsFit There s who (k f)) → IsFit There s who (on_descriptor s p fd k)
   fit_descriptor = gives_descriptor There s leads who p is (Fitting There s who)
 
   pub fit_open_object : (fd : ℕ) (k : Oid → Place → Row) → ((id : Oid) (place : Place) → There id → IsFit There s who (k id place)) → IsFit There s who (on_open_object s p fd k)

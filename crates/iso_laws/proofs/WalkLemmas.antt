@@ -30,7 +30,7 @@ there_anywhere (Start id) = tt
 there_anywhere (Entry dir name object) = λ id e. tt
 
 -- what a descriptor refers to is there
-pub record IsHeld (There : Oid → Type 0) (s : State) (f : Opened) : Type 0 where
+pub record RefersThere (There : Oid → Type 0) (s : State) (f : Opened) : Type 0 where
   pub description : IsThere s.descriptions f.did
   pub object : There f.description.object
 
@@ -76,7 +76,7 @@ module _ (There : Oid → Type 0) (s : State) (leads : LeadsTo There s) (who : P
   pub gives_path : (path : PathValue) (k : Oid → Place → Row) → ((id : Oid) (place : Place) → There id → Gives P (k id place)) → Gives P (on_path s p path k)
   gives_path path k h = gives_reach (λ n. First n) path _ (λ id there. h id (last_place (λ n. First n) path) there)
 
-  pub gives_descriptor : (fd : ℕ) (k : Opened → Row) → ((f : Opened) → IsHeld There s f → Gives P (k f)) → Gives P (on_descriptor s p fd k)
+  pub gives_descriptor : (fd : ℕ) (k : Opened → Row) → ((f : Opened) → RefersThere There s f → Gives P (k f)) → Gives P (on_descriptor s p fd k)
   gives_descriptor fd k h = gives_open P (opened s p fd) k (λ f e.
       let open_is = is_open s p fd f e in
       h f (record { description = record { value = f.description; is = open_is.is }; object = leads.descriptions f.did f.description open_is.is }))

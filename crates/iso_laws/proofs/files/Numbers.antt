@@ -28,7 +28,7 @@ use Rattle.iso_laws.proofs.ClosingLemmas.{each_closing}
 use Rattle.iso_laws.proofs.DrawingLemmas.{LeadsTo, Known, AllFit, FitsAnywhere, fit-append, fit_anywhere, drawn_since}
 use Rattle.iso_laws.proofs.FitRows.{Child, Fitting, IsFit, next_is_above, next_drawn, me, stays, nothing_fits, made_there, made_fits, fit_walk, fit_descriptor}
 use Rattle.iso_laws.proofs.Rows.{gives_cond, gives_need_if}
-use Rattle.iso_laws.proofs.WalkLemmas.{AreThere, IsHeld}
+use Rattle.iso_laws.proofs.WalkLemmas.{AreThere, RefersThere}
 
 -- two numbers are drawn at once
 module _ (m : FinMap label_cmp ℕ) (l : Label) where
@@ -58,7 +58,7 @@ module _ (There : Oid → Type 0) (s : State) (leads : LeadsTo There s) (who : P
   at_home : There p.cwd
   at_home = stays There s leads who p is
 
-  on_open : (fd : ℕ) (k : Opened → Row) → ((f : Opened) → IsHeld There s f → Fit (k f)) → Fit (on_descriptor s p fd k)
+  on_open : (fd : ℕ) (k : Opened → Row) → ((f : Opened) → RefersThere There s f → Fit (k f)) → Fit (on_descriptor s p fd k)
   on_open = fit_descriptor There s leads who p is
 
   -- ---- open
@@ -94,10 +94,10 @@ module _ (There : Oid → Type 0) (s : State) (leads : LeadsTo There s) (who : P
   open_fits path flags mode = (refl, (refl, fit_walk There s leads who p is (λ n. First n) path _ (found_fits path flags (unwrap_or mode 0))))
 
   -- ---- what is done through a descriptor
-  rewriting_fits : (f : Opened) → IsHeld There s f → (bytes : List ℕ) (k : List Change → Row) → ((changes : List Change) → Fits_in s changes → Fit (k changes)) → Fit (rewriting s f bytes k)
+  rewriting_fits : (f : Opened) → RefersThere There s f → (bytes : List ℕ) (k : List Change → Row) → ((changes : List Change) → Fits_in s changes → Fit (k changes)) → Fit (rewriting s f bytes k)
   rewriting_fits f is bytes k h = gives_cond F (length bytes == 0) (k []) _ (h [] tt) (h _ (inl is.object, tt), h _ (inl is.object, tt))
 
-  writing_fits : (f : Opened) → IsHeld There s f → (bytes : List ℕ) → Fit (writing s f bytes)
+  writing_fits : (f : Opened) → RefersThere There s f → (bytes : List ℕ) → Fit (writing s f bytes)
   writing_fits f is bytes =
       let offset : ℕ = place_in (open_object s f) f + length bytes in
       (refl, (refl, rewriting_fits f is bytes (λ changes. Commit (changes ++ moved f offset ∷ []) (answer.Number (length bytes)) None) (λ changes h. (fit-append There (Child who None) s changes (moved f offset ∷ []) s h ((inl is.description, inl is.object), tt), tt))))
