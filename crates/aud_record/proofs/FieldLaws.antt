@@ -41,7 +41,8 @@ use Rattle.kern_model.specs.declared.checks.Thing.{Thing}
 use Rattle.kern_model.specs.declared.checks.Thing.TheVariants as thing
 use Rattle.kern_model.specs.declared.numbers.Oid.{Oid}
 use Rattle.kern_model.specs.declared.numbers.Pid.{Pid}
-use Rattle.kern_model.specs.Named.{named, named_is, call_round_trip, check_round_trip, errno_round_trip}
+use Rattle.kern_model.specs.Named.{named}
+use Rattle.kern_model.proofs.NamedLaws.{named_is, call_round_trip, check_round_trip, errno_round_trip}
 use Rattle.line_text.specs.Ranges.{are_bytes}
 use Rattle.line_text.specs.Words.{pid_text, oid_text, caps_word, thing_text, new_label_text}
 use Rattle.aud_record.specs.Events.{event_word}

@@ -9,7 +9,8 @@ use Rattle.cap_bits.proofs.Names.{cap_named_by}
 use Rattle.cap_bits.specs.declared.cap.Cap.{Cap}
 use Rattle.cap_bits.specs.declared.cap.Cap.TheVariants as cap
 use Rattle.lab_text.specs.Names.{same_bytes}
-use Rattle.kern_model.specs.Named.{named, named_is}
+use Rattle.kern_model.specs.Named.{named}
+use Rattle.kern_model.proofs.NamedLaws.{named_is}
 use Rattle.aud_record.proofs.ListedLaws.{cap_round_trip}
 use Rattle.aud_record.proofs.Numbers.{same_itself, same_is, none_from}
 

@@ -15,7 +15,8 @@ use Rattle.kern_model.specs.declared.numbers.Pid.{Pid}
 use Rattle.kern_model.specs.declared.numbers.Oid.{Oid}
 use Rattle.kern_model.specs.declared.numbers.Did.{Did}
 use Rattle.kern_model.specs.declared.objects.Object.{Object}
-use Rattle.kern_model.specs.Keys.{Spot, oid_cmp_total, oid_cmp_exact, pid_cmp, pid_cmp_total, pid_cmp_exact, spot_cmp}
+use Rattle.kern_model.specs.Keys.{Spot, pid_cmp, spot_cmp}
+use Rattle.kern_model.proofs.KeyLaws.{oid_cmp_total, oid_cmp_exact, pid_cmp_total, pid_cmp_exact}
 use Rattle.kern_model.specs.Kinds.{is_stream}
 use Rattle.kern_model.specs.State.{State, Process, Description, SetObject, SetProcess, changed, look, root}
 use Rattle.kern_model.specs.Isolation.{low, Kept}

@@ -12,7 +12,8 @@ use Rattle.kern_model.specs.declared.numbers.Did.{Did}
 use Rattle.kern_model.specs.declared.numbers.Oid.{Oid}
 use Rattle.kern_model.specs.declared.numbers.Pid.{Pid}
 use Rattle.kern_model.specs.Drawing.{NeverFalls, StayDrawn, IsDrawnBetween, NumbersGoOn, NothingComesBack}
-use Rattle.kern_model.specs.Keys.{Spot, oid_cmp_total, oid_cmp_exact, pid_cmp_total, pid_cmp_exact, did_cmp_total, did_cmp_exact, spot_cmp_total, spot_cmp_exact}
+use Rattle.kern_model.specs.Keys.{Spot}
+use Rattle.kern_model.proofs.KeyLaws.{oid_cmp_total, oid_cmp_exact, pid_cmp_total, pid_cmp_exact, did_cmp_total, did_cmp_exact, spot_cmp_total, spot_cmp_exact}
 use Rattle.kern_model.specs.State.{State, Process, Description, Change, SetObject, SetEntry, DropEntry, SetProcess, DropProcess, SetDescription, DropDescription, DrawObject, DrawProcess, DrawDescription, changed, changed_by, drawn, root}
 use Rattle.kern_model.specs.Valid.{IsThere, IsValid}
 use Rattle.kern_model.proofs.MapLemmas.{each-insert, each-remove, get-insert_same, get_or-found, never_some}
@@ -26,6 +27,13 @@ pub record LeadsTo (There : Oid → Type 0) (s : State) : Type 0 where
   pub entries : (spot : Spot) (id : Oid) → map.get s.entries spot ≡ Some id → There id
   pub procs : (who : Pid) (p : Process) → map.get s.procs who ≡ Some p → There p.cwd
   pub descriptions : (did : Did) (d : Description) → map.get s.descriptions did ≡ Some d → There d.object
+
+-- any object will do
+abbrev pub Anything : Oid → Type 0
+Anything id = ⊤
+
+pub lead_anywhere : (s : State) → LeadsTo Anything s
+lead_anywhere s = record { root_there = tt; entries = λ spot id e. tt; procs = λ who p e. tt; descriptions = λ did d e. tt }
 
 -- what leads to an object leads to one that is there
 abbrev pub IsClosed : State → Type 0

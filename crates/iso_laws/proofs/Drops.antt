@@ -26,8 +26,8 @@ use Rattle.kern_model.specs.declared.world.World.{World}
 use Rattle.kern_model.specs.declared.world.WorldProc.{WorldProc}
 use Rattle.kern_model.specs.declared.world.ScriptItem.{ScriptItem}
 use Rattle.kern_model.specs.Boot.{boot, boot_recs, boot_process, started, furnished}
-use Rattle.kern_model.specs.Keys.{pid_cmp_total}
-use Rattle.kern_model.specs.Lineage.{caps_after, reported, caps_of, all_recs}
+use Rattle.kern_model.proofs.KeyLaws.{pid_cmp_total}
+use Rattle.kern_model.specs.Lineage.{caps_after_one, caps_after, caps_of, all_recs}
 use Rattle.kern_model.specs.Names.{name_of}
 use Rattle.kern_model.specs.Row.{Row, Subject, End, judge, verdict_of, is_denied, exercise_with}
 use Rattle.kern_model.specs.Rules.{cap_of, denial_of, may_become, cap_grow}
@@ -40,9 +40,12 @@ use Rattle.iso_laws.proofs.Part.{bound-changed}
 use Rattle.iso_laws.proofs.Rows.{when, Gives, used_is, end_is}
 use Rattle.iso_laws.proofs.Steps.{fixed_after}
 use Rattle.iso_laws.proofs.Booting.{fixed_booted}
-use Rattle.iso_laws.proofs.CapsReported.{Reported, reported_same, reported_booted}
-use Rattle.iso_laws.proofs.Lineage.{used_unreported, reported_after}
-use Rattle.iso_laws.proofs.RowsReport.{Calm, row_calm, gives_reach}
+use Rattle.iso_laws.proofs.CapsLemmas.{HaveCaps, have_same, have_booted}
+use Rattle.iso_laws.proofs.Lineage.{used_leave, have_after_step}
+use Rattle.iso_laws.proofs.CalmRows.{Calm}
+use Rattle.iso_laws.proofs.DrawingLemmas.{Anything, lead_anywhere}
+use Rattle.iso_laws.proofs.Records.{row_calm}
+use Rattle.iso_laws.proofs.WalkLemmas.{gives_reach}
 
 -- ---- records
 -- what a record of `cap_set_proc` makes permitted was permitted
@@ -50,22 +53,22 @@ abbrev pub Drops : (Pid → CapState) → Rec → Type 0
 Drops f (rec.CapSetProc who caps) = is_within caps.p (f who).p ≡ true
 Drops f _ = ⊤
 
--- so it is with each of these records, by those before it
+-- each of these records is such, by those before it
 abbrev pub AllDrop : CapSet → (Pid → CapState) → List Rec → Type 0
 AllDrop bound f [] = ⊤
-AllDrop bound f (r ∷ rs) = Drops f r × AllDrop bound (caps_after bound f r) rs
+AllDrop bound f (r ∷ rs) = Drops f r × AllDrop bound (caps_after_one bound f r) rs
 
 module _ (bound : CapSet) where
-  drop-append : (f : Pid → CapState) (xs ys : List Rec) → AllDrop bound f xs → AllDrop bound (reported bound f xs) ys → AllDrop bound f (xs ++ ys)
+  drop-append : (f : Pid → CapState) (xs ys : List Rec) → AllDrop bound f xs → AllDrop bound (caps_after bound f xs) ys → AllDrop bound f (xs ++ ys)
   drop-append f [] ys h g = g
-  drop-append f (x ∷ xs) ys h g = (h.0, drop-append (caps_after bound f x) xs ys h.1 g)
+  drop-append f (x ∷ xs) ys h g = (h.0, drop-append (caps_after_one bound f x) xs ys h.1 g)
 
-  drop_between : (f : Pid → CapState) (before : List Rec) (r : Rec) (after : List Rec) → AllDrop bound f (before ++ r ∷ after) → Drops (reported bound f before) r
+  drop_between : (f : Pid → CapState) (before : List Rec) (r : Rec) (after : List Rec) → AllDrop bound f (before ++ r ∷ after) → Drops (caps_after bound f before) r
   drop_between f [] r after h = h.0
-  drop_between f (b ∷ before) r after h = drop_between (caps_after bound f b) before r after h.1
+  drop_between f (b ∷ before) r after h = drop_between (caps_after_one bound f b) before r after h.1
 
   -- a record that leaves the sets as they are
-  calm_drops : (f : Pid → CapState) (own : Option Rec) → ((q : Pid) → reported bound f (option_to_list own) q ≡ f q) → AllDrop bound f (option_to_list own)
+  calm_drops : (f : Pid → CapState) (own : Option Rec) → ((q : Pid) → caps_after bound f (option_to_list own) q ≡ f q) → AllDrop bound f (option_to_list own)
   calm_drops f None same = tt
   calm_drops f (Some (rec.CapSetProc who caps)) same =
       let kept : caps ≡ f who = ap (λ b. cond b caps (f who)) (sym ((eq_by_cmp_equiv pid_cmp_total).refl who)) ∙ same who in
@@ -78,14 +81,14 @@ module _ (bound : CapSet) where
   exercise_drops a f c (Some cap) = (tt, tt)
 
   used_drops : (a : Subject) (f : Pid → CapState) (r : Row) → AllDrop bound f (judge a [] r).used
-  used_drops a f r = used_is (AllDrop bound f) a (λ c used h. drop-append f used _ h (exercise_drops a (reported bound f used) c (cap_of c.name))) [] r tt
+  used_drops a f r = used_is (AllDrop bound f) a (λ c used h. drop-append f used _ h (exercise_drops a (caps_after bound f used) c (cap_of c.name))) [] r tt
 
   denied_drops : (f : Pid → CapState) (b : Bool) (who : Pid) (name : CallName) (check : CheckName) (place : Place) → AllDrop bound f (cond b (rec.Deny who name (denial_of check) check place ∷ []) [])
   denied_drops f true who name check place = (tt, tt)
   denied_drops f false who name check place = tt
 
 -- ---- a step
--- the check of `cap_set_proc` lets it go on only where it holds
+-- the check of `cap_set_proc` lets it go on only where its rule holds
 only_passed : (b : Bool) → is_denied (cond b Passed Denied) ≡ false → b ≡ true
 only_passed true h = refl
 only_passed false h = sym h
@@ -94,19 +97,19 @@ granted_grow : (a : Subject) (who : Pid) (p : Process) (caps : CapState) → is_
 unfolding verdict_of
 granted_grow a who p caps h = only_passed (may_become p.caps caps) h
 
-module _ (s : State) (f : Pid → CapState) (has : Reported s f) (who : Pid) (p : Process) (is : map.get s.procs who ≡ Some p) (a : Subject) where
+module _ (s : State) (f : Pid → CapState) (has : HaveCaps s f) (who : Pid) (p : Process) (is : map.get s.procs who ≡ Some p) (a : Subject) where
   -- what an end leaves after the exercises
   abbrev OwnDrops : CallName → End → Type 0
   OwnDrops name e = AllDrop s.bound f (own_of who p name e)
 
   end_drops : (Q : List Change → Option Rec → Type 0) → ((cs : List Change) (own : Option Rec) → Q cs own → AllDrop s.bound f (option_to_list own)) → (name : CallName) (r : Row) → Gives Q r → OwnDrops name (judge a [] r).end
-  end_drops Q drops name r = end_is (OwnDrops name) Q (denied_drops s.bound f p.audited who name) (λ e. tt) (λ cs answer own. drops cs own) a [] r
+  end_drops Q drops name r = end_is (OwnDrops name) Q (denied_drops s.bound f p.audited who name) (λ e _. tt) (λ cs answer own. drops cs own) a [] r
 
   own_drops : (c : Call) → OwnDrops (name_of c) (judge a [] (row s who p c)).end
   unfolding judge
-  own_drops call.Fork = end_drops (λ cs own. AllDrop s.bound f (option_to_list own)) (λ cs own h. h) (name_of call.Fork) (row s who p call.Fork) (tt, tt)
+  own_drops call.Fork = end_drops (λ cs own. AllDrop s.bound f (option_to_list own)) (λ cs own h. h) (name_of call.Fork) (row s who p call.Fork) (refl, (tt, tt))
   own_drops (call.Exec path) =
-      end_drops (λ cs own. AllDrop s.bound f (option_to_list own)) (λ cs own h. h) (name_of (call.Exec path)) (row s who p (call.Exec path)) (gives_reach (λ cs own. AllDrop s.bound f (option_to_list own)) s p (λ n. First n) path _ (λ id. (tt, tt)))
+      end_drops (λ cs own. AllDrop s.bound f (option_to_list own)) (λ cs own h. h) (name_of (call.Exec path)) (row s who p (call.Exec path)) (gives_reach Anything s (lead_anywhere s) who p is (λ cs own. AllDrop s.bound f (option_to_list own)) (λ n. First n) path _ (λ id _. (tt, tt)))
   own_drops (call.CapSetProc caps) =
       let name : CallName = name_of (call.CapSetProc caps) in
       let grow : Check = cap_grow who p caps in
@@ -114,12 +117,12 @@ module _ (s : State) (f : Pid → CapState) (has : Reported s f) (who : Pid) (p 
       (λ granted. (ap (λ (c : CapState). is_within caps.p c.p) (sym (has who p is)) ∙ (and_parts _ _ (and_parts _ _ (granted_grow a who p caps granted)).0).0, tt))
   own_drops c = end_drops (Calm s f) (λ cs own calm. calm_drops s.bound f own calm.1) (name_of c) (row s who p c) (row_calm s f has who p is c refl)
 
-module _ (s : State) (who : Pid) (c : Call) (f : Pid → CapState) (has : Reported s f) where
+module _ (s : State) (who : Pid) (c : Call) (f : Pid → CapState) (has : HaveCaps s f) where
   settled_drops : (p : Process) → map.get s.procs who ≡ Some p → AllDrop s.bound f (settled s who p (name_of c) (judge (subject who p) [] (row s who p c))).recs
   settled_drops p is =
       let used : List Rec = (judge (subject who p) [] (row s who p c)).used in
-      let has' : Reported s (reported s.bound f used) = reported_same s f (reported s.bound f used) (λ q. sym (used_unreported (subject who p) s.bound f q (row s who p c))) has in
-      drop-append s.bound f used _ (used_drops s.bound (subject who p) f (row s who p c)) (own_drops s (reported s.bound f used) has' who p is (subject who p) c)
+      let has' : HaveCaps s (caps_after s.bound f used) = have_same s f (caps_after s.bound f used) (λ q. sym (used_leave (subject who p) s.bound f q (row s who p c))) has in
+      drop-append s.bound f used _ (used_drops s.bound (subject who p) f (row s who p c)) (own_drops s (caps_after s.bound f used) has' who p is (subject who p) c)
 
   step_drops : AllDrop s.bound f (step s who c).recs
   unfolding step
@@ -130,25 +133,25 @@ module _ (s : State) (who : Pid) (c : Call) (f : Pid → CapState) (has : Report
       ] refl
 
 -- ---- a run
-run_drops : (items : List ScriptItem) (s : State) (bound : CapSet) (f : Pid → CapState) → s.bound ≡ bound → Reported s f → AllDrop bound f (flat_map (λ (p : CallRecord). p.recs) (run s items))
+run_drops : (items : List ScriptItem) (s : State) (bound : CapSet) (f : Pid → CapState) → s.bound ≡ bound → HaveCaps s f → AllDrop bound f (flat_map (λ (p : CallRecord). p.recs) (run s items))
 run_drops [] s bound f same has = tt
 run_drops (i ∷ is) s bound f same has =
     let next : State = (step s i.who i.call).state in
     let recs : List Rec = (step s i.who i.call).recs in
-    let has' : Reported next (reported bound f recs) = reported_same next (reported s.bound f recs) (reported bound f recs) (λ q. ap (λ b. reported b f recs q) same) (reported_after s i.who i.call f has) in
+    let has' : HaveCaps next (caps_after bound f recs) = have_same next (caps_after s.bound f recs) (caps_after bound f recs) (λ q. ap (λ b. caps_after b f recs q) same) (have_after_step s i.who i.call f has) in
     drop-append bound f recs _ (subst (λ b. AllDrop b f recs) same (step_drops s i.who i.call f has))
-    (run_drops is next bound (reported bound f recs) (fixed_after s i.who i.call (λ t. t.bound) bound-changed ∙ same) has')
+    (run_drops is next bound (caps_after bound f recs) (fixed_after s i.who i.call (λ t. t.bound) bound-changed ∙ same) has')
 
 -- no record of a start is one of `cap_set_proc`
 start_drops : (bound : CapSet) (ws : List WorldProc) (s : State) (f : Pid → CapState) → AllDrop bound f (started s ws)
 start_drops bound [] s f = tt
 start_drops bound (w ∷ ws) s f = (tt, start_drops bound ws (boot_process s w) _)
 
--- so it is with all records of a run
+-- each record of a run is such
 pub all_drop : (w : World) (items : List ScriptItem) → AllDrop w.bound (λ _. no_flags) (all_recs w items)
 all_drop w items =
     drop-append w.bound (λ _. no_flags) (boot_recs w) _ (start_drops w.bound w.procs (furnished w) (λ _. no_flags))
-    (run_drops items (boot w) w.bound (caps_of w.bound (boot_recs w)) (fixed_booted (λ s. s.bound) bound-changed w) (reported_booted w))
+    (run_drops items (boot w) w.bound (caps_of w.bound (boot_recs w)) (fixed_booted (λ s. s.bound) bound-changed w) (have_booted w))
 
 pub drops_by_records : DropsByRecords
 drops_by_records w items before after who caps e = drop_between w.bound (λ _. no_flags) before (rec.CapSetProc who caps) after (subst (AllDrop w.bound (λ _. no_flags)) e (all_drop w items))

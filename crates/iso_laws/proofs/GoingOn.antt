@@ -9,11 +9,10 @@ use Rattle.kern_model.specs.declared.checks.CheckName.TheVariants as check
 use Rattle.kern_model.specs.declared.calls.Call.{Call}
 use Rattle.kern_model.specs.declared.world.ScriptItem.{ScriptItem}
 use Rattle.kern_model.specs.declared.records.Rec.{Rec}
-use Rattle.kern_model.specs.declared.records.Rec.TheVariants as rec
 use Rattle.kern_model.specs.Boot.{boot}
 use Rattle.kern_model.specs.Drawing.{StayDrawn, NumbersGoOn}
 use Rattle.kern_model.specs.Refusals.{is_denial, IsNamed}
-use Rattle.kern_model.specs.Row.{Row, Need, Soft, Refuse, Fail, Commit, Subject, End, Stopped, Refused, Done, judge, verdict_of, is_denied, noted}
+use Rattle.kern_model.specs.Row.{End, Stopped, Refused, Done}
 use Rattle.kern_model.specs.Rules.{denial_of}
 use Rattle.kern_model.specs.Run.{state_after_run}
 use Rattle.kern_model.specs.State.{State, Process, Change}
@@ -21,48 +20,31 @@ use Rattle.kern_model.specs.Step.{step, subject, reply_of, state_after}
 use Rattle.kern_model.specs.Table.{row}
 use Rattle.kern_model.specs.Valid.{IsThere}
 use Rattle.iso_laws.specs.Laws.{RefusalsAreNamed, DrawnStep, NumbersStep, NumbersRun, GoneRun}
-use Rattle.iso_laws.proofs.Rows.{when}
+use Rattle.iso_laws.proofs.Rows.{end_is}
 use Rattle.iso_laws.proofs.Steps.{by_process, judged_row}
 use Rattle.iso_laws.proofs.ValidBoot.{valid_boot}
-use Rattle.iso_laws.proofs.DrawingLemmas.{LeadsTo, IsClosed, AllFit, stay_all, stay_itself, closed_valid, GoesOn, goes_all, goes_itself, on_itself, on_over, nothing_back}
-use Rattle.iso_laws.proofs.RowsFair.{Fair, ReportsOwn, row_fair}
+use Rattle.iso_laws.proofs.DrawingLemmas.{LeadsTo, Anything, lead_anywhere, IsClosed, stay_all, stay_itself, closed_valid, GoesOn, goes_all, goes_itself, on_itself, on_over, nothing_back}
+use Rattle.iso_laws.proofs.FitRows.{Fitting}
+use Rattle.iso_laws.proofs.Numbers.{row_fits}
 
--- ---- the end of a row that is fair
-abbrev pub EndsFair : (List Change → Option Rec → Type 0) → End → Type 0
-EndsFair P (Stopped name place) = ⊤
-EndsFair P (Refused e) = is_denial e ≡ false
-EndsFair P (Done cs answer own) = P cs own
+-- ---- the end of a row
+-- what a row gives holds of its end: a refusal is no denial, and where it is done its changes and its own record meet something
+abbrev pub EndGives : (List Change → Option Rec → Type 0) → End → Type 0
+EndGives P (Stopped name place) = ⊤
+EndGives P (Refused e) = is_denial e ≡ false
+EndGives P (Done cs answer own) = P cs own
 
-module _ (P : List Change → Option Rec → Type 0) (a : Subject) where
-  pub ends_fair : (used : List Rec) (r : Row) → Fair P r → EndsFair P (judge a used r).end
-  unfolding judge
-  ends_fair used (Need c r) h = when (λ j. EndsFair P j.end) (is_denied (verdict_of a c)) _ _ (λ _. tt) (λ _. ends_fair (noted a c (verdict_of a c) used) r h)
-  ends_fair used (Soft c r w) h = when (λ j. EndsFair P j.end) (is_denied (verdict_of a c)) _ _ (λ _. ends_fair used w h.1) (λ _. ends_fair (noted a c (verdict_of a c) used) r h.0)
-  ends_fair used (Refuse e b r) h = when (λ j. EndsFair P j.end) b _ _ (λ _. h.0) (λ _. ends_fair used r h.1)
-  ends_fair used (Fail e) h = h
-  ends_fair used (Commit cs answer own) h = h
-
--- what is known of how a call of a process ends, in a state in which what leads to an object leads to one of these
-abbrev pub Fitting : (There : Oid → Type 0) (s : State) (who : Pid) → List Change → Option Rec → Type 0
-Fitting There s who cs own = AllFit There (λ q. own ≡ Some (rec.Fork who q)) s s cs × ReportsOwn who own
-
-pub row_ends : (There : Oid → Type 0) (s : State) → LeadsTo There s → (who : Pid) (p : Process) → map.get s.procs who ≡ Some p → (c : Call) → EndsFair (Fitting There s who) (judged_row s who c p).end
-row_ends There s leads who p is c = ends_fair (Fitting There s who) (subject who p) [] (row s who p c) (row_fair There s leads who p is c)
+pub row_ends : (There : Oid → Type 0) (s : State) → LeadsTo There s → (who : Pid) (p : Process) → map.get s.procs who ≡ Some p → (c : Call) → EndGives (Fitting There s who) (judged_row s who c p).end
+row_ends There s leads who p is c =
+    end_is (EndGives (Fitting There s who)) (Fitting There s who) (λ name place. tt) (λ e h. h) (λ cs answer own h. h) (subject who p) [] (row s who p c) (row_fits There s leads who p is c)
 
 -- ---- in every state
--- any object will do
-abbrev pub Anything : Oid → Type 0
-Anything id = ⊤
-
-pub lead_anywhere : (s : State) → LeadsTo Anything s
-lead_anywhere s = record { root_there = tt; entries = λ spot id e. tt; procs = λ who p e. tt; descriptions = λ did d e. tt }
-
 -- what a check denies is EACCES or EPERM
 denial_named : (name : CheckName) → is_denial (denial_of name) ≡ true
 denial_named check.MacRead = refl
 denial_named _ = refl
 
-reply_named : (P : List Change → Option Rec → Type 0) (e : End) → EndsFair P e → IsNamed (reply_of e)
+reply_named : (P : List Change → Option Rec → Type 0) (e : End) → EndGives P e → IsNamed (reply_of e)
 reply_named P (Stopped name place) h = denial_named name
 reply_named P (Refused e) h = h
 reply_named P (Done cs answer own) h = tt
@@ -70,7 +52,7 @@ reply_named P (Done cs answer own) h = tt
 pub refusals_are_named : RefusalsAreNamed
 refusals_are_named s who c = by_process s who c (λ o. IsNamed o.reply) (λ _. refl) (λ p is. reply_named _ _ (row_ends Anything s (lead_anywhere s) who p is c))
 
-stay_at_end : (s : State) (who : Pid) (e : End) → EndsFair (Fitting Anything s who) e → StayDrawn s (state_after s e)
+stay_at_end : (s : State) (who : Pid) (e : End) → EndGives (Fitting Anything s who) e → StayDrawn s (state_after s e)
 stay_at_end s who (Stopped name place) h = stay_itself s
 stay_at_end s who (Refused e) h = stay_itself s
 stay_at_end s who (Done cs answer own) h = stay_all Anything _ s cs s h.0 (stay_itself s)
@@ -79,7 +61,7 @@ pub drawn_step : DrawnStep
 drawn_step s who c = by_process s who c (λ o. StayDrawn s o.state) (λ _. stay_itself s) (λ p is. stay_at_end s who _ (row_ends Anything s (lead_anywhere s) who p is c))
 
 -- ---- in a state in which what leads to an object leads to one that is there
-goes_at_end : (s : State) → IsClosed s → (who : Pid) (e : End) → EndsFair (Fitting (λ id. IsThere s.objects id) s who) e → GoesOn s (state_after s e)
+goes_at_end : (s : State) → IsClosed s → (who : Pid) (e : End) → EndGives (Fitting (λ id. IsThere s.objects id) s who) e → GoesOn s (state_after s e)
 goes_at_end s closed who (Stopped name place) h = goes_itself s closed
 goes_at_end s closed who (Refused e) h = goes_itself s closed
 goes_at_end s closed who (Done cs answer own) h = goes_all _ s cs s h.0 (goes_itself s closed)

@@ -15,18 +15,19 @@ use Rattle.kern_model.specs.declared.numbers.Pid.{Pid}
 use Rattle.kern_model.specs.declared.records.Rec.{Rec}
 use Rattle.kern_model.specs.declared.records.Rec.TheVariants as rec
 use Rattle.kern_model.specs.Exec.{exec_caps, exec_permitted}
-use Rattle.kern_model.specs.Keys.{pid_cmp_exact, same_pid}
-use Rattle.kern_model.specs.Lineage.{caps_after, reported, caps_of, origin, ancestor, StartedWith, FromExec}
+use Rattle.kern_model.specs.Keys.{same_pid}
+use Rattle.kern_model.proofs.KeyLaws.{pid_cmp_exact}
+use Rattle.kern_model.specs.Lineage.{caps_after_one, caps_after, caps_of, origin, ancestor, StartedWith, FromExec}
 use Rattle.kern_model.specs.Boot.{boot, boot_recs, furnished}
 use Rattle.kern_model.specs.Run.{CallRecord, run}
 use Rattle.kern_model.proofs.MapLemmas.{same_key}
 use Rattle.iso_laws.specs.Laws.{GrowthByRecords}
-use Rattle.iso_laws.proofs.CapsReported.{reported-append}
+use Rattle.iso_laws.proofs.CapsLemmas.{caps_after-append}
 use Rattle.iso_laws.proofs.Drops.{Drops, AllDrop, all_drop}
 use Rattle.iso_laws.proofs.SinceStart.{all_started}
-use Rattle.iso_laws.proofs.StartLemmas.{NoStarts, AreStarts, IsAmong, among, none_here, after_start, start_once, started_once, run_no_start, start_reported, starts_origin, ancestor-append}
+use Rattle.iso_laws.proofs.StartLemmas.{NoStarts, AreStarts, IsAmong, among, none_here, after_start, start_once, started_once, run_no_start, start_gives, starts_origin, ancestor-append}
 
--- what a set of one of two states has, by a test whether two numbers are one
+-- what one of two states permits, which is chosen by whether two numbers are one
 by_one : (Q : Type 0) (q k : Pid) (cap : Cap) (new old : CapState) → (q ≡ k → has new.p cap ≡ true → Q) → (has old.p cap ≡ true → Q) → has (cond (same_pid q k) new old).p cap ≡ true → Q
 by_one Q q k cap new old f g =
     elim (same_pid q k) as (λ b. same_pid q k ≡ b → has (cond b new old).p cap ≡ true → Q) [
@@ -39,16 +40,16 @@ either_parent Q true f cap who q g = g
 either_parent Q false f cap who q g = g
 
 -- ---- where a capability is from
--- what follows from a capability that is permitted after these records, if the same follows from each place that it may be from
+-- what follows where a capability is permitted after these records: it follows from each way in which one comes to be permitted
 module _ (bound : CapSet) (cap : Cap) (Q : Type 0) where
   abbrev Had : CapState → Type 0
   Had caps = has caps.p cap ≡ true → Q
 
-  -- it was permitted to the ancestor before the record, or the record is where it is from
+  -- it was permitted to the ancestor before the record, or the record gave it
   following : (f : Pid → CapState) (r : Rec) (q : Pid) → Drops f r → Had (f (origin r q))
       → ((label : Label) (caps : CapState) → r ≡ rec.Boot q label caps → Had caps)
       → ((id : Oid) (file new : CapState) → r ≡ rec.Exec q id file new → Had (exec_caps (f q) file bound))
-      → Had (caps_after bound f r q)
+      → Had (caps_after_one bound f r q)
   following f (rec.Boot who label caps) q drops before start program = by_one Q q who cap caps (f q) (λ same. start label caps (ap (λ w. rec.Boot w label caps) (sym same))) before
   following f (rec.Fork who child) q drops before start program = either_parent Q (same_pid q child) f cap who q before
   following f (rec.Exec who id file new) q drops before start program = by_one Q q who cap (exec_caps (f q) file bound) (f q) (λ same. program id file new (ap (λ w. rec.Exec w id file new) (sym same))) before
@@ -58,11 +59,11 @@ module _ (bound : CapSet) (cap : Cap) (Q : Type 0) where
 
   after_all : (f : Pid → CapState) (rs : List Rec) (q : Pid) → AllDrop bound f rs → Had (f (ancestor rs q))
       → ((before after : List Rec) (label : Label) (caps : CapState) → rs ≡ before ++ rec.Boot (ancestor after q) label caps ∷ after → Had caps)
-      → ((before after : List Rec) (id : Oid) (file new : CapState) → rs ≡ before ++ rec.Exec (ancestor after q) id file new ∷ after → Had (exec_caps (reported bound f before (ancestor after q)) file bound))
-      → Had (reported bound f rs q)
+      → ((before after : List Rec) (id : Oid) (file new : CapState) → rs ≡ before ++ rec.Exec (ancestor after q) id file new ∷ after → Had (exec_caps (caps_after bound f before (ancestor after q)) file bound))
+      → Had (caps_after bound f rs q)
   after_all f [] q drops before start program = before
   after_all f (r ∷ rs) q drops before start program =
-      after_all (caps_after bound f r) rs q drops.1
+      after_all (caps_after_one bound f r) rs q drops.1
       (following f r (ancestor rs q) drops.0 before (λ label caps e. start [] rs label caps (ap (λ x. x ∷ rs) e)) (λ id file new e. program [] rs id file new (ap (λ x. x ∷ rs) e)))
       (λ first after label caps e. start (r ∷ first) after label caps (ap (λ xs. r ∷ xs) e))
       (λ first after id file new e. program (r ∷ first) after id file new (ap (λ xs. r ∷ xs) e))
@@ -72,9 +73,9 @@ has-exec_permitted : (old file : CapState) (bound : CapSet) (cap : Cap) → has 
 has-exec_permitted old file bound cap =
     has-union_of (meet_of file.p bound) (meet_of file.i old.i) cap ∙ (λ i. has-meet_of file.p bound cap i || has-meet_of file.i old.i cap i)
 
-drops_after : (bound : CapSet) (f : Pid → CapState) (xs ys : List Rec) → AllDrop bound f (xs ++ ys) → AllDrop bound (reported bound f xs) ys
+drops_after : (bound : CapSet) (f : Pid → CapState) (xs ys : List Rec) → AllDrop bound f (xs ++ ys) → AllDrop bound (caps_after bound f xs) ys
 drops_after bound f [] ys h = h
-drops_after bound f (x ∷ xs) ys h = drops_after bound (caps_after bound f x) xs ys h.1
+drops_after bound f (x ∷ xs) ys h = drops_after bound (caps_after_one bound f x) xs ys h.1
 
 -- ---- records of which the first are starts of one process each, and no other is a start
 module _ (bound : CapSet) (first others : List Rec) (starts : AreStarts first) (none : NoStarts others) (drops : AllDrop bound (λ _. no_flags) (first ++ others)) where
@@ -86,9 +87,9 @@ module _ (bound : CapSet) (first others : List Rec) (starts : AreStarts first) (
 
   -- what the exec formula gives by a record after the starts
   given_later : (q : Pid) (cap : Cap) (before after : List Rec) (id : Oid) (file new : CapState) → others ≡ before ++ rec.Exec (ancestor after q) id file new ∷ after
-      → has (exec_caps (reported bound at_start before (ancestor after q)) file bound).p cap ≡ true → FromExec bound Recs q cap
+      → has (exec_caps (caps_after bound at_start before (ancestor after q)) file bound).p cap ≡ true → FromExec bound Recs q cap
   given_later q cap before after id file new e h =
-      let before_is : caps_of bound (first ++ before) (ancestor after q) ≡ reported bound at_start before (ancestor after q) = reported-append bound (λ _. no_flags) first before (ancestor after q) in
+      let before_is : caps_of bound (first ++ before) (ancestor after q) ≡ caps_after bound at_start before (ancestor after q) = caps_after-append bound (λ _. no_flags) first before (ancestor after q) in
       record {
         before = first ++ before;
         after = after;
@@ -97,7 +98,7 @@ module _ (bound : CapSet) (first others : List Rec) (starts : AreStarts first) (
         new = new;
         split = ap (λ xs. first ++ xs) e ∙ sym (append_assoc first before (rec.Exec (ancestor after q) id file new ∷ after));
         given = ap (λ (c : CapState). has file.p cap && has bound cap || has file.i cap && has c.i cap) before_is
-            ∙ sym (has-exec_permitted (reported bound at_start before (ancestor after q)) file bound cap) ∙ h;
+            ∙ sym (has-exec_permitted (caps_after bound at_start before (ancestor after q)) file bound cap) ∙ h;
       }
 
   -- what a process, or the one that it descends from, started with is what the starts give of it
@@ -108,7 +109,7 @@ module _ (bound : CapSet) (first others : List Rec) (starts : AreStarts first) (
       let starts' : AreStarts (with.before ++ rec.Boot who with.label caps ∷ is.rest) = subst AreStarts is.first_is starts in
       let who_is : who ≡ ancestor others q =
       ap (λ xs. ancestor xs q) is.after_is ∙ ancestor-append is.rest others q ∙ starts_origin who (ancestor others q) is.rest (after_start with.before (rec.Boot who with.label caps) is.rest starts') in
-      ap at_start (sym who_is) ∙ ap (λ xs. caps_of bound xs who) is.first_is ∙ start_reported bound (λ _. no_flags) with.before who with.label caps is.rest starts'
+      ap at_start (sym who_is) ∙ ap (λ xs. caps_of bound xs who) is.first_is ∙ start_gives bound (λ _. no_flags) with.before who with.label caps is.rest starts'
 
   -- a capability that a process has, and the one that it descends from was not permitted at its start, is from a program
   grown_since : (q : Pid) (cap : Cap) (caps : CapState) → has (caps_of bound Recs q).p cap ≡ true → StartedWith Recs q caps → has caps.p cap ≡ false → FromExec bound Recs q cap
@@ -117,7 +118,7 @@ module _ (bound : CapSet) (first others : List Rec) (starts : AreStarts first) (
       (λ had. absurd (true≢false (sym had ∙ ap (λ (c : CapState). has c.p cap) (started_with q caps with) ∙ without)))
       (λ before after label caps' e. absurd (none_here before (rec.Boot (ancestor after q) label caps') after (subst NoStarts e none)))
       (given_later q cap)
-      (ap (λ (c : CapState). has c.p cap) (sym (reported-append bound (λ _. no_flags) first others q)) ∙ h)
+      (ap (λ (c : CapState). has c.p cap) (sym (caps_after-append bound (λ _. no_flags) first others q)) ∙ h)
 
 pub growth_by_records : GrowthByRecords
 growth_by_records w items =

@@ -17,7 +17,7 @@ use Rattle.kern_model.specs.declared.records.Rec.{Rec}
 use Rattle.kern_model.specs.declared.records.Rec.TheVariants as rec
 use Rattle.kern_model.specs.declared.world.ScriptItem.{ScriptItem}
 use Rattle.kern_model.specs.Boot.{boot, boot_recs}
-use Rattle.kern_model.specs.Lineage.{reported, caps_of, all_recs}
+use Rattle.kern_model.specs.Lineage.{caps_after, caps_of, all_recs}
 use Rattle.kern_model.specs.Names.{name_of}
 use Rattle.kern_model.specs.Row.{Row, Subject, CheckOutcome, judge, exercise_with}
 use Rattle.kern_model.specs.Rules.{cap_of, denial_of}
@@ -30,68 +30,69 @@ use Rattle.iso_laws.proofs.Part.{bound-changed}
 use Rattle.iso_laws.proofs.Rows.{Gives, used_is, end_is}
 use Rattle.iso_laws.proofs.Steps.{fixed_after}
 use Rattle.iso_laws.proofs.Booting.{fixed_booted}
-use Rattle.iso_laws.proofs.CapsReported.{Reported, reported-append, reported_same, reported_booted}
-use Rattle.iso_laws.proofs.RowsReport.{MatchesRecord, row_reports}
+use Rattle.iso_laws.proofs.CapsLemmas.{HaveCaps, caps_after-append, have_same, have_booted}
+use Rattle.iso_laws.proofs.CalmRows.{MatchesRecord}
+use Rattle.iso_laws.proofs.Records.{row_reports}
 
 -- ---- a step
-exercise_unreported : (a : Subject) (bound : CapSet) (f : Pid → CapState) (q : Pid) (c : Check) (with : Option Cap) → reported bound f (exercise_with a c with) q ≡ f q
-exercise_unreported a bound f q c None = refl
-exercise_unreported a bound f q c (Some cap) = refl
+exercise_leaves : (a : Subject) (bound : CapSet) (f : Pid → CapState) (q : Pid) (c : Check) (with : Option Cap) → caps_after bound f (exercise_with a c with) q ≡ f q
+exercise_leaves a bound f q c None = refl
+exercise_leaves a bound f q c (Some cap) = refl
 
 -- exercises say nothing of capability sets
-pub used_unreported : (a : Subject) (bound : CapSet) (f : Pid → CapState) (q : Pid) (r : Row) → reported bound f (judge a [] r).used q ≡ f q
-used_unreported a bound f q r =
-    used_is (λ used. reported bound f used q ≡ f q) a
-    (λ c used h. reported-append bound f used (exercise_with a c (cap_of c.name)) q ∙ exercise_unreported a bound (reported bound f used) q c (cap_of c.name) ∙ h) [] r refl
+pub used_leave : (a : Subject) (bound : CapSet) (f : Pid → CapState) (q : Pid) (r : Row) → caps_after bound f (judge a [] r).used q ≡ f q
+used_leave a bound f q r =
+    used_is (λ used. caps_after bound f used q ≡ f q) a
+    (λ c used h. caps_after-append bound f used (exercise_with a c (cap_of c.name)) q ∙ exercise_leaves a bound (caps_after bound f used) q c (cap_of c.name) ∙ h) [] r refl
 
 -- nor does a deny record
-denied_unreported : (bound : CapSet) (f : Pid → CapState) (q : Pid) (b : Bool) (who : Pid) (name : CallName) (check : CheckName) (place : Place) → f q ≡ reported bound f (cond b (rec.Deny who name (denial_of check) check place ∷ []) []) q
-denied_unreported bound f q true who name check place = refl
-denied_unreported bound f q false who name check place = refl
+pub denial_leaves : (bound : CapSet) (f : Pid → CapState) (b : Bool) (who : Pid) (name : CallName) (check : CheckName) (place : Place) (q : Pid) → caps_after bound f (cond b (rec.Deny who name (denial_of check) check place ∷ []) []) q ≡ f q
+denial_leaves bound f true who name check place q = refl
+denial_leaves bound f false who name check place q = refl
 
 -- what an end leaves after the exercises gives the sets in the state after it
-end_reports : (s : State) (who : Pid) (p : Process) (name : CallName) (f : Pid → CapState) → Reported s f → (a : Subject) (r : Row) → Gives (MatchesRecord s f) r
-    → Reported (state_after s (judge a [] r).end) (reported s.bound f (own_of who p name (judge a [] r).end))
+end_reports : (s : State) (who : Pid) (p : Process) (name : CallName) (f : Pid → CapState) → HaveCaps s f → (a : Subject) (r : Row) → Gives (MatchesRecord s f) r
+    → HaveCaps (state_after s (judge a [] r).end) (caps_after s.bound f (own_of who p name (judge a [] r).end))
 end_reports s who p name f has a r h =
-    end_is (λ e. Reported (state_after s e) (reported s.bound f (own_of who p name e))) (MatchesRecord s f)
-    (λ check place. reported_same s f _ (λ q. denied_unreported s.bound f q p.audited who name check place) has) (λ e. has) (λ cs answer own h. h) a [] r h
+    end_is (λ e. HaveCaps (state_after s e) (caps_after s.bound f (own_of who p name e))) (MatchesRecord s f)
+    (λ check place. have_same s f _ (λ q. sym (denial_leaves s.bound f p.audited who name check place q)) has) (λ e _. has) (λ cs answer own h. h) a [] r h
 
-module _ (s : State) (who : Pid) (c : Call) (f : Pid → CapState) (has : Reported s f) where
-  settled_reports : (p : Process) → map.get s.procs who ≡ Some p → Reported (settled s who p (name_of c) (judge (subject who p) [] (row s who p c))).state (reported s.bound f (settled s who p (name_of c) (judge (subject who p) [] (row s who p c))).recs)
+module _ (s : State) (who : Pid) (c : Call) (f : Pid → CapState) (has : HaveCaps s f) where
+  settled_reports : (p : Process) → map.get s.procs who ≡ Some p → HaveCaps (settled s who p (name_of c) (judge (subject who p) [] (row s who p c))).state (caps_after s.bound f (settled s who p (name_of c) (judge (subject who p) [] (row s who p c))).recs)
   settled_reports p is =
       let j : CheckOutcome = judge (subject who p) [] (row s who p c) in
       let own : List Rec = own_of who p (name_of c) j.end in
-      let before : Pid → CapState = reported s.bound f j.used in
-      let has' : Reported s before = reported_same s f before (λ q. sym (used_unreported (subject who p) s.bound f q (row s who p c))) has in
-      reported_same (state_after s j.end) (reported s.bound before own) (reported s.bound f (j.used ++ own))
-      (λ q. sym (reported-append s.bound f j.used own q))
+      let before : Pid → CapState = caps_after s.bound f j.used in
+      let has' : HaveCaps s before = have_same s f before (λ q. sym (used_leave (subject who p) s.bound f q (row s who p c))) has in
+      have_same (state_after s j.end) (caps_after s.bound before own) (caps_after s.bound f (j.used ++ own))
+      (λ q. sym (caps_after-append s.bound f j.used own q))
       (end_reports s who p (name_of c) before has' (subject who p) (row s who p c) (row_reports s before has' who p is c))
 
   -- the records of a step give the sets after it
-  pub reported_after : Reported (step s who c).state (reported s.bound f (step s who c).recs)
+  pub have_after_step : HaveCaps (step s who c).state (caps_after s.bound f (step s who c).recs)
   unfolding step
-  reported_after =
-      elim (map.get s.procs who) as (λ o. map.get s.procs who ≡ o → Reported (step_by s who c o).state (reported s.bound f (step_by s who c o).recs)) [
+  have_after_step =
+      elim (map.get s.procs who) as (λ o. map.get s.procs who ≡ o → HaveCaps (step_by s who c o).state (caps_after s.bound f (step_by s who c o).recs)) [
         | None ↦ λ _. has
         | Some p ↦ settled_reports p
       ] refl
 
 -- ---- a run
 -- the records of a run give the sets after it
-reported_after_run : (items : List ScriptItem) (s : State) (bound : CapSet) (f : Pid → CapState) → s.bound ≡ bound → Reported s f → Reported (state_after_run s items) (reported bound f (flat_map (λ (p : CallRecord). p.recs) (run s items)))
-reported_after_run [] s bound f is has = has
-reported_after_run (i ∷ is) s bound f same has =
+have_after_run : (items : List ScriptItem) (s : State) (bound : CapSet) (f : Pid → CapState) → s.bound ≡ bound → HaveCaps s f → HaveCaps (state_after_run s items) (caps_after bound f (flat_map (λ (p : CallRecord). p.recs) (run s items)))
+have_after_run [] s bound f is has = has
+have_after_run (i ∷ is) s bound f same has =
     let next : State = (step s i.who i.call).state in
     let recs : List Rec = (step s i.who i.call).recs in
     let later : List Rec = flat_map (λ (p : CallRecord). p.recs) (run next is) in
-    reported_same (state_after_run next is) (reported bound (reported bound f recs) later) (reported bound f (recs ++ later))
-    (λ q. sym (reported-append bound f recs later q))
-    (reported_after_run is next bound (reported bound f recs) (fixed_after s i.who i.call (λ t. t.bound) bound-changed ∙ same)
-    (reported_same next (reported s.bound f recs) (reported bound f recs) (λ q. ap (λ b. reported b f recs q) same) (reported_after s i.who i.call f has)))
+    have_same (state_after_run next is) (caps_after bound (caps_after bound f recs) later) (caps_after bound f (recs ++ later))
+    (λ q. sym (caps_after-append bound f recs later q))
+    (have_after_run is next bound (caps_after bound f recs) (fixed_after s i.who i.call (λ t. t.bound) bound-changed ∙ same)
+    (have_same next (caps_after s.bound f recs) (caps_after bound f recs) (λ q. ap (λ b. caps_after b f recs q) same) (have_after_step s i.who i.call f has)))
 
 pub caps_by_records : CapsByRecords
 caps_by_records w items =
     let later : List Rec = flat_map (λ (p : CallRecord). p.recs) (run (boot w) items) in
-    reported_same (state_after_run (boot w) items) (reported w.bound (caps_of w.bound (boot_recs w)) later) (caps_of w.bound (all_recs w items))
-    (λ q. sym (reported-append w.bound (λ _. no_flags) (boot_recs w) later q))
-    (reported_after_run items (boot w) w.bound (caps_of w.bound (boot_recs w)) (fixed_booted (λ s. s.bound) bound-changed w) (reported_booted w))
+    have_same (state_after_run (boot w) items) (caps_after w.bound (caps_of w.bound (boot_recs w)) later) (caps_of w.bound (all_recs w items))
+    (λ q. sym (caps_after-append w.bound (λ _. no_flags) (boot_recs w) later q))
+    (have_after_run items (boot w) w.bound (caps_of w.bound (boot_recs w)) (fixed_booted (λ s. s.bound) bound-changed w) (have_booted w))

@@ -9,13 +9,14 @@ use Rattle.kern_model.specs.declared.numbers.Pid.{Pid}
 use Rattle.kern_model.specs.declared.numbers.Oid.{Oid}
 use Rattle.kern_model.specs.declared.numbers.Did.{Did}
 use Rattle.kern_model.specs.declared.objects.Object.{Object}
-use Rattle.kern_model.specs.Keys.{Spot, oid_cmp_total, oid_cmp_exact, pid_cmp_total, pid_cmp_exact, did_cmp_total, did_cmp_exact, spot_cmp_total, spot_cmp_exact}
+use Rattle.kern_model.specs.Keys.{Spot}
+use Rattle.kern_model.proofs.KeyLaws.{oid_cmp_total, oid_cmp_exact, pid_cmp_total, pid_cmp_exact, did_cmp_total, did_cmp_exact, spot_cmp_total, spot_cmp_exact}
 use Rattle.kern_model.specs.Maps.{select, where_key}
 use Rattle.kern_model.specs.State.{State, Process, Description, Change, SetObject, SetEntry, DropEntry, SetProcess, DropProcess, SetDescription, DropDescription, DrawObject, DrawProcess, DrawDescription, changed, changed_by, stub}
 use Rattle.kern_model.specs.Isolation.{low, part, shows, label_in, Kept}
 use Rattle.kern_model.proofs.MapLemmas.{select_agree, select-insert_kept, select-insert_dropped, select-remove_kept, select-remove_dropped}
 
--- what an entry that leads to it leads to in the part
+-- where an entry for an object leads in the part
 abbrev pub shown : Label → Label → Oid → Oid
 shown l top id = cond (low l id.label) id (stub top)
 

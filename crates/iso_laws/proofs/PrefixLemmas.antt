@@ -23,6 +23,6 @@ module _ {X : Type 0} where
         | inr f ↦ inr (record { rest = f.rest; whole_is = λ i. head i ∷ f.whole_is i })
       ]
 
-  -- two fronts of one list agree
+  -- two prefixes of one list agree
   pub prefixes_agree : (xs ys zs : List X) → IsPrefix xs zs → IsPrefix ys zs → Agree xs ys
   prefixes_agree xs ys zs f g = prefixes xs ys f.rest g.rest (sym f.whole_is ∙ g.whole_is)

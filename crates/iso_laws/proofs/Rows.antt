@@ -1,5 +1,5 @@
--- What holds of whole rows, composed along their items, as long as no exercise is one that a test calls bad.
-use Rattle.std.specs.Prelude.{◌≡◌, ⊤, Bool, true, false, ◌||◌, List, [], ◌∷◌, ◌++◌, Option, Some, None, refl, cond}
+-- What holds of a row, from what holds of its items. A test says which exercises are bad.
+use Rattle.std.specs.Prelude.{◌≡◌, Bool, true, false, ◌||◌, List, [], ◌∷◌, ◌++◌, Option, Some, None, refl, cond}
 use Rattle.std.specs.List.{list_any}
 use Rattle.std.specs.Option.{option_map}
 use Rattle.std.proofs.Common.{sym, ◌∙◌, ap, subst}
@@ -16,6 +16,7 @@ use Rattle.kern_model.specs.declared.calls.Answer.{Answer}
 use Rattle.kern_model.specs.declared.records.Rec.{Rec}
 use Rattle.kern_model.specs.State.{Change}
 use Rattle.kern_model.specs.Row.{Row, Need, Soft, Refuse, Fail, Commit, need_if, Subject, End, Stopped, Refused, Done, CheckOutcome, judge, check_outcome, verdict_of, is_denied, noted, exercise_with}
+use Rattle.kern_model.specs.Refusals.{is_denial}
 use Rattle.kern_model.specs.Rules.{cap_of}
 use Rattle.kern_model.specs.Descriptors.{Opened}
 use Rattle.kern_model.specs.FileRows.{or_not_open}
@@ -35,7 +36,7 @@ pub when : (P : CheckOutcome → Type 0) (b : Bool) (x y : CheckOutcome) → (b 
 when P true x y f g = f refl
 when P false x y f g = g refl
 
--- two answers to one test
+-- two choices by one test
 both : (P : CheckOutcome → CheckOutcome → Type 0) (b : Bool) (x y x' y' : CheckOutcome) → (b ≡ true → P x x') → (b ≡ false → P y y') → P (cond b x y) (cond b x' y')
 both P true x y x' y' f g = f refl
 both P false x y x' y' f g = g refl
@@ -70,15 +71,15 @@ pub record Ends (bad : Rec → Bool) (a : Subject) (P : List Change → Type 0) 
   pub ends : (used : List Rec) → list_any bad (judge a used r).used ≡ false → P (changes_of (judge a used r).end)
 
 module _ (bad : Rec → Bool) where
-  -- where none of all is bad, none of the first is
+  -- where no record of two lists is bad, none of the first list is
   pub bad_prefix : (xs ys : List Rec) → list_any bad (xs ++ ys) ≡ false → list_any bad xs ≡ false
   bad_prefix [] ys h = refl
   bad_prefix (x ∷ xs) ys h = let h' = or_false (bad x) (list_any bad (xs ++ ys)) h in false_or _ _ h'.0 (bad_prefix xs ys h'.1)
 
-  -- nor is any of the last
-  pub bad_back : (xs ys : List Rec) → list_any bad (xs ++ ys) ≡ false → list_any bad ys ≡ false
-  bad_back [] ys h = h
-  bad_back (x ∷ xs) ys h = let h' = or_false (bad x) (list_any bad (xs ++ ys)) h in bad_back xs ys h'.1
+  -- and none of the second
+  pub bad_suffix : (xs ys : List Rec) → list_any bad (xs ++ ys) ≡ false → list_any bad ys ≡ false
+  bad_suffix [] ys h = h
+  bad_suffix (x ∷ xs) ys h = let h' = or_false (bad x) (list_any bad (xs ++ ys)) h in bad_suffix xs ys h'.1
 
 module _ (bad : Rec → Bool) (a : Subject) where
   noted_prefix : (c : Check) (v : Verdict) (used : List Rec) → list_any bad (noted a c v used) ≡ false → list_any bad used ≡ false
@@ -86,12 +87,12 @@ module _ (bad : Rec → Bool) (a : Subject) where
   noted_prefix c Exercised used h = bad_prefix bad used _ h
   noted_prefix c Denied used h = h
 
-  noted_back : (c : Check) (v : Verdict) (used : List Rec) → list_any bad (noted a c v used) ≡ false → list_any bad (noted a c v []) ≡ false
-  noted_back c Passed used h = refl
-  noted_back c Exercised used h = bad_back bad used _ h
-  noted_back c Denied used h = refl
+  noted_suffix : (c : Check) (v : Verdict) (used : List Rec) → list_any bad (noted a c v used) ≡ false → list_any bad (noted a c v []) ≡ false
+  noted_suffix c Passed used h = refl
+  noted_suffix c Exercised used h = bad_suffix bad used _ h
+  noted_suffix c Denied used h = refl
 
-  -- the exercises so far stay
+  -- where no exercise after a row is bad, none before it is
   pub used_before : (used : List Rec) (r : Row) → list_any bad (judge a used r).used ≡ false → list_any bad used ≡ false
   unfolding judge
   used_before used (Need c r) =
@@ -105,7 +106,7 @@ module _ (bad : Rec → Bool) (a : Subject) where
 
   -- what is known where a row goes on after a check
   passed : (c : Check) (used : List Rec) (r : Row) → is_denied (verdict_of a c) ≡ false → list_any bad (judge a (noted a c (verdict_of a c) used) r).used ≡ false → Passes bad a c
-  passed c used r granted h = record { granted = granted; inside = noted_back c _ used (used_before _ r h) }
+  passed c used r granted h = record { granted = granted; inside = noted_suffix c _ used (used_before _ r h) }
 
 -- ---- two rows that end alike
 module _ (bad : Rec → Bool) (l top : Label) (a : Subject) where
@@ -150,17 +151,6 @@ module _ (bad : Rec → Bool) (l top : Label) (a : Subject) where
         (λ _ h. weaker.ends used h)
         (λ f h. (granted (passed bad a c used r f h)).ends (noted a c (verdict_of a c) used) h) h;
   }
-
-  -- one of two rows by a test
-  alike_cond : (b b' : Bool) (x y x' y' : Row) → b' ≡ b → (b ≡ true → Alike bad l top a x x') → (b ≡ false → Alike bad l top a y y') → Alike bad l top a (cond b x y) (cond b' x' y')
-  alike_cond b b' x y x' y' same f g =
-      subst (λ t. Alike bad l top a (cond b x y) (cond t x' y')) (sym same)
-      (elim b as (λ t. (t ≡ true → Alike bad l top a x x') → (t ≡ false → Alike bad l top a y y') → Alike bad l top a (cond t x y) (cond t x' y')) [ true ↦ λ f g. f refl | false ↦ λ f g. g refl ] f g)
-
-  -- a check that is made where it is asked for
-  pub alike_need_if : (b b' : Bool) (c c' : Check) (r r' : Row) → b' ≡ b → (b ≡ true → Alike bad l top a (Need c r) (Need c' r')) → (b ≡ false → Alike bad l top a r r') → Alike bad l top a (need_if b c r) (need_if b' c' r')
-  unfolding need_if
-  alike_need_if b b' c c' r r' same f g = alike_cond b b' (Need c r) r (Need c' r') r' same f g
 
   -- a check that only a bad exercise could pass, on both sides
   pub alike_hidden : (c c' : Check) (r r' : Row) → c'.name ≡ c.name → c'.place ≡ c.place → verdict_of a c' ≡ verdict_of a c → (Passes bad a c → ⊥) → Alike bad l top a (Need c r) (Need c' r')
@@ -229,13 +219,13 @@ module _ (bad : Rec → Bool) (a : Subject) (P : List Change → Type 0) (none :
   ends_missing None k h = ends_fail errno.ENOENT
   ends_missing (Some id) k h = h id refl
 
--- ---- rows that ask nothing of their checks
--- what holds of the changes and of the own record, wherever a row is done
+-- ---- rows of which the checks do not matter
+-- what the row refuses by is no denial, and wherever it is done its changes and its own record meet something
 abbrev pub Gives : (List Change → Option Rec → Type 0) → Row → Type 0
 Gives P (Need c rest) = Gives P rest
 Gives P (Soft c granted weaker) = Gives P granted × Gives P weaker
-Gives P (Refuse e b rest) = Gives P rest
-Gives P (Fail e) = ⊤
+Gives P (Refuse e b rest) = (is_denial e ≡ false) × Gives P rest
+Gives P (Fail e) = is_denial e ≡ false
 Gives P (Commit cs answer own) = P cs own
 
 module _ (P : List Change → Option Rec → Type 0) where
@@ -247,9 +237,17 @@ module _ (P : List Change → Option Rec → Type 0) where
   unfolding need_if
   gives_need_if b c r h = gives_cond b (Need c r) r h h
 
-  pub gives_open : (o : Option Opened) (k : Opened → Row) → ((f : Opened) → Gives P (k f)) → Gives P (or_not_open o k)
-  gives_open None k h = tt
-  gives_open (Some f) k h = h f
+  pub gives_open : (o : Option Opened) (k : Opened → Row) → ((f : Opened) → o ≡ Some f → Gives P (k f)) → Gives P (or_not_open o k)
+  gives_open None k h = refl
+  gives_open (Some f) k h = h f refl
+
+  -- what it gives meets something weaker
+  pub gives_weaker : (Q : List Change → Option Rec → Type 0) → ((cs : List Change) (own : Option Rec) → P cs own → Q cs own) → (r : Row) → Gives P r → Gives Q r
+  gives_weaker Q weaker (Need c r) h = gives_weaker Q weaker r h
+  gives_weaker Q weaker (Soft c r w) h = (gives_weaker Q weaker r h.0, gives_weaker Q weaker w h.1)
+  gives_weaker Q weaker (Refuse e b r) h = (h.0, gives_weaker Q weaker r h.1)
+  gives_weaker Q weaker (Fail e) h = h
+  gives_weaker Q weaker (Commit cs answer own) h = weaker cs own h
 
 -- the exercises so far, and one more, meet what each exercise keeps
 noted_is : (P : List Rec → Type 0) (a : Subject) → ((c : Check) (used : List Rec) → P used → P (used ++ exercise_with a c (cap_of c.name))) → (c : Check) (v : Verdict) (used : List Rec) → P used → P (noted a c v used)
@@ -266,21 +264,21 @@ used_is P a keeps used (Refuse e b r) h = when (λ j. P j.used) b _ _ (λ _. h) 
 used_is P a keeps used (Fail e) h = h
 used_is P a keeps used (Commit cs answer own) h = h
 
--- the end of a row meets what each stop meets, each refusal, and each end where it is done
-pub end_is : (P : End → Type 0) (Q : List Change → Option Rec → Type 0) → ((name : CheckName) (place : Place) → P (Stopped name place)) → ((e : Errno) → P (Refused e))
+-- the end of a row meets what each stop meets, each refusal that is no denial, and each end where it is done
+pub end_is : (P : End → Type 0) (Q : List Change → Option Rec → Type 0) → ((name : CheckName) (place : Place) → P (Stopped name place)) → ((e : Errno) → is_denial e ≡ false → P (Refused e))
     → ((cs : List Change) (answer : Answer) (own : Option Rec) → Q cs own → P (Done cs answer own)) → (a : Subject) (used : List Rec) (r : Row) → Gives Q r → P (judge a used r).end
 unfolding judge
 end_is P Q stopped refused done a used (Need c r) h = when (λ j. P j.end) (is_denied (verdict_of a c)) _ _ (λ _. stopped c.name c.place) (λ _. end_is P Q stopped refused done a (noted a c (verdict_of a c) used) r h)
 end_is P Q stopped refused done a used (Soft c r w) h = when (λ j. P j.end) (is_denied (verdict_of a c)) _ _ (λ _. end_is P Q stopped refused done a used w h.1) (λ _. end_is P Q stopped refused done a (noted a c (verdict_of a c) used) r h.0)
-end_is P Q stopped refused done a used (Refuse e b r) h = when (λ j. P j.end) b _ _ (λ _. refused e) (λ _. end_is P Q stopped refused done a used r h)
-end_is P Q stopped refused done a used (Fail e) h = refused e
+end_is P Q stopped refused done a used (Refuse e b r) h = when (λ j. P j.end) b _ _ (λ _. refused e h.0) (λ _. end_is P Q stopped refused done a used r h.1)
+end_is P Q stopped refused done a used (Fail e) h = refused e h
 end_is P Q stopped refused done a used (Commit cs answer own) h = done cs answer own h
 
--- a row of which the part sees each change ends there as it does
+-- a row of which the part sees each change as it is ends in the part as in the state
 pub alike_itself : (bad : Rec → Bool) (l top : Label) (a : Subject) (r : Row) → Gives (λ cs own. part_changes l top cs ≡ cs) r → Alike bad l top a r r
 alike_itself bad l top a (Need c r) h = alike_need bad l top a c r r (λ _. alike_itself bad l top a r h)
 alike_itself bad l top a (Soft c r w) h = alike_soft bad l top a c r w r w (λ _. alike_itself bad l top a r h.0) (alike_itself bad l top a w h.1)
-alike_itself bad l top a (Refuse e b r) h = alike_refuse bad l top a e b b r r refl (λ _. alike_itself bad l top a r h)
+alike_itself bad l top a (Refuse e b r) h = alike_refuse bad l top a e b b r r refl (λ _. alike_itself bad l top a r h.1)
 alike_itself bad l top a (Fail e) h = alike_fail bad l top a e
 alike_itself bad l top a (Commit cs answer own) h = alike_give bad l top a cs cs answer own (sym h)
 
@@ -288,6 +286,6 @@ alike_itself bad l top a (Commit cs answer own) h = alike_give bad l top a cs cs
 pub ends_given : (bad : Rec → Bool) (a : Subject) (P : List Change → Type 0) → P [] → (r : Row) → Gives (λ cs own. P cs) r → Ends bad a P r
 ends_given bad a P none (Need c r) h = ends_need bad a P none c r (λ _. ends_given bad a P none r h)
 ends_given bad a P none (Soft c r w) h = ends_soft bad a P none c r w (λ _. ends_given bad a P none r h.0) (ends_given bad a P none w h.1)
-ends_given bad a P none (Refuse e b r) h = ends_refuse bad a P none e b r (λ _. ends_given bad a P none r h)
+ends_given bad a P none (Refuse e b r) h = ends_refuse bad a P none e b r (λ _. ends_given bad a P none r h.1)
 ends_given bad a P none (Fail e) h = ends_fail bad a P none e
 ends_given bad a P none (Commit cs answer own) h = ends_give bad a P none cs answer own h

@@ -1,4 +1,4 @@
--- Whole runs: what Low tags are answered is answered in the part, as far as nothing crosses.
+-- Whole runs: as long as nothing crosses, the part alone answers Low tags as the state does.
 use Rattle.std.specs.Prelude.{◌≡◌, ℕ, Bool, true, false, List, [], ◌∷◌, ◌++◌, refl, cond, take, drop}
 use Rattle.std.proofs.Common.{sym, ◌∙◌, ap, subst, take-append-drop}
 use Rattle.std.proofs.lemmas.Bool.{and_parts}
@@ -48,59 +48,59 @@ module _ (l : Label) where
   answers_of_first m ps = record { rest = answers l (drop m ps); whole_is = ap (answers l) (sym (take-append-drop m ps)) ∙ answers-append (take m ps) (drop m ps) }
 
   -- what was answered before something crossed is a prefix of all that is answered alone, and all of it where nothing crossed
-  pub record IsReported (ps : List CallRecord) (whole : List Answered) : Type 0 where
+  pub record AnswersAlone (ps : List CallRecord) (whole : List Answered) : Type 0 where
     pub rest : List Answered
     pub whole_is : whole ≡ answers l (up_to l ps) ++ rest
     pub all : up_to l ps ≡ ps → rest ≡ []
 
   -- what a step adds to both
-  reported_more : (p : CallRecord) (b : Bool) (ps : List CallRecord) (whole : List Answered) → low l p.who.label ≡ b → crossing l p.recs ≡ false → IsReported ps whole → IsReported (p ∷ ps) (cond b (answered p ∷ whole) whole)
-  reported_more p b ps whole is inside reported = record {
-    rest = reported.rest;
+  alone_more : (p : CallRecord) (b : Bool) (ps : List CallRecord) (whole : List Answered) → low l p.who.label ≡ b → crossing l p.recs ≡ false → AnswersAlone ps whole → AnswersAlone (p ∷ ps) (cond b (answered p ∷ whole) whole)
+  alone_more p b ps whole is inside alone = record {
+    rest = alone.rest;
     whole_is =
-        ap (λ w. cond b (answered p ∷ w) w) reported.whole_is
-        ∙ put b (answered p) (answers l (up_to l ps)) reported.rest
-        ∙ ap (λ t. cond t (answered p ∷ answers l (up_to l ps)) (answers l (up_to l ps)) ++ reported.rest) (sym is)
-        ∙ ap (λ t. answers l (cond t [] (p ∷ up_to l ps)) ++ reported.rest) (sym inside);
-    all = λ e. reported.all (let same : p ∷ up_to l ps ≡ p ∷ ps = ap (λ t. cond t [] (p ∷ up_to l ps)) (sym inside) ∙ e in cc);
+        ap (λ w. cond b (answered p ∷ w) w) alone.whole_is
+        ∙ put b (answered p) (answers l (up_to l ps)) alone.rest
+        ∙ ap (λ t. cond t (answered p ∷ answers l (up_to l ps)) (answers l (up_to l ps)) ++ alone.rest) (sym is)
+        ∙ ap (λ t. answers l (cond t [] (p ∷ up_to l ps)) ++ alone.rest) (sym inside);
+    all = λ e. alone.all (let same : p ∷ up_to l ps ≡ p ∷ ps = ap (λ t. cond t [] (p ∷ up_to l ps)) (sym inside) ∙ e in cc);
   }
 
-  reported_none : (p : CallRecord) (ps : List CallRecord) (whole : List Answered) → crossing l p.recs ≡ true → IsReported (p ∷ ps) whole
-  reported_none p ps whole crosses = record {
+  alone_none : (p : CallRecord) (ps : List CallRecord) (whole : List Answered) → crossing l p.recs ≡ true → AnswersAlone (p ∷ ps) whole
+  alone_none p ps whole crosses = record {
     rest = whole;
     whole_is = ap (λ t. answers l (cond t [] (p ∷ up_to l ps)) ++ whole) (sym crosses);
     all = λ e. let no : [] ≡ p ∷ ps = ap (λ t. cond t [] (p ∷ up_to l ps)) (sym crosses) ∙ e in cc;
   }
 
   -- what Low tags are answered from a state is what the part answers alone, until something crosses
-  pub reported_alone : (items : List ScriptItem) (s : State) → have_laws items ≡ true → is_script s.top items ≡ true → IsValid s → Kept l s → IsReported (run s items) (all_answers (run (part l s) (part_script l items)))
-  reported_alone [] s laws args valid kept = record { rest = []; whole_is = refl; all = λ _. refl }
-  reported_alone (i ∷ is) s laws args valid kept =
+  pub answers_alone : (items : List ScriptItem) (s : State) → have_laws items ≡ true → is_script s.top items ≡ true → IsValid s → Kept l s → AnswersAlone (run s items) (all_answers (run (part l s) (part_script l items)))
+  answers_alone [] s laws args valid kept = record { rest = []; whole_is = refl; all = λ _. refl }
+  answers_alone (i ∷ is) s laws args valid kept =
       let first = first_of_script s i is laws args in
       let next : State = (step s i.who i.call).state in
-      elim (crossing l (step s i.who i.call).recs) as (λ b. crossing l (step s i.who i.call).recs ≡ b → IsReported (run s (i ∷ is)) (all_answers (run (part l s) (part_script l (i ∷ is))))) [
-        | true ↦ λ crosses. reported_none (played s i) (run next is) _ crosses
+      elim (crossing l (step s i.who i.call).recs) as (λ b. crossing l (step s i.who i.call).recs ≡ b → AnswersAlone (run s (i ∷ is)) (all_answers (run (part l s) (part_script l (i ∷ is))))) [
+        | true ↦ λ crosses. alone_none (played s i) (run next is) _ crosses
         | false ↦ λ inside.
-            let rest : IsReported (run next is) (all_answers (run (part l next) (part_script l is))) = reported_alone is next first.later_laws first.later_args (valid_step s i.who i.call first.laws first.args valid) (kept_step l s i.who i.call first.laws valid kept inside) in
-            elim (low l i.who.label) as (λ b. low l i.who.label ≡ b → IsReported (run s (i ∷ is)) (all_answers (run (part l s) (cond b (i ∷ part_script l is) (part_script l is))))) [
+            let rest : AnswersAlone (run next is) (all_answers (run (part l next) (part_script l is))) = answers_alone is next first.later_laws first.later_args (valid_step s i.who i.call first.laws first.args valid) (kept_step l s i.who i.call first.laws valid kept inside) in
+            elim (low l i.who.label) as (λ b. low l i.who.label ≡ b → AnswersAlone (run s (i ∷ is)) (all_answers (run (part l s) (cond b (i ∷ part_script l is) (part_script l is))))) [
               | true ↦ λ is_low.
-                  let e = low_step l s i.who i.call first.laws valid kept is_low inside in
-                  subst (λ (o : StepResult). IsReported (run s (i ∷ is)) (record { who = i.who; head = i.head; reply = o.reply } ∷ all_answers (run o.state (part_script l is)))) (sym e)
-                  (reported_more (played s i) true (run next is) _ is_low inside rest)
+                  let e = low_step l s i.who i.call (record { laws = first.laws; valid = valid; kept = kept; is_low = is_low; inside = inside }) in
+                  subst (λ (o : StepResult). AnswersAlone (run s (i ∷ is)) (record { who = i.who; head = i.head; reply = o.reply } ∷ all_answers (run o.state (part_script l is)))) (sym e)
+                  (alone_more (played s i) true (run next is) _ is_low inside rest)
               | false ↦ λ high.
-                  subst (λ t. IsReported (run s (i ∷ is)) (all_answers (run t (part_script l is)))) (other_step l s i.who i.call first.laws valid kept high inside)
-                  (reported_more (played s i) false (run next is) _ high inside rest)
+                  subst (λ t. AnswersAlone (run s (i ∷ is)) (all_answers (run t (part_script l is)))) (other_step l s i.who i.call first.laws valid kept high inside)
+                  (alone_more (played s i) false (run next is) _ high inside rest)
             ] refl
       ] refl
 
   -- each prefix of what was answered before something crossed is a prefix of all that is answered alone
   pub prefix_alone : (items : List ScriptItem) (m : ℕ) (s : State) → have_laws items ≡ true → is_script s.top items ≡ true → IsValid s → Kept l s → IsPrefix (answers l (take m (up_to l (run s items)))) (all_answers (run (part l s) (part_script l items)))
   prefix_alone items m s laws args valid kept =
-      let reported = reported_alone items s laws args valid kept in
-      prefix_through _ _ _ (answers_of_first m (up_to l (run s items))) (record { rest = reported.rest; whole_is = reported.whole_is })
+      let alone = answers_alone items s laws args valid kept in
+      prefix_through _ _ _ (answers_of_first m (up_to l (run s items))) (record { rest = alone.rest; whole_is = alone.whole_is })
 
   -- where nothing crosses, Low tags are answered just what the part answers alone
   pub whole_alone : (items : List ScriptItem) (s : State) → have_laws items ≡ true → is_script s.top items ≡ true → IsValid s → Kept l s → up_to l (run s items) ≡ run s items → answers l (run s items) ≡ all_answers (run (part l s) (part_script l items))
   whole_alone items s laws args valid kept e =
-      let reported = reported_alone items s laws args valid kept in
-      ap (answers l) (sym e) ∙ sym (append-nil _) ∙ ap (λ xs. answers l (up_to l (run s items)) ++ xs) (sym (reported.all e)) ∙ sym reported.whole_is
+      let alone = answers_alone items s laws args valid kept in
+      ap (answers l) (sym e) ∙ sym (append-nil _) ∙ ap (λ xs. answers l (up_to l (run s items)) ++ xs) (sym (alone.all e)) ∙ sym alone.whole_is

@@ -1,4 +1,4 @@
--- What a process sees of the part of a state.
+-- What a Low process reads of a state and of its part.
 use Rattle.std.specs.Prelude.{◌≡◌, ℕ, ◌+◌, Bool, true, false, not, ◌&&◌, ◌||◌, List, [], ◌∷◌, Option, Some, None, refl, cond}
 use Rattle.std.specs.Option.{option_map, option_and_then}
 use Rattle.std.specs.List.{list_any}
@@ -10,7 +10,7 @@ use Rattle.cap_bits.specs.declared.cap.Cap.TheVariants as cap
 use Rattle.fs_path.specs.Name.{Name}
 use Rattle.fs_path.specs.Path.{PathValue}
 use Rattle.lab_lattice.specs.Label.{Label, dominates}
-use Rattle.lab_lattice.proofs.Labels.{dominates_through, dominates_bottom, label_cmp_total, label_cmp_exact}
+use Rattle.lab_lattice.proofs.Labels.{dominates_through, dominates_bottom}
 use Rattle.kern_model.specs.declared.numbers.Pid.{Pid}
 use Rattle.kern_model.specs.declared.numbers.Oid.{Oid}
 use Rattle.kern_model.specs.declared.numbers.Did.{Did}
@@ -25,10 +25,10 @@ use Rattle.kern_model.specs.declared.checks.Want.TheVariants as want
 use Rattle.kern_model.specs.declared.calls.Errno.TheVariants as errno
 use Rattle.kern_model.specs.declared.records.Rec.{Rec}
 use Rattle.kern_model.specs.Maps.{get_or}
-use Rattle.kern_model.specs.Keys.{oid_cmp_total, oid_cmp_exact, pid_cmp_total, pid_cmp_exact, did_cmp_total, did_cmp_exact, spot_cmp_total, spot_cmp_exact}
+use Rattle.kern_model.proofs.KeyLaws.{oid_cmp_total, oid_cmp_exact, pid_cmp_total, pid_cmp_exact, did_cmp_total, did_cmp_exact, spot_cmp_total, spot_cmp_exact}
 use Rattle.kern_model.specs.Descriptors.{Opened, opened}
 use Rattle.kern_model.specs.Kinds.{is_dir}
-use Rattle.kern_model.specs.State.{State, Process, Description, Change, drawn, object_at, look, stub, stub_object, root}
+use Rattle.kern_model.specs.State.{State, Process, Description, Change, object_at, look, stub, stub_object, root}
 use Rattle.kern_model.specs.Rules.{cap_of, same_label, mode_allows, of_object, mac_read, dac_search}
 use Rattle.kern_model.specs.Row.{Row, Need, Refuse, Subject, verdict_of, is_denied, noted, exercise_with, may}
 use Rattle.kern_model.specs.Walk.{Found, Start, Entry, walk_from, walk, reach, start_of, enter, or_missing, to_object}
@@ -76,7 +76,7 @@ low_below l x y h d = dominates_through l x y h d
 pub not_below : (l x y : Label) → low l x ≡ true → low l y ≡ false → dominates x y ≡ false
 not_below l x y h n = not_true _ (λ d. let no : true ≡ false = sym (low_below l x y h d) ∙ n in cc)
 
--- top is not Low where something below it is not
+-- top is not Low where a label that it dominates is not
 pub top_hidden : (l top y : Label) → dominates top y ≡ true → low l y ≡ false → low l top ≡ false
 top_hidden l top y d n = not_true _ (λ h. let no : true ≡ false = sym (low_below l top y h d) ∙ n in cc)
 
@@ -103,18 +103,6 @@ inner true false true p e = cc
 inner true false false p e = refl
 inner false b d p e = cc
 
--- where a check wants equal labels and overriding it crosses, what passed is on the caller's side
-pub thing_side : (l : Label) (a : Subject) (c : Check) (with : Cap) → cap_of c.name ≡ Some with → is_mac with ≡ true → c.holds ≡ same_label a.label c.thing_label → Passes (crosses l) a c → low l a.label ≡ low l c.thing_label
-thing_side l a c with named mac holds passes =
-    elim (same_label a.label c.thing_label) as (λ b. same_label a.label c.thing_label ≡ b → low l a.label ≡ low l c.thing_label) [
-      | true ↦ λ h. same_side l _ _ h
-      | false ↦ λ h.
-          elim (differ (low l a.label) (low l c.thing_label)) as (λ b. differ (low l a.label) (low l c.thing_label) ≡ b → low l a.label ≡ low l c.thing_label) [
-            | true ↦ λ d. absurd (crossed l a c with (holds ∙ h) named mac d passes)
-            | false ↦ λ d. differ_false _ _ d
-          ] refl
-    ] refl
-
 -- where a new label is never given without the capability, and giving it crosses, it is on the caller's side
 pub new_side : (l : Label) (a : Subject) (c : Check) (with : Cap) (new : Label) → cap_of c.name ≡ Some with → is_mac with ≡ true → c.new_label ≡ Some new → c.holds ≡ false → Passes (crosses l) a c → low l a.label ≡ low l new
 new_side l a c with new named mac is_new fails passes =
@@ -125,7 +113,7 @@ new_side l a c with new named mac is_new fails passes =
       | false ↦ λ v. let no : true ≡ false = ap is_denied (sym v) ∙ passes.granted in cc
     ] (failed_verdict a c fails)
 
--- what passed a check that no capability overrides meets its rule
+-- a check that no capability overrides lets the call go on only where its rule holds
 pub met_rule : (bad : Rec → Bool) (a : Subject) (c : Check) → cap_of c.name ≡ None → Passes bad a c → c.holds ≡ true
 met_rule bad a c unnamed passes =
     elim c.holds as (λ b. c.holds ≡ b → b ≡ true) [
@@ -146,7 +134,7 @@ dir_kind kind.File h = cc
 dir_kind kind.Fifo h = cc
 dir_kind kind.Pipe h = cc
 
--- a directory is there
+-- what reads as a directory is there
 pub dir_there : (s : State) (id : Oid) → is_dir (object_at s id).kind ≡ true → IsDir s.objects id
 dir_there s id h =
     elim (map.get s.objects id) as (λ w. map.get s.objects id ≡ w → IsDir s.objects id) [
@@ -158,12 +146,12 @@ pub not_false : (b : Bool) → not b ≡ false → b ≡ true
 not_false true h = refl
 not_false false h = sym h
 
--- what is known of what any walk found
+-- what any walk found is there
 abbrev pub FoundIn : State → Found → Type 0
 FoundIn s (Start id) = IsThere s.objects id
 FoundIn s (Entry dir name object) = IsDir s.objects dir × (object ≡ look s dir name)
 
--- where an entry leads is there
+-- what an entry leads to is there
 pub led_there : (s : State) → IsValid s → (dir : Oid) (name : Name) (id : Oid) → look s dir name ≡ Some id → IsThere s.objects id
 led_there s valid dir name id e = let entry = valid.entries (dir, name) id e in record { value = entry.object; is = entry.object_is }
 
@@ -241,15 +229,6 @@ module _ (l : Label) (s : State) where
   unfolding by_number
   look_low dir name h = get-select_kept spot_cmp_total spot_cmp_exact (low_spot l) (shown l s.top) s.entries (dir, name) h
 
-  -- the numbers drawn of a Low label are the same in the part
-  pub drawn_objects : (label : Label) → low l label ≡ true → drawn (by_number l s).object_numbers label ≡ drawn s.object_numbers label
-  unfolding by_number
-  drawn_objects label h = get_or-same _ _ label 0 (get-select_kept label_cmp_total label_cmp_exact (low l) same s.object_numbers label h ∙ same_map _)
-
-  pub drawn_processes : (label : Label) → low l label ≡ true → drawn (by_number l s).process_numbers label ≡ drawn s.process_numbers label
-  unfolding by_number
-  drawn_processes label h = get_or-same _ _ label 0 (get-select_kept label_cmp_total label_cmp_exact (low l) same s.process_numbers label h ∙ same_map _)
-
   -- what is Low is shown as it is
   pub shown_low : (id : Oid) → low l id.label ≡ true → shown l s.top id ≡ id
   shown_low id h = ap (λ b. cond b id (stub s.top)) h
@@ -312,7 +291,7 @@ module _ (l : Label) (s : State) (kept : Kept l s) (valid : IsValid s) (who : Pi
   part_found (Start id) = Start (shown l s.top id)
   part_found (Entry dir name object) = Entry dir name (option_map (shown l s.top) object)
 
-  -- what is known of what a Low process's walk found
+  -- what a Low process's walk found is there, in a Low directory
   abbrev pub Seen : Found → Type 0
   Seen (Start id) = IsThere s.objects id
   Seen (Entry dir name object) = (low l dir.label ≡ true) × IsDir s.objects dir × (object ≡ look s dir name)

@@ -28,8 +28,9 @@ use Rattle.kern_model.specs.declared.world.WorldObject.{WorldObject}
 use Rattle.kern_model.specs.declared.world.WorldProc.{WorldProc}
 use Rattle.kern_model.specs.Boot.{object_of, process_of, entry_for, boot_object, boot_process, boot_objects, boot_processes, nothing, furnished, boot, started, boot_recs}
 use Rattle.kern_model.specs.Exec.{exec_caps}
-use Rattle.kern_model.specs.Keys.{pid_cmp, pid_cmp_total, pid_cmp_exact, same_pid}
-use Rattle.kern_model.specs.Lineage.{caps_after, reported, caps_of, all_recs, ancestor, StartedWith, HasStarted}
+use Rattle.kern_model.specs.Keys.{pid_cmp, same_pid}
+use Rattle.kern_model.proofs.KeyLaws.{pid_cmp_total, pid_cmp_exact}
+use Rattle.kern_model.specs.Lineage.{caps_after_one, caps_after, caps_of, all_recs, ancestor, StartedWith, HasStarted}
 use Rattle.kern_model.specs.Names.{name_of}
 use Rattle.kern_model.specs.Row.{Row, Subject, End, Stopped, Refused, Done, judge, exercise_with}
 use Rattle.kern_model.specs.Rules.{cap_of, denial_of}
@@ -43,11 +44,11 @@ use Rattle.iso_laws.proofs.Part.{bound-changed}
 use Rattle.iso_laws.proofs.Rows.{used_is}
 use Rattle.iso_laws.proofs.Steps.{by_process, judged_row, fixed_after}
 use Rattle.iso_laws.proofs.Booting.{fixed_booted}
-use Rattle.iso_laws.proofs.CapsReported.{reported-append}
-use Rattle.iso_laws.proofs.Lineage.{used_unreported}
-use Rattle.iso_laws.proofs.DrawingLemmas.{born_all}
-use Rattle.iso_laws.proofs.RowsFair.{ReportsOwn}
-use Rattle.iso_laws.proofs.GoingOn.{EndsFair, Fitting, row_ends, Anything, lead_anywhere}
+use Rattle.iso_laws.proofs.CapsLemmas.{caps_after-append}
+use Rattle.iso_laws.proofs.Lineage.{used_leave, denial_leaves}
+use Rattle.iso_laws.proofs.DrawingLemmas.{born_all, Anything, lead_anywhere}
+use Rattle.iso_laws.proofs.FitRows.{ReportsOwn, Fitting}
+use Rattle.iso_laws.proofs.GoingOn.{EndGives, row_ends}
 use Rattle.iso_laws.proofs.StartLemmas.{ancestor-append}
 
 -- ---- over further records
@@ -87,10 +88,6 @@ denied_origin : (b : Bool) (who : Pid) (name : CallName) (check : CheckName) (pl
 denied_origin true who name check place q = refl
 denied_origin false who name check place q = refl
 
-denied_reported : (bound : CapSet) (f : Pid → CapState) (b : Bool) (who : Pid) (name : CallName) (check : CheckName) (place : Place) (q : Pid) → reported bound f (cond b (rec.Deny who name (denial_of check) check place ∷ []) []) q ≡ f q
-denied_reported bound f true who name check place q = refl
-denied_reported bound f false who name check place q = refl
-
 -- by a test whether two numbers are one
 by_test : (Q : Bool → Type 0) (b : Bool) → (b ≡ true → Q true) → (b ≡ false → Q false) → Q b
 by_test Q true f g = f refl
@@ -123,7 +120,7 @@ module _ (s : State) (who : Pid) (me : IsThere s.procs who) where
     of_caller q w cap new reports = by_test (λ b. has (cond b new (f q)).p cap ≡ true → HasStarted seen q) (same_pid q w) (λ t _. caller q (same_key pid_cmp_exact q w t ∙ reports)) (λ _. permitted q cap)
 
     -- a process that is permitted something after a call is, or descends from, one that has started
-    permitted_own : (own : Option Rec) → ReportsOwn who own → (q : Pid) (cap : Cap) → has (reported bound f (option_to_list own) q).p cap ≡ true → HasStarted seen (ancestor (option_to_list own) q)
+    permitted_own : (own : Option Rec) → ReportsOwn who own → (q : Pid) (cap : Cap) → has (caps_after bound f (option_to_list own) q).p cap ≡ true → HasStarted seen (ancestor (option_to_list own) q)
     permitted_own None reports q cap h = permitted q cap h
     permitted_own (Some (rec.Boot w label caps)) reports q cap h = absurd reports
     permitted_own (Some (rec.Fork w child)) reports q cap h =
@@ -132,53 +129,53 @@ module _ (s : State) (who : Pid) (me : IsThere s.procs who) where
     permitted_own (Some (rec.CapSetProc w caps)) reports q cap h = of_caller q w cap caps reports h
     permitted_own (Some r) reports q cap h = permitted q cap h
 
-    permitted_end : (p : Process) (name : CallName) (e : End) → EndsFair (Fitting Anything s who) e → (q : Pid) (cap : Cap) → has (reported bound f (own_of who p name e) q).p cap ≡ true → HasStarted seen (ancestor (own_of who p name e) q)
+    permitted_end : (p : Process) (name : CallName) (e : End) → EndGives (Fitting Anything s who) e → (q : Pid) (cap : Cap) → has (caps_after bound f (own_of who p name e) q).p cap ≡ true → HasStarted seen (ancestor (own_of who p name e) q)
     permitted_end p name (Stopped check place) fair q cap h =
-        subst (HasStarted seen) (sym (denied_origin p.audited who name check place q)) (permitted q cap (ap (λ (c : CapState). has c.p cap) (sym (denied_reported bound f p.audited who name check place q)) ∙ h))
+        subst (HasStarted seen) (sym (denied_origin p.audited who name check place q)) (permitted q cap (ap (λ (c : CapState). has c.p cap) (sym (denial_leaves bound f p.audited who name check place q)) ∙ h))
     permitted_end p name (Refused e) fair q cap h = permitted q cap h
     permitted_end p name (Done cs answer own) fair q cap h = permitted_own own fair.1 q cap h
 
-  lived_end : (p : Process) (name : CallName) (e : End) → EndsFair (Fitting Anything s who) e → (q : Pid) → IsThere (state_after s e).procs q → IsThere s.procs (ancestor (own_of who p name e) q)
+  lived_end : (p : Process) (name : CallName) (e : End) → EndGives (Fitting Anything s who) e → (q : Pid) → IsThere (state_after s e).procs q → IsThere s.procs (ancestor (own_of who p name e) q)
   lived_end p name (Stopped check place) fair q there = subst (IsThere s.procs) (sym (denied_origin p.audited who name check place q)) there
   lived_end p name (Refused e) fair q there = there
   lived_end p name (Done cs answer own) fair q there = lived own fair.1 q (born_all Anything _ s cs s fair.0 (λ k was. inl was) q there)
 
 module _ (s : State) (f : Pid → CapState) (seen : List Rec) (all : AllStarted s f seen) (who : Pid) (c : Call) where
-  settled_started : (p : Process) → map.get s.procs who ≡ Some p → AllStarted (settled s who p (name_of c) (judged_row s who c p)).state (reported s.bound f (settled s who p (name_of c) (judged_row s who c p)).recs) (seen ++ (settled s who p (name_of c) (judged_row s who c p)).recs)
+  settled_started : (p : Process) → map.get s.procs who ≡ Some p → AllStarted (settled s who p (name_of c) (judged_row s who c p)).state (caps_after s.bound f (settled s who p (name_of c) (judged_row s who c p)).recs) (seen ++ (settled s who p (name_of c) (judged_row s who c p)).recs)
   settled_started p is =
       let me : IsThere s.procs who = record { value = p; is = is } in
       let used : List Rec = (judged_row s who c p).used in
       let own : List Rec = own_of who p (name_of c) (judged_row s who c p).end in
-      let fair : EndsFair (Fitting Anything s who) (judged_row s who c p).end = row_ends Anything s (lead_anywhere s) who p is c in
+      let fair : EndGives (Fitting Anything s who) (judged_row s who c p).end = row_ends Anything s (lead_anywhere s) who p is c in
       let origin_is : (q : Pid) → ancestor own q ≡ ancestor (used ++ own) q = λ q. sym (ancestor-append used own q ∙ used_origin (subject who p) (row s who p c) (ancestor own q)) in
-      let permitted : (q : Pid) (cap : Cap) → has (reported s.bound f used q).p cap ≡ true → HasStarted seen q = λ q cap h. all.permitted q cap (ap (λ (x : CapState). has x.p cap) (sym (used_unreported (subject who p) s.bound f q (row s who p c))) ∙ h) in
+      let permitted : (q : Pid) (cap : Cap) → has (caps_after s.bound f used q).p cap ≡ true → HasStarted seen q = λ q cap h. all.permitted q cap (ap (λ (x : CapState). has x.p cap) (sym (used_leave (subject who p) s.bound f q (row s who p c))) ∙ h) in
       record {
         living = λ q there.
             started_before seen (used ++ own) q (subst (HasStarted seen) (origin_is q) (all.living (ancestor own q) (lived_end s who me p (name_of c) (judged_row s who c p).end fair q there)));
         permitted = λ q cap h.
             started_before seen (used ++ own) q (subst (HasStarted seen) (origin_is q)
-            (permitted_end s who me s.bound (reported s.bound f used) seen (all.living who me) permitted p (name_of c) (judged_row s who c p).end fair q cap
-            (ap (λ (x : CapState). has x.p cap) (sym (reported-append s.bound f used own q)) ∙ h)));
+            (permitted_end s who me s.bound (caps_after s.bound f used) seen (all.living who me) permitted p (name_of c) (judged_row s who c p).end fair q cap
+            (ap (λ (x : CapState). has x.p cap) (sym (caps_after-append s.bound f used own q)) ∙ h)));
       }
 
   nothing_more : AllStarted s f (seen ++ [])
   nothing_more = record { living = λ q there. started_before seen [] q (all.living q there); permitted = λ q cap h. started_before seen [] q (all.permitted q cap h) }
 
-  step_started : AllStarted (step s who c).state (reported s.bound f (step s who c).recs) (seen ++ (step s who c).recs)
-  step_started = by_process s who c (λ o. AllStarted o.state (reported s.bound f o.recs) (seen ++ o.recs)) (λ _. nothing_more) settled_started
+  step_started : AllStarted (step s who c).state (caps_after s.bound f (step s who c).recs) (seen ++ (step s who c).recs)
+  step_started = by_process s who c (λ o. AllStarted o.state (caps_after s.bound f o.recs) (seen ++ o.recs)) (λ _. nothing_more) settled_started
 
 -- ---- a run
 run_started : (items : List ScriptItem) (s : State) (bound : CapSet) (f : Pid → CapState) (seen : List Rec) → s.bound ≡ bound → AllStarted s f seen
-    → (q : Pid) (cap : Cap) → has (reported bound f (flat_map (λ (p : CallRecord). p.recs) (run s items)) q).p cap ≡ true → HasStarted (seen ++ flat_map (λ (p : CallRecord). p.recs) (run s items)) q
+    → (q : Pid) (cap : Cap) → has (caps_after bound f (flat_map (λ (p : CallRecord). p.recs) (run s items)) q).p cap ≡ true → HasStarted (seen ++ flat_map (λ (p : CallRecord). p.recs) (run s items)) q
 run_started [] s bound f seen same all q cap h = started_before seen [] q (all.permitted q cap h)
 run_started (i ∷ is) s bound f seen same all q cap h =
     let next : State = (step s i.who i.call).state in
     let recs : List Rec = (step s i.who i.call).recs in
     let later : List Rec = flat_map (λ (p : CallRecord). p.recs) (run next is) in
-    let all' : AllStarted next (reported bound f recs) (seen ++ recs) = subst (λ b. AllStarted next (reported b f recs) (seen ++ recs)) same (step_started s f seen all i.who i.call) in
+    let all' : AllStarted next (caps_after bound f recs) (seen ++ recs) = subst (λ b. AllStarted next (caps_after b f recs) (seen ++ recs)) same (step_started s f seen all i.who i.call) in
     subst (λ xs. HasStarted xs q) (append_assoc seen recs later)
-    (run_started is next bound (reported bound f recs) (seen ++ recs) (fixed_after s i.who i.call (λ t. t.bound) bound-changed ∙ same) all' q cap
-    (ap (λ (x : CapState). has x.p cap) (sym (reported-append bound f recs later q)) ∙ h))
+    (run_started is next bound (caps_after bound f recs) (seen ++ recs) (fixed_after s i.who i.call (λ t. t.bound) bound-changed ∙ same) all' q cap
+    (ap (λ (x : CapState). has x.p cap) (sym (caps_after-append bound f recs later q)) ∙ h))
 
 -- ---- the start
 -- objects that are made make no process
@@ -194,14 +191,14 @@ objects_procs (o ∷ os) s =
     objects_procs os (boot_object s o)
     ∙ entries_procs s (changed (changed s (DrawObject o.label (drawn s.object_numbers o.label + 1))) (SetObject (next_object s o.label) (object_of o))) root o.path.names (next_object s o.label)
 
-processes_started : (bound : CapSet) (ws : List WorldProc) (s : State) (f : Pid → CapState) (seen : List Rec) → AllStarted s f seen → AllStarted (boot_processes s ws) (reported bound f (started s ws)) (seen ++ started s ws)
+processes_started : (bound : CapSet) (ws : List WorldProc) (s : State) (f : Pid → CapState) (seen : List Rec) → AllStarted s f seen → AllStarted (boot_processes s ws) (caps_after bound f (started s ws)) (seen ++ started s ws)
 unfolding boot_process
 processes_started bound [] s f seen all = record { living = λ q there. started_before seen [] q (all.living q there); permitted = λ q cap h. started_before seen [] q (all.permitted q cap h) }
 processes_started bound (w ∷ ws) s f seen all =
     let who : Pid = next_process s w.label in
     let r : Rec = rec.Boot who w.label w.caps in
     let new : HasStarted (seen ++ r ∷ []) who = record { caps = w.caps; started = record { before = seen; after = []; label = w.label; split = refl } } in
-    let one : AllStarted (boot_process s w) (caps_after bound f r) (seen ++ r ∷ []) =
+    let one : AllStarted (boot_process s w) (caps_after_one bound f r) (seen ++ r ∷ []) =
     record {
       living = λ q there.
           each-insert pid_cmp_total pid_cmp_exact (λ (k : Pid) (x : Process). HasStarted (seen ++ r ∷ []) k) s.procs (λ k x e. started_before seen (r ∷ []) k (all.living k (record { value = x; is = e }))) who (process_of w) new q there.value there.is;
@@ -209,8 +206,8 @@ processes_started bound (w ∷ ws) s f seen all =
           by_test (λ b. has (cond b w.caps (f q)).p cap ≡ true → HasStarted (seen ++ r ∷ []) q) (same_pid q who)
           (λ t _. subst (HasStarted (seen ++ r ∷ [])) (sym (same_key pid_cmp_exact q who t)) new) (λ _ h. started_before seen (r ∷ []) q (all.permitted q cap h));
     } in
-    subst (AllStarted (boot_processes (boot_process s w) ws) (reported bound (caps_after bound f r) (started (boot_process s w) ws))) (append_assoc seen (r ∷ []) (started (boot_process s w) ws))
-    (processes_started bound ws (boot_process s w) (caps_after bound f r) (seen ++ r ∷ []) one)
+    subst (AllStarted (boot_processes (boot_process s w) ws) (caps_after bound (caps_after_one bound f r) (started (boot_process s w) ws))) (append_assoc seen (r ∷ []) (started (boot_process s w) ws))
+    (processes_started bound ws (boot_process s w) (caps_after_one bound f r) (seen ++ r ∷ []) one)
 
 no_process : (w : World) (q : Pid) → IsThere (furnished w).procs q → ⊥
 no_process w q there = never_some _ there.value (get-empty pid_cmp q) (ap (λ m. map.get m q) (sym (objects_procs w.objects (nothing w.bound w.top))) ∙ there.is)
@@ -224,4 +221,4 @@ pub all_started : (w : World) (items : List ScriptItem) (q : Pid) (cap : Cap) �
 all_started w items q cap h =
     let later : List Rec = flat_map (λ (p : CallRecord). p.recs) (run (boot w) items) in
     run_started items (boot w) w.bound (caps_of w.bound (boot_recs w)) (boot_recs w) (fixed_booted (λ s. s.bound) bound-changed w) (booted_started w) q cap
-    (ap (λ (x : CapState). has x.p cap) (sym (reported-append w.bound (λ _. no_flags) (boot_recs w) later q)) ∙ h)
+    (ap (λ (x : CapState). has x.p cap) (sym (caps_after-append w.bound (λ _. no_flags) (boot_recs w) later q)) ∙ h)

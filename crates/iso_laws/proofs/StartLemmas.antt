@@ -23,8 +23,9 @@ use Rattle.kern_model.specs.declared.world.ScriptItem.{ScriptItem}
 use Rattle.kern_model.specs.declared.world.WorldProc.{WorldProc}
 use Rattle.kern_model.specs.Boot.{boot_process, started}
 use Rattle.kern_model.specs.Drawing.{NeverFalls}
-use Rattle.kern_model.specs.Keys.{pid_cmp_total, pid_cmp_exact, same_pid}
-use Rattle.kern_model.specs.Lineage.{caps_after, reported, origin, ancestor, StartOnce}
+use Rattle.kern_model.specs.Keys.{same_pid}
+use Rattle.kern_model.proofs.KeyLaws.{pid_cmp_total, pid_cmp_exact}
+use Rattle.kern_model.specs.Lineage.{caps_after_one, caps_after, origin, ancestor, StartOnce}
 use Rattle.kern_model.specs.Names.{name_of}
 use Rattle.kern_model.specs.Row.{Row, Subject, End, Stopped, Refused, Done, judge, exercise_with}
 use Rattle.kern_model.specs.Rules.{cap_of, denial_of}
@@ -34,9 +35,10 @@ use Rattle.kern_model.specs.Step.{step, subject, own_of}
 use Rattle.kern_model.proofs.MapLemmas.{same_key, get_or-found, get-insert_same}
 use Rattle.iso_laws.proofs.Rows.{used_is}
 use Rattle.iso_laws.proofs.Steps.{by_process, judged_row}
-use Rattle.iso_laws.proofs.DrawingLemmas.{falls_nowhere}
-use Rattle.iso_laws.proofs.RowsFair.{IsOwn, ReportsOwn, all-append}
-use Rattle.iso_laws.proofs.GoingOn.{EndsFair, Fitting, row_ends, Anything, lead_anywhere}
+use Rattle.iso_laws.proofs.DrawingLemmas.{falls_nowhere, Anything, lead_anywhere}
+use Rattle.iso_laws.proofs.AllLemmas.{all-append}
+use Rattle.iso_laws.proofs.FitRows.{IsOwn, ReportsOwn, Fitting}
+use Rattle.iso_laws.proofs.GoingOn.{EndGives, row_ends}
 
 -- ---- no call leaves a record of a start
 -- a record that is none of a start
@@ -62,14 +64,14 @@ own_is_no_start : (who : Pid) (r : Rec) → IsOwn who r → IsNoStart r
 own_is_no_start who (rec.Boot q label caps) h = h
 own_is_no_start who r h = tt
 
-reported_no_start : (who : Pid) (own : Option Rec) → ReportsOwn who own → NoStarts (option_to_list own)
-reported_no_start who None h = tt
-reported_no_start who (Some r) h = (own_is_no_start who r h, tt)
+left_no_start : (who : Pid) (own : Option Rec) → ReportsOwn who own → NoStarts (option_to_list own)
+left_no_start who None h = tt
+left_no_start who (Some r) h = (own_is_no_start who r h, tt)
 
-own_no_start : (s : State) (who : Pid) (p : Process) (name : CallName) (e : End) → EndsFair (Fitting Anything s who) e → NoStarts (own_of who p name e)
+own_no_start : (s : State) (who : Pid) (p : Process) (name : CallName) (e : End) → EndGives (Fitting Anything s who) e → NoStarts (own_of who p name e)
 own_no_start s who p name (Stopped check place) h = denied_no_start p.audited who name check place
 own_no_start s who p name (Refused e) h = tt
-own_no_start s who p name (Done cs answer own) h = reported_no_start who own h.1
+own_no_start s who p name (Done cs answer own) h = left_no_start who own h.1
 
 step_no_start : (s : State) (who : Pid) (c : Call) → NoStarts (step s who c).recs
 step_no_start s who c = by_process s who c (λ o. NoStarts o.recs) (λ _. tt) (λ p is.
@@ -175,20 +177,20 @@ other_pid a q other =
     elim (same_pid a q) as (λ b. same_pid a q ≡ b → b ≡ false) [ true ↦ λ t. absurd (other (sym (same_key pid_cmp_exact a q t))) | false ↦ λ _. refl ] refl
 
 module _ (bound : CapSet) where
-  other_reported : (f : Pid → CapState) (who : Pid) (r : Rec) → StartsOther who r → caps_after bound f r who ≡ f who
-  other_reported f who (rec.Boot q label caps) other = ap (λ b. cond b caps (f who)) (other_pid who q other)
-  other_reported f who r other = absurd other
+  other_leaves : (f : Pid → CapState) (who : Pid) (r : Rec) → StartsOther who r → caps_after_one bound f r who ≡ f who
+  other_leaves f who (rec.Boot q label caps) other = ap (λ b. cond b caps (f who)) (other_pid who q other)
+  other_leaves f who r other = absurd other
 
   -- starts of others say nothing of a process
-  others_reported : (f : Pid → CapState) (who : Pid) (rs : List Rec) → AllByRecursion (StartsOther who) rs → reported bound f rs who ≡ f who
-  others_reported f who [] h = refl
-  others_reported f who (r ∷ rs) h = others_reported (caps_after bound f r) who rs h.1 ∙ other_reported f who r h.0
+  others_leave : (f : Pid → CapState) (who : Pid) (rs : List Rec) → AllByRecursion (StartsOther who) rs → caps_after bound f rs who ≡ f who
+  others_leave f who [] h = refl
+  others_leave f who (r ∷ rs) h = others_leave (caps_after_one bound f r) who rs h.1 ∙ other_leaves f who r h.0
 
   -- a start gives the sets of its process, whatever starts there are before and after it
-  pub start_reported : (f : Pid → CapState) (before : List Rec) (who : Pid) (label : Label) (caps : CapState) (rest : List Rec) → AreStarts (before ++ rec.Boot who label caps ∷ rest) → reported bound f (before ++ rec.Boot who label caps ∷ rest) who ≡ caps
-  start_reported f [] who label caps rest h =
-      others_reported (caps_after bound f (rec.Boot who label caps)) who rest h.0 ∙ ap (λ b. cond b caps (f who)) ((eq_by_cmp_equiv pid_cmp_total).refl who)
-  start_reported f (b ∷ before) who label caps rest h = start_reported (caps_after bound f b) before who label caps rest h.1
+  pub start_gives : (f : Pid → CapState) (before : List Rec) (who : Pid) (label : Label) (caps : CapState) (rest : List Rec) → AreStarts (before ++ rec.Boot who label caps ∷ rest) → caps_after bound f (before ++ rec.Boot who label caps ∷ rest) who ≡ caps
+  start_gives f [] who label caps rest h =
+      others_leave (caps_after_one bound f (rec.Boot who label caps)) who rest h.0 ∙ ap (λ b. cond b caps (f who)) ((eq_by_cmp_equiv pid_cmp_total).refl who)
+  start_gives f (b ∷ before) who label caps rest h = start_gives (caps_after_one bound f b) before who label caps rest h.1
 
 other_origin : (who q : Pid) (r : Rec) (rs : List Rec) → StartsOther who r → ancestor (r ∷ rs) q ≡ ancestor rs q
 other_origin who q (rec.Boot k label caps) rs other = refl

@@ -8,7 +8,7 @@ use Rattle.kern_model.specs.declared.numbers.Pid.{Pid}
 use Rattle.kern_model.specs.declared.calls.Call.{Call}
 use Rattle.kern_model.specs.Arguments.{is_call}
 use Rattle.kern_model.specs.Maps.{where_key}
-use Rattle.kern_model.specs.Keys.{pid_cmp_total, pid_cmp_exact}
+use Rattle.kern_model.proofs.KeyLaws.{pid_cmp_total, pid_cmp_exact}
 use Rattle.kern_model.specs.Names.{name_of}
 use Rattle.kern_model.specs.State.{State, Process, Change, changed, changed_by}
 use Rattle.kern_model.specs.Row.{Stopped, Refused, Done, CheckOutcome, judge, check_outcome}
@@ -18,17 +18,18 @@ use Rattle.kern_model.specs.Isolation.{low, part, crosses, crossing, Kept}
 use Rattle.kern_model.specs.Valid.{IsValid}
 use Rattle.kern_model.proofs.MapLemmas.{get-select}
 use Rattle.iso_laws.specs.LawCalls.{has_laws}
-use Rattle.iso_laws.specs.Laws.{LowStepReply, LowStepRecords, LowStepState, OtherStep, KeptStep, ValidStep, TopStep}
+use Rattle.iso_laws.specs.Laws.{IsLowStep, LowStepReply, LowStepRecords, LowStepState, OtherStep, KeptStep, ValidStep, TopStep}
 use Rattle.iso_laws.proofs.Part.{by_number, top-changed, low_pid, same, part_changes, part_by_number, by_number-changed_by, fixed_by}
 use Rattle.iso_laws.proofs.Rows.{part_end, part_judged, bad_prefix, never, none_never}
 use Rattle.iso_laws.proofs.Sight.{get_process}
-use Rattle.iso_laws.proofs.Calls.{Cases, low_row, row_meets, hidden_cases, kept_cases, valid_cases}
+use Rattle.iso_laws.proofs.Cases.{Cases, hidden_cases, kept_cases, valid_cases}
+use Rattle.iso_laws.proofs.Isolation.{low_row, row_meets}
 
 module _ (s : State) (who : Pid) (c : Call) where
   abbrev pub judged_row : Process → CheckOutcome
   judged_row p = judge (subject who p) [] (row s who p c)
 
-  -- by the process, if there is one
+  -- a step by cases: no living process has the number, or one has
   pub by_process : (P : StepResult → Type 0) → (map.get s.procs who ≡ None → P (step_by s who c None)) → ((p : Process) → map.get s.procs who ≡ Some p → P (settled s who p (name_of c) (judged_row p))) → P (step s who c)
   unfolding step
   by_process P f g =
@@ -67,7 +68,7 @@ other_step l s who c laws valid kept high = by_process s who c (λ o. (crossing 
     ∙ sym (part_by_number l s kept))
     (kept_step l s who c laws valid kept)
 
-module _ (l : Label) (s : State) (who : Pid) (c : Call) (laws : has_laws c ≡ true) where
+module _ (l : Label) (s : State) (who : Pid) (c : Call) where
   abbrev part_outcome : StepResult → StepResult
   part_outcome o = record { state = part l o.state; reply = o.reply; recs = o.recs }
 
@@ -84,27 +85,28 @@ module _ (l : Label) (s : State) (who : Pid) (c : Call) (laws : has_laws c ≡ t
   absent e = get-select pid_cmp_exact (where_key (low_pid l) (same {X = Process})) pid_cmp_total s.procs who ∙ ap (option_and_then (where_key (low_pid l) same who)) e
 
   -- a step of a Low process in the part
-  pub low_step : IsValid s → Kept l s → low l who.label ≡ true → crossing l (step s who c).recs ≡ false → step (part l s) who c ≡ part_outcome (step s who c)
+  pub low_step : IsLowStep l s who c → step (part l s) who c ≡ part_outcome (step s who c)
   unfolding step
-  low_step valid kept is_low h =
+  low_step low_step_is =
+      let kept : Kept l s = low_step_is.kept in
       ap (λ t. step t who c) (part_by_number l s kept)
       ∙ by_process s who c (λ o. (crossing l o.recs ≡ false → Kept l o.state) → crossing l o.recs ≡ false → step (by_number l s) who c ≡ part_outcome o)
       (λ none _ _. ap (step_by (by_number l s) who c) (absent none) ∙ ap (λ t. step_by t who c None) (sym (part_by_number l s kept)))
       (λ p is k h.
-      let p_low : low l p.label ≡ true = sym (kept.procs who p is) ∙ is_low in
-      ap (step_by (by_number l s) who c) (get_process l s who is_low ∙ is)
-      ∙ ap (settled (by_number l s) who p (name_of c)) ((low_row l s kept valid who p is p_low c laws).ends [] (bad_prefix (crosses l) (judged_row s who c p).used (own_of who p (name_of c) (judged_row s who c p).end) h))
+      let p_low : low l p.label ≡ true = sym (kept.procs who p is) ∙ low_step_is.is_low in
+      ap (step_by (by_number l s) who c) (get_process l s who low_step_is.is_low ∙ is)
+      ∙ ap (settled (by_number l s) who p (name_of c)) ((low_row l s kept low_step_is.valid who p is p_low c low_step_is.laws).ends [] (bad_prefix (crosses l) (judged_row s who c p).used (own_of who p (name_of c) (judged_row s who c p).end) h))
       ∙ settled_part kept p (judged_row s who c p) (k h))
-      (kept_step l s who c laws valid kept) h
+      (kept_step l s who c low_step_is.laws low_step_is.valid kept) low_step_is.inside
 
 pub low_step_reply : LowStepReply
-low_step_reply l s who c laws valid kept is_low h = ap (λ o. o.reply) (low_step l s who c laws valid kept is_low h)
+low_step_reply l s who c is = ap (λ o. o.reply) (low_step l s who c is)
 
 pub low_step_records : LowStepRecords
-low_step_records l s who c laws valid kept is_low h = ap (λ o. o.recs) (low_step l s who c laws valid kept is_low h)
+low_step_records l s who c is = ap (λ o. o.recs) (low_step l s who c is)
 
 pub low_step_state : LowStepState
-low_step_state l s who c laws valid kept is_low h = ap (λ o. o.state) (low_step l s who c laws valid kept is_low h)
+low_step_state l s who c is = ap (λ o. o.state) (low_step l s who c is)
 
 pub top_step : TopStep
 top_step s who c = fixed_after s who c (λ t. t.top) top-changed

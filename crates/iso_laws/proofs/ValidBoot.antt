@@ -25,7 +25,8 @@ use Rattle.kern_model.specs.declared.world.WorldObject.{WorldObject}
 use Rattle.kern_model.specs.declared.world.WorldProc.{WorldProc}
 use Rattle.kern_model.specs.Boot.{object_of, process_of, entry_for, boot_object, boot_process, boot_objects, boot_processes, nothing, furnished, boot}
 use Rattle.kern_model.specs.Entries.{link_count}
-use Rattle.kern_model.specs.Keys.{Spot, oid_cmp, oid_cmp_total, oid_cmp_exact, same_oid, pid_cmp, pid_cmp_total, pid_cmp_exact, did_cmp, spot_cmp, spot_cmp_total, spot_cmp_exact}
+use Rattle.kern_model.specs.Keys.{Spot, oid_cmp, same_oid, pid_cmp, did_cmp, spot_cmp}
+use Rattle.kern_model.proofs.KeyLaws.{oid_cmp_total, oid_cmp_exact, pid_cmp_total, pid_cmp_exact, spot_cmp_total, spot_cmp_exact}
 use Rattle.kern_model.specs.Kinds.{kind_of, bytes_of, is_stream}
 use Rattle.kern_model.specs.State.{State, Process, Description, SetObject, SetEntry, DrawObject, changed, changed_by, drawn, next_object, next_process, root}
 use Rattle.kern_model.specs.Valid.{IsDrawn, AreFew, leads, IsRoot, IsValidObject, IsValidEntry, IsValidProcess, IsValid}

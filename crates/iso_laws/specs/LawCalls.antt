@@ -1,11 +1,11 @@
--- For which calls the laws of a step stand so far.
+-- The calls for which the laws of isolation and of validity are proved so far.
 use Rattle.std.specs.Prelude.{Bool, true, false, List}
 use Rattle.std.specs.List.{list_all}
 use Rattle.kern_model.specs.declared.calls.Call.{Call}
 use Rattle.kern_model.specs.declared.calls.Call.TheVariants as call
 use Rattle.kern_model.specs.declared.world.ScriptItem.{ScriptItem}
 
--- whether a call reports or sets what its caller is, or reports the label or the capability sets of an object
+-- whether they are proved for a call: one that reports or sets what its caller is, or that reports the label or the capability sets of an object
 abbrev pub has_laws : Call → Bool
 has_laws (call.Chdir path) = true
 has_laws (call.Umask mode) = true

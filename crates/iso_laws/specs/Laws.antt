@@ -22,27 +22,32 @@ use Rattle.iso_laws.specs.LawCalls.{has_laws, have_laws}
 
 -- ---- a step, by a call with laws
 
--- a step of a Low process that crosses nothing gives the same reply in the part
+-- from a valid state that is kept, a step of a Low process by such a call, which crosses nothing
+pub record IsLowStep (l : Label) (s : State) (who : Pid) (c : Call) : Type 0 where
+  pub laws : has_laws c ≡ true
+  pub valid : IsValid s
+  pub kept : Kept l s
+  pub is_low : low l who.label ≡ true
+  pub inside : crossing l (step s who c).recs ≡ false
+
+-- it gives the same reply in the part
 abbrev pub LowStepReply : Type 0
-LowStepReply = (l : Label) (s : State) (who : Pid) (c : Call) → has_laws c ≡ true → IsValid s → Kept l s → low l who.label ≡ true → crossing l (step s who c).recs ≡ false
-    → (step (part l s) who c).reply ≡ (step s who c).reply
+LowStepReply = (l : Label) (s : State) (who : Pid) (c : Call) → IsLowStep l s who c → (step (part l s) who c).reply ≡ (step s who c).reply
 
 -- and the same records
 abbrev pub LowStepRecords : Type 0
-LowStepRecords = (l : Label) (s : State) (who : Pid) (c : Call) → has_laws c ≡ true → IsValid s → Kept l s → low l who.label ≡ true → crossing l (step s who c).recs ≡ false
-    → (step (part l s) who c).recs ≡ (step s who c).recs
+LowStepRecords = (l : Label) (s : State) (who : Pid) (c : Call) → IsLowStep l s who c → (step (part l s) who c).recs ≡ (step s who c).recs
 
 -- and the part of the new state
 abbrev pub LowStepState : Type 0
-LowStepState = (l : Label) (s : State) (who : Pid) (c : Call) → has_laws c ≡ true → IsValid s → Kept l s → low l who.label ≡ true → crossing l (step s who c).recs ≡ false
-    → (step (part l s) who c).state ≡ part l (step s who c).state
+LowStepState = (l : Label) (s : State) (who : Pid) (c : Call) → IsLowStep l s who c → (step (part l s) who c).state ≡ part l (step s who c).state
 
--- a step of a process that is not Low leaves the part as it was, unless it crosses
+-- a step of a process that is not Low, which crosses nothing, leaves the part as it was
 abbrev pub OtherStep : Type 0
 OtherStep = (l : Label) (s : State) (who : Pid) (c : Call) → has_laws c ≡ true → IsValid s → Kept l s → low l who.label ≡ false → crossing l (step s who c).recs ≡ false
     → part l (step s who c).state ≡ part l s
 
--- what is kept stays kept over a step that does not cross
+-- a state that is kept stays kept over a step that crosses nothing
 abbrev pub KeptStep : Type 0
 KeptStep = (l : Label) (s : State) (who : Pid) (c : Call) → has_laws c ≡ true → IsValid s → Kept l s → crossing l (step s who c).recs ≡ false → Kept l (step s who c).state
 
@@ -62,28 +67,29 @@ ValidBoot = (w : World) → IsWorld w → IsValid (boot w)
 
 -- ---- runs of calls with laws
 
--- what Low tags are answered before any call that crosses is a prefix of what they are answered with nothing else there
+-- what Low tags are answered, up to any call before the first that crosses, is a prefix of what they are answered in the part alone
 abbrev pub IsolatedPrefix : Type 0
 IsolatedPrefix = (l : Label) (w : World) (items : List ScriptItem) (m : ℕ) → IsWorld w → is_script w.top items ≡ true → have_laws items ≡ true
     → IsPrefix (answers l (take m (up_to l (run (boot w) items)))) (alone l w items)
 
--- and all of it where no call crosses
+-- where no call crosses, both are the same
 abbrev pub IsolatedWhole : Type 0
 IsolatedWhole = (l : Label) (w : World) (items : List ScriptItem) → IsWorld w → is_script w.top items ≡ true → have_laws items ≡ true
     → up_to l (run (boot w) items) ≡ run (boot w) items → answers l (run (boot w) items) ≡ alone l w items
 
--- in two worlds with one part, two scripts with the same Low items answer Low tags alike before any call that crosses: one list is a prefix of the other
+-- on two worlds with the same part, two scripts with the same Low items answer Low tags alike, up to any calls before the first that crosses: one list is a
+-- prefix of the other
 abbrev pub TwoWorldsAgree : Type 0
 TwoWorldsAgree = (l : Label) (w v : World) (is js : List ScriptItem) (m n : ℕ) → IsWorld w → IsWorld v → is_script w.top is ≡ true → is_script v.top js ≡ true → have_laws is ≡ true → have_laws js ≡ true
     → part l (boot w) ≡ part l (boot v) → part_script l is ≡ part_script l js → Agree (answers l (take m (up_to l (run (boot w) is)))) (answers l (take n (up_to l (run (boot v) js))))
 
--- and the same where no call crosses
+-- where no call crosses, both are the same
 abbrev pub TwoWorldsSame : Type 0
 TwoWorldsSame = (l : Label) (w v : World) (is js : List ScriptItem) → IsWorld w → IsWorld v → is_script w.top is ≡ true → is_script v.top js ≡ true → have_laws is ≡ true → have_laws js ≡ true
     → part l (boot w) ≡ part l (boot v) → part_script l is ≡ part_script l js
     → up_to l (run (boot w) is) ≡ run (boot w) is → up_to l (run (boot v) js) ≡ run (boot v) js → answers l (run (boot w) is) ≡ answers l (run (boot v) js)
 
--- ---- capability sets, by every call
+-- ---- capability sets, for every call
 
 -- each process that lives at the end of a run has the capability sets that the records give
 abbrev pub CapsByRecords : Type 0
@@ -97,7 +103,7 @@ DropsByRecords = (w : World) (items : List ScriptItem) → OnlyDrops w.bound (al
 abbrev pub GrowthByRecords : Type 0
 GrowthByRecords = (w : World) (items : List ScriptItem) → GrowsByExec w.bound (all_recs w items)
 
--- ---- refusals and numbers, by every call
+-- ---- refusals and numbers, for every call
 
 -- a reply that a check denied holds EACCES or EPERM, and no other refusal holds one of them
 abbrev pub RefusalsAreNamed : Type 0
@@ -111,7 +117,7 @@ DrawnStep = (s : State) (who : Pid) (c : Call) → StayDrawn s (step s who c).st
 abbrev pub NumbersStep : Type 0
 NumbersStep = (s : State) (who : Pid) (c : Call) → IsValid s → NumbersGoOn s (step s who c).state
 
--- numbers go on over a part of a run
+-- numbers go on from the state after some calls of a run to the state after more
 abbrev pub NumbersRun : Type 0
 NumbersRun = (w : World) (items more : List ScriptItem) → IsWorld w → NumbersGoOn (state_after_run (boot w) items) (state_after_run (boot w) (items ++ more))
 
@@ -119,12 +125,12 @@ NumbersRun = (w : World) (items more : List ScriptItem) → IsWorld w → Number
 abbrev pub GoneRun : Type 0
 GoneRun = (w : World) (items more : List ScriptItem) → IsWorld w → NothingComesBack (state_after_run (boot w) items) (state_after_run (boot w) (items ++ more))
 
--- ---- the highest label, by every call
+-- ---- the highest label, for every call
 
--- it is the world's in the first state
+-- the first state has that of the world
 abbrev pub TopBoot : Type 0
 TopBoot = (w : World) → (boot w).top ≡ w.top
 
--- and stays over a step
+-- and a step keeps it
 abbrev pub TopStep : Type 0
 TopStep = (s : State) (who : Pid) (c : Call) → (step s who c).state.top ≡ s.top

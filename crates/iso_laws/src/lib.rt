@@ -1,7 +1,7 @@
 //! The laws of isolation, on the definitions alone. A label is Low for `l` where `l` dominates it. What
 //! crosses `l` is an exercise of one of the five capabilities that override the rules on labels, between
-//! labels of which some are Low and some are not. Each law is stated in `specs/Laws.antt`; `specs/LawCalls.antt`
-//! names the calls for which those of a step hold.
+//! labels of which some are Low and some are not. Each law is stated in `specs/Laws.antt`. Those of isolation, and that a
+//! valid state stays valid, are for the calls with laws, which `specs/LawCalls.antt` names; the others are for every call.
 #![tactic(auto)]
 
 ghost use Rattle.iso_laws.specs.Laws.{LowStepReply, LowStepRecords, LowStepState, OtherStep, KeptStep, ValidStep};

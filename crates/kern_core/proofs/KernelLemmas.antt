@@ -26,8 +26,9 @@ use Rattle.kern_model.specs.Table.{row}
 use Rattle.kern_model.specs.Valid.{IsValid}
 use Rattle.kern_model.specs.World.{IsWorld}
 use Rattle.iso_laws.proofs.Laws.{refusals_are_named, numbers_step, valid_boot, valid_step}
-use Rattle.kern_core.specs.Built.{is_built, built_laws}
+use Rattle.kern_core.specs.Built.{is_built}
 use Rattle.kern_core.specs.Kernel.{IsStopped}
+use Rattle.kern_core.proofs.BuiltLaws.{built_laws}
 
 -- ---- a call that stopped
 kept_at : (s : State) (who : Pid) (p : Process) (name : CallName) (j : CheckOutcome) → IsStopped (settled s who p name j).reply → (settled s who p name j).state ≡ s

@@ -1,4 +1,5 @@
 pub mod BootLemmas
+pub mod BuiltLaws
 pub mod CheckLemmas
 pub mod KernelLemmas
 pub mod LendLemmas

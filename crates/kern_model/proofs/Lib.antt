@@ -1,4 +1,7 @@
+pub mod ItemLaws
+pub mod KeyLaws
 pub mod MapLemmas
+pub mod NamedLaws
 pub mod RowLemmas
 pub mod TableLemmas
 pub mod WorldLemmas

@@ -167,10 +167,6 @@ module _ {K X : Type 0} {R : K → K → Ordering} (o : IsTotalOrder R) (exact :
   pub get-insert_kept : (q : K) (y : X) → map.get m q ≡ Some y → map.get (map.insert m k x) q ≡ Some y
   get-insert_kept q y e = get-insert o m k x q ∙ ap (λ b. cond b (Some x) (map.get m q)) (other_key q y e) ∙ e
 
-  -- and is what there was
-  pub get-insert_old : (q : K) (y z : X) → map.get m q ≡ Some y → map.get (map.insert m k x) q ≡ Some z → map.get m q ≡ Some z
-  get-insert_old q y z e f = e ∙ sym (get-insert_kept q y e) ∙ f
-
 -- what holds of each entry, after a change
 module _ {K X : Type 0} {R : K → K → Ordering} (o : IsTotalOrder R) (exact : IsAntisymmetric R) (P : K → X → Type 0) (m : FinMap R X) (each : (k : K) (x : X) → map.get m k ≡ Some x → P k x) where
   pub each-insert : (k : K) (x : X) → P k x → (q : K) (y : X) → map.get (map.insert m k x) q ≡ Some y → P q y

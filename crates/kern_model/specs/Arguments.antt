@@ -10,7 +10,7 @@ use Rattle.kern_model.specs.declared.numbers.Pid.{Pid}
 use Rattle.kern_model.specs.declared.world.ScriptItem.{ScriptItem}
 use Rattle.kern_model.specs.Kinds.{is_mode, is_permission}
 
--- with `r` or `w`; `x` only with `c`; `t` and `a` only with `w`
+-- flags have `r` or `w`, have `x` only with `c`, and have `t` and `a` only with `w`
 abbrev pub are_flags : OpenFlags → Bool
 are_flags f = (f.r || f.w) && (not f.x || f.c) && (not f.t || f.w) && (not f.a || f.w)
 

@@ -1,4 +1,4 @@
--- The descriptors of processes, and what goes with the last descriptor of a description.
+-- The descriptors of processes, and what changes where they close.
 use Rattle.std.specs.Prelude.{ℕ, ◌+◌, ◌==◌, ◌&&◌, not, Bool, cond, List, [], ◌∷◌, length, map, Option}
 use Rattle.std.specs.List.{flat_map, list_any}
 use Rattle.std.specs.Option.{option_and_then, option_map}
@@ -55,7 +55,7 @@ pub record Descriptor : Type 0 where
 unfoldable pub descriptors : State → List Descriptor
 descriptors s = flat_map (λ (e : Pid × Process). map (λ (f : ℕ × Did). record { who = e.0; fd = f.0; did = f.1 }) (table.entries e.1.fds)) (table.entries s.procs)
 
--- whether descriptors that go hold a description, and none that stays does
+-- whether a description is held by descriptors that close, and by none that stays open
 abbrev pub is_let_go : State → (Descriptor → Bool) → Did → Bool
 is_let_go s goes did =
     list_any (λ (f : Descriptor). goes f && same_did f.did did) (descriptors s) && not (list_any (λ (f : Descriptor). not (goes f) && same_did f.did did) (descriptors s))
@@ -72,6 +72,6 @@ emptied s id = SetObject id (record (object_at s id) { bytes = [] })
 abbrev pub let_go : State → (Descriptor → Bool) → Did × Description → List Change
 let_go s goes e = cond (is_let_go s goes e.0) (DropDescription e.0 ∷ cond (is_drained s goes e.1.object) (emptied s e.1.object ∷ []) []) []
 
--- what goes with descriptors that go
+-- what changes where descriptors close
 unfoldable pub closing : State → (Descriptor → Bool) → List Change
 closing s goes = flat_map (let_go s goes) (table.entries s.descriptions)

@@ -168,7 +168,7 @@ pipe_row s who p =
 abbrev pub taken_from : Object → Opened → ℕ → List ℕ
 taken_from o f n = take n (drop f.description.offset o.bytes)
 
--- bytes come out: of a file from the offset, which moves after them, of a pipe or FIFO from the front
+-- bytes come out: of a file from the offset, which moves after them, of a pipe or FIFO from the start
 abbrev pub reading : State → Opened → ℕ → Row
 reading s f n =
     cond (is_stream (open_object s f).kind)

@@ -19,21 +19,21 @@ use Rattle.kern_model.specs.Run.{CallRecord, run}
 
 -- what a record makes of the sets that were given of each process before it: a start and `cap_set_proc` give those in the
 -- record, a child has its parent's, a program makes the exec formula of them, and any other record leaves them
-abbrev pub caps_after : CapSet → (Pid → CapState) → Rec → Pid → CapState
-caps_after bound before (rec.Boot who label caps) q = cond (same_pid q who) caps (before q)
-caps_after bound before (rec.Fork who child) q = cond (same_pid q child) (before who) (before q)
-caps_after bound before (rec.Exec who id file new) q = cond (same_pid q who) (exec_caps (before q) file bound) (before q)
-caps_after bound before (rec.CapSetProc who caps) q = cond (same_pid q who) caps (before q)
-caps_after bound before _ q = before q
+abbrev pub caps_after_one : CapSet → (Pid → CapState) → Rec → Pid → CapState
+caps_after_one bound before (rec.Boot who label caps) q = cond (same_pid q who) caps (before q)
+caps_after_one bound before (rec.Fork who child) q = cond (same_pid q child) (before who) (before q)
+caps_after_one bound before (rec.Exec who id file new) q = cond (same_pid q who) (exec_caps (before q) file bound) (before q)
+caps_after_one bound before (rec.CapSetProc who caps) q = cond (same_pid q who) caps (before q)
+caps_after_one bound before _ q = before q
 
 -- what records make of them, from the first to the last
-abbrev pub reported : CapSet → (Pid → CapState) → List Rec → Pid → CapState
-reported bound before [] q = before q
-reported bound before (r ∷ rs) q = reported bound (caps_after bound before r) rs q
+abbrev pub caps_after : CapSet → (Pid → CapState) → List Rec → Pid → CapState
+caps_after bound before [] q = before q
+caps_after bound before (r ∷ rs) q = caps_after bound (caps_after_one bound before r) rs q
 
 -- the capability sets of a process by the records alone; without a record of it they are empty
 abbrev pub caps_of : CapSet → List Rec → Pid → CapState
-caps_of bound rs q = reported bound (λ _. no_flags) rs q
+caps_of bound rs q = caps_after bound (λ _. no_flags) rs q
 
 -- all records of a run: those of the start, and those of each call
 abbrev pub all_recs : World → List ScriptItem → List Rec

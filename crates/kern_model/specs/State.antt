@@ -89,11 +89,11 @@ abbrev pub changed_by : State → List Change → State
 changed_by s [] = s
 changed_by s (c ∷ cs) = changed_by (changed s c) cs
 
--- what is read where nothing is: an empty file of the highest label that nobody may use
+-- what is read in place of an object that is absent: an empty file of the highest label that nobody may use
 abbrev pub stub_object : Label → Object
 stub_object top = record { kind = File; label = top; attr = record { owner = 0; group = 0; mode = 0; caps = no_flags }; bytes = [] }
 
--- the number of what is not seen: 0, which is never drawn
+-- the number of what a label does not see: 0, which is never drawn
 abbrev pub stub : Label → Oid
 stub top = record { label = top; n = 0 }
 

@@ -33,11 +33,11 @@ pub record IsDir (objects : FinMap oid_cmp Object) (id : Oid) : Type 0 where
   pub is : map.get objects id ≡ Some object
   pub dir : object.kind ≡ kind.Dir
 
--- from 1 on, and drawn already
+-- a number that was drawn: from 1 on, and at most the last one
 abbrev pub IsDrawn : ℕ → ℕ → Type 0
 IsDrawn n last = (1 ≤ n) × (n ≤ last)
 
--- numbers are drawn at labels that top dominates, and no more of a label than there may be
+-- numbers are drawn at labels that top dominates alone, and no more at a label than there may be
 pub record AreFew (top : Label) (numbers : FinMap label_cmp ℕ) (most : ℕ) : Type 0 where
   pub below : (l : Label) → 1 ≤ drawn numbers l → dominates top l ≡ true
   pub few : (l : Label) → drawn numbers l ≤ most

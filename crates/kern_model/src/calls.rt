@@ -61,7 +61,7 @@ pub enum Call {
     Pipe,
     /// Makes a FIFO.
     Mkfifo(Path, Mode),
-    /// What is the object that the descriptor refers to?
+    /// Reports the status of the object that the descriptor refers to.
     Fstat(Fd),
     /// Makes a directory.
     Mkdir(Path, Mode),
@@ -73,9 +73,9 @@ pub enum Call {
     Unlink(Path),
     /// Moves the entry of the first path to the second.
     Rename(Path, Path),
-    /// Which names are in the directory?
+    /// Reports the names in the directory.
     Readdir(Path),
-    /// What is the object that the path leads to?
+    /// Reports the status of the object that the path leads to.
     Stat(Path),
     /// Makes the directory the current one.
     Chdir(Path),
@@ -85,19 +85,19 @@ pub enum Call {
     Chown(Path, Uid, Gid),
     /// Sets the bits that a new object does not get; at most octal 0777.
     Umask(Mode),
-    /// What capability sets has the file?
+    /// Reports the capability sets of a file.
     CapGetFile(Path),
     /// Sets the capability sets of a file.
     CapSetFile(Path, CapState),
-    /// What capability sets has the file that the descriptor refers to?
+    /// Reports the capability sets of the file that the descriptor refers to.
     CapGetFd(Fd),
     /// Sets the capability sets of the file that the descriptor refers to.
     CapSetFd(Fd, CapState),
-    /// What label has the object that the path leads to?
+    /// Reports the label of the object that the path leads to.
     MacGetFile(Path),
     /// Sets the label of an object.
     MacSetFile(Path, Label),
-    /// What label has the object that the descriptor refers to?
+    /// Reports the label of the object that the descriptor refers to.
     MacGetFd(Fd),
     /// Sets the label of the object that the descriptor refers to.
     MacSetFd(Fd, Label),
@@ -111,21 +111,21 @@ pub enum Call {
     Wait,
     /// Sends a signal to a process.
     Kill(Pid, Signal),
-    /// What is the caller's number?
+    /// Reports the caller's number.
     Getpid,
-    /// What is the parent's number?
+    /// Reports the parent's number.
     Getppid,
-    /// Which users and groups has the caller?
+    /// Reports the caller's users and groups.
     Getids,
     /// Sets the caller's user.
     Setuid(Uid),
     /// Sets the caller's group.
     Setgid(Gid),
-    /// What capability sets has the caller?
+    /// Reports the caller's capability sets.
     CapGetProc,
     /// Sets the caller's capability sets.
     CapSetProc(CapState),
-    /// What label has the caller?
+    /// Reports the caller's label.
     MacGetProc,
     /// Sets the caller's label.
     MacSetProc(Label),
@@ -299,7 +299,7 @@ pub enum Errno {
     EACCES,
     /// Too many numbers are drawn, or nothing is there yet.
     EAGAIN,
-    /// The descriptor is not open, or not for this.
+    /// The descriptor is not open, or not open for reading or for writing.
     EBADF,
     /// The root can't be removed or moved.
     EBUSY,
@@ -323,7 +323,7 @@ pub enum Errno {
     ENOENT,
     /// Too many objects are drawn.
     ENOSPC,
-    /// What stands before a name, or is asked to be a directory, is none.
+    /// An object before a name of a path, or one that has to be a directory, is not one.
     ENOTDIR,
     /// The directory has entries.
     ENOTEMPTY,
@@ -337,7 +337,7 @@ pub enum Errno {
     ESRCH,
 }
 
-/// What a call that was done answers.
+/// What a call answers that was done.
 #[derive(Debug, Drop)]
 pub enum Answer {
     Nothing,

@@ -1,4 +1,4 @@
-// Checks, and what they come to.
+// Checks, and their verdicts.
 ghost use Rattle.std.specs.Prelude.{◌≡◌};
 ghost use Rattle.kern_model.specs.Rules.{cap_of, errno_of};
 
@@ -14,7 +14,7 @@ pub enum CheckName {
     MacRead,
     /// The labels are equal.
     MacWrite,
-    /// What holds an object has a label that the object's dominates.
+    /// The label of an object dominates that of each directory that holds it.
     LabelOrder,
     /// The new label dominates the old one: never without the capability.
     MacUpgrade,
@@ -34,7 +34,7 @@ pub enum CheckName {
     ExecKind,
     /// The caller is the owner.
     Owner,
-    /// The owner stays, is the caller, and gives it to a group of its own.
+    /// The caller owns the object, the owner stays, and the new group is one of the caller's.
     Chown,
     /// The capabilities of a file are set: never without the capability.
     Setfcap,
@@ -98,7 +98,7 @@ impl CheckName {
         }
     }
 
-    /// What a call answers that this check denied; none for a soft check, which denies nothing.
+    /// The error number of a call that this check denied. A soft check denies nothing and has none.
     pub fn errno(self) -> Option<Errno>
         ensures { result ≡ errno_of self }
     {
@@ -149,7 +149,7 @@ pub enum Thing {
     Process(Pid),
 }
 
-/// A check as it is made: its rule has been looked at already.
+/// A check of a call, with whether its rule holds.
 #[derive(Clone, Copy, Debug, PartialEq, Eq)]
 pub struct Check {
     pub name: CheckName,
@@ -160,7 +160,7 @@ pub struct Check {
     pub place: Place,
 }
 
-/// What a check came to.
+/// The verdict of a check.
 #[derive(Clone, Copy, Debug, PartialEq, Eq)]
 pub enum Verdict {
     /// Its rule holds.
@@ -171,7 +171,7 @@ pub enum Verdict {
     Denied,
 }
 
-/// What is wanted of an object by its mode.
+/// The access to an object that its mode allows or not.
 #[derive(Clone, Copy, Debug, PartialEq, Eq)]
 pub enum Want {
     Read,

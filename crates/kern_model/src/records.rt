@@ -23,7 +23,7 @@ pub enum Rec {
     MacSetProc(Pid, Label, Label),
     /// The process set the label of an object, from the first to the second.
     MacSetFile(Pid, Oid, Label, Label),
-    /// A process of this label went on by a capability: at which check, about which thing of which label, with which
+    /// A capability let a process of this label go on: at which check, about which thing of which label, with which
     /// new label if the check has one, and where in the call the thing stands.
     Exercise(Pid, Label, Cap, CheckName, Thing, Label, Option<Label>, Place),
     /// A check denied a call of the process.

@@ -8,7 +8,8 @@ use Rattle.kern_model.specs.Arguments.{is_call, is_number, is_script}
 use Rattle.kern_model.specs.World.{IsWorld}
 use Rattle.kern_model.specs.declared.calls.Call.{Call}
 use Rattle.kern_model.specs.declared.numbers.Pid.{Pid}
-use Rattle.kern_core.specs.Built.{is_built, built_laws}
+use Rattle.kern_core.specs.Built.{is_built}
+use Rattle.kern_core.proofs.BuiltLaws.{built_laws}
 use Rattle.iso_laws.specs.LawCalls.{have_laws}
 use Rattle.script_text.specs.declared.line.Line.{Line}
 use Rattle.script_text.specs.declared.line.Line.TheVariants as line

@@ -4,7 +4,7 @@ use Rattle.std.proofs.lemmas.Result.{err_from_is_err_and}
 use Rattle.kern_model.specs.declared.calls.Answer.TheVariants.{Nothing}
 use Rattle.kern_model.specs.declared.checks.Check.{Check}
 use Rattle.kern_model.specs.declared.records.Rec.TheVariants.{CapSetProc}
-use Rattle.kern_model.specs.Keys.{pid_cmp_total, pid_cmp_exact}
+use Rattle.kern_model.proofs.KeyLaws.{pid_cmp_total, pid_cmp_exact}
 use Rattle.kern_model.specs.Rules.{cap_of, cap_grow}
 use Rattle.kern_model.specs.State.{Process}
 use Rattle.kern_core.specs.Tables.{state_of_tables}

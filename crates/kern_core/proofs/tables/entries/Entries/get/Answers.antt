@@ -1,6 +1,7 @@
 use Rattle.std.proofs.Common.{ap, sym, ◌∙◌}
 use Rattle.std.specs.FinMap as map
-use Rattle.kern_model.specs.Keys.{spot_cmp, oid_cmp, spot_cmp_total}
+use Rattle.kern_model.specs.Keys.{spot_cmp, oid_cmp}
+use Rattle.kern_model.proofs.KeyLaws.{spot_cmp_total}
 use Rattle.kern_model.proofs.TableLemmas.{get_at}
 use Rattle.kern_core.proofs.tables.entries.Entries.get.Goals as goal
 

@@ -1,6 +1,7 @@
 use Rattle.std.proofs.Common.{ap, ◌∙◌}
 use Rattle.std.specs.FinMap as map
-use Rattle.kern_model.specs.Keys.{spot_cmp, oid_cmp, spot_cmp_total, spot_cmp_exact}
+use Rattle.kern_model.specs.Keys.{spot_cmp, oid_cmp}
+use Rattle.kern_model.proofs.KeyLaws.{spot_cmp_total, spot_cmp_exact}
 use Rattle.kern_model.proofs.TableLemmas.{one_set}
 use Rattle.kern_core.proofs.tables.entries.Entries.set.Goals as goal
 

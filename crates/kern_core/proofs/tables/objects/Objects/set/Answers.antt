@@ -1,6 +1,7 @@
 use Rattle.std.proofs.Common.{ap, ◌∙◌}
 use Rattle.std.specs.FinMap as map
-use Rattle.kern_model.specs.Keys.{oid_cmp, oid_cmp_total, oid_cmp_exact}
+use Rattle.kern_model.specs.Keys.{oid_cmp}
+use Rattle.kern_model.proofs.KeyLaws.{oid_cmp_total, oid_cmp_exact}
 use Rattle.kern_model.proofs.TableLemmas.{one_set}
 use Rattle.kern_core.proofs.tables.objects.Objects.set.Goals as goal
 

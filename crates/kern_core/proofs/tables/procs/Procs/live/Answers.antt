@@ -1,7 +1,8 @@
 use Rattle.std.proofs.Common.{◌∙◌, ap, sym, ◌++◌}
 use Rattle.std.specs.Map.{keys_of}
 use Rattle.std.specs.FinMap as map
-use Rattle.kern_model.specs.Keys.{pid_cmp, pid_cmp_total, pid_cmp_exact}
+use Rattle.kern_model.specs.Keys.{pid_cmp}
+use Rattle.kern_model.proofs.KeyLaws.{pid_cmp_total, pid_cmp_exact}
 use Rattle.kern_model.proofs.TableLemmas.{entries_view}
 use Rattle.kern_core.proofs.tables.procs.Procs.live.Goals as goal
 

@@ -1,6 +1,7 @@
 use Rattle.std.proofs.Common.{ap, ◌∙◌}
 use Rattle.std.specs.FinMap as map
-use Rattle.kern_model.specs.Keys.{pid_cmp, pid_cmp_total, pid_cmp_exact}
+use Rattle.kern_model.specs.Keys.{pid_cmp}
+use Rattle.kern_model.proofs.KeyLaws.{pid_cmp_total, pid_cmp_exact}
 use Rattle.kern_model.proofs.TableLemmas.{one_set}
 use Rattle.kern_core.proofs.tables.procs.Procs.set.Goals as goal
 

@@ -1,0 +1,93 @@
+-- The capability sets of living processes, as records give them: over changes, and at the start.
+use Rattle.std.specs.Prelude.{◌≡◌, ⊤, ◌+◌, true, false, List, [], ◌∷◌, ◌++◌, Some, refl, cond, unwrap_or}
+use Rattle.std.specs.List.{AllByRecursion}
+use Rattle.std.proofs.Common.{sym, ◌∙◌, ap}
+use Rattle.std.specs.FinMap as map
+use Rattle.std.specs.FinMap.{get-empty, get-insert}
+use Rattle.cap_bits.specs.CapSet.{CapSet}
+use Rattle.cap_bits.specs.declared.state.CapState.{CapState}
+use Rattle.cap_bits.specs.State.{no_flags}
+use Rattle.fs_path.specs.Name.{Name}
+use Rattle.kern_model.specs.declared.numbers.Pid.{Pid}
+use Rattle.kern_model.specs.declared.numbers.Oid.{Oid}
+use Rattle.kern_model.specs.declared.records.Rec.{Rec}
+use Rattle.kern_model.specs.declared.world.World.{World}
+use Rattle.kern_model.specs.declared.world.WorldObject.{WorldObject}
+use Rattle.kern_model.specs.declared.world.WorldProc.{WorldProc}
+use Rattle.kern_model.specs.Keys.{pid_cmp, same_pid}
+use Rattle.kern_model.proofs.KeyLaws.{pid_cmp_total, pid_cmp_exact}
+use Rattle.kern_model.specs.State.{State, Process, Change, SetObject, SetEntry, DropEntry, SetProcess, DropProcess, SetDescription, DropDescription, DrawObject, DrawProcess, DrawDescription, changed, changed_by, drawn, look, next_object, next_process, root}
+use Rattle.kern_model.specs.Boot.{object_of, process_of, entry_for, boot_object, boot_process, boot_objects, boot_processes, nothing, furnished, boot, started, boot_recs}
+use Rattle.kern_model.specs.Lineage.{caps_after_one, caps_after, caps_of}
+use Rattle.kern_model.proofs.MapLemmas.{each-insert, each-remove, same_key, some_same, never_some}
+
+-- each living process has the sets that the function says
+abbrev pub HaveCaps : State → (Pid → CapState) → Type 0
+HaveCaps s f = (who : Pid) (p : Process) → map.get s.procs who ≡ Some p → p.caps ≡ f who
+
+-- records after others go on from what those give
+pub caps_after-append : (bound : CapSet) (f : Pid → CapState) (xs ys : List Rec) (q : Pid) → caps_after bound f (xs ++ ys) q ≡ caps_after bound (caps_after bound f xs) ys q
+caps_after-append bound f [] ys q = refl
+caps_after-append bound f (x ∷ xs) ys q = caps_after-append bound (caps_after_one bound f x) xs ys q
+
+-- functions that give the same sets
+pub have_same : (s : State) (f g : Pid → CapState) → ((q : Pid) → f q ≡ g q) → HaveCaps s f → HaveCaps s g
+have_same s f g same has who p e = has who p e ∙ same who
+
+-- ---- changes
+-- a process that is set has sets of its own, and each other has those that it had
+pub have_set : (s : State) (f g : Pid → CapState) → HaveCaps s f → (who : Pid) (new : Process) → new.caps ≡ g who → HaveCaps (changed s (SetProcess who new)) (λ q. cond (same_pid q who) (g q) (f q))
+have_set s f g has who new own q p e =
+    elim (same_pid q who) as (λ b. same_pid q who ≡ b → cond b (Some new) (map.get s.procs q) ≡ Some p → p.caps ≡ cond b (g q) (f q)) [
+      | true ↦ λ t e. ap (λ (x : Process). x.caps) (sym (some_same new p e)) ∙ own ∙ ap g (sym (same_key pid_cmp_exact q who t))
+      | false ↦ λ t e. has q p e
+    ] refl (sym (get-insert pid_cmp_total s.procs who new q) ∙ e)
+
+-- a change that leaves each process the sets that it has
+abbrev pub Quiet : (Pid → CapState) → Change → Type 0
+Quiet f (SetProcess who p) = p.caps ≡ f who
+Quiet f _ = ⊤
+
+have_over : (s : State) (f : Pid → CapState) → HaveCaps s f → (c : Change) → Quiet f c → HaveCaps (changed s c) f
+have_over s f has (SetObject id o) h = has
+have_over s f has (SetEntry spot id) h = has
+have_over s f has (DropEntry spot) h = has
+have_over s f has (SetProcess who p) h = each-insert pid_cmp_total pid_cmp_exact (λ q x. x.caps ≡ f q) s.procs has who p h
+have_over s f has (DropProcess who) h = each-remove pid_cmp_total pid_cmp_exact (λ q x. x.caps ≡ f q) s.procs has who
+have_over s f has (SetDescription did d) h = has
+have_over s f has (DropDescription did) h = has
+have_over s f has (DrawObject label n) h = has
+have_over s f has (DrawProcess label n) h = has
+have_over s f has (DrawDescription label n) h = has
+
+pub have_quiet : (cs : List Change) (s : State) (f : Pid → CapState) → HaveCaps s f → AllByRecursion (Quiet f) cs → HaveCaps (changed_by s cs) f
+have_quiet [] s f has h = has
+have_quiet (c ∷ cs) s f has h = have_quiet cs (changed s c) f (have_over s f has c h.0) h.1
+
+-- ---- the start
+module _ (f : Pid → CapState) where
+  quiet_entries : (s : State) (dir : Oid) (names : List Name) (id : Oid) → AllByRecursion (Quiet f) (entry_for s dir names id)
+  quiet_entries s dir [] id = tt
+  quiet_entries s dir (name ∷ []) id = (tt, tt)
+  quiet_entries s dir (name ∷ next ∷ names) id = quiet_entries s (unwrap_or (look s dir name) dir) (next ∷ names) id
+
+  have_objects : (os : List WorldObject) (s : State) → HaveCaps s f → HaveCaps (boot_objects s os) f
+  unfolding boot_object
+  have_objects [] s has = has
+  have_objects (o ∷ os) s has =
+      have_objects os (boot_object s o)
+      (have_quiet (DrawObject o.label (drawn s.object_numbers o.label + 1) ∷ SetObject (next_object s o.label) (object_of o) ∷ entry_for s root o.path.names (next_object s o.label)) s f has
+      (tt, (tt, quiet_entries s root o.path.names (next_object s o.label))))
+
+  have_furnished : (w : World) → HaveCaps (furnished w) f
+  have_furnished w = have_objects w.objects (nothing w.bound w.top) (λ who p e. absurd (never_some _ p (get-empty pid_cmp who) e))
+
+have_processes : (bound : CapSet) (ws : List WorldProc) (s : State) (f : Pid → CapState) → HaveCaps s f → HaveCaps (boot_processes s ws) (caps_after bound f (started s ws))
+unfolding boot_process
+have_processes bound [] s f has = has
+have_processes bound (w ∷ ws) s f has =
+    have_processes bound ws (boot_process s w) _ (have_set (changed s (DrawProcess w.label (drawn s.process_numbers w.label + 1))) f (λ q. w.caps) has (next_process s w.label) (process_of w) refl)
+
+-- the records of a start give the sets of its processes
+pub have_booted : (w : World) → HaveCaps (boot w) (caps_of w.bound (boot_recs w))
+have_booted w = have_processes w.bound w.procs (furnished w) (λ q. no_flags) (have_furnished (λ q. no_flags) w)

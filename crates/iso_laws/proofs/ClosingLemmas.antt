@@ -1,0 +1,39 @@
+-- What holds of each change that is made where descriptors close, and where a process ends.
+use Rattle.std.specs.Prelude.{◌≡◌, Bool, not, ◌&&◌, ◌||◌, [], ◌∷◌, Some, cond}
+use Rattle.std.specs.List.{AllByRecursion, flat_map}
+use Rattle.std.specs.FinMap as map
+use Rattle.kern_model.specs.declared.calls.Ending.{Ending}
+use Rattle.kern_model.specs.declared.numbers.Did.{Did}
+use Rattle.kern_model.specs.declared.numbers.Pid.{Pid}
+use Rattle.kern_model.specs.Descriptors.{Descriptor, closing, let_go, is_let_go, is_drained, emptied}
+use Rattle.kern_model.specs.Keys.{same_pid, is_pid}
+use Rattle.kern_model.specs.ProcessRows.{survives, left_by, ending_of}
+use Rattle.kern_model.specs.State.{State, Process, Description, Change, SetProcess, DropProcess, DropDescription}
+use Rattle.kern_model.proofs.KeyLaws.{pid_cmp_total, pid_cmp_exact, did_cmp_total, did_cmp_exact}
+use Rattle.kern_model.proofs.MapLemmas.{each-entries}
+use Rattle.iso_laws.proofs.AllLemmas.{all-append, all_each, all_if}
+
+-- where it holds of each description that goes, and of the object of each description as it is emptied
+module _ (s : State) (P : Change → Type 0) (drop : (did : Did) → P (DropDescription did)) (empty : (did : Did) (d : Description) → map.get s.descriptions did ≡ Some d → P (emptied s d.object)) where
+  each_let_go : (goes : Descriptor → Bool) (e : Did × Description) → P (emptied s e.1.object) → AllByRecursion P (let_go s goes e)
+  each_let_go goes e empties =
+      let both : AllByRecursion P (DropDescription e.0 ∷ cond (is_drained s goes e.1.object) (emptied s e.1.object ∷ []) []) = (drop e.0, all_if P (is_drained s goes e.1.object) (emptied s e.1.object ∷ []) (empties, tt)) in
+      all_if P (is_let_go s goes e.0) _ both
+
+  pub each_closing : (goes : Descriptor → Bool) → AllByRecursion P (closing s goes)
+  unfolding closing
+  each_closing goes =
+      all_each (λ (e : Did × Description). P (emptied s e.1.object)) P (let_go s goes) (each_let_go goes) (map.entries s.descriptions)
+      (each-entries did_cmp_total did_cmp_exact (λ (k : Did) (d : Description). P (emptied s d.object)) s.descriptions empty)
+
+  -- and of the process that goes, and of each other one as it is left
+  pub each_ending : (who : Pid) (p : Process) (how : Ending) → P (DropProcess who) → ((q : Pid) (x : Process) → map.get s.procs q ≡ Some x → P (SetProcess q (left_by who p how q x))) → AllByRecursion P (ending_of s who p how)
+  unfolding ending_of
+  each_ending who p how gone left =
+      let other : (e : Pid × Process) → P (SetProcess e.0 (left_by who p how e.0 e.1)) → AllByRecursion P (survives who p how e) =
+      λ e h. all_if P (not (same_pid e.0 who) && (is_pid who e.1.parent || is_pid e.0 p.parent)) (SetProcess e.0 (left_by who p how e.0 e.1) ∷ []) (h, tt) in (
+        gone,
+        all-append P (closing s _) (flat_map (survives who p how) (map.entries s.procs)) (each_closing _)
+            (all_each (λ (e : Pid × Process). P (SetProcess e.0 (left_by who p how e.0 e.1))) P (survives who p how) other (map.entries s.procs)
+            (each-entries pid_cmp_total pid_cmp_exact (λ (q : Pid) (x : Process). P (SetProcess q (left_by who p how q x))) s.procs left)),
+      )

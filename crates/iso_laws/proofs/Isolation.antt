@@ -1,0 +1,70 @@
+-- The row of each call with laws, for a Low process in the state and in its part, and what its changes meet.
+use Rattle.std.specs.Prelude.{◌≡◌, Bool, true, List, Some}
+use Rattle.std.proofs.Common.{sym}
+use Rattle.std.proofs.lemmas.Bool.{true≢false}
+use Rattle.std.specs.FinMap as map
+use Rattle.lab_lattice.specs.Label.{Label}
+use Rattle.kern_model.specs.declared.calls.Call.{Call}
+use Rattle.kern_model.specs.declared.calls.Call.TheVariants as call
+use Rattle.kern_model.specs.declared.numbers.Pid.{Pid}
+use Rattle.kern_model.specs.declared.records.Rec.{Rec}
+use Rattle.kern_model.specs.Arguments.{is_call}
+use Rattle.kern_model.specs.Isolation.{low, Kept}
+use Rattle.kern_model.specs.State.{State, Process, Change}
+use Rattle.kern_model.specs.Table.{row}
+use Rattle.kern_model.specs.Valid.{IsValid}
+use Rattle.iso_laws.specs.LawCalls.{has_laws}
+use Rattle.iso_laws.proofs.Cases.{Cases, Meets}
+use Rattle.iso_laws.proofs.LowRows.{Same}
+use Rattle.iso_laws.proofs.Part.{by_number}
+use Rattle.iso_laws.proofs.tree.Isolation as tree
+use Rattle.iso_laws.proofs.attributes.Isolation as attributes
+use Rattle.iso_laws.proofs.processes.Isolation as processes
+use Rattle.iso_laws.proofs.audit.Isolation as audit
+
+-- each row of a Low process ends in the part as it ends in the state
+module _ (l : Label) (s : State) (kept : Kept l s) (valid : IsValid s) (who : Pid) (p : Process) (is : map.get s.procs who ≡ Some p) (is_low : low l p.label ≡ true) where
+  pub low_row : (c : Call) → has_laws c ≡ true → Same l s who p (row s who p c) (row (by_number l s) who p c)
+  low_row (call.Chdir path) _ = tree.chdir_low l s kept valid who p is is_low path
+  low_row (call.Umask mode) _ = processes.umask_low l s kept valid who p is is_low mode
+  low_row (call.CapGetFile path) _ = attributes.cap_get_file_low l s kept valid who p is is_low path
+  low_row (call.CapGetFd fd) _ = attributes.cap_get_fd_low l s kept valid who p is is_low fd
+  low_row (call.MacGetFile path) _ = attributes.mac_get_file_low l s kept valid who p is is_low path
+  low_row (call.MacGetFd fd) _ = attributes.mac_get_fd_low l s kept valid who p is is_low fd
+  low_row (call.Exec path) _ = processes.exec_low l s kept valid who p is is_low path
+  low_row call.Getpid _ = processes.getpid_low l s kept valid who p is is_low
+  low_row call.Getppid _ = processes.getppid_low l s kept valid who p is is_low
+  low_row call.Getids _ = processes.getids_low l s kept valid who p is is_low
+  low_row (call.Setuid user) _ = processes.setuid_low l s kept valid who p is is_low user
+  low_row (call.Setgid group) _ = processes.setgid_low l s kept valid who p is is_low group
+  low_row call.CapGetProc _ = processes.cap_get_proc_low l s kept valid who p is is_low
+  low_row (call.CapSetProc caps) _ = processes.cap_set_proc_low l s kept valid who p is is_low caps
+  low_row call.MacGetProc _ = processes.mac_get_proc_low l s kept valid who p is is_low
+  low_row (call.MacSetProc new) _ = processes.mac_set_proc_low l s kept valid who p is is_low new
+  low_row (call.AudWrite bytes) _ = audit.aud_write_low l s kept valid who p is is_low bytes
+  low_row (call.AudSwitch on) _ = audit.aud_switch_low l s kept valid who p is is_low on
+  low_row c none = absurd (true≢false (sym none))
+
+-- the changes of each row meet what those of each kind of effect meet
+module _ (bad : Rec → Bool) (s : State) (valid : IsValid s) (who : Pid) (p : Process) (is : map.get s.procs who ≡ Some p) (fit : Type 0) (P : List Change → Type 0) (cases : Cases bad s who p fit P) where
+  pub row_meets : (c : Call) → (fit → is_call s.top c ≡ true) → has_laws c ≡ true → Meets bad who p P (row s who p c)
+  unfolding is_call
+  row_meets (call.Chdir path) args _ = tree.chdir_meets bad s valid who p is fit P cases path
+  row_meets (call.Umask mode) args _ = processes.umask_meets bad s valid who p is fit P cases mode args
+  row_meets (call.CapGetFile path) args _ = attributes.cap_get_file_meets bad s valid who p is fit P cases path
+  row_meets (call.CapGetFd fd) args _ = attributes.cap_get_fd_meets bad s valid who p is fit P cases fd
+  row_meets (call.MacGetFile path) args _ = attributes.mac_get_file_meets bad s valid who p is fit P cases path
+  row_meets (call.MacGetFd fd) args _ = attributes.mac_get_fd_meets bad s valid who p is fit P cases fd
+  row_meets (call.Exec path) args _ = processes.exec_meets bad s valid who p is fit P cases path
+  row_meets call.Getpid args _ = processes.getpid_meets bad s valid who p is fit P cases
+  row_meets call.Getppid args _ = processes.getppid_meets bad s valid who p is fit P cases
+  row_meets call.Getids args _ = processes.getids_meets bad s valid who p is fit P cases
+  row_meets (call.Setuid user) args _ = processes.setuid_meets bad s valid who p is fit P cases user
+  row_meets (call.Setgid group) args _ = processes.setgid_meets bad s valid who p is fit P cases group
+  row_meets call.CapGetProc args _ = processes.cap_get_proc_meets bad s valid who p is fit P cases
+  row_meets (call.CapSetProc caps) args _ = processes.cap_set_proc_meets bad s valid who p is fit P cases caps
+  row_meets call.MacGetProc args _ = processes.mac_get_proc_meets bad s valid who p is fit P cases
+  row_meets (call.MacSetProc new) args _ = processes.mac_set_proc_meets bad s valid who p is fit P cases new args
+  row_meets (call.AudWrite bytes) args _ = audit.aud_write_meets bad s valid who p is fit P cases bytes
+  row_meets (call.AudSwitch on) args _ = audit.aud_switch_meets bad s valid who p is fit P cases on
+  row_meets c args none = absurd (true≢false (sym none))

@@ -1,0 +1,76 @@
+-- What the rows of a Low process share: in its part they end as in the state.
+use Rattle.std.specs.Prelude.{◌≡◌, ℕ, true, List, [], ◌∷◌, Option, None, Some, refl}
+use Rattle.std.proofs.Common.{sym, ◌∙◌, subst}
+use Rattle.std.specs.FinMap as map
+use Rattle.fs_path.specs.Path.{PathValue}
+use Rattle.lab_lattice.specs.Label.{Label, dominates}
+use Rattle.kern_model.specs.declared.numbers.Oid.{Oid}
+use Rattle.kern_model.specs.declared.numbers.Pid.{Pid}
+use Rattle.kern_model.specs.declared.checks.CheckName.TheVariants as check
+use Rattle.kern_model.specs.declared.checks.Place.{Place}
+use Rattle.kern_model.specs.declared.checks.Place.TheVariants.{First, Handle}
+use Rattle.kern_model.specs.declared.objects.Object.{Object}
+use Rattle.kern_model.specs.declared.records.Rec.{Rec}
+use Rattle.kern_model.specs.AttrRows.{on_open_object}
+use Rattle.kern_model.specs.Descriptors.{opened}
+use Rattle.kern_model.specs.FileRows.{or_not_open}
+use Rattle.kern_model.specs.Rules.{of_object}
+use Rattle.kern_model.specs.Row.{Row, Need}
+use Rattle.kern_model.specs.State.{State, Process, Change, SetProcess, object_at}
+use Rattle.kern_model.specs.Step.{subject}
+use Rattle.kern_model.specs.Walk.{on_path, read_object, last_place}
+use Rattle.kern_model.specs.Isolation.{low, crosses, Kept}
+use Rattle.kern_model.specs.Valid.{IsValid}
+use Rattle.iso_laws.proofs.Part.{by_number, part_changes, part_of_low}
+use Rattle.iso_laws.proofs.Rows.{Alike, Gives, alike_itself, alike_open}
+use Rattle.iso_laws.proofs.Sight.{opened_low, open_object_low, alike_reach, alike_mac_read, object_low}
+
+-- unless something crosses, the second row ends as the first one does, with the part of its changes
+abbrev pub Same : Label → State → Pid → Process → Row → Row → Type 0
+Same l s who p r r' = Alike (crosses l) l s.top (subject who p) r r'
+
+-- the part sees the changes as they are
+abbrev pub AreSeen : Label → State → List Change → Option Rec → Type 0
+AreSeen l s cs own = part_changes l s.top cs ≡ cs
+
+module _ (l : Label) (s : State) (kept : Kept l s) (valid : IsValid s) (who : Pid) (p : Process) (is : map.get s.procs who ≡ Some p) (is_low : low l p.label ≡ true) where
+  abbrev part_s : State
+  part_s = by_number l s
+
+  -- its part sees that the caller is set
+  pub seen_self : (q : Process) → part_changes l s.top (SetProcess who q ∷ []) ≡ SetProcess who q ∷ []
+  seen_self q = part_of_low l s.top (SetProcess who q ∷ []) (kept.procs who p is ∙ is_low, tt)
+
+  -- a row that asks for nothing but the caller, which it reports or sets
+  pub low_itself : (r : Row) → Gives (AreSeen l s) r → Same l s who p r r
+  low_itself r h = alike_itself (crosses l) l s.top (subject who p) r h
+
+  -- a row that goes by a Low object alone
+  pub low_by : (id : Oid) → low l id.label ≡ true → (r : Object → Row) → Gives (AreSeen l s) (r (object_at s id)) → Same l s who p (r (object_at s id)) (r (object_at part_s id))
+  low_by id h r gives = subst (λ o. Same l s who p (r (object_at s id)) (r o)) (sym (object_low l s id h)) (low_itself (r (object_at s id)) gives)
+
+  -- the row of a call on what a path leads to, which reads it
+  pub low_read : (path : PathValue) (r r' : Oid → Place → Object → Row) → ((id : Oid) (place : Place) → low l id.label ≡ true → Same l s who p (r id place (object_at s id)) (r' id place (object_at part_s id)))
+      → Same l s who p (on_path s p path (λ id place. read_object s p id place (r id place))) (on_path part_s p path (λ id place. read_object part_s p id place (r' id place)))
+  low_read path r r' h =
+      let place : Place = last_place (λ n. First n) path in
+      alike_reach l s kept valid who p is_low is (λ n. First n) path _ _
+      (λ id there. alike_mac_read l s kept valid who p is_low id there place (r id place (object_at s id)) (λ d. r' d place (object_at part_s d)) (h id place))
+
+  -- where it goes by the object that was read
+  pub low_read_by : (path : PathValue) (r : Oid → Place → Object → Row) → ((id : Oid) (place : Place) (o : Object) → Gives (AreSeen l s) (r id place o))
+      → Same l s who p (on_path s p path (λ id place. read_object s p id place (r id place))) (on_path part_s p path (λ id place. read_object part_s p id place (r id place)))
+  low_read_by path r gives = low_read path r r (λ id place h. low_by id h (r id place) (gives id place (object_at s id)))
+
+  -- the row of a call on the object of a descriptor, where it goes by the object that was read
+  pub low_open_object_by : (fd : ℕ) (r : Object → Row) → ((o : Object) → Gives (AreSeen l s) (r o))
+      → Same l s who p (on_open_object s p fd (λ id place. read_object s p id place r)) (on_open_object part_s p fd (λ id place. read_object part_s p id place r))
+  low_open_object_by fd r gives =
+      subst (λ w. Same l s who p (on_open_object s p fd (λ id place. read_object s p id place r)) (or_not_open w (λ f. read_object part_s p f.description.object Handle r)))
+      (sym (opened_low l s kept who p is is_low fd))
+      (alike_open (crosses l) l s.top (subject who p) (opened s p fd) _ _ (λ f e.
+      low_by f.description.object (open_object_low l s kept who p is is_low fd f e) (λ o. Need (of_object check.MacRead (dominates p.label o.label) None f.description.object o Handle) (r o)) (gives (object_at s f.description.object))))
+
+  pub same_bound : part_s.bound ≡ s.bound
+  unfolding by_number
+  same_bound = refl

@@ -1,0 +1,3 @@
+pub mod Isolation
+pub mod Records
+pub mod Numbers
