@@ -27,6 +27,15 @@ pub const MAX_PIPE_BYTES: usize = 4_096;
 /// The largest offset of an `lseek`, in bytes, forwards or backwards.
 pub const MAX_OFFSET: u64 = 4_294_967_295;
 
+/// The greatest number of an argument, as of a descriptor, a user or a group.
+pub const MAX_NUMBER: u32 = 4_294_967_295;
+
+/// The greatest exit status.
+pub const MAX_STATUS: u8 = 255;
+
+/// All permission bits of a mode.
+pub const MAX_PERMISSIONS: u16 = 0o777;
+
 /// Bytes of a line of an input, without its line feed.
 pub const MAX_LINE: usize = 2_048;
 

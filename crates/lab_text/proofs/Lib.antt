@@ -4,3 +4,4 @@ pub mod NameLemmas
 pub mod LabelLemmas
 pub mod PolicyFacts
 pub mod Parsed
+pub mod BareLemmas

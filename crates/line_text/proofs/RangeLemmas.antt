@@ -2,6 +2,7 @@
 use Rattle.std.specs.Prelude.{◌≡◌, ℕ, ◌<◌, ◌≤◌, true, List, [], ◌∷◌, refl}
 use Rattle.std.proofs.Common.{suc, get_or}
 use Rattle.std.proofs.lemmas.Bool.{and_from, lt-ltb, le-leb}
+use Rattle.kern_model.specs.declared.limits.TheConstants.{MAX_NUMBER}
 use Rattle.line_text.specs.Ranges.{are_bytes, are_numbers}
 
 -- items below 256 are bytes
@@ -10,6 +11,6 @@ bytes_from [] small = refl
 bytes_from (x ∷ xs) small = and_from _ _ (lt-ltb x 256 (small 0)) (bytes_from xs (λ i. small (suc i)))
 
 -- items that fit 32 bits
-pub numbers_from : (xs : List ℕ) → ((i : ℕ) → get_or xs i 0 ≤ 4294967295) → are_numbers xs ≡ true
+pub numbers_from : (xs : List ℕ) → ((i : ℕ) → get_or xs i 0 ≤ MAX_NUMBER) → are_numbers xs ≡ true
 numbers_from [] small = refl
-numbers_from (x ∷ xs) small = and_from _ _ (le-leb x 4294967295 (small 0)) (numbers_from xs (λ i. small (suc i)))
+numbers_from (x ∷ xs) small = and_from _ _ (le-leb x MAX_NUMBER (small 0)) (numbers_from xs (λ i. small (suc i)))

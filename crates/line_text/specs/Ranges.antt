@@ -1,6 +1,7 @@
 -- Numbers and bytes in the ranges of their types.
-use Rattle.std.specs.Prelude.{◌≡◌, ℕ, ◌^◌, ◌<◌, ◌≤◌, nat_le, nat_lt, Bool, List}
+use Rattle.std.specs.Prelude.{ℕ, ◌^◌, ◌<◌, ◌≤◌, nat_le, nat_lt, Bool, List}
 use Rattle.std.specs.List.{list_all}
+use Rattle.kern_model.specs.declared.limits.TheConstants.{MAX_NUMBER}
 use Rattle.kern_model.specs.declared.calls.Ending.{Ending}
 use Rattle.kern_model.specs.declared.calls.Ending.TheVariants as ending
 use Rattle.kern_model.specs.declared.checks.Place.{Place}
@@ -14,11 +15,11 @@ are_bytes bytes = list_all (λ b. nat_lt b 256) bytes
 
 -- a number that fits 32 bits
 abbrev pub IsNumber : ℕ → Type 0
-IsNumber n = n ≤ 4294967295
+IsNumber n = n ≤ MAX_NUMBER
 
 -- numbers that fit 32 bits
 abbrev pub are_numbers : List ℕ → Bool
-are_numbers numbers = list_all (λ n. nat_le n 4294967295) numbers
+are_numbers numbers = list_all (λ n. nat_le n MAX_NUMBER) numbers
 
 -- the count in the number of an object or a process
 abbrev pub count_of : Thing → ℕ

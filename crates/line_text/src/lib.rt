@@ -1,7 +1,9 @@
-//! The writing of lines, word by word: of worlds, replies and records.
+//! The words that worlds, scripts, replies and records share: how each is written, and how those are read that are read alike.
 #![tactic(auto)]
 
+mod reader;
 mod writer;
 
+pub use reader::{choice, path_of};
 pub use std::alloc::AllocError as NoMemory;
 pub use writer::LineWriter;

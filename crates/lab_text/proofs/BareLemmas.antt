@@ -1,0 +1,62 @@
+-- Names and labels stand bare in a line.
+use Rattle.std.specs.Prelude.{◌≡◌, ℕ, ◌&&◌, nat_le, nat_lt, true, List, [], ◌∷◌, ◌++◌, length, refl}
+use Rattle.std.proofs.Common.{ap, ◌∙◌, arith}
+use Rattle.std.specs.List.{list_all}
+use Rattle.std.proofs.lemmas.Bool.{and_parts, and_from, ltb-true, lt-ltb}
+use Rattle.std.proofs.lemmas.Bool.Decides.{nat_tests}
+use Rattle.std.proofs.lemmas.List.{length-append}
+use Rattle.std.proofs.lemmas.List.Folds.{list_all-append}
+use Rattle.fs_path.specs.Words.{is_bare, is_bare_text}
+use Rattle.lab_lattice.specs.Label.{Label}
+use Rattle.lab_text.specs.Names.{Names, is_letter, is_name_part, is_label_name}
+use Rattle.lab_text.specs.Policy.{PolicyNames, MakePolicy, is_valid}
+use Rattle.lab_text.specs.Text.{past_mark, label_text}
+use Rattle.lab_text.proofs.Parsed.{text_names}
+
+-- ---- words
+
+-- the bytes of a word that stands bare
+pub all_bare : (w : List ℕ) → is_bare_text w ≡ true → list_all is_bare w ≡ true
+all_bare w bare = (and_parts (nat_lt 0 (length w)) (list_all is_bare w) bare).1
+
+-- a word that stands bare, and bytes after it
+pub bare_with : (a b : List ℕ) → is_bare_text a ≡ true → list_all is_bare b ≡ true → is_bare_text (a ++ b) ≡ true
+bare_with a b first second =
+    let some = ltb-true 0 (length a) (and_parts (nat_lt 0 (length a)) (list_all is_bare a) first).0 in
+    let size = length-append a b in
+    and_from (nat_lt 0 (length (a ++ b))) _ (lt-ltb 0 (length (a ++ b)) (omega arith)) (list_all-append is_bare a b ∙ and_from _ _ (all_bare a first) second)
+
+-- a byte, and bytes after it
+pub bare_begins : (b : ℕ) (w : List ℕ) → is_bare b ≡ true → list_all is_bare w ≡ true → is_bare_text (b ∷ w) ≡ true
+bare_begins b w first rest = and_from (nat_lt 0 (length (b ∷ w))) _ (lt-ltb 0 (length (b ∷ w)) (omega arith)) (and_from (is_bare b) (list_all is_bare w) first rest)
+
+-- ---- labels
+
+letter_bare : (b : ℕ) → is_letter b ≡ true → is_bare b ≡ true
+letter_bare b h = grind (arith, nat_tests)
+
+part_bare : (b : ℕ) → is_name_part b ≡ true → is_bare b ≡ true
+part_bare b h = grind (arith, nat_tests)
+
+parts_bare : (n : List ℕ) → list_all is_name_part n ≡ true → list_all is_bare n ≡ true
+parts_bare [] h = refl
+parts_bare (b ∷ bs) h = let parts = and_parts (is_name_part b) (list_all is_name_part bs) h in and_from (is_bare b) (list_all is_bare bs) (part_bare b parts.0) (parts_bare bs parts.1)
+
+-- the name of a level or a category stands bare
+pub label_name_bare : (n : List ℕ) → is_label_name n ≡ true → is_bare_text n ≡ true
+label_name_bare [] h = absurd (cc)
+label_name_bare (b ∷ bs) h =
+    let parts = and_parts (is_letter b && nat_le (length bs) 30) (list_all is_name_part bs) h in
+    bare_begins b bs (letter_bare b (and_parts (is_letter b) (nat_le (length bs) 30) parts.0).0) (parts_bare bs parts.1)
+
+marked_bare : (mark : ℕ) (ns : Names) → is_bare mark ≡ true → list_all is_label_name ns ≡ true → list_all is_bare (past_mark mark ns) ≡ true
+marked_bare mark [] bare h = refl
+marked_bare mark (n ∷ ns) bare h =
+    let parts = and_parts (is_label_name n) (list_all is_label_name ns) h in
+    and_from (is_bare mark) (list_all is_bare (n ++ past_mark 44 ns)) bare (list_all-append is_bare n (past_mark 44 ns) ∙ and_from _ _ (all_bare n (label_name_bare n parts.0)) (marked_bare 44 ns refl parts.1))
+
+-- the text of a valid label stands bare
+pub label_bare : (p : PolicyNames) (label : Label) → MakePolicy p → is_valid p label ≡ true → is_bare_text (label_text p label) ≡ true
+label_bare p label h valid =
+    let names = text_names p label h valid in
+    ap is_bare_text names.text_is ∙ bare_with names.level (past_mark 58 names.cats) (label_name_bare names.level names.level_name) (marked_bare 58 names.cats refl names.cat_names)
