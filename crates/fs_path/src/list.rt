@@ -1,5 +1,5 @@
 // Lists that grow at their end.
-ghost use Rattle.std.specs.Prelude.{◌≡◌, [], ◌∷◌, ◌++◌, OnOk, OnErr, IfOk};
+ghost use Rattle.std.specs.Prelude.{◌≡◌, ◌≤◌, ◌+◌, [], ◌∷◌, ◌++◌, OnOk, OnErr, IfOk, drop, length, min, take};
 ghost use Rattle.std.specs.Cmp.{on_equiv, on_per, on_po, on_total};
 ghost use Rattle.std.specs.Cmp.Lexicographic.{slice_cmp, slice_partial_cmp, pointwise, lists_agrees, lists_equiv, lists_per, lists_po, lists_ties, lists_total};
 ghost use Rattle.std.specs.Ordering.{on};
@@ -51,6 +51,13 @@ impl<T: Drop> List<T> {
     {
         self.kept.as_slice()
     }
+
+    /// Removes all items.
+    pub fn clear(&mut self)
+        ensures { self.new ≡ [] }
+    {
+        self.kept.clear();
+    }
 }
 
 impl<T: Copy + Drop> List<T> {
@@ -60,6 +67,40 @@ impl<T: Copy + Drop> List<T> {
     {
         let kept = Vec::from_slice(alloc, items)?;
         Ok(List { kept })
+    }
+
+    /// Puts items at the end.
+    pub fn extend_from_slice(&mut self, items: &[T]) -> Result<(), NoMemory>
+        ensures ok { OnOk result (self.new ≡ self.old ++ items.now) }
+        ensures err { OnErr result (self.new ≡ self.old) }
+    {
+        self.kept.extend_from_slice(items)?;
+        Ok(())
+    }
+
+    /// Writes items over those from the place `at` on, and past the end where they reach beyond it.
+    pub fn write_at(&mut self, at: usize, items: &[T]) -> Result<(), NoMemory>
+        requires { at ≤ length self.old }
+        ensures ok { OnOk result (self.new ≡ take at self.old ++ (items.now ++ drop (at + length items.now) self.old)) }
+        ensures err { OnErr result (self.new ≡ self.old) }
+    {
+        let within = (self.kept.len() - at).min(items.len());
+        let (over, past) = items.split_at(within);
+        self.kept.extend_from_slice(past)?;
+        self.kept[at..at + within].copy_from_slice(over);
+        Ok(())
+    }
+
+    /// Moves the first items to a buffer, as many as are there and fit, and returns their number.
+    pub fn take_first(&mut self, buf: &mut [T]) -> usize
+        ensures count { result ≡ min (length self.old) (length buf.old) }
+        ensures taken { buf.new ≡ take result self.old ++ drop result buf.old }
+        ensures rest { self.new ≡ drop result self.old }
+    {
+        let n = self.kept.len().min(buf.len());
+        buf[..n].copy_from_slice(&self.kept[..n]);
+        self.kept.drain(..n);
+        n
     }
 
     /// A copy of the list.

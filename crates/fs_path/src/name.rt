@@ -1,5 +1,5 @@
 // Names of entries.
-ghost use Rattle.std.specs.Prelude.{◌≡◌, ◌≤◌, ◌==◌, IfOk, MatchOption, false, true, length};
+ghost use Rattle.std.specs.Prelude.{◌≡◌, ◌≤◌, ◌+◌, ◌==◌, IfOk, MatchOption, false, true, length};
 ghost use Rattle.std.specs.List.{list_all};
 ghost use Rattle.std.proofs.Common.{rules};
 ghost use Rattle.std.specs.Cmp.{partial_order_from_own_ties};
@@ -8,10 +8,11 @@ ghost use Rattle.std.specs.Cmp.Lexicographic.{slice_cmp, pointwise};
 ghost use Rattle.std.specs.Ordering.{nat_cmp, on, as_partial_cmp};
 ghost use Rattle.fs_path.specs.Name.{is_name, is_name_byte, is_dots};
 
-use crate::{ByteList, NoMemory};
+use crate::{ByteList, NoMemory, Steps};
 use std::alloc::Global;
 use std::cmp::Ordering;
 use std::marker::Model;
+use std::sync::ledger::Ledger;
 
 /// The most bytes that a name has.
 pub(crate) const MAX_NAME: usize = 63;
@@ -90,6 +91,15 @@ impl Name {
         ensures short { length result.now ≤ 63 }
     {
         self.kept.items()
+    }
+
+    /// The order of two names, by their bytes. It counts as one comparison.
+    pub fn compare<L: Ledger>(&self, other: &Name, steps: &mut Steps<L>) -> Ordering
+        ensures order { result ≡ slice_cmp nat_cmp self.now other.now }
+        ensures counted { steps.new ≡ steps.old + 1 }
+    {
+        steps.count();
+        self.cmp(other)
     }
 
     /// A copy of the name.
