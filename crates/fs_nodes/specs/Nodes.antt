@@ -1,0 +1,73 @@
+-- The table of objects.
+use Rattle.std.specs.Prelude.{◌≡◌, ℕ, ◌+◌, ◌≤◌, true, Some, IsSome, refl}
+use Rattle.std.specs.FinMap as map
+use Rattle.std.specs.FinMap.{FinMap}
+use Rattle.std.specs.Coded.{Coded, code_by, coded×, coded_ℕ}
+use Rattle.slab.specs.Slab.{Slab, slab_code, slab_len, get}
+use Rattle.lab_lattice.specs.Label.{Label, label_cmp}
+use Rattle.kern_model.specs.declared.numbers.Oid.{Oid}
+use Rattle.kern_model.specs.declared.objects.Kind.TheVariants as kind
+use Rattle.kern_model.specs.declared.objects.Object.{Object}
+use Rattle.kern_model.specs.Keys.{oid_cmp, same_oid}
+use Rattle.kern_model.specs.Kinds.{is_stream}
+use Rattle.kern_model.specs.Maps.{select}
+use Rattle.kern_model.specs.State.{drawn}
+
+-- the objects, and the last number drawn of each label
+pub record NodeTable : Type 0 where
+  pub objects : FinMap oid_cmp Object
+  pub numbers : FinMap label_cmp ℕ
+
+-- a table, and where it stands: the slab that holds its objects, and the key of each
+pub record NodeSlots : Type 0 where
+  pub table : NodeTable
+  pub slots : Slab Object
+  pub keys : FinMap oid_cmp ℕ
+
+-- how a table with its places is stored
+abbrev pub slots_code : Coded Oid → Coded Object → Coded Label → Coded NodeSlots
+slots_code oid object label =
+    code_by ((FinMap oid_cmp Object × FinMap label_cmp ℕ) × (Slab Object × FinMap oid_cmp ℕ))
+    (coded× (coded× (map.code oid object) (map.code label coded_ℕ)) (coded× (slab_code object) (map.code oid coded_ℕ)))
+    (λ n. ((n.table.objects, n.table.numbers), (n.slots, n.keys)))
+    (λ p. record { table = record { objects = p.0.0; numbers = p.0.1 }; slots = p.1.0; keys = p.1.1 })
+    (λ _. refl)
+
+-- the table of no object
+abbrev pub no_nodes : NodeTable
+no_nodes = record { objects = map.empty; numbers = map.empty }
+
+-- the number of the next object at a label
+abbrev pub next_in : NodeTable → Label → Oid
+next_in t l = record { label = l; n = drawn t.numbers l + 1 }
+
+-- an object in place of the one with its number
+abbrev pub with_object : NodeTable → Oid → Object → NodeTable
+with_object t id o = record t { objects = map.insert t.objects id o }
+
+-- a new object under the next number of a label
+abbrev pub with_new : NodeTable → Label → Object → NodeTable
+with_new t l o = record { objects = map.insert t.objects (next_in t l) o; numbers = map.insert t.numbers l (drawn t.numbers l + 1) }
+
+-- the number is that of a file
+pub record IsFile (objects : FinMap oid_cmp Object) (id : Oid) : Type 0 where
+  pub object : Object
+  pub is : map.get objects id ≡ Some object
+  pub file : object.kind ≡ kind.File
+
+-- the number is that of a pipe or a FIFO
+pub record IsStream (objects : FinMap oid_cmp Object) (id : Oid) : Type 0 where
+  pub object : Object
+  pub is : map.get objects id ≡ Some object
+  pub stream : is_stream object.kind ≡ true
+
+-- the objects that stand in a slab under these keys
+unfoldable pub objects_in : Slab Object → FinMap oid_cmp ℕ → FinMap oid_cmp Object
+objects_in slots keys = select (λ (id : Oid) (key : ℕ). get slots key) keys
+
+-- each object has a place of its own in the slab, which holds nothing else, and a number that was drawn
+pub record IsPlaced (slots : Slab Object) (keys : FinMap oid_cmp ℕ) (numbers : FinMap label_cmp ℕ) : Type 0 where
+  pub there : (id : Oid) (key : ℕ) → map.get keys id ≡ Some key → IsSome (get slots key)
+  pub apart : (a b : Oid) (key : ℕ) → map.get keys a ≡ Some key → map.get keys b ≡ Some key → same_oid a b ≡ true
+  pub size : slab_len slots ≡ map.len (objects_in slots keys)
+  pub drawn_already : (id : Oid) (key : ℕ) → map.get keys id ≡ Some key → id.n ≤ drawn numbers id.label

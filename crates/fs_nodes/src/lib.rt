@@ -1,0 +1,12 @@
+//! The objects of the file tree by their numbers, and the numbers drawn of each label.
+#![tactic(auto)]
+
+mod buffers;
+mod index;
+mod keys;
+mod nodes;
+mod numbers;
+
+pub use buffers::Buffers;
+pub use fs_path::NoMemory;
+pub use nodes::{NodeError, Nodes, WriteError};

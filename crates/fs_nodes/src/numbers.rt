@@ -1,0 +1,64 @@
+// The last number drawn of each label.
+ghost use Rattle.std.specs.Prelude.{◌≡◌, OnErr, OnOk};
+ghost use Rattle.std.specs.FinMap as map;
+ghost use Rattle.kern_model.specs.State.{drawn};
+
+use fs_path::NoMemory;
+use lab_lattice::Label;
+use std::alloc::Global;
+use std::collections::BTreeMap;
+use std::marker::Model;
+
+/// The last number drawn of each label.
+#[derive(Drop)]
+pub struct Numbers {
+    kept: BTreeMap<Label, u16>,
+}
+
+impl Model for Numbers {
+    ghost use Rattle.std.specs.Prelude.{ℕ};
+    ghost use Rattle.std.specs.FinMap as map;
+    ghost use Rattle.std.specs.Coded.{codes};
+    ghost use Rattle.lab_lattice.specs.Label.{label_cmp, label_code};
+
+    ghost Value = { map.FinMap label_cmp ℕ };
+
+    ghost coded = { map.code (Prim.hlevel (codes, label_code)) (Prim.hlevel (codes, label_code)) };
+
+    ghost view = { λ a. map.from_entries a.kept.entries };
+}
+
+impl Numbers {
+    /// The empty table.
+    pub fn new(alloc: Global) -> Self
+        ensures { result ≡ map.empty }
+    {
+        Numbers {
+            kept: BTreeMap::new(alloc),
+        }
+    }
+
+    /// The number that is kept for a label, if there is one.
+    pub fn get(&self, label: &Label) -> Option<u16>
+        ensures { result ≡ map.get self.now label.now }
+    {
+        self.kept.get(label).copied()
+    }
+
+    /// The last number drawn of a label, and 0 before the first.
+    #[tactic(auto, unfolding(kern_model::specs::Maps::get_or))]
+    pub fn last(&self, label: &Label) -> u16
+        ensures { result ≡ drawn self.now label.now }
+    {
+        self.get(label).unwrap_or(0)
+    }
+
+    /// Puts a number in place of what was there.
+    pub fn set(&mut self, label: Label, value: u16) -> Result<(), NoMemory>
+        ensures ok { OnOk result (self.new ≡ map.insert self.old label value) }
+        ensures err { OnErr result (self.new ≡ self.old) }
+    {
+        self.kept.insert(label, value)?;
+        Ok(())
+    }
+}
