@@ -1,5 +1,5 @@
 -- Objects at their places in the slab, after one of them is changed or made.
-use Rattle.std.specs.Prelude.{◌≡◌, ◌≢◌, ◌↔◌, ℕ, ◌+◌, ◌≤◌, ◌<◌, ◌==◌, Bool, true, false, Option, Some, None, IsSome, refl, cond, length, slice_set, slice_index_or, is_some, count_by}
+use Rattle.std.specs.Prelude.{◌≡◌, ◌≢◌, ◌↔◌, ℕ, ◌+◌, ◌≤◌, ◌<◌, ◌==◌, Bool, true, false, Option, Some, None, IsSome, refl, cond, length, slice_set, slice_index_or, is_some, count_by, Result, Ok, Err, OnOk}
 use Rattle.std.specs.Ordering.{eq_by_cmp}
 use Rattle.std.specs.Option.{option_and_then}
 use Rattle.std.specs.FinMap as map
@@ -126,13 +126,17 @@ module _ {slots : Slab Object} {keys : FinMap oid_cmp ℕ} {numbers : FinMap lab
       same_size : objects_in (with_value slots key o) keys ≡ map.insert (objects_in slots keys) id o → map.len (objects_in (with_value slots key o) keys) ≡ map.len (objects_in slots keys)
       same_size e = ap map.len e ∙ len-insert oid_cmp_total (objects_in slots keys) id o ∙ ap (λ b. cond b (map.len (objects_in slots keys)) (map.len (objects_in slots keys) + 1)) (ap is_some (at_key slots keys id key is) ∙ there)
 
+-- what stands at its key is the object of the table
+pub same_there : {slots : Slab Object} {keys : FinMap oid_cmp ℕ} {numbers : FinMap label_cmp ℕ} (id : Oid) (key : ℕ) → map.get keys id ≡ Some key → (x old : Object) → get slots key ≡ Some x
+    → (t : NodeSlots) → at_slots slots keys numbers ≡ t → map.get t.table.objects id ≡ Some old → x ≡ old
+same_there {slots = slots} {keys = keys} id key is x old e t view h = some_same x old (sym e ∙ sym (at_key slots keys id key is) ∙ ap (λ (n : NodeSlots). map.get n.table.objects id) view ∙ h)
+
 -- the table has the object that was changed
 pub table_set : {slots : Slab Object} {keys : FinMap oid_cmp ℕ} {numbers : FinMap label_cmp ℕ} → IsPlaced slots keys numbers → (id : Oid) (key : ℕ) → map.get keys id ≡ Some key → (f : Object → Object) (x old : Object) → get slots key ≡ Some x
     → (t : NodeSlots) → at_slots slots keys numbers ≡ t → map.get t.table.objects id ≡ Some old → ◌≡◌ {A = NodeTable} (record { objects = objects_in (with_value slots key (f x)) keys; numbers = numbers }) (with_object t.table id (f old))
 table_set {slots = slots} {keys = keys} {numbers = numbers} placed id key is f x old e t view h =
-    let same : x ≡ old = some_same x old (sym e ∙ sym (at_key slots keys id key is) ∙ ap (λ (n : NodeSlots). map.get n.table.objects id) view ∙ h) in
     ap (λ (m : FinMap oid_cmp Object). record { objects = m; numbers = numbers }) (object_set placed id key is (f x))
-    ∙ ap (λ (y : Object). record { objects = map.insert (objects_in slots keys) id (f y); numbers = numbers }) same
+    ∙ ap (λ (y : Object). record { objects = map.insert (objects_in slots keys) id (f y); numbers = numbers }) (same_there id key is x old e t view h)
     ∙ ap (λ (n : NodeSlots). with_object n.table id (f old)) view
 
 -- an object that is absent has no key
@@ -157,3 +161,8 @@ none_placed slots numbers none = record {
 -- a slot that an object has is not empty
 pub never_vacant : {slots : Slab Object} {keys : FinMap oid_cmp ℕ} {numbers : FinMap label_cmp ℕ} → IsPlaced slots keys numbers → (id : Oid) (key : ℕ) → map.get keys id ≡ Some key → get slots key ≡ None → ⊥
 never_vacant {slots = slots} placed id key e = there_is (get slots key) (placed.there id key e)
+
+-- what holds where it succeeded, and what follows from it
+pub on_ok : {X E P Q : Type 0} (r : Result X E) → (P → Q) → OnOk r P → OnOk r Q
+on_ok (Ok x) f p = f p
+on_ok (Err e) f p = tt

@@ -6,6 +6,8 @@ mod index;
 mod keys;
 mod nodes;
 mod numbers;
+#[cfg(test)]
+mod tests;
 
 pub use buffers::Buffers;
 pub use fs_path::NoMemory;
