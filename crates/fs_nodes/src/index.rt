@@ -6,10 +6,9 @@ ghost use Rattle.kern_model.specs.Valid.{IsThere};
 ghost use Rattle.std.specs.FinMap as map;
 
 use crate::keys::Keys;
-use crate::numbers::Numbers;
 use fs_path::NoMemory;
-use kern_model::Oid;
 use kern_model::limits::MAX_OBJECTS;
+use kern_model::{Numbers, Oid};
 use lab_lattice::Label;
 use std::alloc::Global;
 

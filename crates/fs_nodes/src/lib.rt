@@ -5,7 +5,6 @@ mod buffers;
 mod index;
 mod keys;
 mod nodes;
-mod numbers;
 #[cfg(test)]
 mod tests;
 

@@ -43,7 +43,7 @@ fn with_fifo(alloc: Global) -> Result<(Nodes, Oid), Fail>
 #[test]
 fn file_is_written_and_read(rt: HostRuntime) -> Result<(), Fail> {
     let (mut nodes, id) = with_file(rt.alloc())?;
-    assert_eq!(rt; nodes.read_at(&id, 1, 9)?.items(), b"bc");
+    assert_eq!(rt; nodes.read_at(&id, 1, 9)?.items(), b"bc".as_slice());
     assert!(rt; nodes.write_at(&id, 2, b"de").is_ok());
     let bytes = nodes.get(&id).map(|o| o.bytes.items());
     assert_eq!(rt; bytes, Some(b"abde".as_slice()));

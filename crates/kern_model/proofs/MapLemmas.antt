@@ -167,6 +167,14 @@ module _ {K X : Type 0} {R : K → K → Ordering} (o : IsTotalOrder R) (exact :
   pub get-insert_kept : (q : K) (y : X) → map.get m q ≡ Some y → map.get (map.insert m k x) q ≡ Some y
   get-insert_kept q y e = get-insert o m k x q ∙ ap (λ b. cond b (Some x) (map.get m q)) (other_key q y e) ∙ e
 
+  -- and may be removed again
+  pub remove-insert : map.remove (map.insert m k x) k ≡ m
+  remove-insert = same_map o exact _ _ (λ q. get-remove o (map.insert m k x) k q ∙ ap (cond (eq_by_cmp R q k) None) (get-insert o m k x q)
+      ∙ elim (eq_by_cmp R q k) as (λ b. eq_by_cmp R q k ≡ b → cond b None (cond b (Some x) (map.get m q)) ≡ map.get m q) [
+        | true ↦ λ t. sym (ap (map.get m) (same_key exact q k t) ∙ absent)
+        | false ↦ λ _. refl
+      ] refl)
+
 -- what holds of each entry, after a change
 module _ {K X : Type 0} {R : K → K → Ordering} (o : IsTotalOrder R) (exact : IsAntisymmetric R) (P : K → X → Type 0) (m : FinMap R X) (each : (k : K) (x : X) → map.get m k ≡ Some x → P k x) where
   pub each-insert : (k : K) (x : X) → P k x → (q : K) (y : X) → map.get (map.insert m k x) q ≡ Some y → P q y

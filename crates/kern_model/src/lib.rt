@@ -4,6 +4,7 @@
 
 mod calls;
 mod checks;
+mod drawn;
 mod kernel;
 pub mod limits;
 mod named;
@@ -18,6 +19,7 @@ mod world;
 
 pub use calls::{Answer, Call, CallName, Ending, Errno, OpenFlags, Reply, Signal, Whence};
 pub use checks::{Check, CheckName, Place, Thing, Verdict, Want};
+pub use drawn::Numbers;
 pub use fs_path::{ByteList, List, Name, NameList, NoMemory, Path};
 pub use kernel::Calls;
 pub use numbers::{Did, Fd, Gid, GroupList, Ids, Mode, Oid, Pid, Uid};

@@ -3,7 +3,7 @@ use Rattle.std.proofs.Common.{ap, sym, ◌∙◌}
 use Rattle.std.specs.FinMap as map
 use Rattle.kern_model.proofs.KeyLaws.{oid_cmp_total, oid_cmp_exact}
 use Rattle.fs_nodes.specs.declared.index.Index.{Index}
-use Rattle.fs_nodes.proofs.TableLemmas.{remove-insert}
+use Rattle.kern_model.proofs.MapLemmas.{remove-insert}
 use Rattle.fs_nodes.proofs.index.Index.enter.Goals as goal
 
 pub returns-in-Err-clause-err : goal.returns-in-Err-clause-err

@@ -2,7 +2,7 @@ use Rattle.std.proofs.Common.{ap, ◌∙◌}
 use Rattle.std.specs.FinMap as map
 use Rattle.kern_model.specs.Keys.{oid_cmp}
 use Rattle.kern_model.proofs.KeyLaws.{oid_cmp_total, oid_cmp_exact}
-use Rattle.fs_nodes.proofs.TableLemmas.{one_removed}
+use Rattle.kern_model.proofs.TableLemmas.{one_removed}
 use Rattle.fs_nodes.proofs.keys.Keys.remove.Goals as goal
 
 pub returns : goal.returns

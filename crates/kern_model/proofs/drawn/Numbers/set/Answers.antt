@@ -2,7 +2,7 @@ use Rattle.std.proofs.Common.{ap, ◌∙◌}
 use Rattle.std.specs.FinMap as map
 use Rattle.lab_lattice.proofs.Labels.{label_cmp_total, label_cmp_exact}
 use Rattle.kern_model.proofs.TableLemmas.{one_set}
-use Rattle.fs_nodes.proofs.numbers.Numbers.set.Goals as goal
+use Rattle.kern_model.proofs.drawn.Numbers.set.Goals as goal
 
 pub returns-clause-ok : goal.returns-clause-ok
 returns-clause-ok c =

@@ -3,7 +3,7 @@ ghost use Rattle.std.specs.Prelude.{◌≡◌, OnErr, OnOk};
 ghost use Rattle.std.specs.FinMap as map;
 ghost use Rattle.kern_model.specs.State.{drawn};
 
-use fs_path::NoMemory;
+use crate::NoMemory;
 use lab_lattice::Label;
 use std::alloc::Global;
 use std::collections::BTreeMap;
@@ -46,7 +46,7 @@ impl Numbers {
     }
 
     /// The last number drawn of a label, and 0 before the first.
-    #[tactic(auto, unfolding(kern_model::specs::Maps::get_or))]
+    #[tactic(auto, unfolding(crate::specs::Maps::get_or))]
     pub fn last(&self, label: &Label) -> u16
         ensures { result ≡ drawn self.now label.now }
     {
