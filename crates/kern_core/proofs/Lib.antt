@@ -3,5 +3,5 @@ pub mod CheckLemmas
 pub mod KernelLemmas
 pub mod LendLemmas
 pub mod PlayLemmas
-pub mod Tellings
+pub mod StepLemmas
 pub mod WalkLemmas
