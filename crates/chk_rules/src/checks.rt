@@ -1,12 +1,12 @@
 // The checks of a call: their verdicts, and the exercises that they leave.
-ghost use Rattle.std.specs.Prelude.{◌≡◌, IfOk, IfErr, OnOk, OnErr};
-ghost use Rattle.kern_model.specs.Row.{verdict_of, Row, Need};
-ghost use Rattle.chk_rules.specs.CheckLog.{check_log, noting};
-ghost use Rattle.chk_rules.specs.Ends.{Continues, Stops};
+ghost use Rattle.std.specs.Prelude.{◌≡◌, IfOk, OnErr};
+ghost use Rattle.kern_model.specs.Row.{verdict_of, Need, Refuse};
+ghost use Rattle.chk_rules.specs.CheckLog.{CheckLog, check_log, noting};
+ghost use Rattle.chk_rules.specs.Ends.{GoesOn};
 
 use crate::Stop;
 use cap_bits::CapSet;
-use kern_model::{Check, NoMemory, Pid, Rec, RecList, Verdict};
+use kern_model::{Check, Errno, NoMemory, Pid, Rec, RecList, Verdict};
 use lab_lattice::Label;
 use std::alloc::Global;
 use std::marker::Model;
@@ -97,15 +97,25 @@ impl Checks {
     }
 }
 
-/// A check that has to let the call go on: where it is denied, the call stops at it.
+/// Makes a check that has to let the call go on: where it is denied, the call stops.
 #[tactic(auto, unfolding(kern_model::specs::Row::judge, crate::specs::Ends::EndsBy))]
 pub fn must(checks: &mut Checks, check: &Check) -> Result<(), Stop>
-    ensures passed { OnOk result (Continues checks.old (λ (r : Row). Need check.now r) checks.new (λ r. r)) }
-    ensures stop { IfErr result (λ stop. Stops checks.old (λ (r : Row). Need check.now r) stop checks.new) }
-    ensures subject { checks.new.subject ≡ checks.old.subject }
+    ensures { GoesOn checks.old (λ rest. Need check.now (rest tt)) result checks.new }
 {
     match checks.need(check)? {
         Verdict::Passed | Verdict::Exercised => Ok(()),
         Verdict::Denied => Err(Stop::Denied(check.name, check.place)),
+    }
+}
+
+/// Refuses the call where the condition holds.
+#[tactic(auto, unfolding(kern_model::specs::Row::judge, crate::specs::Ends::EndsBy))]
+pub fn refuse_if(holds: bool, errno: Errno) -> Result<(), Stop>
+    ensures { (log : CheckLog) → GoesOn log (λ rest. Refuse errno holds (rest tt)) result log }
+{
+    if holds {
+        Err(Stop::Refused(errno))
+    } else {
+        Ok(())
     }
 }

@@ -7,7 +7,7 @@ mod stop;
 #[cfg(test)]
 mod tests;
 
-pub use checks::{Checks, must};
+pub use checks::{Checks, must, refuse_if};
 pub use kern_model::{Check, NoMemory, Verdict, Want};
 pub use rules::{mac_read_ok, mode_allows};
 pub use stop::Stop;

@@ -1,5 +1,5 @@
 -- Checks that were passed.
-use Rattle.std.specs.Prelude.{◌≡◌, true, false, None, cond, refl}
+use Rattle.std.specs.Prelude.{◌≡◌, ⊤, true, false, None, Ok, cond, refl}
 use Rattle.std.proofs.Common.{ap, sym, ◌∙◌}
 use Rattle.kern_model.specs.declared.calls.Errno.TheVariants.{EPERM}
 use Rattle.kern_model.specs.declared.checks.Check.{Check}
@@ -8,7 +8,7 @@ use Rattle.kern_model.specs.Row.{Row, Need, Subject, Fail, Stopped, Refused, may
 use Rattle.kern_model.specs.Rules.{cap_of}
 use Rattle.kern_model.proofs.RowLemmas.{judge-stop, judge-fail}
 use Rattle.chk_rules.specs.CheckLog.{CheckLog}
-use Rattle.chk_rules.specs.Ends.{Continues}
+use Rattle.chk_rules.specs.Ends.{GoesOn}
 
 -- denied, where the rule fails and no capability helps
 denied : (a : Subject) (c : Check) → cap_of c.name ≡ None → c.holds ≡ false → Denied ≡ verdict_of a c
@@ -16,12 +16,12 @@ unfolding verdict_of
 denied a c no_cap fails = sym (ap (λ h. cond h Passed (cond (may a.effective (cap_of c.name)) Exercised Denied)) fails ∙ ap (λ o. cond (may a.effective o) Exercised Denied) no_cap)
 
 -- a check without a capability lets the row go on where its rule holds alone
-pub holds_where_passed : (a b : CheckLog) (c : Check) → cap_of c.name ≡ None → Continues a (λ (r : Row). Need c r) b (λ r. r) → c.holds ≡ true
+pub holds_where_passed : (a b : CheckLog) (c : Check) → cap_of c.name ≡ None → GoesOn a (λ (rest : ⊤ → Row). Need c (rest tt)) (Ok tt) b → c.holds ≡ true
 holds_where_passed a b c no_cap goes =
     elim c.holds as (λ h. c.holds ≡ h → h ≡ true) [
       | true ↦ λ _. refl
       | false ↦ λ fails.
           let ends : Stopped c.name c.place ≡ Refused EPERM =
-          ap (λ j. j.end) (sym (judge-stop a.subject a.used c Denied (Fail EPERM) (denied a.subject c no_cap fails) refl) ∙ goes (Fail EPERM) ∙ judge-fail b.subject b.used EPERM) in
+          ap (λ j. j.end) (sym (judge-stop a.subject a.used c Denied (Fail EPERM) (denied a.subject c no_cap fails) refl) ∙ goes.continues (λ _. Fail EPERM) ∙ judge-fail b.subject b.used EPERM) in
           cc
     ] refl

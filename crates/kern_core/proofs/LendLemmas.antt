@@ -1,4 +1,4 @@
--- A process that is lent, and left as it was or changed.
+-- A process that is lent for changes.
 use Rattle.std.specs.Prelude.{◌≡◌, true, false, Option, Some, None, refl, cond, IsSome, OnSome}
 use Rattle.std.specs.declared.cmp.Ordering.{Ordering}
 use Rattle.std.specs.Borrow.{MutBor}

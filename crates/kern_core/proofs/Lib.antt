@@ -4,5 +4,5 @@ pub mod CheckLemmas
 pub mod KernelLemmas
 pub mod LendLemmas
 pub mod PlayLemmas
-pub mod Tellings
+pub mod StepLemmas
 pub mod WalkLemmas

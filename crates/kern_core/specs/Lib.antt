@@ -1,7 +1,7 @@
 pub mod Built
 pub mod Kernel
 pub mod Lending
-pub mod RowCompletes
+pub mod PlaysRow
 pub mod Starts
 pub mod Tables
 pub mod Walks

@@ -1,4 +1,4 @@
-// The first state of a world.
+// How the first state is made of a world.
 ghost use Rattle.std.specs.Prelude.{◌≡◌, ◌<◌, ◌++◌, ◌∷◌, [], true, IfOk, OnOk};
 ghost use Rattle.cap_bits.specs.CapSet.{is_within};
 ghost use Rattle.kern_model.specs.declared.limits.TheConstants.{MAX_OBJECTS, MAX_PROCS};
@@ -8,7 +8,7 @@ ghost use Rattle.kern_model.specs.Boot.{boot_object, boot_objects, boot_process,
 ghost use Rattle.kern_core.specs.Tables.{state_of_tables};
 ghost use Rattle.kern_core.specs.Starts.{CanStart, RoomForObjects, IsSpotOf};
 
-use crate::made::{object_from, process_from};
+use crate::from_world::{object_from, process_from};
 use crate::process::root_directory;
 use crate::tables::{Entries, Numbers, Objects, Procs, Spot, Tables};
 use cap_bits::CapSet;
@@ -17,7 +17,7 @@ use lab_lattice::Label;
 use std::alloc::Global;
 
 impl Tables {
-    /// The tables in which nothing is yet.
+    /// Tables without objects and processes.
     pub fn empty(alloc: Global, bound: CapSet, top: Label) -> Tables
         ensures { state_of_tables result ≡ nothing bound top }
     {
@@ -33,7 +33,7 @@ impl Tables {
         }
     }
 
-    /// Makes the objects of a world, in their order.
+    /// Makes the objects of a world, in order.
     pub fn boot_objects(&mut self, objects: &[WorldObject]) -> Result<(), NoMemory>
         requires { RoomForObjects self.old.object_numbers objects.now }
         ensures { OnOk result (state_of_tables self.new ≡ boot_objects (state_of_tables self.old) objects.now) }
@@ -44,7 +44,7 @@ impl Tables {
         Ok(())
     }
 
-    /// Makes the processes of a world, in their order, with a record for each.
+    /// Makes the processes of a world, in order, and returns a record for each.
     pub fn boot_processes(&mut self, procs: &[WorldProc]) -> Result<RecList, NoMemory>
         requires { CanStart self.old.process_numbers procs.now }
         ensures state { OnOk result (state_of_tables self.new ≡ boot_processes (state_of_tables self.old) procs.now) }
@@ -77,7 +77,7 @@ impl Tables {
         Ok(())
     }
 
-    // The spot of a new object with these names, from a directory; the root has none.
+    // The spot that a path from this directory names for a new object. The path of the root names none.
     fn spot_of(&self, dir: Oid, names: &[Name]) -> Result<Option<Spot>, NoMemory>
         ensures { IfOk result (λ spot. IsSpotOf (state_of_tables self.now) dir names.now spot) }
     {
@@ -92,7 +92,7 @@ impl Tables {
         }
     }
 
-    // Makes a process under the next number of its label, in the root directory, and returns the number.
+    // Makes a process under the next number of its label, and returns the number.
     fn boot_process(&mut self, process: &WorldProc) -> Result<Pid, NoMemory>
         requires number { drawn self.old.process_numbers process.now.label < MAX_PROCS }
         requires within { is_within process.now.caps.e process.now.caps.p ≡ true }
@@ -110,7 +110,7 @@ impl Tables {
     }
 }
 
-// Adds the record of a process that starts with the world.
+// Adds the record of a process that starts with a world.
 fn note_start(recs: &mut RecList, who: Pid, process: &WorldProc) -> Result<(), NoMemory>
     ensures { OnOk result (recs.new ≡ recs.old ++ rec.Boot who process.now.label process.now.caps ∷ []) }
 {

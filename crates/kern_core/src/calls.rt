@@ -8,6 +8,7 @@ ghost use Rattle.kern_core.specs.Tables.{state_of_tables};
 mod attributes;
 mod processes;
 
+use crate::caller::Caller;
 use crate::outcome::{no_process, report};
 use crate::tables::Tables;
 use chk_rules::Checks;
@@ -25,7 +26,7 @@ pub fn built(call: &Call) -> bool
 }
 
 impl Tables {
-    /// Plays one call of a process.
+    /// Plays one call of a process, and returns the reply and the records that it leaves.
     pub fn call(&mut self, who: &Pid, call: &Call) -> Result<Outcome, NoMemory>
         requires built { is_built call.now ≡ true }
         ensures played { IfOk result (λ outcome. IsPlayed (state_of_tables self.old) who.now call.now outcome (state_of_tables self.new)) }
@@ -36,8 +37,12 @@ impl Tables {
         };
         let audited = process.audited();
         let mut checks = Checks::new(self.alloc, *who, process.label(), process.caps().e);
+        let caller = Caller {
+            tables: self,
+            process,
+        };
         let played = match call {
-            Call::MacGetFile(path) => self.mac_get_file(&mut checks, process, path),
+            Call::MacGetFile(path) => caller.mac_get_file(&mut checks, path),
             Call::CapGetProc => Ok(processes::cap_get_proc(process)),
             Call::CapSetProc(caps) => self.cap_set_proc(&mut checks, who, *caps),
             _ => unreachable!(),

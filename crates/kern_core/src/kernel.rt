@@ -18,8 +18,8 @@ use kern_model::{Call, NoMemory, Outcome, Pid, PidList, RecList, World};
 use lab_lattice::Label;
 use std::alloc::Global;
 
-/// A kernel. Where memory runs out in a call it has failed for good: it plays no call any more. The state of a kernel that
-/// has not failed is valid.
+/// A kernel. When memory runs out in a call it has failed, and it plays no further call. The state of a kernel that has not
+/// failed is valid.
 #[derive(Drop)]
 pub struct Kernel {
     tables: Tables,
@@ -49,8 +49,8 @@ impl Kernel {
         Ok((kernel, recs))
     }
 
-    /// Plays one call of a process: the reply, and the records that it leaves. Where memory runs out nothing is said
-    /// of the state.
+    /// Plays one call of a process, and returns the reply and the records that it leaves. When memory runs out nothing is
+    /// promised of the state.
     #[tactic(auto, unfolding(crate::specs::Kernel::state_of, crate::specs::Kernel::has_failed))]
     pub fn call(&mut self, who: &Pid, call: &Call) -> Result<Outcome, NoMemory>
         requires arguments { is_call (state_of self.old).top call.now ≡ true }
@@ -73,7 +73,7 @@ impl Kernel {
         outcome
     }
 
-    /// Whether memory ran out in a call.
+    /// Whether memory ran out in an earlier call.
     #[tactic(auto, unfolding(crate::specs::Kernel::has_failed))]
     pub fn failed(&self) -> bool
         ensures { result ≡ has_failed self.now }

@@ -2,10 +2,10 @@
 #![tactic(auto)]
 
 mod boot;
+mod caller;
 mod calls;
-mod checks;
+mod from_world;
 mod kernel;
-mod made;
 mod outcome;
 mod process;
 mod tables;

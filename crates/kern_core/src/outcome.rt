@@ -1,14 +1,14 @@
-// What is reported of a call.
+// What a call's body gives, and what is reported of it.
 ghost use Rattle.std.specs.Prelude.{◌≡◌, [], None, IfOk, IsOk};
 ghost use Rattle.kern_model.specs.declared.calls.Reply.TheVariants as reply;
 ghost use Rattle.kern_model.specs.declared.calls.Errno.TheVariants as errno;
-ghost use Rattle.kern_core.specs.RowCompletes.{LeavesNothing, OutcomeOf};
+ghost use Rattle.kern_core.specs.PlaysRow.{LeavesNothing, OutcomeOf};
 
 use chk_rules::{Checks, Stop};
 use kern_model::{Answer, CallName, Errno, NoMemory, Outcome, Pid, Rec, RecList, Reply};
 use std::alloc::Global;
 
-/// What a call answers that was done, and its own record if it leaves one.
+/// What the body of a call gives: the answer, and the call's own record if it leaves one.
 #[derive(Debug, Drop)]
 pub struct Effect {
     pub answer: Answer,
@@ -25,8 +25,8 @@ pub fn no_process(alloc: Global) -> Outcome
     }
 }
 
-/// The outcome of a call that was played or stopped: after the exercises stands the call's own record, or that of
-/// the denial where the caller's switch is on. No memory is taken where the call is done and leaves no record of its own.
+/// The outcome of a call whose body gave this result. After the exercises stands the call's own record, or that of the
+/// denial where the caller's switch is on. No memory is taken where the body gives an effect without a record.
 pub fn report(
     checks: Checks,
     who: &Pid,
@@ -39,8 +39,8 @@ pub fn report(
 {
     let mut recs = checks.into_exercises();
     match played {
-        Ok(played) => {
-            let Effect { answer, own } = played;
+        Ok(effect) => {
+            let Effect { answer, own } = effect;
             if let Some(own) = own {
                 recs.push(own)?;
             }

@@ -14,9 +14,9 @@ use std::marker::Model;
 #[derive(Debug, Drop)]
 pub struct Proc {
     creds: Creds,
-    // the current directory
+    // The current directory.
     cwd: Oid,
-    // the audit switch: whether a denial leaves a record
+    // The audit switch: whether a denial leaves a record.
     audited: bool,
 }
 
@@ -49,7 +49,7 @@ pub fn root_directory() -> Oid
 }
 
 impl Proc {
-    /// A process with these credentials that stands in the root directory, with the switch on.
+    /// A process with these credentials, in the root directory, with the audit switch on.
     pub fn start(creds: Creds) -> Proc
         ensures { result ≡ record { ids = creds.ids; label = creds.label; caps = creds.caps; umask = creds.umask; cwd = root; audited = true; parent = None; ended = []; fds = map.empty } }
     {
@@ -60,7 +60,7 @@ impl Proc {
         }
     }
 
-    /// Its present label.
+    /// Its label.
     pub fn label(&self) -> Label
         ensures { result ≡ self.now.label }
     {
@@ -95,14 +95,14 @@ impl Proc {
         self.audited
     }
 
-    /// Whether its capability sets may become these.
+    /// Whether it may set its capability sets to these.
     pub fn may_set(&self, caps: &CapState) -> bool
         ensures { result ≡ may_become self.now.caps caps.now }
     {
         self.creds.may_set(caps)
     }
 
-    /// Sets its capability sets, where they may become these.
+    /// Sets its capability sets, if it may.
     pub fn cap_set(&mut self, caps: CapState) -> Result<(), NotAllowed>
         ensures set { OnOk result ((may_become self.old.caps caps ≡ true) × (self.new ≡ record self.old { caps = caps })) }
         ensures refused { OnErr result ((may_become self.old.caps caps ≡ false) × (self.new ≡ self.old)) }

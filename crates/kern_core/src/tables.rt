@@ -1,4 +1,4 @@
-// What a kernel holds.
+// The tables in which a kernel keeps its state.
 ghost use Rattle.std.specs.Prelude.{◌≡◌};
 ghost use Rattle.kern_model.specs.Kinds.{is_dir};
 ghost use Rattle.kern_model.specs.State.{look};
@@ -18,7 +18,8 @@ pub use objects::Objects;
 pub use procs::Procs;
 use std::alloc::Global;
 
-/// Objects, entries and processes, the last number drawn of each label, and the bound of capabilities over exec.
+/// Objects, entries and processes, the last numbers drawn of each label, the bound of capabilities over exec, and the
+/// highest label.
 #[derive(Drop)]
 pub struct Tables {
     pub alloc: Global,
@@ -79,7 +80,7 @@ impl Tables {
         }
     }
 
-    /// Where an entry leads, if it is there.
+    /// The object that has a name in a directory, if one does.
     pub fn look(&self, spot: &Spot) -> Option<Oid>
         ensures { result ≡ look (state_of_tables self.now) spot.now.0 spot.now.1 }
     {

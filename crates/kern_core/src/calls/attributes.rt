@@ -1,34 +1,22 @@
 // The calls on modes, owners, capability sets of files, and labels of objects.
-ghost use Rattle.std.specs.Prelude.{IfOk, IfErr};
-ghost use Rattle.kern_model.specs.AttrRows.{get_label};
-ghost use Rattle.kern_model.specs.Walk.{on_path};
-ghost use Rattle.chk_rules.specs.CheckLog.{judge_from};
-ghost use Rattle.chk_rules.specs.Ends.{EndsBy};
-ghost use Rattle.kern_core.specs.RowCompletes.{RowCompletes};
+ghost use Rattle.kern_model.specs.AttrRows.{mac_get_file_row};
+ghost use Rattle.kern_model.specs.declared.numbers.Pid.{Pid};
+ghost use Rattle.kern_core.specs.PlaysRow.{PlaysRow};
 ghost use Rattle.kern_core.specs.Tables.{state_of_tables};
 
-use crate::checks::mac_read;
+use crate::caller::Caller;
 use crate::outcome::Effect;
-use crate::process::Proc;
-use crate::tables::Tables;
-use chk_rules::{Checks, Stop, must};
-use kern_model::{Answer, Path, Place};
+use chk_rules::{Checks, Stop};
+use kern_model::{Answer, Path};
 
-impl Tables {
-    /// The label of what the path leads to.
-    pub fn mac_get_file(
-        &self,
-        checks: &mut Checks,
-        process: &Proc,
-        path: &Path,
-    ) -> Result<Effect, Stop>
-        ensures played { IfOk result (λ played. RowCompletes (state_of_tables self.now) checks.old (on_path (state_of_tables self.now) process.now path.now (get_label (state_of_tables self.now) process.now)) (state_of_tables self.now) checks.new played) }
-        ensures stop { IfErr result (λ stop. EndsBy (judge_from checks.old (on_path (state_of_tables self.now) process.now path.now (get_label (state_of_tables self.now) process.now))) checks.new stop) }
+impl Caller<'_> {
+    /// `mac_get_file`: the label of the object at the end of a path.
+    pub fn mac_get_file(&self, checks: &mut Checks, path: &Path) -> Result<Effect, Stop>
+        ensures { (who : Pid) → PlaysRow (state_of_tables self.now.tables.now) checks.old (mac_get_file_row (state_of_tables self.now.tables.now) who self.now.process.now path.now) result (state_of_tables self.now.tables.now) checks.new }
     {
-        let id = self.reach(checks, process, path)?;
-        let object = self.metadata(&id);
-        let place = Place::First(path.components().len() as u8);
-        must(checks, &mac_read(process, &object, place))?;
+        let (id, place) = self.reach(checks, path)?;
+        let object = self.tables.metadata(&id);
+        self.mac_read(checks, &object, place)?;
         Ok(Effect {
             answer: Answer::Mark(object.label),
             own: None,

@@ -1,15 +1,13 @@
 // The calls on processes: their numbers, children and ends, their ids, capability sets and labels.
-ghost use Rattle.std.specs.Prelude.{◌≡◌, IfOk, IfErr, IsSome, Some, None};
+ghost use Rattle.std.specs.Prelude.{◌≡◌, IsSome, Some, None};
 ghost use Rattle.std.specs.FinMap as map;
 ghost use Rattle.kern_model.specs.declared.calls.Answer.TheVariants as answer;
-ghost use Rattle.kern_model.specs.State.{Process};
 ghost use Rattle.kern_model.specs.ProcessRows.{cap_set_proc_row};
-ghost use Rattle.chk_rules.specs.CheckLog.{judge_from};
-ghost use Rattle.chk_rules.specs.Ends.{EndsBy};
-ghost use Rattle.kern_core.specs.RowCompletes.{RowCompletes, Keeps};
+ghost use Rattle.kern_model.specs.State.{Process};
+ghost use Rattle.kern_core.specs.PlaysRow.{PlaysRow};
 ghost use Rattle.kern_core.specs.Tables.{state_of_tables};
 
-use crate::checks::cap_grow;
+use crate::caller::cap_grow;
 use crate::outcome::Effect;
 use crate::process::Proc;
 use crate::tables::Tables;
@@ -18,7 +16,7 @@ use chk_rules::{Checks, Stop, must};
 use kern_model::{Answer, Pid, Rec};
 use proc_creds::NotAllowed;
 
-/// The caller's capability sets.
+/// `cap_get_proc`: the caller's capability sets. No memory is taken.
 pub fn cap_get_proc(process: &Proc) -> Effect
     ensures { result ≡ record { answer = answer.Caps process.now.caps; own = None } }
 {
@@ -29,7 +27,7 @@ pub fn cap_get_proc(process: &Proc) -> Effect
 }
 
 impl Tables {
-    /// Sets the caller's capability sets. The caller is a living process.
+    /// `cap_set_proc`: the caller, a living process, sets its capability sets.
     pub fn cap_set_proc(
         &mut self,
         checks: &mut Checks,
@@ -37,9 +35,7 @@ impl Tables {
         caps: CapState,
     ) -> Result<Effect, Stop>
         requires living { IsSome (map.get (state_of_tables self.old).procs who.now) }
-        ensures played { (p : Process) → map.get (state_of_tables self.old).procs who.now ≡ Some p → IfOk result (λ played. RowCompletes (state_of_tables self.old) checks.old (cap_set_proc_row (state_of_tables self.old) who.now p caps) (state_of_tables self.new) checks.new played) }
-        ensures stop { (p : Process) → map.get (state_of_tables self.old).procs who.now ≡ Some p → IfErr result (λ stop. EndsBy (judge_from checks.old (cap_set_proc_row (state_of_tables self.old) who.now p caps)) checks.new stop) }
-        ensures same { IfErr result (λ stop. Keeps stop (state_of_tables self.old) (state_of_tables self.new)) }
+        ensures { (p : Process) → map.get (state_of_tables self.old).procs who.now ≡ Some p → PlaysRow (state_of_tables self.old) checks.old (cap_set_proc_row (state_of_tables self.old) who.now p caps) result (state_of_tables self.new) checks.new }
     {
         let Some(process) = self.procs.get_mut(who) else {
             unreachable!();

@@ -1,4 +1,4 @@
-// Where the names in directories lead.
+// The entries of directories.
 ghost use Rattle.std.specs.Prelude.{◌≡◌, OnOk};
 ghost use Rattle.std.specs.FinMap as map;
 
@@ -10,7 +10,7 @@ use std::marker::Model;
 /// The spot of an entry: the directory that holds it, and its name there.
 pub type Spot = (Oid, Name);
 
-/// Where the names in directories lead.
+/// The object to which each entry of a directory leads.
 #[derive(Drop)]
 pub struct Entries {
     kept: BTreeMap<Spot, Oid>,
@@ -40,14 +40,14 @@ impl Entries {
         }
     }
 
-    /// Where the name leads, if it is there.
+    /// The object that has this name in this directory, if one does.
     pub fn get(&self, spot: &Spot) -> Option<Oid>
         ensures { result ≡ map.get self.now spot.now }
     {
         self.kept.get(spot).copied()
     }
 
-    /// Puts an entry in place of what was there.
+    /// Sets the object to which an entry leads.
     pub fn set(&mut self, spot: Spot, value: Oid) -> Result<(), NoMemory>
         ensures { OnOk result (self.new ≡ map.insert self.old spot value) }
     {

@@ -38,14 +38,14 @@ impl Numbers {
         }
     }
 
-    /// The number that is kept for a label, if there is one.
+    /// The last number drawn of a label, if one was drawn.
     pub fn get(&self, label: &Label) -> Option<u16>
         ensures { result ≡ map.get self.now label.now }
     {
         self.kept.get(label).copied()
     }
 
-    /// The last number drawn of a label, and 0 before the first.
+    /// The last number drawn of a label, or 0 before the first.
     #[tactic(auto, unfolding(kern_model::specs::Maps::get_or))]
     pub fn last(&self, label: &Label) -> u16
         ensures { result ≡ drawn self.now label.now }
@@ -53,7 +53,7 @@ impl Numbers {
         self.get(label).unwrap_or(0)
     }
 
-    /// Puts a number in place of what was there.
+    /// Sets the last number drawn of a label.
     pub fn set(&mut self, label: Label, value: u16) -> Result<(), NoMemory>
         ensures { OnOk result (self.new ≡ map.insert self.old label value) }
     {

@@ -46,7 +46,7 @@ impl Objects {
         self.kept.get(id)
     }
 
-    /// Puts an object in place of what was there.
+    /// Sets the object with this number.
     pub fn set(&mut self, id: Oid, value: Object) -> Result<(), NoMemory>
         ensures { OnOk result (self.new ≡ map.insert self.old id value) }
     {

@@ -82,7 +82,7 @@ impl Procs {
         Ok(numbers)
     }
 
-    /// Puts a process in place of what was there.
+    /// Sets the process with this number.
     pub fn set(&mut self, who: Pid, value: Proc) -> Result<(), NoMemory>
         ensures { OnOk result (self.new ≡ map.insert self.old who value) }
     {
@@ -90,7 +90,7 @@ impl Procs {
         Ok(())
     }
 
-    /// The process with this number, to be changed, if there is one.
+    /// The process with this number, for changes to it, if there is one.
     pub fn get_mut(&mut self, who: &Pid) -> Option<&mut Proc>
         ensures* writes_back { sem 𝓛 (LendsProcess self.entry who.now result) }
         ensures value { option_copied_mut result ≡ map.get self.old who.now }

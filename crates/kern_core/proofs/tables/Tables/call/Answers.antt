@@ -1,14 +1,16 @@
-use Rattle.std.proofs.Common.{◌≡◌, ◌∙◌, sym, ap, subst, refl, Bool, Ok, None}
+use Rattle.std.proofs.Common.{◌≡◌, ◌∙◌, sym, ap, subst, refl, Bool, Ok, None, []}
 use Rattle.std.specs.Option.{option_copied}
 use Rattle.std.proofs.lemmas.Result.{IfOk-weaker}
 use Rattle.kern_model.specs.declared.calls.Answer.TheVariants.{Caps}
 use Rattle.kern_model.specs.declared.calls.Call.TheVariants as call
 use Rattle.kern_model.specs.declared.calls.CallName.{CallName}
 use Rattle.kern_model.specs.Names.{name_of}
+use Rattle.kern_model.specs.Table.{row}
 use Rattle.chk_rules.specs.CheckLog.{CheckLog, check_log}
-use Rattle.kern_core.specs.RowCompletes.{OutcomeOf}
+use Rattle.kern_core.specs.PlaysRow.{PlaysRow, OutcomeOf}
 use Rattle.kern_core.specs.Tables.{state_of_tables}
-use Rattle.kern_core.proofs.Tellings.{GoesAlong, along_same, along_unchanged, along_reported, no_process, is_played}
+use Rattle.kern_core.proofs.PlayLemmas.{commits}
+use Rattle.kern_core.proofs.StepLemmas.{plays_same, no_process, is_played}
 use Rattle.kern_core.proofs.tables.Tables.call.Goals as goal
 use Rattle.kern_core.proofs.tables.Tables.call.Goals.{in-MacGetFile, in-CapGetProc, in-CapSetProc}
 
@@ -18,24 +20,21 @@ returns-in_default-clause-played c =
     no_process s c.args.who.now c.args.call.now (sym c.get.ensures ∙ ap option_copied c.in_default.is)
     ∙ (λ i. record { state = s; reply = (sym c.no_process.ensures i).reply; recs = (sym c.no_process.ensures i).recs })
 
--- each call goes along its row
-along : (c : goal.After-report) → GoesAlong (state_of_tables c.args.self.now) c.args.who.now c.in-Some.process.now c.new-checks.result c.args.call.now (state_of_tables c.match-call.self) c.match-call.checks c.match-call.played
-along c =
+-- the body of each call plays its row
+plays : (c : goal.After-report) → PlaysRow (state_of_tables c.args.self.now) c.new-checks.result (row (state_of_tables c.args.self.now) c.args.who.now c.in-Some.process.now c.args.call.now) c.match-call.played (state_of_tables c.match-call.self) c.match-call.checks
+plays c =
     let s = state_of_tables c.args.self.now in
     let who = c.args.who.now in
     let p = c.in-Some.process.now in
-    let a = c.new-checks.result in
+    let log = c.new-checks.result in
     let found = sym c.get.ensures ∙ ap option_copied c.in-Some.is in
     elim c.match-call.branch [
       | in-MacGetFile w ↦
-          along_same s who p a (call.MacGetFile w.in-MacGetFile.path) _ w.in-MacGetFile.is s _ (ap state_of_tables w.self-is) _ _ w.checks-is _ _ w.played-is
-          (along_unchanged s who p a _ _ _ w.mac_get_file-played.ensures.played w.mac_get_file-played.ensures.stop)
+          plays_same s who p log (call.MacGetFile w.in-MacGetFile.path) _ w.in-MacGetFile.is s _ (ap state_of_tables w.self-is) _ _ w.checks-is _ _ w.played-is (w.mac_get_file-played.ensures who)
       | in-CapGetProc w ↦
-          along_same s who p a call.CapGetProc _ w.in-CapGetProc.is s _ (ap state_of_tables w.self-is) a _ w.checks-is _ _ (w.played-is ∙ ap Ok w.cap_get_proc.ensures)
-          (along_reported s who p a a call.CapGetProc (Caps p.caps) None refl)
+          plays_same s who p log call.CapGetProc _ w.in-CapGetProc.is s _ (ap state_of_tables w.self-is) log _ w.checks-is _ _ (w.played-is ∙ ap Ok w.cap_get_proc.ensures) (commits s s log [] (Caps p.caps) None refl)
       | in-CapSetProc w ↦
-          along_same s who p a (call.CapSetProc w.in-CapSetProc.caps) _ w.in-CapSetProc.is _ _ (ap state_of_tables w.self-is) _ _ w.checks-is _ _ w.played-is
-          (record { played = w.cap_set_proc-played.ensures.played p found; stop = w.cap_set_proc-played.ensures.stop p found; same = w.cap_set_proc-played.ensures.same })
+          plays_same s who p log (call.CapSetProc w.in-CapSetProc.caps) _ w.in-CapSetProc.is _ _ (ap state_of_tables w.self-is) _ _ w.checks-is _ _ w.played-is (w.cap_set_proc-played.ensures p found)
     ]
 
 pub returns-clause-played : goal.returns-clause-played
@@ -44,9 +43,9 @@ returns-clause-played c =
     let who = c.args.who.now in
     let call = c.args.call.now in
     let p = c.in-Some.process.now in
-    let asked : c.new-checks.result ≡ check_log who p.label p.caps.e = c.new-checks.ensures ∙ (λ i. check_log who (c.label.ensures i) (c.caps.ensures i).e) in
-    let goes = subst (λ (a : CheckLog). GoesAlong s who p a call (state_of_tables c.match-call.self) c.match-call.checks c.match-call.played) asked (along c) in
     let found = sym c.get.ensures ∙ ap option_copied c.in-Some.is in
-    IfOk-weaker c.report.result _ _ (λ o reports. is_played s who call p found _ _ _ goes o
+    let new_log : c.new-checks.result ≡ check_log who p.label p.caps.e = c.new-checks.ensures ∙ (λ i. check_log who (c.label.ensures i) (c.caps.ensures i).e) in
+    let from_new = subst (λ (log : CheckLog). PlaysRow s log (row s who p call) c.match-call.played (state_of_tables c.match-call.self) c.match-call.checks) new_log (plays c) in
+    IfOk-weaker c.report.result _ _ (λ o reports. is_played s who call p found _ _ _ from_new o
     (subst (λ (b : Bool). OutcomeOf c.match-call.checks who b (name_of call) c.match-call.played o) c.audited-audited.ensures
     (subst (λ (n : CallName). OutcomeOf c.match-call.checks who c.audited-audited.result n c.match-call.played o) c.name.ensures reports))) c.report.ensures.reported

@@ -1,5 +1,5 @@
 use Rattle.std.proofs.Common.{length}
-use Rattle.kern_core.proofs.tables.Tables.+walk_from.Given as goal
+use Rattle.kern_core.proofs.caller.Caller.+walk_from.Given as goal
 
 abbrev pub decreases-walk_from : goal.decreases-walk_from
 decreases-walk_from l = length l.names.now

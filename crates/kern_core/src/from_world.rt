@@ -1,4 +1,4 @@
-// Objects and processes as a world describes them.
+// The objects and processes that a world describes.
 ghost use Rattle.std.specs.Prelude.{◌≡◌, IfOk, true};
 ghost use Rattle.cap_bits.specs.CapSet.{is_within};
 ghost use Rattle.kern_model.specs.Boot.{object_of, process_of};
@@ -9,10 +9,10 @@ use kern_model::{Body, ByteList, Kind, Mode, NoMemory, Object, WorldObject, Worl
 use proc_creds::{Creds, copy_ids};
 use std::alloc::Global;
 
-// The bits that an object does not get which a process makes that started with the world.
+// The umask of the processes that start with a world.
 const START_UMASK: Mode = 0o022;
 
-// The kind of an object that is described so.
+// The kind of an object with this body.
 fn kind_from(body: &Body) -> Kind
     ensures { result ≡ kind_of body.now }
 {
@@ -24,7 +24,7 @@ fn kind_from(body: &Body) -> Kind
     }
 }
 
-// The bytes of an object that is described so.
+// The bytes of an object with this body: only a file has any.
 fn bytes_from(alloc: Global, body: &Body) -> Result<ByteList, NoMemory>
     ensures { IfOk result (λ bytes. bytes ≡ bytes_of body.now) }
 {
