@@ -1,15 +1,12 @@
 -- What a word of a record stands for has that word, and each value stands for itself in its word.
-use Rattle.std.specs.Prelude.{◌≡◌, ℕ, ◌+◌, ◌%◌, ◌^◌, ◌≤◌, ◌<◌, ◌==◌, ◌&&◌, not, nat_lt, nat_le, Bool, true, false, cond, List, [], ◌∷◌, ◌++◌, length, Option, None, Some, codes, refl}
+use Rattle.std.specs.Prelude.{◌≡◌, ℕ, ◌+◌, ◌%◌, ◌^◌, ◌≤◌, ◌<◌, ◌==◌, ◌&&◌, not, nat_lt, nat_le, Bool, true, false, cond, List, [], ◌∷◌, ◌++◌, Option, None, Some, codes, refl}
 use Rattle.std.proofs.Common.{ap, sym, subst, ◌∙◌, inl, inr, arith}
 use Rattle.std.specs.Fmt.{decimal}
 use Rattle.std.specs.List.{list_all}
 use Rattle.std.specs.Option.{option_and_then, option_map, option_or}
 use Rattle.std.specs.Result.{result_ok}
 use Rattle.std.proofs.lemmas.Bool.{and_parts, and_from, cond-false, ltb-true, lt-ltb, eqb-true, ne_eqb, leb-true, not_from_false, false_from_ne_true, true≢false}
-use Rattle.std.proofs.lemmas.Bool.Decides.{nat_tests}
 use Rattle.std.proofs.lemmas.Fmt.{decimal_by_steps}
-use Rattle.std.proofs.lemmas.List.{length-append}
-use Rattle.std.proofs.lemmas.List.Folds.{list_all-append}
 use Rattle.std.proofs.lemmas.Option.{option_and_then_some, some_pair_parts, same_Some}
 use Rattle.cap_bits.specs.Cap.{cap_name}
 use Rattle.cap_bits.specs.declared.cap.Cap.{Cap}
@@ -21,13 +18,14 @@ use Rattle.cap_clause.proofs.WrittenRoundTrip.{caps_round_trip, caps_text_plain}
 use Rattle.fs_path.proofs.RoundTrip.{decimal_bare}
 use Rattle.fs_path.specs.Split.{split_once}
 use Rattle.fs_path.specs.Options.{keep_if}
-use Rattle.fs_path.specs.Words.{is_bare, is_plain, is_bare_text, quoted_text}
+use Rattle.fs_path.specs.Words.{is_plain, is_bare_text, quoted_text}
 use Rattle.lab_lattice.specs.Label.{Label}
-use Rattle.lab_text.specs.Names.{Names, same_bytes, is_letter, is_name_part, is_label_name}
+use Rattle.lab_text.specs.Names.{same_bytes}
 use Rattle.lab_text.specs.Numbered.{numbered_text}
 use Rattle.lab_text.specs.Policy.{PolicyNames, MakePolicy, is_valid}
-use Rattle.lab_text.proofs.Parsed.{parse_text, text_names}
-use Rattle.lab_text.specs.Text.{label_text, parse_label, label_words, past_mark}
+use Rattle.lab_text.proofs.BareLemmas.{all_bare, bare_begins, bare_with, label_bare}
+use Rattle.lab_text.proofs.Parsed.{parse_text}
+use Rattle.lab_text.specs.Text.{label_text, parse_label, label_words}
 use Rattle.kern_model.specs.Names.{word_of, check_word, errno_word, place_text}
 use Rattle.kern_model.specs.declared.calls.CallName.{CallName}
 use Rattle.kern_model.specs.declared.calls.CallName.TheVariants as name
@@ -44,6 +42,7 @@ use Rattle.kern_model.specs.declared.numbers.Pid.{Pid}
 use Rattle.kern_model.specs.Named.{named}
 use Rattle.kern_model.proofs.NamedLaws.{named_is, call_round_trip, check_round_trip, errno_round_trip}
 use Rattle.line_text.specs.Ranges.{are_bytes}
+use Rattle.line_text.specs.Reading.{choice}
 use Rattle.line_text.specs.Words.{pid_text, oid_text, caps_word, thing_text, new_label_text}
 use Rattle.aud_record.specs.Events.{event_word}
 use Rattle.aud_record.specs.Fits.{numbered_fits, pid_fits, oid_fits, thing_fits, new_label_fits, place_fits}
@@ -51,8 +50,10 @@ use Rattle.aud_record.specs.Forms.{Choice, first_of, other_of, OnOrOff, ExitOrKi
 use Rattle.aud_record.proofs.ListedLaws.{event_round_trip, cap_round_trip}
 use Rattle.aud_record.proofs.Numbers.{same_itself, same_is, kept_is, number_is, number_round_trip}
 use Rattle.aud_record.proofs.Quoted.{unquoted_bytes, quoted_unquoted, plain_small}
-use Rattle.aud_record.specs.Canonical.{canonical_number, canonical_label, canonical_numbered, canonical_pid, canonical_oid, after_prefix, canonical_thing, canonical_new_label, canonical_step, canonical_place, unquoted, canonical_bytes, canonical_caps, canonical_choice}
+use Rattle.aud_record.specs.Canonical.{canonical_number, canonical_label, canonical_numbered, canonical_pid, canonical_oid, after_prefix, canonical_thing, label_given, canonical_new_label, canonical_step, canonical_place, unquoted, canonical_bytes, canonical_caps}
 use Rattle.aud_record.proofs.WordLaws.{lacks, lacks-append, split_round_trip, split_is, IsWord}
+use Rattle.aud_record.specs.declared.canonical.NewLabel.{NewLabel}
+use Rattle.aud_record.specs.declared.canonical.NewLabel.TheVariants as new
 use Rattle.aud_record.specs.declared.event.Event.{Event}
 use Rattle.aud_record.specs.declared.event.Event.TheVariants as event
 
@@ -70,7 +71,7 @@ field_text p Call call = word_of call
 field_text p Process pid = pid_text p pid
 field_text p Object oid = oid_text p oid
 field_text p Mark label = label_text p label
-field_text p NewMark label = new_label_text p label
+field_text p NewMark new_label = new_label_text p (label_given new_label)
 field_text p Caps caps = caps_word caps
 field_text p Bytes bytes = quoted_text bytes
 field_text p About thing = thing_text p thing
@@ -82,7 +83,7 @@ field_fits p (Number bound) n = nat_lt n bound
 field_fits p Process pid = pid_fits p pid
 field_fits p Object oid = oid_fits p oid
 field_fits p Mark label = is_valid p label
-field_fits p NewMark label = new_label_fits p label
+field_fits p NewMark new_label = new_label_fits p (label_given new_label)
 field_fits p Bytes bytes = are_bytes bytes
 field_fits p About thing = thing_fits p thing
 field_fits p Where place = place_fits place
@@ -118,23 +119,23 @@ no_dash : (p : PolicyNames) (label : Label) → MakePolicy p → is_valid p labe
 no_dash p label h valid =
     false_from_ne_true _ (λ same. let none : parse_label p (label_text p label) ≡ None = ap (parse_label p) (same_is (label_text p label) (codes "-") same) ∙ parse_dash p in let some = parse_text p label h valid in cc)
 
-new_label_is : (p : PolicyNames) (word : List ℕ) (o : Option Label) → canonical_new_label p word ≡ Some o → Spells word (new_label_text p o) (new_label_fits p o)
+new_label_is : (p : PolicyNames) (word : List ℕ) (o : NewLabel) → canonical_new_label p word ≡ Some o → Spells word (new_label_text p (label_given o)) (new_label_fits p (label_given o))
 unfolding canonical_new_label
 new_label_is p word o h = by_dash (same_bytes word (codes "-")) refl h
   where
-    by_label : (parsed : Option Label) → canonical_label p word ≡ parsed → option_map (λ label. Some label) parsed ≡ Some o → Spells word (new_label_text p o) (new_label_fits p o)
+    by_label : (parsed : Option Label) → canonical_label p word ≡ parsed → option_map new.Given parsed ≡ Some o → Spells word (new_label_text p (label_given o)) (new_label_fits p (label_given o))
     by_label None parsed h = absurd (cc)
-    by_label (Some label) parsed h = subst (λ x. Spells word (new_label_text p x) (new_label_fits p x)) (same_Some (Some label) o h) (label_is p word label parsed)
+    by_label (Some label) parsed h = subst (λ (x : NewLabel). Spells word (new_label_text p (label_given x)) (new_label_fits p (label_given x))) (same_Some (new.Given label) o h) (label_is p word label parsed)
 
-    by_dash : (v : Bool) → same_bytes word (codes "-") ≡ v → cond v (Some None) (option_map (λ label. Some label) (canonical_label p word)) ≡ Some o → Spells word (new_label_text p o) (new_label_fits p o)
-    by_dash true same h = subst (λ x. Spells word (new_label_text p x) (new_label_fits p x)) (same_Some None o h) (record { text_is = same_is word (codes "-") same; fit = refl })
+    by_dash : (v : Bool) → same_bytes word (codes "-") ≡ v → cond v (Some new.Absent) (option_map new.Given (canonical_label p word)) ≡ Some o → Spells word (new_label_text p (label_given o)) (new_label_fits p (label_given o))
+    by_dash true same h = subst (λ (x : NewLabel). Spells word (new_label_text p (label_given x)) (new_label_fits p (label_given x))) (same_Some new.Absent o h) (record { text_is = same_is word (codes "-") same; fit = refl })
     by_dash false other h = by_label (canonical_label p word) refl h
 
-new_label_round_trip : (p : PolicyNames) (o : Option Label) → MakePolicy p → new_label_fits p o ≡ true → canonical_new_label p (new_label_text p o) ≡ Some o
+new_label_round_trip : (p : PolicyNames) (o : NewLabel) → MakePolicy p → new_label_fits p (label_given o) ≡ true → canonical_new_label p (new_label_text p (label_given o)) ≡ Some o
 unfolding canonical_new_label
-new_label_round_trip p None h fits = refl
-new_label_round_trip p (Some label) h fits =
-    cond-false (same_bytes (label_text p label) (codes "-")) (Some None) (option_map (λ label. Some label) (canonical_label p (label_text p label))) (no_dash p label h fits) ∙ ap (option_map (λ label. Some label)) (label_round_trip p label h fits)
+new_label_round_trip p new.Absent h fits = refl
+new_label_round_trip p (new.Given label) h fits =
+    cond-false (same_bytes (label_text p label) (codes "-")) (Some new.Absent) (option_map new.Given (canonical_label p (label_text p label))) (no_dash p label h fits) ∙ ap (option_map new.Given) (label_round_trip p label h fits)
 
 -- ---- numbers at labels
 
@@ -328,8 +329,8 @@ caps_read caps =
 
 -- ---- one of two words
 
-choice_is : (word first other : List ℕ) (b : Bool) → canonical_choice first other word ≡ Some b → Spells word (cond b first other) true
-unfolding canonical_choice
+choice_is : (word first other : List ℕ) (b : Bool) → choice first other word ≡ Some b → Spells word (cond b first other) true
+unfolding choice
 choice_is word first other b h = by_first (same_bytes word first) refl h
   where
     by_other : (v : Bool) → same_bytes word other ≡ v → cond v (Some false) None ≡ Some b → Spells word (cond b first other) true
@@ -340,8 +341,8 @@ choice_is word first other b h = by_first (same_bytes word first) refl h
     by_first true same h = subst (λ x. Spells word (cond x first other) true) (same_Some true b h) (record { text_is = same_is word first same; fit = refl })
     by_first false none h = by_other (same_bytes word other) refl h
 
-choice_round_trip : (c : Choice) (b : Bool) → canonical_choice (first_of c) (other_of c) (cond b (first_of c) (other_of c)) ≡ Some b
-unfolding canonical_choice
+choice_round_trip : (c : Choice) (b : Bool) → choice (first_of c) (other_of c) (cond b (first_of c) (other_of c)) ≡ Some b
+unfolding choice
 choice_round_trip OnOrOff true = refl
 choice_round_trip OnOrOff false = refl
 choice_round_trip ExitOrKill true = refl
@@ -366,7 +367,7 @@ canonical_is p Call word call h = listed_is word_of _ word call h
 canonical_is p Process word pid h = pid_is p word pid h
 canonical_is p Object word oid h = oid_is p word oid h
 canonical_is p Mark word label h = label_is p word label h
-canonical_is p NewMark word label h = new_label_is p word label h
+canonical_is p NewMark word new_label h = new_label_is p word new_label h
 canonical_is p Caps word caps h = caps_is word caps h
 canonical_is p Bytes word bytes h = bytes_is word bytes h
 canonical_is p About word thing h = thing_is p word thing h
@@ -389,54 +390,13 @@ canonical_round_trip p Call call h wide fits = call_round_trip call
 canonical_round_trip p Process pid h wide fits = pid_round_trip p pid h fits
 canonical_round_trip p Object oid h wide fits = oid_round_trip p oid h fits
 canonical_round_trip p Mark label h wide fits = label_round_trip p label h fits
-canonical_round_trip p NewMark label h wide fits = new_label_round_trip p label h fits
+canonical_round_trip p NewMark new_label h wide fits = new_label_round_trip p new_label h fits
 canonical_round_trip p Caps caps h wide fits = caps_read caps
 canonical_round_trip p Bytes bytes h wide fits = bytes_round_trip bytes fits
 canonical_round_trip p About thing h wide fits = thing_round_trip p thing h fits
 canonical_round_trip p Where place h wide fits = place_round_trip place fits
 
 -- ---- where words end
-
-bare_with : (a b : List ℕ) → is_bare_text a ≡ true → list_all is_bare b ≡ true → is_bare_text (a ++ b) ≡ true
-bare_with a b first second =
-    let parts = and_parts (nat_lt 0 (length a)) (list_all is_bare a) first in
-    let some = ltb-true 0 (length a) parts.0 in
-    let size = length-append a b in
-    and_from (nat_lt 0 (length (a ++ b))) (list_all is_bare (a ++ b)) (lt-ltb 0 (length (a ++ b)) (omega arith)) (list_all-append is_bare a b ∙ and_from (list_all is_bare a) (list_all is_bare b) parts.1 second)
-
-all_bare : (w : List ℕ) → is_bare_text w ≡ true → list_all is_bare w ≡ true
-all_bare w bare = (and_parts (nat_lt 0 (length w)) (list_all is_bare w) bare).1
-
-bare_begins : (b : ℕ) (w : List ℕ) → is_bare b ≡ true → list_all is_bare w ≡ true → is_bare_text (b ∷ w) ≡ true
-bare_begins b w first rest = and_from (nat_lt 0 (length (b ∷ w))) (list_all is_bare (b ∷ w)) (lt-ltb 0 (length (b ∷ w)) (omega arith)) (and_from (is_bare b) (list_all is_bare w) first rest)
-
-part_bare : (b : ℕ) → is_name_part b ≡ true → is_bare b ≡ true
-part_bare b h = grind (arith, nat_tests)
-
-letter_bare : (b : ℕ) → is_letter b ≡ true → is_bare b ≡ true
-letter_bare b h = grind (arith, nat_tests)
-
-parts_bare : (n : List ℕ) → list_all is_name_part n ≡ true → list_all is_bare n ≡ true
-parts_bare [] h = refl
-parts_bare (b ∷ bs) h = let parts = and_parts (is_name_part b) (list_all is_name_part bs) h in and_from (is_bare b) (list_all is_bare bs) (part_bare b parts.0) (parts_bare bs parts.1)
-
-name_bare : (n : List ℕ) → is_label_name n ≡ true → is_bare_text n ≡ true
-name_bare [] h = absurd (cc)
-name_bare (b ∷ bs) h =
-    let parts = and_parts (is_letter b && nat_le (length bs) 30) (list_all is_name_part bs) h in
-    bare_begins b bs (letter_bare b (and_parts (is_letter b) (nat_le (length bs) 30) parts.0).0) (parts_bare bs parts.1)
-
-marked_bare : (mark : ℕ) (ns : Names) → is_bare mark ≡ true → list_all is_label_name ns ≡ true → list_all is_bare (past_mark mark ns) ≡ true
-marked_bare mark [] bare h = refl
-marked_bare mark (n ∷ ns) bare h =
-    let parts = and_parts (is_label_name n) (list_all is_label_name ns) h in
-    and_from (is_bare mark) (list_all is_bare (n ++ past_mark 44 ns)) bare
-    (list_all-append is_bare n (past_mark 44 ns) ∙ and_from (list_all is_bare n) (list_all is_bare (past_mark 44 ns)) (all_bare n (name_bare n parts.0)) (marked_bare 44 ns refl parts.1))
-
-label_bare : (p : PolicyNames) (label : Label) → MakePolicy p → is_valid p label ≡ true → is_bare_text (label_text p label) ≡ true
-label_bare p label h valid =
-    let names = text_names p label h valid in
-    ap is_bare_text names.text_is ∙ bare_with names.level (past_mark 58 names.cats) (name_bare names.level names.level_name) (marked_bare 58 names.cats refl names.cat_names)
 
 numbered_bare : (p : PolicyNames) (n : ℕ) (label : Label) → MakePolicy p → numbered_fits p n label ≡ true → is_bare_text (numbered_text p n label) ≡ true
 unfolding numbered_text
@@ -498,7 +458,7 @@ field_word p Call call h wide fits = inl (call_bare call)
 field_word p Process pid h wide fits = inl (numbered_bare p pid.n pid.label h fits)
 field_word p Object oid h wide fits = inl (numbered_bare p oid.n oid.label h fits)
 field_word p Mark label h wide fits = inl (label_bare p label h fits)
-field_word p NewMark label h wide fits = inl (new_label_bare p label h fits)
+field_word p NewMark new_label h wide fits = inl (new_label_bare p (label_given new_label) h fits)
 field_word p Caps caps h wide fits = inr (caps_text caps, refl)
 field_word p Bytes bytes h wide fits = inr (bytes, refl)
 field_word p About thing h wide fits = inl (thing_bare p thing h fits)

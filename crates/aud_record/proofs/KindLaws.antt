@@ -1,5 +1,5 @@
 -- The forms of all kinds of records.
-use Rattle.std.specs.Prelude.{◌≡◌, Bool, true, false, refl}
+use Rattle.std.specs.Prelude.{◌≡◌, Bool, true, false, None, Some, refl}
 use Rattle.fs_path.specs.Words.{after_spaces}
 use Rattle.lab_text.specs.Policy.{PolicyNames}
 use Rattle.kern_model.specs.declared.calls.Ending.TheVariants as ending
@@ -11,6 +11,7 @@ use Rattle.aud_record.specs.Fits.{rest_tests, all_hold}
 use Rattle.aud_record.proofs.FormLaws.{Values, made, words_in, values_fit, IsWide}
 use Rattle.aud_record.specs.Forms.{exit_form, form_of}
 use Rattle.aud_record.specs.Written.{rest_words}
+use Rattle.aud_record.specs.declared.canonical.NewLabel.TheVariants as new
 use Rattle.aud_record.specs.declared.event.Event.{Event}
 use Rattle.aud_record.specs.declared.event.Event.TheVariants as event
 
@@ -71,7 +72,8 @@ made_by (rec.CapSetProc who caps) = record { values = (caps, tt); makes = refl }
 made_by (rec.CapSetFile who file caps) = record { values = (file, (caps, tt)); makes = refl }
 made_by (rec.MacSetProc who old new) = record { values = (old, (new, tt)); makes = refl }
 made_by (rec.MacSetFile who object old new) = record { values = (object, (old, (new, tt))); makes = refl }
-made_by (rec.Exercise who label cap check thing thing_label new_label place) = record { values = (label, (cap, (check, (thing, (thing_label, (new_label, (place, tt))))))); makes = refl }
+made_by (rec.Exercise who label cap check thing thing_label None place) = record { values = (label, (cap, (check, (thing, (thing_label, (new.Absent, (place, tt))))))); makes = refl }
+made_by (rec.Exercise who label cap check thing thing_label (Some new_label) place) = record { values = (label, (cap, (check, (thing, (thing_label, (new.Given new_label, (place, tt))))))); makes = refl }
 made_by (rec.Deny who call errno check place) = record { values = (call, (errno, (check, (place, tt)))); makes = refl }
 made_by (rec.Switch who on) = record { values = (on, tt); makes = refl }
 made_by (rec.Note who bytes) = record { values = (bytes, tt); makes = refl }

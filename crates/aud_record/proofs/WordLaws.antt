@@ -79,9 +79,6 @@ item_open b t = by_mark (b == 34 || b == 92) refl
     four : (n : ℕ) → 1 + (1 + (1 + (1 + n))) ≡ 4 + n
     four n = omega arith
 
-    hex_item : List ℕ
-    hex_item = 92 ∷ 120 ∷ hex_digit (b / 16) ∷ hex_digit (b % 16) ∷ []
-
     by_plain : (v : Bool) → (b == 34 || b == 92) ≡ false → quoted_len false (cond v (b ∷ []) (92 ∷ 120 ∷ hex_digit (b / 16) ∷ hex_digit (b % 16) ∷ []) ++ t)
         ≡ length (cond v (b ∷ []) (92 ∷ 120 ∷ hex_digit (b / 16) ∷ hex_digit (b % 16) ∷ [])) + quoted_len false t
     by_plain true marks = let parts = or_parts (b == 34) (b == 92) marks in plain_byte b t parts.0 parts.1

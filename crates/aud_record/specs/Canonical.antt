@@ -1,5 +1,5 @@
 -- What a word of a record stands for. Each value has one spelling, which is the one that is written.
-use Rattle.std.specs.Prelude.{ℕ, ◌^◌, ◌==◌, ◌&&◌, nat_lt, Bool, true, false, cond, List, [], ◌∷◌, Option, None, Some, codes}
+use Rattle.std.specs.Prelude.{ℕ, ◌^◌, ◌==◌, ◌&&◌, nat_lt, cond, List, [], ◌∷◌, Option, None, Some, codes}
 use Rattle.std.specs.Fmt.{decimal}
 use Rattle.std.specs.Option.{option_and_then, option_map, option_or}
 use Rattle.std.specs.Result.{result_ok}
@@ -21,6 +21,8 @@ use Rattle.kern_model.specs.declared.checks.Thing.TheVariants as thing
 use Rattle.kern_model.specs.declared.numbers.Oid.{Oid}
 use Rattle.kern_model.specs.declared.numbers.Pid.{Pid}
 use Rattle.line_text.specs.Words.{caps_word}
+use Rattle.aud_record.specs.declared.canonical.NewLabel.{NewLabel}
+use Rattle.aud_record.specs.declared.canonical.NewLabel.TheVariants as new
 
 -- the number below a bound with these decimal digits
 unfoldable pub canonical_number : ℕ → List ℕ → Option ℕ
@@ -53,11 +55,16 @@ canonical_thing p word =
     option_or (option_and_then (λ w. option_map thing.Object (canonical_oid p w)) (after_prefix (codes "obj:") word))
     (option_and_then (λ w. option_map thing.Process (canonical_pid p w)) (after_prefix (codes "proc:") word))
 
--- no label for `-`, or a label
-unfoldable pub canonical_new_label : PolicyNames → List ℕ → Option (Option Label)
-canonical_new_label p word = cond (same_bytes word (codes "-")) (Some None) (option_map (λ label. Some label) (canonical_label p word))
+-- the new label of a check, if there is one
+abbrev pub label_given : NewLabel → Option Label
+label_given new.Absent = None
+label_given (new.Given label) = Some label
 
--- the place in a path whose letter and number this is
+-- the new label of a check, or `-`
+unfoldable pub canonical_new_label : PolicyNames → List ℕ → Option NewLabel
+canonical_new_label p word = cond (same_bytes word (codes "-")) (Some new.Absent) (option_map new.Given (canonical_label p word))
+
+-- the place in a path, by its letter and its number
 abbrev pub canonical_step : List ℕ → Option Place
 canonical_step [] = None
 canonical_step (b ∷ bs) =
@@ -81,14 +88,10 @@ only_quoted (w ∷ v ∷ ws) = None
 unfoldable pub unquoted : List ℕ → Option (List ℕ)
 unquoted word = option_and_then only_quoted (words_of word)
 
--- the bytes that a quoted word spells
+-- the bytes of which a quoted word is the one spelling
 unfoldable pub canonical_bytes : List ℕ → Option (List ℕ)
 canonical_bytes word = option_and_then (λ bytes. keep_if (same_bytes (quoted_text bytes) word) bytes) (unquoted word)
 
--- the capability state that a quoted word spells
+-- the capability state of which a quoted word is the one spelling
 unfoldable pub canonical_caps : List ℕ → Option CapState
 canonical_caps word = option_and_then (λ caps. keep_if (same_bytes (caps_word caps) word) caps) (option_and_then (λ bytes. result_ok (parse_caps bytes)) (unquoted word))
-
--- whether a word is the first of two, if it is one of them
-unfoldable pub canonical_choice : List ℕ → List ℕ → List ℕ → Option Bool
-canonical_choice first other word = cond (same_bytes word first) (Some true) (cond (same_bytes word other) (Some false) None)

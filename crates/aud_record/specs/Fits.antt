@@ -90,7 +90,7 @@ abbrev pub new_label_fits : PolicyNames → Option Label → Bool
 new_label_fits p None = true
 new_label_fits p (Some label) = is_valid p label
 
--- a number of 8 bits in a path, and any other place
+-- a place in a path is a number of 8 bits; each other place fits
 abbrev pub place_fits : Place → Bool
 place_fits (place.First n) = nat_lt n (2 ^ 8)
 place_fits (place.Second n) = nat_lt n (2 ^ 8)

@@ -16,9 +16,11 @@ use Rattle.kern_model.specs.declared.numbers.Oid.{Oid}
 use Rattle.kern_model.specs.declared.numbers.Pid.{Pid}
 use Rattle.kern_model.specs.declared.records.Rec.{Rec}
 use Rattle.kern_model.specs.declared.records.Rec.TheVariants as rec
+use Rattle.line_text.specs.Reading.{choice}
 use Rattle.aud_record.specs.Events.{event_word, all_events}
-use Rattle.aud_record.specs.Canonical.{canonical_number, canonical_label, canonical_pid, canonical_oid, canonical_thing, canonical_new_label, canonical_place, canonical_bytes, canonical_caps, canonical_choice}
+use Rattle.aud_record.specs.Canonical.{canonical_number, canonical_label, canonical_pid, canonical_oid, canonical_thing, label_given, canonical_new_label, canonical_place, canonical_bytes, canonical_caps}
 use Rattle.aud_record.specs.Words.{◌>>=◌, ended, parse_field}
+use Rattle.aud_record.specs.declared.canonical.NewLabel.{NewLabel}
 use Rattle.aud_record.specs.declared.event.Event.{Event}
 use Rattle.aud_record.specs.declared.event.Event.TheVariants as event
 use Rattle.aud_record.specs.declared.fault.Fault.{Fault}
@@ -56,7 +58,7 @@ pub data Field : Type 0 where
   -- the number of a process, the number of an object
   Process : Field
   Object : Field
-  -- a label, and the new label of a check, which may be none
+  -- a label, and the new label of a check, or `-`
   Mark : Field
   NewMark : Field
   -- a capability state, and bytes, both between quotes
@@ -78,7 +80,7 @@ Of Call = CallName
 Of Process = Pid
 Of Object = Oid
 Of Mark = Label
-Of NewMark = Option Label
+Of NewMark = NewLabel
 Of Caps = CapState
 Of Bytes = List ℕ
 Of About = Thing
@@ -97,7 +99,7 @@ is_listed _ = false
 -- what a word says in a field
 abbrev pub canonical : PolicyNames → (f : Field) → List ℕ → Option (Of f)
 canonical p (Number bound) = canonical_number bound
-canonical p (Either choice) = canonical_choice (first_of choice) (other_of choice)
+canonical p (Either c) = choice (first_of c) (other_of c)
 canonical p Kind = named event_word all_events
 canonical p Capability = named cap_name all_caps
 canonical p Check = check_named
@@ -137,7 +139,7 @@ form_of event.MacSetProc who = Next Mark (λ old. Next Mark (λ new. Done (rec.M
 form_of event.MacSetFile who = Next Object (λ object. Next Mark (λ old. Next Mark (λ new. Done (rec.MacSetFile who object old new))))
 form_of event.Exercise who =
     Next Mark (λ label. Next Capability (λ cap. Next Check (λ check. Next About (λ thing. Next Mark (λ thing_label. Next NewMark (λ new_label. Next Where (λ place.
-    Done (rec.Exercise who label cap check thing thing_label new_label place))))))))
+    Done (rec.Exercise who label cap check thing thing_label (label_given new_label) place))))))))
 form_of event.Deny who = Next Call (λ call. Next Error (λ errno. Next Check (λ check. Next Where (λ place. Done (rec.Deny who call errno check place)))))
 form_of event.Switch who = Next (Either OnOrOff) (λ on. Done (rec.Switch who on))
 form_of event.Note who = Next Bytes (λ bytes. Done (rec.Note who bytes))

@@ -1,4 +1,4 @@
--- The words of a line, one space between each and the next. A fault gives how many bytes of the line stand from its place on.
+-- The words of a line, one space between each and the next. A fault has the number of bytes of the line from its place on.
 use Rattle.std.specs.Prelude.{◌≡◌, ℕ, ◌+◌, ◌==◌, ◌&&◌, not, nat_lt, Bool, false, cond, List, [], ◌∷◌, length, take, drop, Option, None, Some, Result, Ok, Err}
 use Rattle.std.specs.List.{prefix_len}
 use Rattle.fs_path.specs.Words.{is_space}
@@ -7,12 +7,12 @@ use Rattle.aud_record.specs.declared.fault.Fault.TheVariants as fault
 
 -- ---- where a word ends
 
--- how many bytes of a quoted word stand after its opening quote: the closing one is the first without a backslash before it that counts, and a backslash counts unless one that counts stands before it
+-- how many bytes of a quoted word stand after its opening quote: it ends with the first quote that is not escaped, and a backslash that is not escaped escapes the next byte
 abbrev pub quoted_len : Bool → List ℕ → ℕ
 quoted_len escaped [] = 0
 quoted_len escaped (b ∷ bs) = cond (b == 34 && not escaped) 1 (1 + quoted_len (b == 92 && not escaped) bs)
 
--- how many bytes the word has with which bytes begin: a quoted word ends with its closing quote, and any other before the next space
+-- how many bytes the first word has: a quoted one ends with its closing quote, any other before the next space
 unfoldable pub word_len : List ℕ → ℕ
 word_len [] = 0
 word_len (b ∷ bs) = cond (b == 34) (1 + quoted_len false bs) (prefix_len (λ c. not (is_space c)) (b ∷ bs))
@@ -30,7 +30,7 @@ abbrev pub ◌>>=◌ : {A B : Type 0} → Result A Fault → (A → Result B Fau
 (Ok x) >>= f = f x
 (Err e) >>= f = Err e
 
--- what a function returned, seen by view, is what reading gives, unless memory ran out
+-- the answer of a function, seen by view, is what was read, unless memory ran out
 abbrev pub Fails : {Y : Type 0} → Fault → Result Y Fault → Type 0
 Fails (fault.NoMemory _) read = Unit {0}
 Fails f read = read ≡ Err f
@@ -39,7 +39,7 @@ abbrev pub Gives : {X Y : Type 0} → (X → Y) → Result X Fault → Result Y 
 Gives view (Ok x) read = read ≡ Ok (view x)
 Gives view (Err f) read = Fails f read
 
--- the same where the function answers the value, and what stands after it is left
+-- the same where what was read is a value and what stands after it
 abbrev pub Reads : {X : Type 0} → Result X Fault → Result (X × List ℕ) Fault → List ℕ → Type 0
 Reads (Ok x) read left = read ≡ Ok (x, left)
 Reads (Err f) read left = Fails f read
@@ -54,19 +54,19 @@ unfoldable pub ended : {X : Type 0} → X → List ℕ → Result X Fault
 ended x [] = Ok x
 ended x (b ∷ bs) = Err (fault.Syntax (cond (is_space b) (length bs) (length (b ∷ bs))))
 
--- the fault where the first word says nothing: an unknown word where there is one and it is due from a list
+-- the fault where the first word has no value: an unknown word where one of a list is due and a word is there
 unfoldable pub fault_of : Bool → List ℕ → Fault
 fault_of listed left = cond (listed && nat_lt 0 (length (first_word left))) (fault.UnknownWord (length left)) (fault.Syntax (length left))
 
--- what a word says and what stands after it
+-- the value of the first word and what stands after it
 abbrev pub worded : {X : Type 0} → Bool → List ℕ → Option X → Result (X × List ℕ) Fault
 worded listed left (Some x) = Ok (x, after_word left)
 worded listed left None = Err (fault_of listed left)
 
--- what the first word says, by what each word says
+-- the first word, where words have these values
 unfoldable pub parse_word : {X : Type 0} → Bool → (List ℕ → Option X) → List ℕ → Result (X × List ℕ) Fault
 parse_word listed parsed left = worded listed left (parsed (first_word left))
 
--- what the word after a space says
+-- the word after a space
 unfoldable pub parse_field : {X : Type 0} → Bool → (List ℕ → Option X) → List ℕ → Result (X × List ℕ) Fault
 parse_field listed parsed left = after_space left >>= parse_word listed parsed

@@ -1,9 +1,10 @@
-// What single words stand for. Each value has one spelling: where there may be others, what was read is written and compared.
+// The values of single words. Each value has one spelling; where the parser takes others too, the value is written again and
+// compared.
 ghost use Rattle.std.specs.Prelude.{◌≡◌, ◌^◌, ◌≤◌, IfOk, MatchOption, Some, None};
 ghost use Rattle.std.specs.Option.{option_copied};
 ghost use Rattle.cap_bits.specs.Cap.{all_caps, cap_name};
 ghost use Rattle.kern_model.specs.Named.{named};
-ghost use Rattle.aud_record.specs.Canonical.{canonical_number, canonical_label, canonical_numbered, canonical_pid, canonical_oid, after_prefix, canonical_thing, canonical_new_label, canonical_step, canonical_place, unquoted, canonical_bytes, canonical_caps, canonical_choice};
+ghost use Rattle.aud_record.specs.Canonical.{canonical_number, canonical_label, canonical_numbered, canonical_pid, canonical_oid, after_prefix, canonical_thing, label_given, canonical_new_label, canonical_step, canonical_place, unquoted, canonical_bytes, canonical_caps};
 
 use crate::NoMemory;
 use cap_bits::{Cap, CapState};
@@ -119,19 +120,39 @@ pub fn canonical_thing(
     Ok(None)
 }
 
-/// The new label of a check, or none for `-`.
+/// The new label of a check as a word says it.
+#[derive(Clone, Copy)]
+pub enum NewLabel {
+    /// `-`.
+    Absent,
+    Given(Label),
+}
+
+impl NewLabel {
+    /// The new label, if there is one.
+    pub fn label(self) -> Option<Label>
+        ensures { result ≡ label_given self }
+    {
+        match self {
+            NewLabel::Absent => None,
+            NewLabel::Given(label) => Some(label),
+        }
+    }
+}
+
+/// The new label of a check, or `-`.
 #[tactic(auto, unfolding(crate::specs::Canonical::canonical_new_label))]
 pub fn canonical_new_label(
     alloc: Global,
     policy: &Policy,
     word: &[u8],
-) -> Result<Option<Option<Label>>, NoMemory>
+) -> Result<Option<NewLabel>, NoMemory>
     ensures { IfOk result (λ parsed. parsed ≡ canonical_new_label policy.now word.now) }
 {
     if word == b"-".as_slice() {
-        return Ok(Some(None));
+        return Ok(Some(NewLabel::Absent));
     }
-    Ok(canonical_label(alloc, policy, word)?.map(Some))
+    Ok(canonical_label(alloc, policy, word)?.map(NewLabel::Given))
 }
 
 // The place in a path.
@@ -176,7 +197,7 @@ fn unquoted(alloc: Global, word: &[u8]) -> Result<Option<ByteList>, NoMemory>
     }
 }
 
-/// The bytes that a quoted word spells.
+/// The bytes of which a quoted word is the one spelling.
 #[tactic(auto, unfolding(crate::specs::Canonical::canonical_bytes))]
 pub fn canonical_bytes(alloc: Global, word: &[u8]) -> Result<Option<ByteList>, NoMemory>
     ensures { IfOk result (λ parsed. parsed ≡ canonical_bytes word.now) }
@@ -189,7 +210,7 @@ pub fn canonical_bytes(alloc: Global, word: &[u8]) -> Result<Option<ByteList>, N
     Ok((text.as_slice() == word).then_some(bytes))
 }
 
-/// The capability state that a quoted word spells.
+/// The capability state of which a quoted word is the one spelling.
 #[tactic(auto, unfolding(crate::specs::Canonical::canonical_caps))]
 pub fn canonical_caps(alloc: Global, word: &[u8]) -> Result<Option<CapState>, NoMemory>
     ensures { IfOk result (λ parsed. parsed ≡ canonical_caps word.now) }
@@ -204,20 +225,6 @@ pub fn canonical_caps(alloc: Global, word: &[u8]) -> Result<Option<CapState>, No
     let mut text = Vec::new(alloc);
     put_quoted(&mut text, canonical.as_slice())?;
     Ok((text.as_slice() == word).then_some(caps))
-}
-
-/// Whether a word is the first of two, if it is one of them.
-#[tactic(auto, unfolding(crate::specs::Canonical::canonical_choice))]
-pub fn canonical_choice(first: &[u8], other: &[u8], word: &[u8]) -> Option<bool>
-    ensures { result ≡ canonical_choice first.now other.now word.now }
-{
-    if word == first {
-        return Some(true);
-    }
-    if word == other {
-        return Some(false);
-    }
-    None
 }
 
 /// The capability with this name, in lower case alone.

@@ -5,7 +5,7 @@ ghost use Rattle.aud_record.specs.Events.{event_of, event_word, all_events, who_
 
 use kern_model::{Pid, Rec};
 
-/// A record by its kind alone.
+/// The kind of a record.
 #[derive(Clone, Copy, Debug, PartialEq, Eq)]
 pub enum Event {
     Boot,
@@ -46,7 +46,7 @@ impl Event {
         EVENTS.iter().copied().find(|event| word == event.word())
     }
 
-    /// The kind of a record.
+    /// The kind of this record.
     pub fn of(rec: &Rec) -> Event
         ensures { result ≡ event_of rec.now }
     {

@@ -3,12 +3,12 @@ ghost use Rattle.std.specs.Prelude.{◌≡◌};
 
 use crate::NoMemory;
 
-/// Why a line is no record. A fault gives how many bytes of the line stand from its place on.
+/// Why a line is no record. A fault has the number of bytes of the line from its place on.
 #[derive(Clone, Copy, Debug, PartialEq, Eq)]
 pub enum Fault {
     /// What stands there is not what is due.
     Syntax(usize),
-    /// The word that stands there is none of the words from which this one is chosen.
+    /// The word that stands there is not in the list of words that is due.
     UnknownWord(usize),
     /// Memory ran out.
     NoMemory(NoMemory),

@@ -1,12 +1,13 @@
-// The words of a record by what is due in their place.
+// The reading of each kind of word that a record has.
 ghost use Rattle.std.specs.Prelude.{◌≡◌, ◌^◌, true, false};
 ghost use Rattle.cap_bits.specs.Cap.{all_caps, cap_name};
 ghost use Rattle.kern_model.specs.Named.{named, call_named, check_named, errno_named};
 ghost use Rattle.aud_record.specs.Events.{event_word, all_events};
-ghost use Rattle.aud_record.specs.Canonical.{canonical_number, canonical_label, canonical_pid, canonical_oid, canonical_thing, canonical_new_label, canonical_place, canonical_bytes, canonical_caps, canonical_choice};
+ghost use Rattle.aud_record.specs.Canonical.{canonical_number, canonical_label, canonical_pid, canonical_oid, canonical_thing, canonical_new_label, canonical_place, canonical_bytes, canonical_caps};
+ghost use Rattle.line_text.specs.Reading.{choice};
 ghost use Rattle.aud_record.specs.Words.{Reads, parse_word, parse_field};
 
-use crate::canonical;
+use crate::canonical::{self, NewLabel};
 use crate::event::Event;
 use crate::fault::Fault;
 use crate::words::Words;
@@ -15,6 +16,7 @@ use fs_path::ByteList;
 use kern_model::{CallName, CheckName, Errno, Oid, Pid, Place, Thing};
 use lab_lattice::Label;
 use lab_text::Policy;
+use line_text::choice;
 use std::alloc::Global;
 
 impl Words<'_> {
@@ -28,7 +30,7 @@ impl Words<'_> {
         self.or_syntax(due, parsed)
     }
 
-    /// The status of a process that ended by itself.
+    /// An exit status.
     #[tactic(auto, unfolding(crate::specs::Words::parse_word, crate::specs::Words::parse_field))]
     pub fn status(&mut self, alloc: Global) -> Result<u8, Fault>
         ensures { Reads result (parse_field false (canonical_number (2 ^ 8)) self.old.left.now) self.new.left.now }
@@ -41,10 +43,10 @@ impl Words<'_> {
     /// One of two words: whether it is the first.
     #[tactic(auto, unfolding(crate::specs::Words::parse_word, crate::specs::Words::parse_field))]
     pub fn choice(&mut self, first: &[u8], other: &[u8]) -> Result<bool, Fault>
-        ensures { Reads result (parse_field true (canonical_choice first.now other.now) self.old.left.now) self.new.left.now }
+        ensures { Reads result (parse_field true (choice first.now other.now) self.old.left.now) self.new.left.now }
     {
         let due = self.next()?;
-        let parsed = canonical::canonical_choice(first, other, due.word);
+        let parsed = choice(first, other, due.word);
         self.or_unknown(due, parsed)
     }
 
@@ -128,9 +130,9 @@ impl Words<'_> {
         self.or_syntax(due, parsed)
     }
 
-    /// The new label of a check, which may be none.
+    /// The new label of a check, or `-`.
     #[tactic(auto, unfolding(crate::specs::Words::parse_word, crate::specs::Words::parse_field))]
-    pub fn new_label(&mut self, alloc: Global, policy: &Policy) -> Result<Option<Label>, Fault>
+    pub fn new_label(&mut self, alloc: Global, policy: &Policy) -> Result<NewLabel, Fault>
         ensures { Reads result (parse_field false (canonical_new_label policy.now) self.old.left.now) self.new.left.now }
     {
         let due = self.next()?;

@@ -88,7 +88,7 @@ fn exercise(alloc: Global, policy: &Policy, who: Pid, words: &mut Words) -> Resu
     let check = words.check()?;
     let thing = words.thing(alloc, policy)?;
     let label = words.label(alloc, policy)?;
-    let new_label = words.new_label(alloc, policy)?;
+    let new_label = words.new_label(alloc, policy)?.label();
     let place = words.place(alloc)?;
     let rec = Rec::Exercise(who, own, cap, check, thing, label, new_label, place);
     words.ended(rec)

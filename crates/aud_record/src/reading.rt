@@ -30,7 +30,7 @@ pub struct ReadRec {
 pub enum RecError {
     /// What stands here is not what is due.
     Syntax(usize),
-    /// The word that stands here is none of the words from which this one is chosen.
+    /// The word that stands here is not in the list of words that is due.
     UnknownWord(usize),
     /// The text has no line feed.
     Truncated,

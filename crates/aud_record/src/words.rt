@@ -59,7 +59,7 @@ fn after_space(left: &[u8]) -> Result<&[u8], Fault>
 /// The word that is due, and what stands after it.
 #[derive(Clone, Copy)]
 pub struct Due<'a> {
-    // What is left from the word on.
+    // The line from the word on.
     left: &'a [u8],
     pub word: &'a [u8],
     rest: &'a [u8],
@@ -105,7 +105,7 @@ impl<'a> Words<'a> {
         Ok(Due::first(after_space(self.left)?))
     }
 
-    /// What the word says, where it says something. What stands after it is left then.
+    /// The value of the word, if it has one. What stands after the word is left then.
     #[tactic(auto, unfolding(crate::specs::Words::fault_of))]
     pub fn or_syntax<T>(&mut self, due: Due<'a>, parsed: Option<T>) -> Result<T, Fault>
         ensures { Reads result (worded false due.entry.left.now parsed) self.new.left.now }
@@ -115,7 +115,7 @@ impl<'a> Words<'a> {
         Ok(value)
     }
 
-    /// Which value of a list the word says, where it says one. What stands after it is left then.
+    /// The value of a word of a list, if it has one. What stands after the word is left then.
     #[tactic(auto, unfolding(crate::specs::Words::fault_of))]
     pub fn or_unknown<T>(&mut self, due: Due<'a>, parsed: Option<T>) -> Result<T, Fault>
         ensures { Reads result (worded true due.entry.left.now parsed) self.new.left.now }
@@ -128,7 +128,7 @@ impl<'a> Words<'a> {
         Ok(value)
     }
 
-    /// A value with which the line has to end.
+    /// The value, if the line ends here.
     #[tactic(auto, unfolding(crate::specs::Words::ended))]
     pub fn ended<T: Drop>(&self, value: T) -> Result<T, Fault>
         ensures { Gives (λ x. x) result (ended value self.now.left.now) }

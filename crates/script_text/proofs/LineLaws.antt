@@ -14,6 +14,7 @@ use Rattle.fs_path.specs.Words.{is_blank, words_of}
 use Rattle.fs_path.specs.declared.words.LineWord.{LineWord}
 use Rattle.kern_model.specs.Arguments.{are_flags, is_call, is_number}
 use Rattle.kern_model.specs.Kinds.{is_mode, is_permission}
+use Rattle.kern_model.specs.declared.limits.TheConstants.{MAX_FILE_BYTES, MAX_LINE, MAX_NUMBER, MAX_OFFSET, MAX_PERMISSIONS, MAX_PROCS}
 use Rattle.kern_model.specs.declared.calls.Call.{Call}
 use Rattle.kern_model.specs.declared.calls.Call.TheVariants as call
 use Rattle.kern_model.specs.declared.calls.CallName.{CallName}
@@ -82,9 +83,9 @@ mode_fine w m h = by_numeral (numeral 8 4 0 4095 w) (λ n e. (numeral_within 8 4
 
 permission_fine : (w : List ℕ) (m : ℕ) → a_permission w ≡ Ok m → is_permission m ≡ true
 unfolding a_permission
-permission_fine w m h = below (numeral_within 8 4 0 511 w m (there (numeral 8 4 0 511 w) _ m h)).1
+permission_fine w m h = below (numeral_within 8 4 0 MAX_PERMISSIONS w m (there (numeral 8 4 0 MAX_PERMISSIONS w) _ m h)).1
   where
-    below : nat_le m 511 ≡ true → nat_lt m 512 ≡ true
+    below : nat_le m MAX_PERMISSIONS ≡ true → nat_lt m 512 ≡ true
     below le = grind (arith, nat_tests)
 
 number_fine : (high : ℕ) (w : List ℕ) (n : ℕ) → a_number_up_to high w ≡ Ok n → nat_le n high ≡ true
@@ -94,33 +95,33 @@ number_fine high w n h = (numeral_within 10 10 0 high w n (there (numeral 10 10 
 same_size : (n : ℕ) → unsigned_abs (neg_ℤ (pos n)) ≡ n
 same_size n = omega (arith, ints)
 
-offset_fine : (w : List ℕ) (z : ℤ) → an_offset w ≡ Ok z → nat_le (unsigned_abs z) 4294967295 ≡ true
+offset_fine : (w : List ℕ) (z : ℤ) → an_offset w ≡ Ok z → nat_le (unsigned_abs z) MAX_OFFSET ≡ true
 unfolding an_offset
 offset_fine w z h = by_sign (starts_with ◌==◌ w (codes "-")) (there (signed w) _ z h)
   where
-    sized : (f : ℕ → ℤ) → ((n : ℕ) → unsigned_abs (f n) ≡ n) → (o : Option ℕ) → ((n : ℕ) → o ≡ Some n → nat_le n 4294967295 ≡ true) → option_map f o ≡ Some z → nat_le (unsigned_abs z) 4294967295 ≡ true
+    sized : (f : ℕ → ℤ) → ((n : ℕ) → unsigned_abs (f n) ≡ n) → (o : Option ℕ) → ((n : ℕ) → o ≡ Some n → nat_le n MAX_OFFSET ≡ true) → option_map f o ≡ Some z → nat_le (unsigned_abs z) MAX_OFFSET ≡ true
     sized f size None within h = absurd (cc)
-    sized f size (Some n) within h = let e : f n ≡ z = cc in ap (λ k. nat_le k 4294967295) (ap unsigned_abs (sym e) ∙ size n) ∙ within n refl
+    sized f size (Some n) within h = let e : f n ≡ z = cc in ap (λ k. nat_le k MAX_OFFSET) (ap unsigned_abs (sym e) ∙ size n) ∙ within n refl
 
-    small : (word : List ℕ) (n : ℕ) → number_of word ≡ Some n → nat_le n 4294967295 ≡ true
-    small word n e = (numeral_within 10 10 0 4294967295 word n e).1
+    small : (word : List ℕ) (n : ℕ) → number_of word ≡ Some n → nat_le n MAX_OFFSET ≡ true
+    small word n e = (numeral_within 10 10 0 MAX_NUMBER word n e).1
 
-    by_sign : (v : Bool) → cond v (option_map (λ n. neg_ℤ (pos n)) (number_of (drop 1 w))) (option_map (λ n. pos n) (number_of w)) ≡ Some z → nat_le (unsigned_abs z) 4294967295 ≡ true
+    by_sign : (v : Bool) → cond v (option_map (λ n. neg_ℤ (pos n)) (number_of (drop 1 w))) (option_map (λ n. pos n) (number_of w)) ≡ Some z → nat_le (unsigned_abs z) MAX_OFFSET ≡ true
     by_sign true h = sized (λ n. neg_ℤ (pos n)) same_size (number_of (drop 1 w)) (small (drop 1 w)) h
     by_sign false h = sized (λ n. pos n) (λ n. refl) (number_of w) (small w) h
 
 -- flags that go together, with `c` or without it
-record AreFlags (makes : Bool) (f : OpenFlags) : Type 0 where
+record AreFlags (creates : Bool) (f : OpenFlags) : Type 0 where
   fit : are_flags f ≡ true
-  as_asked : beq f.c makes ≡ true
+  as_asked : beq f.c creates ≡ true
 
-flags_fine : (makes : Bool) (w : List ℕ) (f : OpenFlags) → some_flags makes w ≡ Ok f → AreFlags makes f
+flags_fine : (creates : Bool) (w : List ℕ) (f : OpenFlags) → some_flags creates w ≡ Ok f → AreFlags creates f
 unfolding some_flags
-flags_fine makes w f h =
+flags_fine creates w f h =
     let is = kept _ (flags_in w) f (there _ _ f h) in
-    let last = and_parts _ (beq (flags_in w).c makes) is.0 in
+    let last = and_parts _ (beq (flags_in w).c creates) is.0 in
     let first = and_parts (is_in_order w) (are_flags (flags_in w)) last.0 in
-    record { fit = ap are_flags (sym is.1) ∙ first.1; as_asked = ap (λ (g : OpenFlags). beq g.c makes) (sym is.1) ∙ last.1 }
+    record { fit = ap are_flags (sym is.1) ∙ first.1; as_asked = ap (λ (g : OpenFlags). beq g.c creates) (sym is.1) ∙ last.1 }
 
 without_mode : (f : OpenFlags) → AreFlags false f → not f.c ≡ true
 without_mode f is = by_flag f.c is.as_asked
@@ -142,9 +143,9 @@ module _ (policy : PolicyNames) where
   label_fine w l h = parsed_valid policy w l (there (parse_label policy w) _ l h)
 
   process_fine : (parts : List ℕ × List ℕ) (who : Pid) → process policy parts ≡ Some who → is_number (top_of policy) who ≡ true
-  process_fine parts who h = by_parts (numeral 10 10 1 4095 parts.0) (parse_label policy parts.1) (numeral_within 10 10 1 4095 parts.0) (parsed_valid policy parts.1) h
+  process_fine parts who h = by_parts (numeral 10 10 1 MAX_PROCS parts.0) (parse_label policy parts.1) (numeral_within 10 10 1 MAX_PROCS parts.0) (parsed_valid policy parts.1) h
     where
-      by_parts : (o : Option ℕ) (l : Option Label) → ((n : ℕ) → o ≡ Some n → (nat_le 1 n ≡ true) × (nat_le n 4095 ≡ true)) → ((x : Label) → l ≡ Some x → dominates (top_of policy) x ≡ true)
+      by_parts : (o : Option ℕ) (l : Option Label) → ((n : ℕ) → o ≡ Some n → (nat_le 1 n ≡ true) × (nat_le n MAX_PROCS ≡ true)) → ((x : Label) → l ≡ Some x → dominates (top_of policy) x ≡ true)
           → option_and_then (λ n. option_map (λ at. record { label = at; n = n }) l) o ≡ Some who → is_number (top_of policy) who ≡ true
       by_parts None l within below h = absurd (cc)
       by_parts (Some n) None within below h = absurd (cc)
@@ -225,7 +226,7 @@ module _ (policy : PolicyNames) where
   two_fine : (n : CallName) (v w : List ℕ) (c : Call) → two_parsed policy n v w ≡ Ok c → MayBeMade c
   unfolding two_parsed is_call
   two_fine name.OpenPath v w c h = from_two (λ path flags. call.OpenPath path flags None) _ _ c h (λ path flags _ f. let is = flags_fine false w flags f in and_from _ _ is.fit (without_mode flags is))
-  two_fine name.Read v w c h = from_two call.Read _ _ c h (λ fd n _ n_is. number_fine 65536 w n n_is)
+  two_fine name.Read v w c h = from_two call.Read _ _ c h (λ fd n _ n_is. number_fine MAX_FILE_BYTES w n n_is)
   two_fine name.Write v w c h = from_two call.Write _ _ c h (λ fd bytes _ _. refl)
   two_fine name.Mkfifo v w c h = from_two call.Mkfifo _ _ c h (λ path mode _ m. mode_fine w mode m)
   two_fine name.Mkdir v w c h = from_two call.Mkdir _ _ c h (λ path mode _ m. mode_fine w mode m)
@@ -274,7 +275,7 @@ module _ (policy : PolicyNames) where
   -- what a line says may be played
   pub parsed_played : (text : List ℕ) (l : Line) → parse_line policy text ≡ Ok l → MayBePlayed (top_of policy) l
   unfolding parse_line
-  parsed_played text l h = by_length (nat_lt 2048 (length text)) h
+  parsed_played text l h = by_length (nat_lt MAX_LINE (length text)) h
     where
       by_words : (o : Option (List LineWord)) → parse_words policy o ≡ Ok l → MayBePlayed (top_of policy) l
       by_words None h = absurd (cc)

@@ -1,5 +1,5 @@
--- What single words of a line say: its tag, and the arguments of its call.
-use Rattle.std.specs.Prelude.{ℕ, ◌==◌, ◌&&◌, Bool, true, false, cond, drop, List, Option, None, Some, Result, Ok, Err, is_some, ℤ, pos, neg_ℤ, codes}
+-- The words of a line of a script: its tag, and the arguments of its call.
+use Rattle.std.specs.Prelude.{ℕ, ◌==◌, ◌&&◌, Bool, cond, drop, List, Option, None, Some, Result, Ok, Err, is_some, ℤ, pos, neg_ℤ, codes}
 use Rattle.std.specs.Bool.{beq}
 use Rattle.std.specs.List.{filter, list_any, starts_with}
 use Rattle.std.specs.Option.{ok_or, option_and_then, option_map}
@@ -8,11 +8,10 @@ use Rattle.cap_clause.specs.Parsed.{parse_caps}
 use Rattle.cap_clause.specs.declared.error.CapTextError.{CapTextError}
 use Rattle.fs_path.specs.Split.{split_once}
 use Rattle.fs_path.specs.Path.{PathValue}
-use Rattle.fs_path.specs.PathText.{path_fault, parse_path}
-use Rattle.fs_path.specs.declared.path.PathError.{PathError}
 use Rattle.fs_path.specs.Options.{keep_if}
 use Rattle.fs_path.specs.Values.{numeral, number_of, mode_of}
 use Rattle.kern_model.specs.Arguments.{are_flags}
+use Rattle.kern_model.specs.declared.limits.TheConstants.{MAX_PERMISSIONS, MAX_PROCS}
 use Rattle.kern_model.specs.declared.calls.OpenFlags.{OpenFlags}
 use Rattle.kern_model.specs.declared.calls.Signal.{Signal}
 use Rattle.kern_model.specs.declared.calls.Signal.TheVariants as sent
@@ -23,22 +22,19 @@ use Rattle.lab_lattice.specs.Label.{Label}
 use Rattle.lab_text.specs.Names.{same_bytes}
 use Rattle.lab_text.specs.Policy.{PolicyNames}
 use Rattle.lab_text.specs.Text.{parse_label}
+use Rattle.line_text.specs.Reading.{choice, path_of}
 use Rattle.script_text.specs.declared.fault.LineError.TheVariants as error
 use Rattle.script_text.specs.Reading.{Reading}
 
--- what a word of the right form says
+-- the value of a word, or `syntax` where it has none
 abbrev pub formed : {X : Type 0} → Option X → Reading X
 formed parsed = ok_or parsed error.Syntax
 
 -- ---- paths, labels and capabilities
 
-abbrev pub path_by : Option PathError → PathValue → Reading PathValue
-path_by None parsed = Ok parsed
-path_by (Some fault) parsed = Err error.BadPath
-
 -- a path
 unfoldable pub path : List ℕ → Reading PathValue
-path word = path_by (path_fault word) (parse_path word)
+path word = ok_or (path_of word) error.BadPath
 
 -- a label
 unfoldable pub label : PolicyNames → List ℕ → Reading Label
@@ -54,9 +50,9 @@ caps word = caps_by (parse_caps word)
 
 -- ---- numbers of processes
 
--- the number of a process, from 1 to 4,095, of what stands before and after `@`
+-- the number of a process, from 1 to MAX_PROCS, from the texts before and after its `@`
 abbrev pub process : PolicyNames → List ℕ × List ℕ → Option Pid
-process policy parts = option_and_then (λ n. option_map (λ at. record { label = at; n = n }) (parse_label policy parts.1)) (numeral 10 10 1 4095 parts.0)
+process policy parts = option_and_then (λ n. option_map (λ at. record { label = at; n = n }) (parse_label policy parts.1)) (numeral 10 10 1 MAX_PROCS parts.0)
 
 -- a tag: `n@label`
 unfoldable pub tag : PolicyNames → List ℕ → Reading Pid
@@ -90,7 +86,7 @@ mode word = formed (mode_of word)
 
 -- a mode of permission bits alone
 unfoldable pub permissions : List ℕ → Reading ℕ
-permissions word = formed (numeral 8 4 0 511 word)
+permissions word = formed (numeral 8 4 0 MAX_PERMISSIONS word)
 
 -- bytes
 unfoldable pub bytes : List ℕ → Reading (List ℕ)
@@ -122,9 +118,7 @@ signal word =
     (cond (same_bytes word (codes "KILL")) (Ok sent.Kill) (Err error.Syntax)))
 
 unfoldable pub switch : List ℕ → Reading Bool
-switch word =
-    cond (same_bytes word (codes "on")) (Ok true)
-    (cond (same_bytes word (codes "off")) (Ok false) (Err error.Syntax))
+switch word = formed (choice (codes "on") (codes "off") word)
 
 -- ---- flags
 
@@ -140,10 +134,10 @@ stands_in word letter = list_any (λ b. b == letter) word
 abbrev pub flags_in : List ℕ → OpenFlags
 flags_in word = record { r = stands_in word 114; w = stands_in word 119; c = stands_in word 99; x = stands_in word 120; t = stands_in word 116; a = stands_in word 97 }
 
--- a word is letters of flags in their order, each at most once
+-- a word consists of letters of flags, in their order and each at most once
 abbrev pub is_in_order : List ℕ → Bool
 is_in_order word = same_bytes (filter (stands_in word) flag_letters) word
 
--- flags that go together, with `c` or without it
+-- flags that may stand together, with `c` exactly where a file may be created
 unfoldable pub flags : Bool → List ℕ → Reading OpenFlags
-flags makes word = formed (keep_if (is_in_order word && are_flags (flags_in word) && beq (flags_in word).c makes) (flags_in word))
+flags creates word = formed (keep_if (is_in_order word && are_flags (flags_in word) && beq (flags_in word).c creates) (flags_in word))

@@ -1,5 +1,6 @@
 -- The calls by their words and arguments.
 use Rattle.std.specs.Prelude.{ℕ, List, [], ◌∷◌, None, Some, Ok, Err, true, false}
+use Rattle.kern_model.specs.declared.limits.TheConstants.{MAX_FILE_BYTES, MAX_STATUS}
 use Rattle.kern_model.specs.declared.calls.Call.{Call}
 use Rattle.kern_model.specs.declared.calls.Call.TheVariants as call
 use Rattle.kern_model.specs.declared.calls.CallName.{CallName}
@@ -47,7 +48,7 @@ one_parsed policy name.CapGetFd w = made call.CapGetFd (argument.number w)
 one_parsed policy name.MacGetFile w = made call.MacGetFile (argument.path w)
 one_parsed policy name.MacGetFd w = made call.MacGetFd (argument.number w)
 one_parsed policy name.Exec w = made call.Exec (argument.path w)
-one_parsed policy name.Exit w = made call.Exit (argument.up_to 255 w)
+one_parsed policy name.Exit w = made call.Exit (argument.up_to MAX_STATUS w)
 one_parsed policy name.Setuid w = made call.Setuid (argument.number w)
 one_parsed policy name.Setgid w = made call.Setgid (argument.number w)
 one_parsed policy name.CapSetProc w = made call.CapSetProc (argument.caps w)
@@ -59,7 +60,7 @@ one_parsed policy _ w = Err error.Syntax
 -- the calls with two arguments
 unfoldable pub two_parsed : PolicyNames → CallName → List ℕ → List ℕ → Reading Call
 two_parsed policy name.OpenPath v w = two (λ path flags. call.OpenPath path flags None) (argument.path v) (argument.flags false w)
-two_parsed policy name.Read v w = two call.Read (argument.number v) (argument.up_to 65536 w)
+two_parsed policy name.Read v w = two call.Read (argument.number v) (argument.up_to MAX_FILE_BYTES w)
 two_parsed policy name.Write v w = two call.Write (argument.number v) (argument.bytes w)
 two_parsed policy name.Mkfifo v w = two call.Mkfifo (argument.path v) (argument.mode w)
 two_parsed policy name.Mkdir v w = two call.Mkdir (argument.path v) (argument.mode w)

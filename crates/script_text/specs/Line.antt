@@ -19,7 +19,7 @@ use Rattle.script_text.specs.Calls.{parse_call}
 abbrev pub bytes_in : List LineWord → List (List ℕ)
 bytes_in words = map (λ (w : LineWord). w.bytes) words
 
--- the call of a tag, where its name is one
+-- the tag and the call, where the second word names a call
 abbrev pub item_by : PolicyNames → List ℕ → List (List ℕ) → Option CallName → Reading Line
 item_by policy tag arguments None = Err error.Syntax
 item_by policy tag arguments (Some call) = made (λ item. line.One item.0 item.1) (both (argument.tag policy tag) (parse_call policy call arguments))
@@ -41,7 +41,7 @@ parse_line policy text =
     (cond (is_blank text) (Ok line.Blank)
     (parse_words policy (words_of text)))
 
--- what a line says may be played where top is the highest label
+-- what a line says may be played, where top is the highest label
 abbrev pub MayBePlayed : Label → Line → Type 0
 MayBePlayed top line.Blank = Unit {0}
 MayBePlayed top (line.One who call) = (is_number top who ≡ true) × (is_call top call ≡ true)

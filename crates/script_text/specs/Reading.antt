@@ -1,4 +1,4 @@
--- What words say: a value, or a fault.
+-- What is read of words: a value, or the first fault.
 use Rattle.std.specs.Prelude.{◌≡◌, ℕ, nat_le, cond, Result, Ok, Err}
 use Rattle.script_text.specs.declared.fault.LineError.{LineError}
 use Rattle.script_text.specs.declared.fault.LineError.TheVariants as error
@@ -6,7 +6,7 @@ use Rattle.script_text.specs.declared.fault.LineError.TheVariants as error
 abbrev pub Reading : Type 0 → Type 0
 Reading X = Result X LineError
 
--- the place of a fault in the order in which faults are judged; out of memory stands before them, and no word has it
+-- the place of a fault in the order in which faults are judged; out of memory comes first, and no word causes it
 abbrev pub rank : LineError → ℕ
 rank (error.NoMemory m) = 0
 rank error.TooLong = 1
@@ -27,12 +27,12 @@ both (Ok a) (Err f) = Err f
 both (Err e) (Ok b) = Err e
 both (Err e) (Err f) = Err (first_of e f)
 
--- what is made of a value
+-- what a function makes of the value that was read
 unfoldable pub made : {A B : Type 0} → (A → B) → Reading A → Reading B
 made make (Ok a) = Ok (make a)
 made make (Err e) = Err e
 
--- a cause for which something else than a value was parsed, or that memory ran out
+-- an error is what was parsed, or memory ran out
 abbrev pub IsCause : {X : Type 0} → Reading X → LineError → Type 0
 IsCause parsed (error.NoMemory m) = Unit {0}
 IsCause parsed e = parsed ≡ Err e

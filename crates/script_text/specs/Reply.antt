@@ -21,7 +21,7 @@ stat_words policy s =
     kind_word s.kind ∷ mode_text s.mode ∷ decimal s.owner ∷ decimal s.group ∷ decimal s.size ∷ decimal s.names
     ∷ oid_text policy s.id ∷ label_text policy s.label ∷ []
 
--- real, effective and saved user, the same of the group, and the supplementary groups
+-- real, effective and saved user, then group, and the supplementary groups
 abbrev pub ids_words : Ids → List (List ℕ)
 ids_words ids =
     decimal ids.ruid ∷ decimal ids.euid ∷ decimal ids.suid ∷ decimal ids.rgid ∷ decimal ids.egid ∷ decimal ids.sgid
@@ -44,17 +44,17 @@ answer_words policy (answer.Parent (Some who)) = pid_text policy who ∷ []
 answer_words policy (answer.Ids ids) = ids_words ids
 answer_words policy (answer.Ended who ending) = pid_text policy who ∷ ending_text ending ∷ []
 
--- the words of what a call came to: `ok` and its answer, or an errno, with check and place where a check denied it
+-- the words of a reply: `ok` and the answer, or the errno, with check and place where a check denied the call
 unfoldable pub outcome_words : PolicyNames → Reply → List (List ℕ)
 outcome_words policy (reply.Done answer) = codes "ok" ∷ answer_words policy answer
 outcome_words policy (reply.Denied errno check place) = errno_word errno ∷ check_word check ∷ place_text place ∷ []
 outcome_words policy (reply.Refused errno) = errno_word errno ∷ []
 
--- the reply line: the tag, the word of the call and what it came to
+-- the reply line: the tag, the word of the call and the words of the reply
 unfoldable pub reply_line : PolicyNames → Pid → List ℕ → Reply → List ℕ
 reply_line policy who word reply = line_text (pid_text policy who ∷ word ∷ outcome_words policy reply) ++ 10 ∷ []
 
--- ---- as it is written
+-- ---- word by word
 
 -- a text with further words, each after a space
 abbrev pub with_words : List ℕ → List (List ℕ) → List ℕ

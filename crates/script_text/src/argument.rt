@@ -1,16 +1,19 @@
-// What single words of a line say: its tag, and the arguments of its call.
+// The words of a line of a script: its tag, and the arguments of its call.
 ghost use Rattle.std.specs.Prelude.{◌≡◌};
 ghost use Rattle.kern_model.specs.Arguments.{are_flags};
+ghost use Rattle.kern_model.specs.declared.limits.TheConstants.{MAX_STATUS};
 ghost use Rattle.script_text.specs.Reading.{Answers};
 ghost use Rattle.script_text.specs.Argument as argument;
 
 use crate::LineError;
 use cap_bits::CapState;
 use cap_clause::cap_from_text;
-use fs_path::{ByteList, LineWord, Path, PathError, mode_of, number_of, numeral, split_once};
+use fs_path::{ByteList, LineWord, Path, mode_of, number_of, numeral, split_once};
+use kern_model::limits::{MAX_PERMISSIONS, MAX_PROCS, MAX_STATUS};
 use kern_model::{Mode, OpenFlags, Pid, Signal, Whence};
 use lab_lattice::Label;
 use lab_text::{Policy, mac_from_text};
+use line_text::{choice, path_of};
 use std::alloc::Global;
 
 /// A path.
@@ -18,11 +21,7 @@ use std::alloc::Global;
 pub fn path(alloc: Global, word: &LineWord) -> Result<Path, LineError>
     ensures { Answers (argument.path word.now.bytes) result }
 {
-    match Path::read(alloc, word.bytes.items()) {
-        Ok(path) => Ok(path),
-        Err(PathError::NoMemory(e)) => Err(LineError::NoMemory(e)),
-        Err(_) => Err(LineError::BadPath),
-    }
+    path_of(alloc, word.bytes.items())?.ok_or(LineError::BadPath)
 }
 
 /// A label.
@@ -41,11 +40,11 @@ pub fn caps(word: &LineWord) -> Result<CapState, LineError>
     cap_from_text(word.bytes.items()).map_err(|_| LineError::BadCaps)
 }
 
-// The number of a process, of what stands before and after `@`.
+// The number of a process, from the texts before and after its `@`.
 fn process(policy: &Policy, number: &[u8], label: &[u8]) -> Option<Pid>
     ensures { result ≡ argument.process policy.now (number.now, label.now) }
 {
-    let n = numeral(number, 10, 10, 1, 4095)?;
+    let n = numeral(number, 10, 10, 1, MAX_PROCS as u64)?;
     let label = mac_from_text(policy, label).ok()?;
     Some(Pid { label, n: n as u16 })
 }
@@ -86,12 +85,12 @@ pub fn up_to(high: u32, word: &LineWord) -> Result<u32, LineError>
     Ok(n as u32)
 }
 
-/// A number that fits a byte.
+/// An exit status.
 #[tactic(auto, unfolding(crate::specs::Argument::up_to))]
-pub fn code(word: &LineWord) -> Result<u8, LineError>
-    ensures { result ≡ argument.up_to 255 word.now.bytes }
+pub fn status(word: &LineWord) -> Result<u8, LineError>
+    ensures { result ≡ argument.up_to MAX_STATUS word.now.bytes }
 {
-    let n = numeral(word.bytes.items(), 10, 10, 0, 255).ok_or(LineError::Syntax)?;
+    let n = numeral(word.bytes.items(), 10, 10, 0, u64::from(MAX_STATUS)).ok_or(LineError::Syntax)?;
     Ok(n as u8)
 }
 
@@ -108,7 +107,9 @@ pub fn mode(word: &LineWord) -> Result<Mode, LineError>
 pub fn permissions(word: &LineWord) -> Result<Mode, LineError>
     ensures { result ≡ argument.permissions word.now.bytes }
 {
-    let mode = numeral(word.bytes.items(), 8, 4, 0, 0o777).ok_or(LineError::Syntax)?;
+    let mode = numeral(word.bytes.items(), 8, 4, 0, u64::from(MAX_PERMISSIONS)).ok_or(
+        LineError::Syntax,
+    )?;
     Ok(mode as u16)
 }
 
@@ -169,11 +170,7 @@ pub fn signal(word: &LineWord) -> Result<Signal, LineError>
 pub fn switch(word: &LineWord) -> Result<bool, LineError>
     ensures { result ≡ argument.switch word.now.bytes }
 {
-    match word.bytes.items() {
-        b"on" => Ok(true),
-        b"off" => Ok(false),
-        _ => Err(LineError::Syntax),
-    }
+    choice(b"on", b"off", word.bytes.items()).ok_or(LineError::Syntax)
 }
 
 // Whether a letter stands in a word.
@@ -197,7 +194,7 @@ fn flags_in(word: &[u8]) -> OpenFlags
     }
 }
 
-// Whether a word is letters of flags in their order, each at most once.
+// Whether a word consists of letters of flags, in their order and each at most once.
 fn is_in_order(word: &[u8]) -> bool
     ensures { result ≡ argument.is_in_order word.now }
 {
@@ -216,7 +213,7 @@ fn is_in_order(word: &[u8]) -> bool
     left.is_empty()
 }
 
-// Whether flags go together.
+// Whether a call may have these flags together.
 fn are_flags(flags: OpenFlags) -> bool
     ensures { result ≡ are_flags flags }
 {
@@ -224,13 +221,13 @@ fn are_flags(flags: OpenFlags) -> bool
     (r || w) && (!x || c) && (!t || w) && (!a || w)
 }
 
-/// Flags that go together, with `c` or without it.
+/// Flags that may stand together, with `c` exactly if `creates`.
 #[tactic(auto, unfolding(crate::specs::Argument::flags))]
-pub fn flags(makes: bool, word: &LineWord) -> Result<OpenFlags, LineError>
-    ensures { result ≡ argument.flags makes word.now.bytes }
+pub fn flags(creates: bool, word: &LineWord) -> Result<OpenFlags, LineError>
+    ensures { result ≡ argument.flags creates word.now.bytes }
 {
     let flags = flags_in(word.bytes.items());
-    if !is_in_order(word.bytes.items()) || !are_flags(flags) || flags.c != makes {
+    if !is_in_order(word.bytes.items()) || !are_flags(flags) || flags.c != creates {
         return Err(LineError::Syntax);
     }
     Ok(flags)

@@ -6,11 +6,12 @@ ghost use Rattle.script_text.specs.Line.{bytes_in};
 
 use crate::LineError;
 use crate::argument::{
-    bytes, caps, code, flags, label, mode, number, offset, path, permissions, pid, signal, switch,
-    up_to, whence,
+    bytes, caps, flags, label, mode, number, offset, path, permissions, pid, signal, status,
+    switch, up_to, whence,
 };
 use crate::fault::both;
 use fs_path::LineWord;
+use kern_model::limits::MAX_FILE_BYTES;
 use kern_model::{Call, CallName};
 use lab_text::Policy;
 use std::alloc::Global;
@@ -58,7 +59,7 @@ fn call_of_one(
         CallName::MacGetFile => path(alloc, word).map(Call::MacGetFile),
         CallName::MacGetFd => number(word).map(Call::MacGetFd),
         CallName::Exec => path(alloc, word).map(Call::Exec),
-        CallName::Exit => code(word).map(Call::Exit),
+        CallName::Exit => status(word).map(Call::Exit),
         CallName::Setuid => number(word).map(Call::Setuid),
         CallName::Setgid => number(word).map(Call::Setgid),
         CallName::CapSetProc => caps(word).map(Call::CapSetProc),
@@ -98,7 +99,11 @@ fn call_of_two(
             flags(false, second),
             |path, flags| Call::OpenPath(path, flags, None),
         ),
-        CallName::Read => two(number(first), up_to(65_536, second), Call::Read),
+        CallName::Read => two(
+            number(first),
+            up_to(MAX_FILE_BYTES as u32, second),
+            Call::Read,
+        ),
         CallName::Write => two(number(first), bytes(second), Call::Write),
         CallName::Mkfifo => two(path(alloc, first), mode(second), Call::Mkfifo),
         CallName::Mkdir => two(path(alloc, first), mode(second), Call::Mkdir),
@@ -127,10 +132,10 @@ fn call_of_three(
 {
     match name {
         CallName::OpenPath => {
-            let making = both(flags(true, second), mode(third));
+            let creation = both(flags(true, second), mode(third));
             two(
                 path(alloc, first),
-                making,
+                creation,
                 |path, (flags, mode)| Call::OpenPath(path, flags, Some(mode)),
             )
         }

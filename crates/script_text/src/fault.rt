@@ -1,17 +1,17 @@
-// Faults of lines, and values that may have one.
+// Why a line is refused, and which of two faults counts.
 ghost use Rattle.std.specs.Prelude.{◌≡◌};
 ghost use Rattle.script_text.specs.Reading.{rank, first_of, both};
 
 use crate::NoMemory;
 use thiserror::Error;
 
-/// Why a line is refused: the first fault in this order, whichever of its words has it.
+/// Why a line is refused. Of several faults the first that is listed here counts, whichever word has it.
 #[derive(Clone, Copy, Debug, PartialEq, Eq, Error)]
 pub enum LineError {
     /// It has more than 2,048 bytes.
     #[error("the line has more than 2,048 bytes")]
     TooLong,
-    /// It is not words, its call is unknown, or an argument is missing, too many or of another form.
+    /// It cannot be cut into words, its call is unknown, or its arguments are too few, too many or of another form.
     #[error("the line has not the form of a call")]
     Syntax,
     /// Its tag is not the number of a process.

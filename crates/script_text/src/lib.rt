@@ -1,4 +1,4 @@
-//! The lines of scripts, which are calls by their words, and the lines of replies.
+//! The lines of scripts, each of which is a call, and the lines of replies.
 #![tactic(auto)]
 
 mod argument;

@@ -16,7 +16,7 @@ use std::alloc::Global;
 /// What a line of a script says.
 #[derive(Debug, Drop)]
 pub enum Line {
-    /// Nothing: it has no words, or is a comment.
+    /// No call: it is blank or a comment.
     Blank,
     /// One call of a process.
     One { who: Pid, call: Call },
@@ -39,7 +39,7 @@ fn item_of(alloc: Global, policy: &Policy, words: &[LineWord]) -> Result<Line, L
     Ok(Line::One { who, call })
 }
 
-/// What a line of a script says, which is judged without its line feed.
+/// What a line of a script says. The line comes without its line feed.
 #[tactic(auto, unfolding(crate::specs::Line::parse_line))]
 pub fn read_line(alloc: Global, policy: &Policy, line: &[u8]) -> Result<Line, LineError>
     ensures parsed { IfOk result (λ parsed. parse_line policy.now line.now ≡ Ok parsed) }

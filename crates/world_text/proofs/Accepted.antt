@@ -1,5 +1,5 @@
 -- Whatever a text is, if it is accepted then it is a world.
-use Rattle.std.specs.Prelude.{◌≡◌, ℕ, ◌+◌, ◌≤◌, ◌<◌, ◌==◌, ◌&&◌, ◌||◌, not, nat_le, nat_lt, Bool, true, false, cond, List, [], ◌∷◌, ◌++◌, length, map, Option, None, Some, is_some, is_none, count_by, refl}
+use Rattle.std.specs.Prelude.{◌≡◌, ℕ, ◌+◌, ◌≤◌, ◌==◌, ◌&&◌, ◌||◌, not, nat_le, nat_lt, Bool, true, false, cond, List, [], ◌∷◌, ◌++◌, length, map, Option, None, Some, is_some, is_none, count_by, refl}
 use Rattle.std.proofs.Common.{ap, sym, ◌∙◌, subst, append-nil, append_assoc, arith}
 use Rattle.std.specs.List.{AllByRecursion, list_all}
 use Rattle.std.specs.Option.{option_map}
@@ -7,15 +7,14 @@ use Rattle.std.proofs.lemmas.Bool.{and_parts, and_from, or_parts, or_from, not-f
 use Rattle.std.proofs.lemmas.Option.{cond_some, option_and_then_some, same_Some}
 use Rattle.std.proofs.lemmas.List.Sums.{sum_by-append}
 use Rattle.cap_bits.specs.declared.state.CapState.{CapState}
-use Rattle.cap_bits.specs.CapSet.{CapSet, is_within}
+use Rattle.cap_bits.specs.CapSet.{is_within}
 use Rattle.cap_bits.specs.State.{no_flags}
 use Rattle.fs_path.specs.declared.words.LineWord.{LineWord}
 use Rattle.fs_path.specs.Name.{Name}
-use Rattle.fs_path.specs.Options.{keep_if, then}
 use Rattle.fs_path.specs.Split.{pieces}
 use Rattle.fs_path.specs.Path.{PathValue, HasForm}
 use Rattle.fs_path.proofs.PathLaws.{path_form}
-use Rattle.fs_path.specs.PathText.{path_fault, parse_path}
+use Rattle.fs_path.specs.PathText.{path_fault}
 use Rattle.fs_path.proofs.ValueRanges.{mode_range, groups_few}
 use Rattle.fs_path.specs.Values.{number_of, mode_of, groups_of}
 use Rattle.fs_path.proofs.WordSizes.{words_fit}
@@ -24,8 +23,9 @@ use Rattle.lab_lattice.specs.Label.{Label, dominates, bottom}
 use Rattle.lab_lattice.proofs.Labels.{dominates_both, dominates_bottom}
 use Rattle.lab_text.specs.Names.{Names, same_bytes, is_label_name, are_distinct}
 use Rattle.lab_text.specs.Policy.{PolicyNames, names_fault, MakePolicy, top_of}
-use Rattle.lab_text.specs.Text.{parse_label}
+use Rattle.lab_text.specs.Text.{is_label_text, parse_label}
 use Rattle.lab_text.proofs.Parsed.{parsed_valid}
+use Rattle.kern_model.specs.declared.limits.TheConstants.{MAX_FILE_BYTES, MAX_GROUPS, MAX_LINE, MAX_OBJECTS, MAX_PROCS}
 use Rattle.kern_model.specs.declared.objects.Body.{Body}
 use Rattle.kern_model.specs.declared.objects.Body.TheVariants as body
 use Rattle.kern_model.specs.declared.world.WorldObject.{WorldObject}
@@ -33,17 +33,23 @@ use Rattle.kern_model.specs.declared.world.WorldProc.{WorldProc}
 use Rattle.kern_model.specs.Kinds.{kind_of, bytes_of, is_dir, is_file, is_mode}
 use Rattle.kern_model.specs.Rules.{same_label}
 use Rattle.kern_model.specs.World.{IsWorld, IsWorldObject, IsWorldProc, IsPlaced, ArePlaced, given, parent_names, objects_at, procs_at, same_names}
+use Rattle.line_text.specs.Reading.{path_of}
 use Rattle.world_text.specs.declared.fault.WorldFault.{WorldFault}
-use Rattle.world_text.specs.declared.fault.WorldFault.TheVariants.{Syntax}
+use Rattle.world_text.specs.declared.fault.WorldFault.TheVariants.{Syntax, UnknownName}
 use Rattle.world_text.specs.declared.expecting.Expecting.{Expecting}
 use Rattle.world_text.specs.declared.expecting.Expecting.TheVariants as at
+use Rattle.world_text.specs.declared.expecting.ObjectFields.{ObjectFields}
+use Rattle.world_text.specs.declared.expecting.PartialWorld.{PartialWorld}
+use Rattle.world_text.specs.declared.expecting.ProcFields.{ProcFields}
+use Rattle.world_text.specs.declared.expecting.WordValue.{WordValue}
+use Rattle.world_text.specs.declared.expecting.WordValue.TheVariants as value
 use Rattle.world_text.specs.declared.expecting.Parsed.{Parsed}
 use Rattle.world_text.specs.declared.expecting.Parsed.TheVariants.{Refuses, GoesOn, Begins}
 use Rattle.world_text.specs.declared.world.WorldText.{WorldText}
 use Rattle.world_text.specs.Tree.{Tree}
 use Rattle.world_text.specs.Placing.{is_directory, is_above, directory_of, is_root, object_fault, process_fault}
-use Rattle.world_text.specs.Expecting.{world_of, unless, refuse_or, with_form, or_else, by_keyword, parse_format, parse_levels, parse_categories, parse_bound, set_of, caps_of, path_of, label_form, may_start, proc_caps_of, ObjectFields, parse_object, made, parse_tree, ProcFields, ids_of, parse_process, parse_proc, object_fields_of, proc_fields_of, parse_dir, parse_file, parse_fifo, parse_proc_line, parse_script, parse_tree_line, parse_words, parse_line}
-use Rattle.world_text.specs.Reading.{Reading, Accepted, Refused, Ended, after, reading, read_text}
+use Rattle.world_text.specs.Expecting.{world_of, unless, refuse_or, with_form, with_value, or_else, by_keyword, parse_format, parse_levels, parse_categories, parse_bound, set_of, caps_of, absolute_path, label_value, label_of, both, proc_caps, proc_caps_of, parse_object, object_of, parse_tree, ids_of, parse_process, parse_proc, object_fields_of, proc_fields_of, parse_plain, parse_file, parse_proc_line, parse_script, parse_tree_line, parse_words, parse_line}
+use Rattle.world_text.specs.Reading.{Reading, Accepted, after, reading, read_text}
 
 -- ---- what holds of a reading as far as it has come
 
@@ -62,8 +68,8 @@ record SoundTree (policy : PolicyNames) (t : Tree) : Type 0 where
   rooted : AreRooted t.objects
   objects : AllByRecursion (IsWorldObject (top_of policy)) t.objects
   procs : AllByRecursion (IsWorldProc (top_of policy)) t.procs
-  objects_room : (l : Label) → objects_at l t.objects ≤ 65535
-  procs_room : (l : Label) → procs_at l t.procs ≤ 4095
+  objects_room : (l : Label) → objects_at l t.objects ≤ MAX_OBJECTS
+  procs_room : (l : Label) → procs_at l t.procs ≤ MAX_PROCS
 
 record SoundLevels (levels : Names) : Type 0 where
   some : (length levels == 0) ≡ false
@@ -76,7 +82,7 @@ SoundExpecting at.Format = Unit {0}
 SoundExpecting at.Levels = Unit {0}
 SoundExpecting (at.Categories levels) = SoundLevels levels
 SoundExpecting (at.Bound policy) = MakePolicy policy
-SoundExpecting (at.Tree policy bound t) = MakePolicy policy × SoundTree policy t
+SoundExpecting (at.Tree w) = MakePolicy w.policy × SoundTree w.policy w.builder
 
 record SoundWorld (w : WorldText) : Type 0 where
   world : IsWorld w.world
@@ -111,16 +117,30 @@ first_sound : (b : Bool) (fault : WorldFault) (rest : Option WorldFault) (parsed
 first_sound true fault rest parsed h = refuses fault
 first_sound false fault rest parsed h = h refl
 
-form_sound : {X : Type 0} (o : Option X) (fault : WorldFault) (k : X → Parsed) → ((x : X) → o ≡ Some x → SoundParsed (k x)) → SoundParsed (with_form o fault k)
-form_sound None fault k h = refuses fault
-form_sound (Some x) fault k h = h x refl
+form_sound : {X : Type 0} (o : Option X) (k : X → Parsed) → ((x : X) → o ≡ Some x → SoundParsed (k x)) → SoundParsed (with_form o k)
+form_sound None k h = refuses Syntax
+form_sound (Some x) k h = h x refl
+
+value_sound : {X : Type 0} (v : WordValue X) (k : X → Parsed) → ((x : X) → v ≡ value.Known x → SoundParsed (k x)) → SoundParsed (with_value v k)
+value_sound value.Malformed k h = refuses Syntax
+value_sound value.UnknownName k h = refuses UnknownName
+value_sound (value.Known x) k h = h x refl
+
+both_known : {A B : Type 0} (a : WordValue A) (b : WordValue B) (x : A × B) → both a b ≡ value.Known x → (a ≡ value.Known x.0) × (b ≡ value.Known x.1)
+both_known value.Malformed b x h = absurd (cc)
+both_known value.UnknownName value.Malformed x h = absurd (cc)
+both_known value.UnknownName value.UnknownName x h = absurd (cc)
+both_known value.UnknownName (value.Known b) x h = absurd (cc)
+both_known (value.Known a) value.Malformed x h = absurd (cc)
+both_known (value.Known a) value.UnknownName x h = absurd (cc)
+both_known (value.Known a) (value.Known b) x h = let e : (a, b) ≡ x = cc in (ap (λ (q : _ × _). value.Known q.0) e, ap (λ (q : _ × _). value.Known q.1) e)
 
 -- no word is longer than a file may be
 abbrev AllFit : List LineWord → Type 0
-AllFit ws = AllByRecursion (λ (w : LineWord). length w.bytes ≤ 65536) ws
+AllFit ws = AllByRecursion (λ (w : LineWord). length w.bytes ≤ MAX_FILE_BYTES) ws
 
 abbrev NamesFit : Names → Type 0
-NamesFit names = AllByRecursion (λ (name : List ℕ). length name ≤ 65536) names
+NamesFit names = AllByRecursion (λ (name : List ℕ). length name ≤ MAX_FILE_BYTES) names
 
 names_fit : (ws : List LineWord) → AllFit ws → NamesFit (map (λ (w : LineWord). w.bytes) ws)
 names_fit [] fit = tt
@@ -164,7 +184,7 @@ categories_sound levels names h =
     goes_on (at.Bound (record { levels = levels; cats = names })) (cond-false _ _ _ h.some ∙ cond-false _ _ _ counts ∙ cond-false _ _ _ are_names ∙ cond-false _ _ _ are_apart))))
 
 bound_sound : (policy : PolicyNames) (names : Names) → MakePolicy policy → SoundParsed (parse_bound policy names)
-bound_sound policy (w ∷ []) h = form_sound (set_of w) _ _ (λ known _. form_sound known _ _ (λ bound _. goes_on (at.Tree policy bound (record { objects = []; procs = [] })) (h, nothing)))
+bound_sound policy (w ∷ []) h = value_sound (set_of w) _ (λ bound _. goes_on (at.Tree (record { policy = policy; bound = bound; builder = record { objects = []; procs = [] } })) (h, nothing))
   where
     nothing : SoundTree policy (record { objects = []; procs = [] })
     nothing = record { rooted = tt; objects = tt; procs = tt; objects_room = λ l. omega arith; procs_room = λ l. omega arith }
@@ -241,146 +261,156 @@ rooted_more : (objects : List WorldObject) (o : WorldObject) → AreRooted objec
 rooted_more [] o rooted new parent root order = (first_is o o.path.names refl parent root, tt)
 rooted_more (first ∷ others) o rooted new parent root order = (rooted.0, placed_more (first ∷ []) others o rooted.1 (placed_is first others o o.path.names refl rooted.0.no_names new parent order))
 
-object_sound : (policy : PolicyNames) (bound : CapSet) (t : Tree) (o : WorldObject) → MakePolicy policy → SoundTree policy t → IsWorldObject (top_of policy) o → SoundParsed (parse_object policy bound t o)
+object_sound : (w : PartialWorld) (o : WorldObject) → MakePolicy w.policy → SoundTree w.policy w.builder → IsWorldObject (top_of w.policy) o → SoundParsed (parse_object w o)
 unfolding object_fault
-object_sound policy bound t o h s is =
+object_sound w o h s is =
     first_sound _ _ _ _ (λ new. first_sound _ _ _ _ (λ parent. first_sound _ _ _ _ (λ root. first_sound _ _ _ _ (λ order. first_sound _ _ _ _ (λ fewer.
-    goes_on (at.Tree policy bound (record t { objects = t.objects ++ o ∷ [] })) (
+    goes_on (at.Tree (record w { builder = record w.builder { objects = w.builder.objects ++ o ∷ [] } })) (
       h,
       record {
-        rooted = rooted_more t.objects o s.rooted new parent root order;
-        objects = all_more (λ (o : WorldObject). IsWorldObject (top_of policy) o) t.objects o s.objects is;
+        rooted = rooted_more w.builder.objects o s.rooted new parent root order;
+        objects = all_more (λ (o : WorldObject). IsWorldObject (top_of w.policy) o) w.builder.objects o s.objects is;
         procs = s.procs;
-        objects_room = room_more (λ (o : WorldObject). o.label) t.objects o 65535 s.objects_room fewer;
+        objects_room = room_more (λ (o : WorldObject). o.label) w.builder.objects o MAX_OBJECTS s.objects_room fewer;
         procs_room = s.procs_room;
       },
     ))))))
 
+-- a label that a word says
+label_below : (policy : PolicyNames) (text : List ℕ) (label : Label) → label_of policy text ≡ value.Known label → dominates (top_of policy) label ≡ true
+label_below policy text label h = by_form (is_label_text text) (parse_label policy text) (parsed_valid policy text) h
+  where
+    by_form : (b : Bool) (o : Option Label) → ((l : Label) → o ≡ Some l → dominates (top_of policy) l ≡ true) → cond b (label_value o) value.Malformed ≡ value.Known label → dominates (top_of policy) label ≡ true
+    by_form true None below e = absurd (cc)
+    by_form true (Some l) below e = let same : l ≡ label = cc in subst (λ (l : Label). dominates (top_of policy) l ≡ true) same (below l refl)
+    by_form false o below e = absurd (cc)
+
 -- what the words of a tree line stand for is in its ranges
-record IsFormed (p : ObjectFields) : Type 0 where
-  absolute : p.path.absolute ≡ true
-  path : HasForm p.path.absolute p.path.names
-  mode : is_mode p.mode ≡ true
+record IsFormed (policy : PolicyNames) (f : ObjectFields) : Type 0 where
+  absolute : f.path.absolute ≡ true
+  path : HasForm f.path.absolute f.path.names
+  mode : is_mode f.mode ≡ true
+  below : (label : Label) → f.label ≡ value.Known label → dominates (top_of policy) label ≡ true
 
 none_there : {X : Type 0} (o : Option X) → is_none o ≡ true → o ≡ None
 none_there None h = refl
 none_there (Some x) h = absurd (cc)
 
-path_formed : (word : List ℕ) (path : PathValue) → path_of word ≡ Some path → (path.absolute ≡ true) × HasForm path.absolute path.names
-path_formed word path is =
-    let kept = cond_some _ _ _ is in
-    let parts = and_parts (is_none (path_fault word)) (parse_path word).absolute kept.0 in
-    let fine : path_fault word ≡ None = none_there (path_fault word) parts.0 in
-    (ap (λ (p : PathValue). p.absolute) (sym kept.1) ∙ parts.1, subst (λ (p : PathValue). HasForm p.absolute p.names) kept.1 (path_form word fine))
+path_formed : (word : List ℕ) (path : PathValue) → absolute_path word ≡ Some path → (path.absolute ≡ true) × HasForm path.absolute path.names
+path_formed word path is = option_and_then_some _ (path_of word) path is (λ p p_is kept.
+    let said = cond_some _ _ _ p_is in
+    let fine = none_there (path_fault word) said.0 in
+    let absolute = cond_some _ _ _ kept in
+    subst (λ (p : PathValue). (p.absolute ≡ true) × HasForm p.absolute p.names) absolute.1 (absolute.0, subst (λ (p : PathValue). HasForm p.absolute p.names) said.1 (path_form word fine)))
 
 mode_formed : (word : List ℕ) (mode : ℕ) → mode_of word ≡ Some mode → is_mode mode ≡ true
 mode_formed word mode is = let range = mode_range word mode is in and_from _ _ (lt-ltb mode 4096 range.0) (ap (λ n. n == 0) range.1)
 
-placed_formed : (path mode uid gid label : List ℕ) (p : ObjectFields) → object_fields_of path mode uid gid label ≡ Some p → IsFormed p
+fields_formed : (policy : PolicyNames) (path mode uid gid label : List ℕ) (f : ObjectFields) → object_fields_of policy path mode uid gid label ≡ Some f → IsFormed policy f
 unfolding object_fields_of
-placed_formed path mode uid gid label p is =
-    option_and_then_some _ (path_of path) p is (λ a a_is rest. option_and_then_some _ (mode_of mode) p rest (λ m m_is rest.
-    option_and_then_some _ (number_of uid) p rest (λ u _ rest. option_and_then_some _ (number_of gid) p rest (λ g _ rest. option_and_then_some _ (label_form label) p rest (λ l _ last.
-    let same : record { path = a; mode = m; owner = u; group = g; label = l } ≡ p = same_Some _ _ last in
+fields_formed policy path mode uid gid label f is =
+    option_and_then_some _ (absolute_path path) f is (λ a a_is rest. option_and_then_some _ (mode_of mode) f rest (λ m m_is rest.
+    option_and_then_some _ (number_of uid) f rest (λ u _ rest. option_and_then_some _ (number_of gid) f rest (λ g _ last.
+    let same : record { path = a; mode = m; owner = u; group = g; label = label_of policy label } ≡ f = same_Some _ _ last in
     let formed = path_formed path a a_is in
-    record {
-      absolute = ap (λ (q : ObjectFields). q.path.absolute) (sym same) ∙ formed.0;
-      path = subst (λ (q : ObjectFields). HasForm q.path.absolute q.path.names) same formed.1;
-      mode = ap (λ (q : ObjectFields). is_mode q.mode) (sym same) ∙ mode_formed mode m m_is;
-    })))))
+    subst (λ (f : ObjectFields). IsFormed policy f) same (record { absolute = formed.0; path = formed.1; mode = mode_formed mode m m_is; below = label_below policy label })))))
 
-tree_sound : (policy : PolicyNames) (bound : CapSet) (t : Tree) (form : Option ObjectFields) (caps : Option (Option CapState)) (b : Body) → MakePolicy policy → SoundTree policy t
-    → ((p : ObjectFields) → form ≡ Some p → IsFormed p) → length (bytes_of b) ≤ 65536 → (b ≡ body.Pipe → ⊥)
-    → ((c : CapState) → caps ≡ Some (Some c) → is_file (kind_of b) ≡ false → c ≡ no_flags) → SoundParsed (parse_tree policy bound t form caps b)
-tree_sound policy bound t form caps b h s formed few no_pipe plain =
-    form_sound form _ _ (λ p p_is. form_sound caps _ _ (λ known is. form_sound (parse_label policy p.label) _ _ (λ label parsed. form_sound known _ _ (λ c found.
-    object_sound policy bound t (made p c label b) h s (record {
-      absolute = (formed p p_is).absolute;
-      path = (formed p p_is).path;
-      mode = (formed p p_is).mode;
-      below = parsed_valid policy p.label label parsed;
+tree_sound : (w : PartialWorld) (form : Option ObjectFields) (caps : WordValue CapState) (b : Body) → MakePolicy w.policy → SoundTree w.policy w.builder
+    → ((f : ObjectFields) → form ≡ Some f → IsFormed w.policy f) → length (bytes_of b) ≤ MAX_FILE_BYTES → (b ≡ body.Pipe → ⊥)
+    → ((c : CapState) → caps ≡ value.Known c → is_file (kind_of b) ≡ false → c ≡ no_flags) → SoundParsed (parse_tree w form caps b)
+tree_sound w form caps b h s formed few no_pipe plain =
+    form_sound form _ (λ f f_is. value_sound (both f.label caps) _ (λ x is.
+    let known = both_known f.label caps x is in
+    object_sound w (object_of f x.0 x.1 b) h s (record {
+      absolute = (formed f f_is).absolute;
+      path = (formed f f_is).path;
+      mode = (formed f f_is).mode;
+      below = (formed f f_is).below x.0 known.0;
       few = few;
       no_pipe = no_pipe;
-      only_file = plain c (is ∙ ap Some found);
-    })))))
+      only_file = plain x.1 known.1;
+    })))
 
 -- ---- processes
 
 -- what is effective in the state of a process's text is permitted
-caps_within : (word : List ℕ) (c : CapState) → proc_caps_of word ≡ Some (Some c) → is_within c.e c.p ≡ true
-caps_within word c is = by_known (caps_of word) is
+caps_within : (text : List ℕ) (c : CapState) → proc_caps_of text ≡ value.Known c → is_within c.e c.p ≡ true
+caps_within text c is = by_value (caps_of text) is
   where
-    by_test : (known : Option CapState) (b : Bool) → may_start known ≡ b → keep_if b known ≡ Some (Some c) → is_within c.e c.p ≡ true
-    by_test known true may e = let same : known ≡ Some c = cc in ap may_start (sym same) ∙ may
-    by_test known false may e = absurd (cc)
+    by_test : (caps : CapState) (b : Bool) → is_within caps.e caps.p ≡ b → cond b (value.Known caps) value.Malformed ≡ value.Known c → is_within c.e c.p ≡ true
+    by_test caps true within e = let same : caps ≡ c = cc in subst (λ (c : CapState). is_within c.e c.p ≡ true) same within
+    by_test caps false within e = absurd (cc)
 
-    by_known : (o : Option (Option CapState)) → then o (λ caps. keep_if (may_start caps) caps) ≡ Some (Some c) → is_within c.e c.p ≡ true
-    by_known None e = absurd (cc)
-    by_known (Some known) e = by_test known (may_start known) refl e
+    by_value : (v : WordValue CapState) → proc_caps v ≡ value.Known c → is_within c.e c.p ≡ true
+    by_value value.Malformed e = absurd (cc)
+    by_value value.UnknownName e = absurd (cc)
+    by_value (value.Known caps) e = by_test caps (is_within caps.e caps.p) refl e
 
-process_sound : (policy : PolicyNames) (bound : CapSet) (t : Tree) (w : WorldProc) → MakePolicy policy → SoundTree policy t → IsWorldProc (top_of policy) w → SoundParsed (parse_process policy bound t w)
+process_sound : (w : PartialWorld) (p : WorldProc) → MakePolicy w.policy → SoundTree w.policy w.builder → IsWorldProc (top_of w.policy) p → SoundParsed (parse_process w p)
 unfolding process_fault
-process_sound policy bound t w h s is =
-    first_sound (length t.objects == 0) _ _ _ (λ _. first_sound (nat_le 4095 (procs_at w.label t.procs)) _ _ _ (λ fewer.
-    goes_on (at.Tree policy bound (record t { procs = t.procs ++ w ∷ [] })) (
+process_sound w p h s is =
+    first_sound (length w.builder.objects == 0) _ _ _ (λ _. first_sound (nat_le MAX_PROCS (procs_at p.label w.builder.procs)) _ _ _ (λ fewer.
+    goes_on (at.Tree (record w { builder = record w.builder { procs = w.builder.procs ++ p ∷ [] } })) (
       h,
       record {
         rooted = s.rooted;
         objects = s.objects;
-        procs = all_more (λ (p : WorldProc). IsWorldProc (top_of policy) p) t.procs w s.procs is;
+        procs = all_more (λ (p : WorldProc). IsWorldProc (top_of w.policy) p) w.builder.procs p s.procs is;
         objects_room = s.objects_room;
-        procs_room = room_more (λ (p : WorldProc). p.label) t.procs w 4095 s.procs_room fewer;
+        procs_room = room_more (λ (p : WorldProc). p.label) w.builder.procs p MAX_PROCS s.procs_room fewer;
       },
     )))
 
-owned_few : (label uid gid groups : List ℕ) (o : ProcFields) → proc_fields_of label uid gid groups ≡ Some o → length o.groups ≤ 16
-unfolding proc_fields_of
-owned_few label uid gid groups o is =
-    option_and_then_some _ (label_form label) o is (λ l _ rest. option_and_then_some _ (number_of uid) o rest (λ u _ rest. option_and_then_some _ (number_of gid) o rest (λ g _ rest.
-    option_and_then_some _ (groups_of groups) o rest (λ gs gs_is last.
-    let same : record { label = l; user = u; group = g; groups = gs } ≡ o = same_Some _ _ last in
-    subst (λ (q : ProcFields). length q.groups ≤ 16) same (groups_few groups gs gs_is)))))
+-- what the words of a process line stand for is in its ranges
+record IsProcFormed (policy : PolicyNames) (f : ProcFields) : Type 0 where
+  few : length f.groups ≤ MAX_GROUPS
+  below : (label : Label) → f.label ≡ value.Known label → dominates (top_of policy) label ≡ true
 
-proc_sound : (policy : PolicyNames) (bound : CapSet) (t : Tree) (form : Option ProcFields) (word : List ℕ) → MakePolicy policy → SoundTree policy t → ((o : ProcFields) → form ≡ Some o → length o.groups ≤ 16)
-    → SoundParsed (parse_proc policy bound t form (proc_caps_of word))
-proc_sound policy bound t form word h s few =
-    form_sound form _ _ (λ o o_is. form_sound (proc_caps_of word) _ _ (λ known is. form_sound (parse_label policy o.label) _ _ (λ label parsed. form_sound known _ _ (λ c found.
-    process_sound policy bound t (record { label = label; ids = ids_of o; caps = c }) h s (record {
+proc_formed : (policy : PolicyNames) (label uid gid groups : List ℕ) (f : ProcFields) → proc_fields_of policy label uid gid groups ≡ Some f → IsProcFormed policy f
+unfolding proc_fields_of
+proc_formed policy label uid gid groups f is =
+    option_and_then_some _ (number_of uid) f is (λ u _ rest. option_and_then_some _ (number_of gid) f rest (λ g _ rest. option_and_then_some _ (groups_of groups) f rest (λ gs gs_is last.
+    let same : record { label = label_of policy label; user = u; group = g; groups = gs } ≡ f = same_Some _ _ last in
+    subst (λ (f : ProcFields). IsProcFormed policy f) same (record { few = groups_few groups gs gs_is; below = label_below policy label }))))
+
+proc_sound : (w : PartialWorld) (form : Option ProcFields) (text : List ℕ) → MakePolicy w.policy → SoundTree w.policy w.builder → ((f : ProcFields) → form ≡ Some f → IsProcFormed w.policy f)
+    → SoundParsed (parse_proc w form (proc_caps_of text))
+proc_sound w form text h s formed =
+    form_sound form _ (λ f f_is. value_sound (both f.label (proc_caps_of text)) _ (λ x is.
+    let known = both_known f.label (proc_caps_of text) x is in
+    process_sound w (record { label = x.0; ids = ids_of f; caps = x.1 }) h s (record {
       ids = record { ruid = refl; suid = refl; rgid = refl; sgid = refl };
-      few = few o o_is;
-      below = parsed_valid policy o.label label parsed;
-      within = caps_within word c (is ∙ ap Some found);
-    })))))
+      few = (formed f f_is).few;
+      below = (formed f f_is).below x.0 known.0;
+      within = caps_within text x.1 known.1;
+    })))
 
 -- ---- lines
 
-flags_none : (c : CapState) → Some (Some no_flags) ≡ Some (Some c) → c ≡ no_flags
+flags_none : (c : CapState) → value.Known no_flags ≡ value.Known c → c ≡ no_flags
 flags_none c e = cc
 
-dir_sound : (policy : PolicyNames) (bound : CapSet) (t : Tree) (names : Names) → MakePolicy policy → SoundTree policy t → SoundParsed (parse_dir policy bound t names)
-dir_sound policy bound t (path ∷ mode ∷ uid ∷ gid ∷ label ∷ []) h s = tree_sound policy bound t (object_fields_of path mode uid gid label) (Some (Some no_flags)) body.Dir h s (placed_formed path mode uid gid label) (omega arith) (λ e. absurd (cc)) (λ c is _. flags_none c is)
-dir_sound policy bound t _ h s = refuses Syntax
+plain_sound : (w : PartialWorld) (b : Body) (names : Names) → MakePolicy w.policy → SoundTree w.policy w.builder → length (bytes_of b) ≤ MAX_FILE_BYTES → (b ≡ body.Pipe → ⊥) → SoundParsed (parse_plain w b names)
+plain_sound w b (path ∷ mode ∷ uid ∷ gid ∷ label ∷ []) h s few no_pipe =
+    tree_sound w (object_fields_of w.policy path mode uid gid label) (value.Known no_flags) b h s (fields_formed w.policy path mode uid gid label) few no_pipe (λ c is _. flags_none c is)
+plain_sound w b _ h s few no_pipe = refuses Syntax
 
-file_sound : (policy : PolicyNames) (bound : CapSet) (t : Tree) (names : Names) → MakePolicy policy → SoundTree policy t → NamesFit names → SoundParsed (parse_file policy bound t names)
-file_sound policy bound t (path ∷ mode ∷ uid ∷ gid ∷ label ∷ bytes ∷ []) h s fit =
-    tree_sound policy bound t (object_fields_of path mode uid gid label) (Some (Some no_flags)) (body.File bytes) h s (placed_formed path mode uid gid label) fit.1.1.1.1.1.0 (λ e. absurd (cc)) (λ c is _. flags_none c is)
-file_sound policy bound t (path ∷ mode ∷ uid ∷ gid ∷ label ∷ bytes ∷ caps ∷ []) h s fit =
-    tree_sound policy bound t (object_fields_of path mode uid gid label) (caps_of caps) (body.File bytes) h s (placed_formed path mode uid gid label) fit.1.1.1.1.1.0 (λ e. absurd (cc)) (λ c is no_file. absurd (cc))
-file_sound policy bound t _ h s fit = refuses Syntax
+file_sound : (w : PartialWorld) (names : Names) → MakePolicy w.policy → SoundTree w.policy w.builder → NamesFit names → SoundParsed (parse_file w names)
+file_sound w (path ∷ mode ∷ uid ∷ gid ∷ label ∷ bytes ∷ []) h s fit =
+    tree_sound w (object_fields_of w.policy path mode uid gid label) (value.Known no_flags) (body.File bytes) h s (fields_formed w.policy path mode uid gid label) fit.1.1.1.1.1.0 (λ e. absurd (cc)) (λ c is _. flags_none c is)
+file_sound w (path ∷ mode ∷ uid ∷ gid ∷ label ∷ bytes ∷ caps ∷ []) h s fit =
+    tree_sound w (object_fields_of w.policy path mode uid gid label) (caps_of caps) (body.File bytes) h s (fields_formed w.policy path mode uid gid label) fit.1.1.1.1.1.0 (λ e. absurd (cc)) (λ c is no_file. absurd (cc))
+file_sound w _ h s fit = refuses Syntax
 
-fifo_sound : (policy : PolicyNames) (bound : CapSet) (t : Tree) (names : Names) → MakePolicy policy → SoundTree policy t → SoundParsed (parse_fifo policy bound t names)
-fifo_sound policy bound t (path ∷ mode ∷ uid ∷ gid ∷ label ∷ []) h s = tree_sound policy bound t (object_fields_of path mode uid gid label) (Some (Some no_flags)) body.Fifo h s (placed_formed path mode uid gid label) (omega arith) (λ e. absurd (cc)) (λ c is _. flags_none c is)
-fifo_sound policy bound t _ h s = refuses Syntax
-
-proc_line_sound : (policy : PolicyNames) (bound : CapSet) (t : Tree) (names : Names) → MakePolicy policy → SoundTree policy t → SoundParsed (parse_proc_line policy bound t names)
-proc_line_sound policy bound t (label ∷ uid ∷ gid ∷ groups ∷ caps ∷ []) h s = proc_sound policy bound t (proc_fields_of label uid gid groups) caps h s (owned_few label uid gid groups)
-proc_line_sound policy bound t _ h s = refuses Syntax
+proc_line_sound : (w : PartialWorld) (names : Names) → MakePolicy w.policy → SoundTree w.policy w.builder → SoundParsed (parse_proc_line w names)
+proc_line_sound w (label ∷ uid ∷ gid ∷ groups ∷ caps ∷ []) h s = proc_sound w (proc_fields_of w.policy label uid gid groups) caps h s (proc_formed w.policy label uid gid groups)
+proc_line_sound w _ h s = refuses Syntax
 
 -- a sound tree with objects makes a world
-tree_world : (policy : PolicyNames) (bound : CapSet) (objects : List WorldObject) (procs : List WorldProc) → MakePolicy policy → SoundTree policy (record { objects = objects; procs = procs })
-    → (length objects == 0) ≡ false → SoundWorld (world_of policy bound (record { objects = objects; procs = procs }))
-tree_world policy bound [] procs h s some = absurd (cc)
-tree_world policy bound (first ∷ others) procs h s some = record {
+tree_world : (w : PartialWorld) (objects : List WorldObject) → MakePolicy w.policy → SoundTree w.policy (record w.builder { objects = objects })
+    → (length objects == 0) ≡ false → SoundWorld (world_of (record w { builder = record w.builder { objects = objects } }))
+tree_world w [] h s some = absurd (cc)
+tree_world w (first ∷ others) h s some = record {
   world = record {
     first = first;
     others = others;
@@ -397,17 +427,17 @@ tree_world policy bound (first ∷ others) procs h s some = record {
   policy = h;
 }
 
-script_sound : (policy : PolicyNames) (bound : CapSet) (t : Tree) (names : Names) → MakePolicy policy → SoundTree policy t → SoundParsed (parse_script policy bound t names)
-script_sound policy bound t [] h s = unless_sound _ _ _ (λ some. begins (world_of policy bound t) (tree_world policy bound t.objects t.procs h s some))
-script_sound policy bound t _ h s = refuses Syntax
+script_sound : (w : PartialWorld) (names : Names) → MakePolicy w.policy → SoundTree w.policy w.builder → SoundParsed (parse_script w names)
+script_sound w [] h s = unless_sound _ _ _ (λ some. begins (world_of w) (tree_world w w.builder.objects h s some))
+script_sound w _ h s = refuses Syntax
 
-tree_line_sound : (policy : PolicyNames) (bound : CapSet) (t : Tree) (ws : List LineWord) → MakePolicy policy → SoundTree policy t → AllFit ws → SoundParsed (parse_tree_line policy bound t ws)
-tree_line_sound policy bound t ws h s fit =
-    keyword_sound _ ws _ _ fit (λ names _. dir_sound policy bound t names h s)
-    (keyword_sound _ ws _ _ fit (λ names fits. file_sound policy bound t names h s fits)
-    (keyword_sound _ ws _ _ fit (λ names _. fifo_sound policy bound t names h s)
-    (keyword_sound _ ws _ _ fit (λ names _. proc_line_sound policy bound t names h s)
-    (keyword_sound _ ws _ _ fit (λ names _. script_sound policy bound t names h s)
+tree_line_sound : (w : PartialWorld) (ws : List LineWord) → MakePolicy w.policy → SoundTree w.policy w.builder → AllFit ws → SoundParsed (parse_tree_line w ws)
+tree_line_sound w ws h s fit =
+    keyword_sound _ ws _ _ fit (λ names _. plain_sound w body.Dir names h s (omega arith) (λ e. absurd (cc)))
+    (keyword_sound _ ws _ _ fit (λ names fits. file_sound w names h s fits)
+    (keyword_sound _ ws _ _ fit (λ names _. plain_sound w body.Fifo names h s (omega arith) (λ e. absurd (cc)))
+    (keyword_sound _ ws _ _ fit (λ names _. proc_line_sound w names h s)
+    (keyword_sound _ ws _ _ fit (λ names _. script_sound w names h s)
     (refuses Syntax)))))
 
 words_sound : (expecting : Expecting) (ws : List LineWord) → SoundExpecting expecting → AllFit ws → SoundParsed (parse_words expecting ws)
@@ -416,10 +446,10 @@ words_sound at.Format ws h fit = keyword_sound _ ws _ _ fit (λ names _. format_
 words_sound at.Levels ws h fit = keyword_sound _ ws _ _ fit (λ names _. levels_sound names) (refuses Syntax)
 words_sound (at.Categories levels) ws h fit = keyword_sound _ ws _ _ fit (λ names _. categories_sound levels names h) (refuses Syntax)
 words_sound (at.Bound policy) ws h fit = keyword_sound _ ws _ _ fit (λ names _. bound_sound policy names h) (refuses Syntax)
-words_sound (at.Tree policy bound t) ws h fit = tree_line_sound policy bound t ws h.0 h.1 fit
+words_sound (at.Tree w) ws h fit = tree_line_sound w ws h.0 h.1 fit
 
 -- the words of a line that is not too long
-line_fits : (line : List ℕ) (ws : List LineWord) → length line ≤ 2048 → words_of line ≡ Some ws → AllFit ws
+line_fits : (line : List ℕ) (ws : List LineWord) → length line ≤ MAX_LINE → words_of line ≡ Some ws → AllFit ws
 line_fits line ws short is = wider ws (words_fit line ws is)
   where
     wider : (ws : List LineWord) → AllByRecursion (λ (w : LineWord). length w.bytes ≤ length line) ws → AllFit ws
@@ -429,58 +459,37 @@ line_fits line ws short is = wider ws (words_fit line ws is)
 line_sound : (expecting : Expecting) (line : List ℕ) → SoundExpecting expecting → SoundParsed (parse_line expecting line)
 unfolding parse_line
 line_sound expecting line h =
-    unless_sound (nat_lt 2048 (length line)) _ _ (λ short. by_blank (is_blank line) (form_sound (words_of line) _ _ (λ ws is. words_sound expecting ws h (line_fits line ws (ltb-false _ _ short) is))))
+    unless_sound (nat_lt MAX_LINE (length line)) _ _ (λ short. by_blank (is_blank line) (form_sound (words_of line) _ (λ ws is. words_sound expecting ws h (line_fits line ws (ltb-false _ _ short) is))))
   where
-    by_blank : (b : Bool) → SoundParsed (with_form (words_of line) Syntax (parse_words expecting)) → SoundParsed (cond b (GoesOn expecting) (with_form (words_of line) Syntax (parse_words expecting)))
+    by_blank : (b : Bool) → SoundParsed (with_form (words_of line) (parse_words expecting)) → SoundParsed (cond b (GoesOn expecting) (with_form (words_of line) (parse_words expecting)))
     by_blank true s = goes_on expecting h
     by_blank false s = s
 
 -- ---- texts
 
--- what a reading accepts is sound, and its script begins after a line
-record SoundReading (at : ℕ) (r : Reading) : Type 0 where
-  world_is : (w : WorldText) (n : ℕ) (script : List (List ℕ)) → r ≡ Accepted w n script → SoundWorld w
-  number_is : (w : WorldText) (n : ℕ) (script : List (List ℕ)) → r ≡ Accepted w n script → at < n
+-- what a reading accepts is sound
+abbrev SoundReading : Reading → Type 0
+SoundReading r = (w : WorldText) (n : ℕ) (script : List (List ℕ)) → r ≡ Accepted w n script → SoundWorld w
 
-ended : (m n : ℕ) (last : List ℕ) → SoundReading m (Ended n last)
-ended m n last = record { world_is = λ w k script e. absurd cc; number_is = λ w k script e. absurd cc }
-
-refused : (m n : ℕ) (fault : WorldFault) → SoundReading m (Refused n fault)
-refused m n fault = record { world_is = λ w k script e. absurd cc; number_is = λ w k script e. absurd cc }
-
-further : (m : ℕ) (r : Reading) → SoundReading (m + 1) r → SoundReading m r
-further m r h = record { world_is = h.world_is; number_is = λ w n script e. let past = h.number_is w n script e in omega arith }
-
-after_sound : (parsed : Parsed) (n : ℕ) (rest : List (List ℕ)) (more : Expecting → Reading) → SoundParsed parsed → ((expecting : Expecting) → SoundExpecting expecting → SoundReading n (more expecting)) → SoundReading n (after parsed n rest more)
-after_sound (Refuses fault) n rest more h k = refused n n fault
+after_sound : (parsed : Parsed) (n : ℕ) (rest : List (List ℕ)) (more : Expecting → Reading) → SoundParsed parsed → ((expecting : Expecting) → SoundExpecting expecting → SoundReading (more expecting)) → SoundReading (after parsed n rest more)
+after_sound (Refuses fault) n rest more h k = λ w m script e. absurd cc
 after_sound (GoesOn expecting) n rest more h k = k expecting (h.expecting_is expecting refl)
-after_sound (Begins world) n rest more h k = record {
-  world_is = λ w m script e. let same : world ≡ w = cc in subst (λ w. SoundWorld w) same (h.world_is world refl);
-  number_is = λ w m script e. let same : n + 1 ≡ m = cc in omega arith;
-}
+after_sound (Begins world) n rest more h k = λ w m script e. let same : world ≡ w = cc in subst (λ w. SoundWorld w) same (h.world_is world refl)
 
-reading_sound : (n : ℕ) (expecting : Expecting) (ls : List (List ℕ)) → SoundExpecting expecting → SoundReading n (reading n expecting ls)
+reading_sound : (n : ℕ) (expecting : Expecting) (ls : List (List ℕ)) → SoundExpecting expecting → SoundReading (reading n expecting ls)
 unfolding reading
-reading_sound n expecting [] h = ended n n []
-reading_sound n expecting (last ∷ []) h = ended n n last
+reading_sound n expecting [] h = λ w m script e. absurd cc
+reading_sound n expecting (last ∷ []) h = λ w m script e. absurd cc
 reading_sound n expecting (line ∷ next ∷ ls) h =
-    after_sound (parse_line expecting line) n (next ∷ ls) _ (line_sound expecting line h) (λ expecting h. further n _ (reading_sound (n + 1) expecting (next ∷ ls) h))
+    after_sound (parse_line expecting line) n (next ∷ ls) _ (line_sound expecting line h) (λ expecting h. reading_sound (n + 1) expecting (next ∷ ls) h)
 
-text_sound : (text : List ℕ) → SoundReading 1 (read_text text)
+text_sound : (text : List ℕ) → SoundReading (read_text text)
 text_sound text = reading_sound 1 at.Format (pieces 10 text) tt
 
 -- an accepted world is one
 pub accepted_world : (text : List ℕ) (w : WorldText) (n : ℕ) (script : List (List ℕ)) → read_text text ≡ Accepted w n script → IsWorld w.world
-accepted_world text w n script e = ((text_sound text).world_is w n script e).world
+accepted_world text w n script e = (text_sound text w n script e).world
 
 -- its top is that of its names
 pub accepted_top : (text : List ℕ) (w : WorldText) (n : ℕ) (script : List (List ℕ)) → read_text text ≡ Accepted w n script → w.world.top ≡ top_of w.policy
-accepted_top text w n script e = ((text_sound text).world_is w n script e).top
-
--- its names make a policy
-pub accepted_policy : (text : List ℕ) (w : WorldText) (n : ℕ) (script : List (List ℕ)) → read_text text ≡ Accepted w n script → MakePolicy w.policy
-accepted_policy text w n script e = ((text_sound text).world_is w n script e).policy
-
--- its script begins after the first line
-pub accepted_number : (text : List ℕ) (w : WorldText) (n : ℕ) (script : List (List ℕ)) → read_text text ≡ Accepted w n script → 2 ≤ n
-accepted_number text w n script e = let past = (text_sound text).number_is w n script e in omega arith
+accepted_top text w n script e = (text_sound text w n script e).top

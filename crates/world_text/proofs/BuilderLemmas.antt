@@ -19,7 +19,7 @@ use Rattle.kern_model.specs.Rules.{same_label}
 use Rattle.kern_model.specs.World.{same_names, parent_names, given, objects_at, procs_at}
 use Rattle.world_text.specs.declared.builder.PathEntry.{PathEntry}
 use Rattle.world_text.specs.Placing.{directory_of, is_directory, is_above}
-use Rattle.world_text.specs.PathEntry.{path_entry_of, names_cmp, count_in, is_standing_dir, is_above_standing}
+use Rattle.world_text.specs.PathEntry.{path_entry_of, names_cmp, count_in, is_dir_entry, is_above_entry}
 
 -- ---- counts
 
@@ -120,11 +120,11 @@ directory_stands os (n ∷ ns) some =
     let less : length ns ≡ suc (length ns) - 1 = omega arith in
     ap (given os) (parent_taken n ns ∙ ap (λ k. take k (n ∷ ns)) less)
 
-pub stands_as_dir : (o : Option WorldObject) → is_standing_dir (option_map path_entry_of o) ≡ is_directory o
+pub stands_as_dir : (o : Option WorldObject) → is_dir_entry (option_map path_entry_of o) ≡ is_directory o
 stands_as_dir None = refl
 stands_as_dir (Some o) = refl
 
-pub stands_above : (l : Label) (o : Option WorldObject) → is_above_standing l (option_map path_entry_of o) ≡ is_above l o
+pub stands_above : (l : Label) (o : Option WorldObject) → is_above_entry l (option_map path_entry_of o) ≡ is_above l o
 stands_above l None = refl
 stands_above l (Some o) = refl
 

@@ -2,16 +2,15 @@
 use Rattle.std.proofs.Common.{◌≡◌, ℕ, Bool, true, false, cond, not, ◌&&◌, ◌||◌, nat_lt, List, [], length, refl, sym, ◌∙◌, ap, Option, Some, None, Result, Ok, Err}
 use Rattle.std.specs.Prelude.{◌==◌, ◌∷◌, ◌++◌, option_and_then, is_some}
 use Rattle.std.specs.Option.{option_map}
+use Rattle.std.proofs.lemmas.Bool.{cond-true}
 use Rattle.std.proofs.lemmas.Option.{same_Some}
 use Rattle.std.specs.List.{list_all}
-use Rattle.cap_bits.specs.CapSet.{CapSet}
 use Rattle.lab_lattice.specs.Label.{Label}
 use Rattle.lab_text.specs.Names.{Names, is_label_name, are_distinct}
 use Rattle.lab_text.specs.Policy.{PolicyNames, names_fault}
-use Rattle.lab_text.specs.Text.{LabelWords, label_words, label_of, parse_label, unknown_in}
+use Rattle.lab_text.specs.Text.{LabelWords, label_words, is_label_text, label_of as label_of_words, parse_label}
 use Rattle.lab_text.specs.declared.policy.PolicyError.{PolicyError}
 use Rattle.lab_text.specs.declared.policy.PolicyError.TheVariants as error
-use Rattle.lab_text.specs.declared.text.LabelError.{LabelError}
 use Rattle.kern_model.specs.declared.world.WorldObject.{WorldObject}
 use Rattle.kern_model.specs.declared.world.WorldProc.{WorldProc}
 use Rattle.world_text.specs.declared.fault.WorldFault.{WorldFault}
@@ -19,12 +18,14 @@ use Rattle.world_text.specs.declared.fault.WorldFault.TheVariants.{Syntax, Repea
 use Rattle.world_text.specs.declared.expecting.Expecting.TheVariants as at
 use Rattle.world_text.specs.declared.expecting.Parsed.{Parsed}
 use Rattle.world_text.specs.declared.expecting.Parsed.TheVariants.{Refuses, GoesOn}
+use Rattle.world_text.specs.declared.expecting.PartialWorld.{PartialWorld}
+use Rattle.world_text.specs.declared.expecting.WordValue.TheVariants as value
 use Rattle.world_text.specs.Tree.{Tree}
-use Rattle.world_text.specs.Expecting.{unless, refuse_or, parse_levels, parse_categories, label_form, parse_object, parse_process}
+use Rattle.world_text.specs.Expecting.{unless, refuse_or, parse_levels, parse_categories, label_value, label_of, parse_object, parse_process}
 use Rattle.world_text.specs.Lines.{fault_for, Makes}
 use Rattle.world_text.specs.Placing.{object_fault, process_fault}
 
--- what is said where names may make no policy
+-- the fault of names that make no policy, or what follows
 abbrev pub reported : Option PolicyError → Parsed → Parsed
 reported None parsed = parsed
 reported (Some e) parsed = Refuses (fault_for e)
@@ -103,34 +104,29 @@ categories_refused levels names words items r fault fine h makes is =
 -- ---- labels
 
 -- a text that says a label has the form of one
-pub has_form : (p : PolicyNames) (text : List ℕ) (label : Label) → parse_label p text ≡ Some label → label_form text ≡ Some text
+parsed_form : (p : PolicyNames) (text : List ℕ) (label : Label) → parse_label p text ≡ Some label → is_label_text text ≡ true
 unfolding parse_label
-has_form p text label e = by_words (label_words text) refl e
+parsed_form p text label e = by_words (label_words text) e
   where
-    by_words : (w : Option LabelWords) → label_words text ≡ w → option_and_then (label_of p) w ≡ Some label → label_form text ≡ Some text
-    by_words None f e = absurd (cc)
-    by_words (Some w) f e = ap (λ (o : Option LabelWords). cond (is_some o) (Some text) None) f
+    by_words : (w : Option LabelWords) → option_and_then (label_of_words p) w ≡ Some label → is_some w ≡ true
+    by_words None e = absurd (cc)
+    by_words (Some w) e = refl
 
--- a text with an unknown name has the form of one
-pub unknown_has_form : (p : PolicyNames) (text : List ℕ) (why : LabelError) → option_and_then (unknown_in p) (label_words text) ≡ Some why → label_form text ≡ Some text
-unknown_has_form p text why e = by_words (label_words text) refl e
-  where
-    by_words : (w : Option LabelWords) → label_words text ≡ w → option_and_then (unknown_in p) w ≡ Some why → label_form text ≡ Some text
-    by_words None f e = absurd (cc)
-    by_words (Some w) f e = ap (λ (o : Option LabelWords). cond (is_some o) (Some text) None) f
+pub label_known : (p : PolicyNames) (text : List ℕ) (label : Label) → parse_label p text ≡ Some label → value.Known label ≡ label_of p text
+label_known p text label e = sym (cond-true _ _ _ (parsed_form p text label e) ∙ ap label_value e)
 
--- ---- what is said with a fault, and without one
+-- ---- an object or a process, with a fault and without one
 
-pub object_refused : (p : PolicyNames) (bound : CapSet) (t : Tree) (o : WorldObject) (fault : WorldFault) → Some fault ≡ object_fault t o → Refuses fault ≡ parse_object p bound t o
-object_refused p bound t o fault e = ap (λ f. refuse_or f (GoesOn (at.Tree p bound (record t { objects = t.objects ++ o ∷ [] })))) e
+pub object_refused : (w : PartialWorld) (o : WorldObject) (fault : WorldFault) → Some fault ≡ object_fault w.builder o → Refuses fault ≡ parse_object w o
+object_refused w o fault e = ap (λ f. refuse_or f (GoesOn (at.Tree (record w { builder = record w.builder { objects = w.builder.objects ++ o ∷ [] } })))) e
 
-pub object_put : (p : PolicyNames) (bound : CapSet) (t u : Tree) (o : WorldObject) → None ≡ object_fault t o → u ≡ record t { objects = t.objects ++ o ∷ [] } → GoesOn (at.Tree p bound u) ≡ parse_object p bound t o
-object_put p bound t u o e is =
-    ap (λ (v : Tree). GoesOn (at.Tree p bound v)) is ∙ ap (λ f. refuse_or f (GoesOn (at.Tree p bound (record t { objects = t.objects ++ o ∷ [] })))) e
+pub object_put : (w : PartialWorld) (t : Tree) (o : WorldObject) → None ≡ object_fault w.builder o → t ≡ record w.builder { objects = w.builder.objects ++ o ∷ [] } → GoesOn (at.Tree (record w { builder = t })) ≡ parse_object w o
+object_put w t o e is =
+    ap (λ (t : Tree). GoesOn (at.Tree (record w { builder = t }))) is ∙ ap (λ f. refuse_or f (GoesOn (at.Tree (record w { builder = record w.builder { objects = w.builder.objects ++ o ∷ [] } })))) e
 
-pub process_refused : (p : PolicyNames) (bound : CapSet) (t : Tree) (w : WorldProc) (fault : WorldFault) → Some fault ≡ process_fault t w → Refuses fault ≡ parse_process p bound t w
-process_refused p bound t w fault e = ap (λ f. refuse_or f (GoesOn (at.Tree p bound (record t { procs = t.procs ++ w ∷ [] })))) e
+pub process_refused : (w : PartialWorld) (p : WorldProc) (fault : WorldFault) → Some fault ≡ process_fault w.builder p → Refuses fault ≡ parse_process w p
+process_refused w p fault e = ap (λ f. refuse_or f (GoesOn (at.Tree (record w { builder = record w.builder { procs = w.builder.procs ++ p ∷ [] } })))) e
 
-pub process_put : (p : PolicyNames) (bound : CapSet) (t u : Tree) (w : WorldProc) → None ≡ process_fault t w → u ≡ record t { procs = t.procs ++ w ∷ [] } → GoesOn (at.Tree p bound u) ≡ parse_process p bound t w
-process_put p bound t u w e is =
-    ap (λ (v : Tree). GoesOn (at.Tree p bound v)) is ∙ ap (λ f. refuse_or f (GoesOn (at.Tree p bound (record t { procs = t.procs ++ w ∷ [] })))) e
+pub process_put : (w : PartialWorld) (t : Tree) (p : WorldProc) → None ≡ process_fault w.builder p → t ≡ record w.builder { procs = w.builder.procs ++ p ∷ [] } → GoesOn (at.Tree (record w { builder = t })) ≡ parse_process w p
+process_put w t p e is =
+    ap (λ (t : Tree). GoesOn (at.Tree (record w { builder = t }))) is ∙ ap (λ f. refuse_or f (GoesOn (at.Tree (record w { builder = record w.builder { procs = w.builder.procs ++ p ∷ [] } })))) e

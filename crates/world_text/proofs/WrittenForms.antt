@@ -1,7 +1,7 @@
 -- What the words of a line spell, from what holds of a world and of what is written.
-use Rattle.std.specs.Prelude.{◌≡◌, ◌/◌, ◌%◌, ◌≤◌, nat_le, true, false, List, [], ◌∷◌, length, refl}
+use Rattle.std.specs.Prelude.{◌≡◌, ◌/◌, ◌%◌, ◌≤◌, true, false, List, [], ◌∷◌, length, refl}
 use Rattle.std.proofs.Common.{arith}
-use Rattle.std.specs.List.{AllByRecursion, list_all}
+use Rattle.std.specs.List.{AllByRecursion}
 use Rattle.std.proofs.lemmas.Bool.{and_parts, ltb-true, eqb-true}
 use Rattle.fs_path.specs.Path.{PathValue, HasForm}
 use Rattle.lab_lattice.specs.Label.{Label, dominates}
@@ -12,9 +12,10 @@ use Rattle.kern_model.specs.declared.objects.Body.{Body}
 use Rattle.kern_model.specs.declared.objects.Body.TheVariants as body
 use Rattle.kern_model.specs.declared.world.WorldObject.{WorldObject}
 use Rattle.kern_model.specs.declared.world.WorldProc.{WorldProc}
+use Rattle.kern_model.specs.declared.limits.TheConstants.{MAX_GROUPS}
 use Rattle.kern_model.specs.Kinds.{is_file, kind_of}
 use Rattle.kern_model.specs.World.{IsWorldObject, IsWorldProc}
-use Rattle.line_text.specs.Ranges.{are_bytes, IsNumber}
+use Rattle.line_text.specs.Ranges.{are_bytes, are_numbers, IsNumber}
 use Rattle.world_text.specs.CanBeRead.{HasBytes, IsWrittenObject, IsWrittenIds}
 use Rattle.world_text.specs.Written.{path_text}
 
@@ -48,8 +49,8 @@ pub record IsCanonicalIds (ids : Ids) : Type 0 where
   pub suid : ids.suid ≡ ids.euid
   pub rgid : ids.rgid ≡ ids.egid
   pub sgid : ids.sgid ≡ ids.egid
-  pub groups : list_all (λ g. nat_le g 4294967295) ids.groups ≡ true
-  pub few : length ids.groups ≤ 16
+  pub groups : are_numbers ids.groups ≡ true
+  pub few : length ids.groups ≤ MAX_GROUPS
 
 canonical_body : (b : Body) → (b ≡ body.Pipe → ⊥) → HasBytes b → IsCanonicalBody b
 canonical_body body.Dir no_pipe bytes = tt

@@ -23,8 +23,8 @@ use Rattle.lab_lattice.proofs.Labels.{dominates_itself}
 use Rattle.lab_text.proofs.PolicyFacts.{policy_facts}
 use Rattle.lab_text.specs.Names.{Names, same_bytes, is_label_name}
 use Rattle.lab_text.specs.Policy.{PolicyNames, MakePolicy, is_valid}
-use Rattle.lab_text.proofs.Parsed.{parse_text}
 use Rattle.lab_text.specs.Text.{label_text}
+use Rattle.kern_model.specs.declared.limits.TheConstants.{MAX_OBJECTS, MAX_PROCS}
 use Rattle.kern_model.specs.declared.numbers.Ids.{Ids}
 use Rattle.kern_model.specs.declared.objects.Attr.{Attr}
 use Rattle.kern_model.specs.declared.objects.Body.{Body}
@@ -36,22 +36,23 @@ use Rattle.kern_model.specs.Kinds.{is_dir, is_file}
 use Rattle.kern_model.specs.Rules.{same_label}
 use Rattle.kern_model.specs.World.{IsPlaced, ArePlaced, given, parent_names, objects_at, procs_at, same_names}
 use Rattle.line_text.specs.Ranges.{IsNumber}
-use Rattle.world_text.specs.declared.fault.WorldFault.{WorldFault}
-use Rattle.world_text.specs.declared.fault.WorldFault.TheVariants.{Syntax, UnknownName}
 use Rattle.world_text.specs.declared.expecting.Expecting.{Expecting}
 use Rattle.world_text.specs.declared.expecting.Expecting.TheVariants as at
 use Rattle.world_text.specs.declared.expecting.Parsed.{Parsed}
 use Rattle.world_text.specs.declared.expecting.Parsed.TheVariants.{GoesOn, Begins}
 use Rattle.world_text.specs.declared.world.WorldText.{WorldText}
-use Rattle.world_text.specs.Tree.{Tree}
+use Rattle.world_text.specs.declared.expecting.PartialWorld.{PartialWorld}
+use Rattle.world_text.specs.declared.expecting.WordValue.{WordValue}
+use Rattle.world_text.specs.declared.expecting.WordValue.TheVariants as value
 use Rattle.world_text.specs.Placing.{is_directory, is_above, directory_of, is_root, object_fault, process_fault}
-use Rattle.world_text.specs.Expecting.{world_of, refuse_or, with_form, caps_of, parse_levels, parse_categories, object_fields_of, proc_fields_of, ids_of, parse_object, parse_tree, parse_process, parse_words, parse_line}
+use Rattle.world_text.specs.Expecting.{world_of, refuse_or, with_form, with_value, both, label_of, caps_of, proc_caps_of, parse_levels, parse_categories, object_fields_of, proc_fields_of, ids_of, parse_object, parse_tree, parse_process, parse_words, parse_line}
 use Rattle.world_text.specs.Reading.{Accepted, after, reading, read_text}
 use Rattle.world_text.specs.Written.{bare, quoted, path_text, names_words, head_words, body_keyword, body_words, object_words, process_words, script_words, lines_of, next_number, written}
 use Rattle.world_text.specs.CanBeRead.{IsShort, CanBeRead}
+use Rattle.lab_text.proofs.BareLemmas.{label_bare, label_name_bare}
 use Rattle.world_text.proofs.WrittenForms.{IsCanonicalBody, IsCanonicalObject, IsCanonicalIds, canonical_objects, objects_below, objects_plain, canonical_procs, procs_below, procs_within}
 use Rattle.world_text.proofs.WrittenWords.{written_pieces, pieces_round_trip, begins_line, line_is}
-use Rattle.world_text.proofs.WrittenValues.{path_round_trip, path_spelling, label_name_bare, label_bare, label_round_trip, caps_known, proc_caps_known, none_known, bound_known, caps_spelling, bound_bare}
+use Rattle.world_text.proofs.WrittenValues.{path_round_trip, path_spelling, label_round_trip, caps_known, proc_caps_known, none_known, bound_known, caps_spelling, bound_bare}
 
 -- ---- a line and what follows it
 
@@ -123,14 +124,14 @@ categories_line policy h short =
 
 -- what stands in the tree so far
 abbrev tree_at : PolicyNames → CapSet → List WorldObject → List WorldProc → Expecting
-tree_at policy bound objects procs = at.Tree policy bound (record { objects = objects; procs = procs })
+tree_at policy bound objects procs = at.Tree (record { policy = policy; bound = bound; builder = record { objects = objects; procs = procs } })
 
 bound_line : (policy : PolicyNames) (bound : CapSet) → IsShort (names_words (codes "bound") (set_text bound ∷ []))
     → parse_line (at.Bound policy) (text_of (names_words (codes "bound") (set_text bound ∷ []))) ≡ GoesOn (tree_at policy bound [] [])
 unfolding parse_words
 bound_line policy bound short =
     line_is (at.Bound policy) (codes "bound") (bare (set_text bound) ∷ []) refl (and_from _ _ (bound_bare bound) refl) short
-    ∙ ap (λ (o : Option (Option CapSet)). with_form o Syntax (λ known. with_form known UnknownName (λ bound. GoesOn (tree_at policy bound [] [])))) (bound_known bound)
+    ∙ ap (λ (v : WordValue CapSet). with_value v (λ bound. GoesOn (tree_at policy bound [] []))) (bound_known bound)
 
 -- the reading comes to the tree
 head_read : (policy : PolicyNames) (bound : CapSet) (more : List (List LineWord)) → MakePolicy policy → IsShort (names_words (codes "levels") policy.levels)
@@ -149,8 +150,12 @@ head_read policy bound more h levels cats bounded =
 then_some : {A X : Type 0} (o : Option A) (x : A) (k : A → Option X) → o ≡ Some x → then o k ≡ k x
 then_some {A} o x k e = ap (λ (o : Option A). then o k) e
 
-form_some : {X : Type 0} (o : Option X) (fault : WorldFault) (x : X) (k : X → Parsed) → o ≡ Some x → with_form o fault k ≡ k x
-form_some {X} o fault x k e = ap (λ (o : Option X). with_form o fault k) e
+form_some : {X : Type 0} (o : Option X) (x : X) (k : X → Parsed) → o ≡ Some x → with_form o k ≡ k x
+form_some {X} o x k e = ap (λ (o : Option X). with_form o k) e
+
+-- what comes of two values that are known
+values_known : {A B : Type 0} (v : WordValue A) (u : WordValue B) (a : A) (b : B) (k : A × B → Parsed) → v ≡ value.Known a → u ≡ value.Known b → with_value (both v u) k ≡ k (a, b)
+values_known v u a b k e f = λ i. with_value (both (e i) (f i)) k
 
 number_spelling : (n : ℕ) → IsNumber n → has_spelling (bare (decimal n)) ≡ true
 number_spelling n small = decimal_bare n (omega arith)
@@ -168,18 +173,18 @@ room_left {X} label done x more most room =
 
 -- ---- tree lines
 
-placed_round_trip : (policy : PolicyNames) (o : WorldObject) → MakePolicy policy → is_valid policy o.label ≡ true → IsCanonicalObject o
-    → object_fields_of (path_text o.path.names) (mode_text o.attr.mode) (decimal o.attr.owner) (decimal o.attr.group) (label_text policy o.label)
-    ≡ Some (record { path = o.path; mode = o.attr.mode; owner = o.attr.owner; group = o.attr.group; label = label_text policy o.label })
+object_fields_round_trip : (policy : PolicyNames) (o : WorldObject) → MakePolicy policy → is_valid policy o.label ≡ true → IsCanonicalObject o
+    → object_fields_of policy (path_text o.path.names) (mode_text o.attr.mode) (decimal o.attr.owner) (decimal o.attr.group) (label_text policy o.label)
+    ≡ Some (record { path = o.path; mode = o.attr.mode; owner = o.attr.owner; group = o.attr.group; label = label_of policy (label_text policy o.label) })
 unfolding object_fields_of
-placed_round_trip policy o h valid is =
+object_fields_round_trip policy o h valid is =
     then_some _ _ _ (path_round_trip o.path is.path) ∙ then_some _ _ _ (mode_round_trip o.attr.mode is.mode is.not_sticky) ∙ then_some _ _ _ (number_round_trip o.attr.owner is.owner)
-    ∙ then_some _ _ _ (number_round_trip o.attr.group is.group) ∙ then_some _ _ _ (label_round_trip policy o.label h valid)
+    ∙ then_some _ _ _ (number_round_trip o.attr.group is.group)
 
-tree_says : (policy : PolicyNames) (bound : CapSet) (t : Tree) (o : WorldObject) (caps : Option (Option CapState)) → MakePolicy policy → is_valid policy o.label ≡ true → IsCanonicalObject o → caps ≡ Some (Some o.attr.caps)
-    → parse_tree policy bound t (object_fields_of (path_text o.path.names) (mode_text o.attr.mode) (decimal o.attr.owner) (decimal o.attr.group) (label_text policy o.label)) caps o.body ≡ parse_object policy bound t o
-tree_says policy bound t o caps h valid is e =
-    form_some _ Syntax _ _ (placed_round_trip policy o h valid is) ∙ form_some caps Syntax (Some o.attr.caps) _ e ∙ form_some _ UnknownName o.label _ (parse_text policy o.label h valid)
+tree_says : (w : PartialWorld) (o : WorldObject) (caps : WordValue CapState) → MakePolicy w.policy → is_valid w.policy o.label ≡ true → IsCanonicalObject o → caps ≡ value.Known o.attr.caps
+    → parse_tree w (object_fields_of w.policy (path_text o.path.names) (mode_text o.attr.mode) (decimal o.attr.owner) (decimal o.attr.group) (label_text w.policy o.label)) caps o.body ≡ parse_object w o
+tree_says w o caps h valid is e =
+    form_some _ _ _ (object_fields_round_trip w.policy o h valid is) ∙ values_known (label_of w.policy (label_text w.policy o.label)) caps o.label o.attr.caps _ (label_round_trip w.policy o.label h valid) e
 
 -- an object of these parts
 abbrev object_from : PathValue → Label → Attr → Body → WorldObject
@@ -191,24 +196,24 @@ file_words policy path label attr bytes none =
     bare (codes "file") ∷ with_quotes_if_needed (path_text path.names) ∷ bare (mode_text attr.mode) ∷ bare (decimal attr.owner) ∷ bare (decimal attr.group) ∷ bare (label_text policy label)
     ∷ quoted bytes ∷ cond none [] (quoted (caps_text attr.caps) ∷ [])
 
-object_says : (policy : PolicyNames) (bound : CapSet) (t : Tree) (path : PathValue) (label : Label) (attr : Attr) (b : Body) → MakePolicy policy → is_valid policy label ≡ true
+object_says : (w : PartialWorld) (path : PathValue) (label : Label) (attr : Attr) (b : Body) → MakePolicy w.policy → is_valid w.policy label ≡ true
     → IsCanonicalObject (object_from path label attr b) → (is_file (kind_of b) ≡ false → attr.caps ≡ no_flags)
-    → parse_words (at.Tree policy bound t) (object_words policy (object_from path label attr b)) ≡ parse_object policy bound t (object_from path label attr b)
+    → parse_words (at.Tree w) (object_words w.policy (object_from path label attr b)) ≡ parse_object w (object_from path label attr b)
 unfolding parse_words object_words
-object_says policy bound t path label attr body.Dir h valid is plain = tree_says policy bound t (object_from path label attr body.Dir) (Some (Some no_flags)) h valid is (ap (λ (c : CapState). Some (Some c)) (sym (plain refl)))
-object_says policy bound t path label attr body.Fifo h valid is plain = tree_says policy bound t (object_from path label attr body.Fifo) (Some (Some no_flags)) h valid is (ap (λ (c : CapState). Some (Some c)) (sym (plain refl)))
-object_says policy bound t path label attr body.Pipe h valid is plain = absurd is.body
-object_says policy bound t path label attr (body.File bytes) h valid is plain = by_caps (same_bytes (caps_text attr.caps) (codes "=")) refl
+object_says w path label attr body.Dir h valid is plain = tree_says w (object_from path label attr body.Dir) (value.Known no_flags) h valid is (ap (λ (c : CapState). value.Known c) (sym (plain refl)))
+object_says w path label attr body.Fifo h valid is plain = tree_says w (object_from path label attr body.Fifo) (value.Known no_flags) h valid is (ap (λ (c : CapState). value.Known c) (sym (plain refl)))
+object_says w path label attr body.Pipe h valid is plain = absurd is.body
+object_says w path label attr (body.File bytes) h valid is plain = by_caps (same_bytes (caps_text attr.caps) (codes "=")) refl
   where
     file : WorldObject
     file = object_from path label attr (body.File bytes)
 
-    by_caps : (none : Bool) → same_bytes (caps_text attr.caps) (codes "=") ≡ none → parse_words (at.Tree policy bound t) (file_words policy path label attr bytes (same_bytes (caps_text attr.caps) (codes "="))) ≡ parse_object policy bound t file
+    by_caps : (none : Bool) → same_bytes (caps_text attr.caps) (codes "=") ≡ none → parse_words (at.Tree w) (file_words w.policy path label attr bytes (same_bytes (caps_text attr.caps) (codes "="))) ≡ parse_object w file
     by_caps true e =
-        ap (λ v. parse_words (at.Tree policy bound t) (file_words policy path label attr bytes v)) e
-        ∙ tree_says policy bound t file (Some (Some no_flags)) h valid is (ap (λ (c : CapState). Some (Some c)) (sym (none_known attr.caps e)))
+        ap (λ v. parse_words (at.Tree w) (file_words w.policy path label attr bytes v)) e
+        ∙ tree_says w file (value.Known no_flags) h valid is (ap (λ (c : CapState). value.Known c) (sym (none_known attr.caps e)))
     by_caps false e =
-        ap (λ v. parse_words (at.Tree policy bound t) (file_words policy path label attr bytes v)) e ∙ tree_says policy bound t file (caps_of (caps_text attr.caps)) h valid is (caps_known attr.caps)
+        ap (λ v. parse_words (at.Tree w) (file_words w.policy path label attr bytes v)) e ∙ tree_says w file (caps_of (caps_text attr.caps)) h valid is (caps_known attr.caps)
 
 keyword_spelling : (b : Body) → has_spelling (bare (body_keyword b)) ≡ true
 keyword_spelling body.Dir = refl
@@ -235,15 +240,15 @@ object_spelling policy o h valid is =
     and_from _ _ (keyword_spelling o.body) (and_from _ _ (path_spelling o.path is.path) (and_from _ _ (mode_bare o.attr.mode) (and_from _ _ (number_spelling o.attr.owner is.owner)
     (and_from _ _ (number_spelling o.attr.group is.group) (and_from _ _ (label_bare policy o.label h valid) (body_spelling o.body o.attr.caps is.body))))))
 
-object_line : (policy : PolicyNames) (bound : CapSet) (t : Tree) (o : WorldObject) → MakePolicy policy → is_valid policy o.label ≡ true → IsCanonicalObject o → (is_file (kind_of o.body) ≡ false → o.attr.caps ≡ no_flags)
-    → IsShort (object_words policy o) → parse_line (at.Tree policy bound t) (text_of (object_words policy o)) ≡ parse_object policy bound t o
+object_line : (w : PartialWorld) (o : WorldObject) → MakePolicy w.policy → is_valid w.policy o.label ≡ true → IsCanonicalObject o → (is_file (kind_of o.body) ≡ false → o.attr.caps ≡ no_flags)
+    → IsShort (object_words w.policy o) → parse_line (at.Tree w) (text_of (object_words w.policy o)) ≡ parse_object w o
 unfolding object_words
-object_line policy bound t o h valid is plain short =
-    line_is (at.Tree policy bound t) (body_keyword o.body) _ (keyword_begins o.body) (object_spelling policy o h valid is) short ∙ object_says policy bound t o.path o.label o.attr o.body h valid is plain
+object_line w o h valid is plain short =
+    line_is (at.Tree w) (body_keyword o.body) _ (keyword_begins o.body) (object_spelling w.policy o h valid is) short ∙ object_says w o.path o.label o.attr o.body h valid is plain
 
 -- the root goes first
 root_adds : (policy : PolicyNames) (bound : CapSet) (o : WorldObject) → o.path.names ≡ [] → o.body ≡ body.Dir → o.label ≡ bottom
-    → parse_object policy bound (record { objects = []; procs = [] }) o ≡ GoesOn (tree_at policy bound (o ∷ []) [])
+    → parse_object (record { policy = policy; bound = bound; builder = record { objects = []; procs = [] } }) o ≡ GoesOn (tree_at policy bound (o ∷ []) [])
 unfolding object_fault
 root_adds policy bound o no_names dir lowest =
     ap (λ f. refuse_or f (GoesOn (tree_at policy bound (o ∷ []) []))) (
@@ -262,8 +267,8 @@ below_root first rest o p (n ∷ ns) root e =
     (ap is_root e, ap (directory_of (first ∷ rest)) e ∙ sym (ap (λ ns. given (first ∷ rest) (parent_names ns)) e) ∙ p.parent_given)
 
 placed_adds : (policy : PolicyNames) (bound : CapSet) (first : WorldObject) (rest : List WorldObject) (o : WorldObject) → first.path.names ≡ [] → IsPlaced (first ∷ rest) o
-    → nat_le 65535 (objects_at o.label (first ∷ rest)) ≡ false
-    → parse_object policy bound (record { objects = first ∷ rest; procs = [] }) o ≡ GoesOn (tree_at policy bound (first ∷ (rest ++ o ∷ [])) [])
+    → nat_le MAX_OBJECTS (objects_at o.label (first ∷ rest)) ≡ false
+    → parse_object (record { policy = policy; bound = bound; builder = record { objects = first ∷ rest; procs = [] } }) o ≡ GoesOn (tree_at policy bound (first ∷ (rest ++ o ∷ [])) [])
 unfolding object_fault
 placed_adds policy bound first rest o root p room =
     let below = below_root first rest o p o.path.names root refl in
@@ -276,12 +281,12 @@ placed_adds policy bound first rest o root p room =
 objects_add : (policy : PolicyNames) (bound : CapSet) (first : WorldObject) (rest os : List WorldObject) → MakePolicy policy → first.path.names ≡ [] → ArePlaced (first ∷ rest) os
     → AllByRecursion (λ (o : WorldObject). is_valid policy o.label ≡ true) os → AllByRecursion (λ (o : WorldObject). IsCanonicalObject o) os
     → AllByRecursion (λ (o : WorldObject). is_file (kind_of o.body) ≡ false → o.attr.caps ≡ no_flags) os → AllByRecursion IsShort (map (object_words policy) os)
-    → ((l : Label) → objects_at l (first ∷ (rest ++ os)) ≤ 65535) → EachAdds (object_words policy) (λ os. tree_at policy bound os []) (first ∷ rest) os
+    → ((l : Label) → objects_at l (first ∷ (rest ++ os)) ≤ MAX_OBJECTS) → EachAdds (object_words policy) (λ os. tree_at policy bound os []) (first ∷ rest) os
 objects_add policy bound first rest [] h root placed valid written plain short room = tt
 objects_add policy bound first rest (o ∷ os) h root placed valid written plain short room =
-    let left = room_left (λ (o : WorldObject). o.label) (first ∷ rest) o os 65535 room in
-    let more : (l : Label) → objects_at l (first ∷ ((rest ++ o ∷ []) ++ os)) ≤ 65535 = λ l. subst (λ (os : List WorldObject). objects_at l (first ∷ os) ≤ 65535) (sym (append_assoc rest (o ∷ []) os)) (room l) in (
-      object_line policy bound (record { objects = first ∷ rest; procs = [] }) o h valid.0 written.0 plain.0 short.0 ∙ placed_adds policy bound first rest o root placed.0 left,
+    let left = room_left (λ (o : WorldObject). o.label) (first ∷ rest) o os MAX_OBJECTS room in
+    let more : (l : Label) → objects_at l (first ∷ ((rest ++ o ∷ []) ++ os)) ≤ MAX_OBJECTS = λ l. subst (λ (os : List WorldObject). objects_at l (first ∷ os) ≤ MAX_OBJECTS) (sym (append_assoc rest (o ∷ []) os)) (room l) in (
+      object_line (record { policy = policy; bound = bound; builder = record { objects = first ∷ rest; procs = [] } }) o h valid.0 written.0 plain.0 short.0 ∙ placed_adds policy bound first rest o root placed.0 left,
       objects_add policy bound first (rest ++ o ∷ []) os h root placed.1 valid.1 written.1 plain.1 short.1 more,
     )
 
@@ -290,7 +295,7 @@ tree_adds : (policy : PolicyNames) (bound : CapSet) (os : List WorldObject) (fir
     → first.path.names ≡ [] → first.body ≡ body.Dir → first.label ≡ bottom → ArePlaced (first ∷ []) others
     → AllByRecursion (λ (o : WorldObject). is_valid policy o.label ≡ true) os → AllByRecursion (λ (o : WorldObject). IsCanonicalObject o) os
     → AllByRecursion (λ (o : WorldObject). is_file (kind_of o.body) ≡ false → o.attr.caps ≡ no_flags) os → AllByRecursion IsShort (map (object_words policy) os)
-    → ((l : Label) → objects_at l os ≤ 65535) → EachAdds (object_words policy) (λ os. tree_at policy bound os []) [] os
+    → ((l : Label) → objects_at l os ≤ MAX_OBJECTS) → EachAdds (object_words policy) (λ os. tree_at policy bound os []) [] os
 tree_adds policy bound [] first others h e no_names dir lowest placed valid written plain short room = tt
 tree_adds policy bound (o ∷ os) first others h e no_names dir lowest placed valid written plain short room =
     let same : first ≡ o = cc in
@@ -299,30 +304,30 @@ tree_adds policy bound (o ∷ os) first others h e no_names dir lowest placed va
     let body = sym (ap (λ (o : WorldObject). o.body) same) ∙ dir in
     let label = sym (ap (λ (o : WorldObject). o.label) same) ∙ lowest in
     let after : ArePlaced (o ∷ []) os = subst (λ (os : List WorldObject). ArePlaced (o ∷ []) os) rest (subst (λ (o : WorldObject). ArePlaced (o ∷ []) others) same placed) in (
-      object_line policy bound (record { objects = []; procs = [] }) o h valid.0 written.0 plain.0 short.0 ∙ root_adds policy bound o root body label,
+      object_line (record { policy = policy; bound = bound; builder = record { objects = []; procs = [] } }) o h valid.0 written.0 plain.0 short.0 ∙ root_adds policy bound o root body label,
       objects_add policy bound o [] os h root after valid.1 written.1 plain.1 short.1 room,
     )
 
 -- ---- process lines
 
-owned_round_trip : (policy : PolicyNames) (p : WorldProc) → MakePolicy policy → is_valid policy p.label ≡ true → IsCanonicalIds p.ids
-    → proc_fields_of (label_text policy p.label) (decimal p.ids.euid) (decimal p.ids.egid) (groups_text p.ids.groups)
-    ≡ Some (record { label = label_text policy p.label; user = p.ids.euid; group = p.ids.egid; groups = p.ids.groups })
+proc_fields_round_trip : (policy : PolicyNames) (p : WorldProc) → IsCanonicalIds p.ids
+    → proc_fields_of policy (label_text policy p.label) (decimal p.ids.euid) (decimal p.ids.egid) (groups_text p.ids.groups)
+    ≡ Some (record { label = label_of policy (label_text policy p.label); user = p.ids.euid; group = p.ids.egid; groups = p.ids.groups })
 unfolding proc_fields_of
-owned_round_trip policy p h valid is =
-    then_some _ _ _ (label_round_trip policy p.label h valid) ∙ then_some _ _ _ (number_round_trip p.ids.euid is.user) ∙ then_some _ _ _ (number_round_trip p.ids.egid is.group)
-    ∙ then_some _ _ _ (groups_round_trip p.ids.groups is.groups is.few)
+proc_fields_round_trip policy p is =
+    then_some _ _ _ (number_round_trip p.ids.euid is.user) ∙ then_some _ _ _ (number_round_trip p.ids.egid is.group) ∙ then_some _ _ _ (groups_round_trip p.ids.groups is.groups is.few)
 
-ids_round_trip : (ids : Ids) (label : List ℕ) → IsCanonicalIds ids → ids_of (record { label = label; user = ids.euid; group = ids.egid; groups = ids.groups }) ≡ ids
+ids_round_trip : (ids : Ids) (label : WordValue Label) → IsCanonicalIds ids → ids_of (record { label = label; user = ids.euid; group = ids.egid; groups = ids.groups }) ≡ ids
 ids_round_trip ids label is =
     λ i. record { ruid = sym is.ruid i; euid = ids.euid; suid = sym is.suid i; rgid = sym is.rgid i; egid = ids.egid; sgid = sym is.sgid i; groups = ids.groups }
 
-process_says : (policy : PolicyNames) (bound : CapSet) (t : Tree) (p : WorldProc) → MakePolicy policy → is_valid policy p.label ≡ true → IsCanonicalIds p.ids → is_within p.caps.e p.caps.p ≡ true
-    → parse_words (at.Tree policy bound t) (process_words policy p) ≡ parse_process policy bound t p
+process_says : (w : PartialWorld) (p : WorldProc) → MakePolicy w.policy → is_valid w.policy p.label ≡ true → IsCanonicalIds p.ids → is_within p.caps.e p.caps.p ≡ true
+    → parse_words (at.Tree w) (process_words w.policy p) ≡ parse_process w p
 unfolding parse_words process_words
-process_says policy bound t p h valid is within =
-    form_some _ Syntax _ _ (owned_round_trip policy p h valid is) ∙ form_some _ Syntax (Some p.caps) _ (proc_caps_known p.caps within) ∙ form_some _ UnknownName p.label _ (parse_text policy p.label h valid)
-    ∙ ap (λ (ids : Ids). parse_process policy bound t (record { label = p.label; ids = ids; caps = p.caps })) (ids_round_trip p.ids (label_text policy p.label) is)
+process_says w p h valid is within =
+    form_some _ _ _ (proc_fields_round_trip w.policy p is)
+    ∙ values_known (label_of w.policy (label_text w.policy p.label)) (proc_caps_of (caps_text p.caps)) p.label p.caps _ (label_round_trip w.policy p.label h valid) (proc_caps_known p.caps within)
+    ∙ ap (λ (ids : Ids). parse_process w (record { label = p.label; ids = ids; caps = p.caps })) (ids_round_trip p.ids (label_of w.policy (label_text w.policy p.label)) is)
 
 process_spelling : (policy : PolicyNames) (p : WorldProc) → MakePolicy policy → is_valid policy p.label ≡ true → IsCanonicalIds p.ids → list_all has_spelling (process_words policy p) ≡ true
 unfolding process_words
@@ -330,21 +335,20 @@ process_spelling policy p h valid is =
     and_from _ _ (label_bare policy p.label h valid) (and_from _ _ (number_spelling p.ids.euid is.user) (and_from _ _ (number_spelling p.ids.egid is.group)
     (and_from _ _ (groups_bare p.ids.groups is.groups) (and_from _ _ (caps_spelling p.caps) refl))))
 
-process_line : (policy : PolicyNames) (bound : CapSet) (t : Tree) (p : WorldProc) → MakePolicy policy → is_valid policy p.label ≡ true → IsCanonicalIds p.ids → is_within p.caps.e p.caps.p ≡ true
-    → IsShort (process_words policy p)
-    → parse_line (at.Tree policy bound t) (text_of (process_words policy p)) ≡ parse_process policy bound t p
+process_line : (w : PartialWorld) (p : WorldProc) → MakePolicy w.policy → is_valid w.policy p.label ≡ true → IsCanonicalIds p.ids → is_within p.caps.e p.caps.p ≡ true → IsShort (process_words w.policy p)
+    → parse_line (at.Tree w) (text_of (process_words w.policy p)) ≡ parse_process w p
 unfolding process_words
-process_line policy bound t p h valid is within short = line_is (at.Tree policy bound t) (codes "proc") _ refl (process_spelling policy p h valid is) short ∙ process_says policy bound t p h valid is within
+process_line w p h valid is within short = line_is (at.Tree w) (codes "proc") _ refl (process_spelling w.policy p h valid is) short ∙ process_says w p h valid is within
 
 processes_add : (policy : PolicyNames) (bound : CapSet) (objects : List WorldObject) (done ps : List WorldProc) → MakePolicy policy → (length objects == 0) ≡ false
     → AllByRecursion (λ (p : WorldProc). is_valid policy p.label ≡ true) ps → AllByRecursion (λ (p : WorldProc). IsCanonicalIds p.ids) ps → AllByRecursion (λ (p : WorldProc). is_within p.caps.e p.caps.p ≡ true) ps
-    → AllByRecursion IsShort (map (process_words policy) ps) → ((l : Label) → procs_at l (done ++ ps) ≤ 4095) → EachAdds (process_words policy) (tree_at policy bound objects) done ps
+    → AllByRecursion IsShort (map (process_words policy) ps) → ((l : Label) → procs_at l (done ++ ps) ≤ MAX_PROCS) → EachAdds (process_words policy) (tree_at policy bound objects) done ps
 unfolding process_fault
 processes_add policy bound objects done [] h some valid written within short room = tt
 processes_add policy bound objects done (p ∷ ps) h some valid written within short room =
-    let left = room_left (λ (p : WorldProc). p.label) done p ps 4095 room in
-    let more : (l : Label) → procs_at l ((done ++ p ∷ []) ++ ps) ≤ 4095 = λ l. subst (λ (ps : List WorldProc). procs_at l ps ≤ 4095) (sym (append_assoc done (p ∷ []) ps)) (room l) in (
-      process_line policy bound (record { objects = objects; procs = done }) p h valid.0 written.0 within.0 short.0
+    let left = room_left (λ (p : WorldProc). p.label) done p ps MAX_PROCS room in
+    let more : (l : Label) → procs_at l ((done ++ p ∷ []) ++ ps) ≤ MAX_PROCS = λ l. subst (λ (ps : List WorldProc). procs_at l ps ≤ MAX_PROCS) (sym (append_assoc done (p ∷ []) ps)) (room l) in (
+      process_line (record { policy = policy; bound = bound; builder = record { objects = objects; procs = done } }) p h valid.0 written.0 within.0 short.0
           ∙ ap (λ f. refuse_or f (GoesOn (tree_at policy bound objects (done ++ p ∷ [])))) (cond-false _ _ _ some ∙ cond-false _ _ _ left),
       processes_add policy bound objects (done ++ p ∷ []) ps h some valid.1 written.1 within.1 short.1 more,
     )
@@ -352,7 +356,7 @@ processes_add policy bound objects done (p ∷ ps) h some valid written within s
 -- ---- the world
 
 script_line : (policy : PolicyNames) (bound : CapSet) (objects : List WorldObject) (procs : List WorldProc) → (length objects == 0) ≡ false
-    → parse_line (tree_at policy bound objects procs) (text_of script_words) ≡ Begins (world_of policy bound (record { objects = objects; procs = procs }))
+    → parse_line (tree_at policy bound objects procs) (text_of script_words) ≡ Begins (world_of (record { policy = policy; bound = bound; builder = record { objects = objects; procs = procs } }))
 unfolding parse_words
 script_line policy bound objects procs some = line_is (tree_at policy bound objects procs) (codes "script") [] refl refl (omega arith) ∙ cond-false _ _ _ some
 
@@ -423,7 +427,7 @@ written_round_trip w h =
         (list_all-append (list_all has_spelling) procs (script_words ∷ []) ∙ and_from _ _ (processes_spelling w.policy w.world.procs h.policy procs_valid owned) refl))
 
     world : WorldText
-    world = world_of w.policy w.world.bound (record { objects = w.world.objects; procs = w.world.procs })
+    world = world_of (record { policy = w.policy; bound = w.world.bound; builder = record { objects = w.world.objects; procs = w.world.procs } })
 
     world_is : world ≡ w
     world_is = ap (λ (top : Label). record { policy = w.policy; world = record { top = top; bound = w.world.bound; objects = w.world.objects; procs = w.world.procs } }) (sym h.is.top)

@@ -1,14 +1,13 @@
 -- Paths, labels and capabilities that are written are read again.
-use Rattle.std.specs.Prelude.{◌≡◌, ℕ, ◌+◌, ◌≤◌, ◌<◌, ◌==◌, ◌&&◌, not, nat_le, nat_lt, Bool, true, false, cond, List, [], ◌∷◌, ◌++◌, length, Option, None, Some, is_none, is_some, codes, position, map, refl}
+use Rattle.std.specs.Prelude.{◌≡◌, ℕ, ◌+◌, ◌≤◌, ◌<◌, ◌==◌, ◌&&◌, not, nat_le, nat_lt, Bool, true, false, cond, List, [], ◌∷◌, ◌++◌, length, Option, None, Some, is_none, codes, position, map, refl}
 use Rattle.std.proofs.Common.{ap, sym, ◌∙◌, subst, append-nil, arith}
 use Rattle.std.specs.Cmp.{unsigned_Decides}
 use Rattle.std.specs.Cmp.Lexicographic.{pointwise_decides}
 use Rattle.std.specs.List.{All, filter, flat_map, list_all, list_any, position_or_len, slice_split, starts_with}
-use Rattle.std.specs.Option.{option_and_then, option_map, option_or}
-use Rattle.std.proofs.lemmas.Bool.{and_parts, and_from, and_left, and_right, or_from, not-true, leb-true, ltb-true, lt-ltb, le-ltb, lt-leb, ne_eqb, cond-true, cond-false}
+use Rattle.std.specs.Option.{option_map, option_or}
+use Rattle.std.proofs.lemmas.Bool.{and_parts, and_from, and_left, and_right, or_from, not-true, leb-true, lt-ltb, le-ltb, lt-leb, ne_eqb, cond-true, cond-false}
 use Rattle.std.proofs.lemmas.Bool.Decides.{nat_tests}
 use Rattle.std.proofs.lemmas.List.Elements.{All-nil, All-cons}
-use Rattle.std.proofs.lemmas.List.Folds.{list_all-append}
 use Rattle.std.proofs.lemmas.List.Splits.{slice_split_none, slice_split_at}
 use Rattle.std.proofs.lemmas.List.Sums.{sum_by-cons}
 use Rattle.std.proofs.lemmas.List.{length-append}
@@ -28,16 +27,19 @@ use Rattle.fs_path.specs.Options.{keep_if, then}
 use Rattle.fs_path.specs.Path.{PathValue, HasForm, written_len}
 use Rattle.fs_path.specs.PathText.{is_slash, is_empty_or_dot, starts_badly, counts, names_of, component_fault, first_fault, components_of, path_fault, parse_path}
 use Rattle.fs_path.specs.Split.{Piece, placed}
-use Rattle.fs_path.specs.Words.{is_plain, is_bare, is_bare_text, has_spelling, with_quotes_if_needed}
+use Rattle.fs_path.specs.Words.{is_plain, is_bare_text, has_spelling, with_quotes_if_needed}
 use Rattle.lab_lattice.specs.Label.{Label}
 use Rattle.fs_path.proofs.SplitLemmas.{any_before_end}
-use Rattle.lab_text.specs.Names.{Names, same_bytes, is_letter, is_name_part, is_label_name}
+use Rattle.lab_text.specs.Names.{same_bytes}
 use Rattle.lab_text.specs.Policy.{PolicyNames, MakePolicy, is_valid}
-use Rattle.lab_text.proofs.Parsed.{text_names, parse_text}
-use Rattle.lab_text.specs.Text.{LabelWords, label_words, is_label_text, label_of, parse_label, past_mark, label_text}
+use Rattle.lab_text.proofs.Parsed.{parse_text}
+use Rattle.lab_text.specs.Text.{label_text}
 use Rattle.line_text.specs.Ranges.{are_bytes}
-use Rattle.world_text.specs.Expecting.{known_of, path_of, label_form, caps_of, may_start, proc_caps_of, set_of}
+use Rattle.line_text.specs.Reading.{path_of}
+use Rattle.world_text.specs.declared.expecting.WordValue.TheVariants as value
+use Rattle.world_text.specs.Expecting.{caps_value, absolute_path, label_of, caps_of, proc_caps, proc_caps_of, set_of}
 use Rattle.world_text.specs.Written.{quoted, path_text}
+use Rattle.world_text.proofs.LineLemmas.{label_known}
 use Rattle.world_text.proofs.WrittenForms.{IsCanonicalPath}
 
 -- ---- names
@@ -171,12 +173,12 @@ path_is names h =
     λ i. record { absolute = starts_absolute names i; names = parsed i }
 
 -- a path's text says that path
-pub path_round_trip : (p : PathValue) → IsCanonicalPath p → path_of (path_text p.names) ≡ Some p
+pub path_round_trip : (p : PathValue) → IsCanonicalPath p → absolute_path (path_text p.names) ≡ Some p
 path_round_trip p h =
     let form : HasForm true p.names = subst (λ v. HasForm v p.names) h.absolute h.form in
-    let parsed = path_is p.names h.form.named in
     let same : p ≡ record { absolute = true; names = p.names } = ap (λ v. record { absolute = v; names = p.names }) h.absolute in
-    cond-true _ _ _ (and_from _ _ (ap is_none (path_fine p.names form h.form.named)) (ap (λ (q : PathValue). q.absolute) parsed)) ∙ ap Some (parsed ∙ sym same)
+    let parsed : path_of (path_text p.names) ≡ Some p = cond-true _ _ _ (ap is_none (path_fine p.names form h.form.named)) ∙ ap Some (path_is p.names h.form.named ∙ sym same) in
+    ap (λ (o : Option PathValue). then o (λ path. keep_if path.absolute path)) parsed ∙ cond-true _ _ _ h.absolute
 
 -- a path's text can be written
 pub path_spelling : (p : PathValue) → IsCanonicalPath p → has_spelling (with_quotes_if_needed (path_text p.names)) ≡ true
@@ -184,65 +186,19 @@ path_spelling p h = word_spelling (path_text p.names) h.bytes
 
 -- ---- labels
 
-part_bare : (b : ℕ) → is_name_part b ≡ true → is_bare b ≡ true
-part_bare b h = grind (arith, nat_tests)
-
-letter_part : (b : ℕ) → is_letter b ≡ true → is_name_part b ≡ true
-letter_part b h = grind (arith, nat_tests)
-
-parts_bare : (n : List ℕ) → list_all is_name_part n ≡ true → list_all is_bare n ≡ true
-parts_bare [] h = refl
-parts_bare (b ∷ bs) h = let parts = and_parts (is_name_part b) (list_all is_name_part bs) h in and_from (is_bare b) (list_all is_bare bs) (part_bare b parts.0) (parts_bare bs parts.1)
-
--- the name of a level or a category stands bare
-pub label_name_bare : (n : List ℕ) → is_label_name n ≡ true → is_bare_text n ≡ true
-label_name_bare [] h = absurd (cc)
-label_name_bare (b ∷ bs) h =
-    let parts = and_parts (is_letter b && nat_le (length bs) 30) (list_all is_name_part bs) h in
-    let letter = (and_parts (is_letter b) (nat_le (length bs) 30) parts.0).0 in
-    and_from _ _ (lt-ltb 0 (length (b ∷ bs)) (omega arith)) (and_from _ _ (part_bare b (letter_part b letter)) (parts_bare bs parts.1))
-
-marked_bare : (mark : ℕ) (ns : Names) → is_bare mark ≡ true → list_all is_label_name ns ≡ true → list_all is_bare (past_mark mark ns) ≡ true
-marked_bare mark [] bare h = refl
-marked_bare mark (n ∷ ns) bare h =
-    let parts = and_parts (is_label_name n) (list_all is_label_name ns) h in
-    let name = (and_parts (nat_lt 0 (length n)) (list_all is_bare n) (label_name_bare n parts.0)).1 in
-    and_from (is_bare mark) _ bare (list_all-append is_bare n (past_mark 44 ns) ∙ and_from _ _ name (marked_bare 44 ns refl parts.1))
-
-names_bare : (n : List ℕ) (ns : Names) → is_label_name n ≡ true → list_all is_label_name ns ≡ true → is_bare_text (n ++ past_mark 58 ns) ≡ true
-names_bare n ns name names =
-    let parts = and_parts (nat_lt 0 (length n)) (list_all is_bare n) (label_name_bare n name) in
-    let some = ltb-true 0 (length n) parts.0 in
-    let size = length-append n (past_mark 58 ns) in
-    and_from _ _ (lt-ltb 0 (length (n ++ past_mark 58 ns)) (omega arith)) (list_all-append is_bare n (past_mark 58 ns) ∙ and_from _ _ parts.1 (marked_bare 58 ns refl names))
-
--- the text of a valid label stands bare
-pub label_bare : (p : PolicyNames) (label : Label) → MakePolicy p → is_valid p label ≡ true → is_bare_text (label_text p label) ≡ true
-label_bare p label h valid =
-    let names = text_names p label h valid in
-    ap is_bare_text names.text_is ∙ names_bare names.level names.cats names.level_name names.cat_names
-
-parsed_form : (p : PolicyNames) (text : List ℕ) (label : Label) → parse_label p text ≡ Some label → is_label_text text ≡ true
-unfolding parse_label
-parsed_form p text label h = by_words (label_words text) h
-  where
-    by_words : (o : Option LabelWords) → option_and_then (label_of p) o ≡ Some label → is_some o ≡ true
-    by_words None h = absurd (cc)
-    by_words (Some w) h = refl
-
--- the text of a valid label has the form of one
-pub label_round_trip : (p : PolicyNames) (label : Label) → MakePolicy p → is_valid p label ≡ true → label_form (label_text p label) ≡ Some (label_text p label)
-label_round_trip p label h valid = cond-true _ _ _ (parsed_form p (label_text p label) label (parse_text p label h valid))
+-- the text of a valid label says that label
+pub label_round_trip : (p : PolicyNames) (label : Label) → MakePolicy p → is_valid p label ≡ true → label_of p (label_text p label) ≡ value.Known label
+label_round_trip p label h valid = sym (label_known p (label_text p label) label (parse_text p label h valid))
 
 -- ---- capabilities
 
 -- the text of a state says that state
-pub caps_known : (caps : CapState) → caps_of (caps_text caps) ≡ Some (Some caps)
-caps_known caps = ap known_of (caps_round_trip caps)
+pub caps_known : (caps : CapState) → caps_of (caps_text caps) ≡ value.Known caps
+caps_known caps = ap caps_value (caps_round_trip caps)
 
 -- and it is one that a process may have, where what is effective is permitted
-pub proc_caps_known : (caps : CapState) → is_within caps.e caps.p ≡ true → proc_caps_of (caps_text caps) ≡ Some (Some caps)
-proc_caps_known caps within = ap (λ (o : Option (Option CapState)). then o (λ known. keep_if (may_start known) known)) (caps_known caps) ∙ ap (λ b. keep_if b (Some caps)) within
+pub proc_caps_known : (caps : CapState) → is_within caps.e caps.p ≡ true → proc_caps_of (caps_text caps) ≡ value.Known caps
+proc_caps_known caps within = ap proc_caps (caps_known caps) ∙ cond-true _ _ _ within
 
 no_flag_first : (cap : Cap) → is_first no_flags cap ≡ false
 unfolding is_first
@@ -268,8 +224,8 @@ pub caps_spelling : (caps : CapState) → has_spelling (quoted (caps_text caps))
 caps_spelling caps = plain_bytes (caps_text caps) (caps_text_plain caps)
 
 -- the text of a bound says that bound
-pub bound_known : (bound : CapSet) → set_of (set_text bound) ≡ Some (Some bound)
-bound_known bound = ap known_of (set_round_trip bound)
+pub bound_known : (bound : CapSet) → set_of (set_text bound) ≡ value.Known bound
+bound_known bound = ap caps_value (set_round_trip bound)
 
 -- it stands bare
 pub bound_bare : (bound : CapSet) → is_bare_text (set_text bound) ≡ true

@@ -9,7 +9,7 @@ use Rattle.fs_path.specs.declared.words.LineWord.{LineWord}
 use Rattle.fs_path.proofs.RoundTrip.{line_round_trip}
 use Rattle.fs_path.specs.Split.{pieces}
 use Rattle.fs_path.specs.Words.{is_space, is_plain, is_bare, is_bare_text, is_blank, hex_digit, item_text, quoted_text, has_spelling, spelling, after_spaces, line_text, is_empty_or_comment}
-use Rattle.world_text.specs.declared.fault.WorldFault.TheVariants.{Syntax}
+use Rattle.kern_model.specs.declared.limits.TheConstants.{MAX_LINE}
 use Rattle.world_text.specs.declared.expecting.Expecting.{Expecting}
 use Rattle.world_text.specs.Expecting.{with_form, parse_words, parse_line}
 use Rattle.world_text.specs.Written.{bare, line_of}
@@ -110,8 +110,8 @@ not_blank (b ∷ bs) rest begins =
 
 -- a line that is written says what its words say
 pub line_is : (expecting : Expecting) (key : List ℕ) (ws : List LineWord) → begins_line key ≡ true → list_all has_spelling (bare key ∷ ws) ≡ true
-    → length (line_text (map spelling (bare key ∷ ws))) ≤ 2048 → parse_line expecting (line_text (map spelling (bare key ∷ ws))) ≡ parse_words expecting (bare key ∷ ws)
+    → length (line_text (map spelling (bare key ∷ ws))) ≤ MAX_LINE → parse_line expecting (line_text (map spelling (bare key ∷ ws))) ≡ parse_words expecting (bare key ∷ ws)
 unfolding parse_line
 line_is expecting key ws begins can short =
-    cond-false _ _ _ (le-ltb 2048 _ short) ∙ cond-false _ _ _ (not_blank key (after_spaces (map spelling ws)) begins)
-    ∙ ap (λ (o : Option (List LineWord)). with_form o Syntax (parse_words expecting)) (line_round_trip (bare key ∷ ws) can)
+    cond-false _ _ _ (le-ltb MAX_LINE _ short) ∙ cond-false _ _ _ (not_blank key (after_spaces (map spelling ws)) begins)
+    ∙ ap (λ (o : Option (List LineWord)). with_form o (parse_words expecting)) (line_round_trip (bare key ∷ ws) can)

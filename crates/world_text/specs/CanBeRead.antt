@@ -1,4 +1,4 @@
--- What it takes that the text of a world is read as that world.
+-- When the text of a world is read as that world.
 use Rattle.std.specs.Prelude.{◌≡◌, ◌≤◌, true, List, length, map}
 use Rattle.std.specs.List.{AllByRecursion}
 use Rattle.fs_path.specs.declared.words.LineWord.{LineWord}
@@ -37,7 +37,7 @@ pub record IsWrittenIds (ids : Ids) : Type 0 where
 abbrev pub IsShort : List LineWord → Type 0
 IsShort words = length (line_text (map spelling words)) ≤ MAX_LINE
 
--- a world, whose highest label is that of the names beside it
+-- a world whose highest label is that of its policy
 pub record IsWorldText (w : WorldText) : Type 0 where
   pub world : IsWorld w.world
   pub top : w.world.top ≡ top_of w.policy
@@ -46,7 +46,7 @@ pub record IsWorldText (w : WorldText) : Type 0 where
 abbrev pub HasShortLines : WorldText → Type 0
 HasShortLines w = AllByRecursion IsShort (lines_of w)
 
--- a world whose text can be read: that it is one and its lines are short, and what the types of its parts keep
+-- a world whose text is read as this world: it is valid, its lines are short, and its parts are in the ranges of their types
 pub record CanBeRead (w : WorldText) : Type 0 where
   pub is : IsWorldText w
   pub lines : HasShortLines w

@@ -1,5 +1,5 @@
--- What each line of a world says, by how far its reading has come.
-use Rattle.std.specs.Prelude.{ℕ, ◌==◌, ◌&&◌, ◌||◌, not, nat_lt, Bool, true, cond, List, [], ◌∷◌, ◌++◌, length, map, Option, None, Some, Result, Ok, Err, is_none, codes}
+-- What each line of a world says, by which line is due.
+use Rattle.std.specs.Prelude.{ℕ, ◌==◌, ◌&&◌, ◌||◌, not, nat_lt, Bool, cond, List, [], ◌∷◌, ◌++◌, length, map, Option, None, Some, Result, Ok, Err, codes}
 use Rattle.std.specs.List.{list_all}
 use Rattle.std.specs.Option.{option_map}
 use Rattle.cap_bits.specs.declared.state.CapState.{CapState}
@@ -11,7 +11,6 @@ use Rattle.cap_clause.specs.Parsed.{parse_caps, parse_set}
 use Rattle.fs_path.specs.declared.words.LineWord.{LineWord}
 use Rattle.fs_path.specs.Options.{keep_if, then}
 use Rattle.fs_path.specs.Path.{PathValue}
-use Rattle.fs_path.specs.PathText.{path_fault, parse_path}
 use Rattle.fs_path.specs.Words.{words_of, is_blank}
 use Rattle.fs_path.specs.Values.{number_of, mode_of, groups_of}
 use Rattle.lab_lattice.specs.Label.{Label}
@@ -24,33 +23,44 @@ use Rattle.kern_model.specs.declared.objects.Body.{Body}
 use Rattle.kern_model.specs.declared.objects.Body.TheVariants as body
 use Rattle.kern_model.specs.declared.world.WorldObject.{WorldObject}
 use Rattle.kern_model.specs.declared.world.WorldProc.{WorldProc}
+use Rattle.line_text.specs.Reading.{path_of}
 use Rattle.world_text.specs.declared.fault.WorldFault.{WorldFault}
 use Rattle.world_text.specs.declared.fault.WorldFault.TheVariants.{Syntax, UnknownName, Repeated, TooMany}
 use Rattle.world_text.specs.declared.expecting.Expecting.{Expecting}
 use Rattle.world_text.specs.declared.expecting.Expecting.TheVariants as at
+use Rattle.world_text.specs.declared.expecting.ObjectFields.{ObjectFields}
+use Rattle.world_text.specs.declared.expecting.PartialWorld.{PartialWorld}
+use Rattle.world_text.specs.declared.expecting.ProcFields.{ProcFields}
+use Rattle.world_text.specs.declared.expecting.WordValue.{WordValue}
+use Rattle.world_text.specs.declared.expecting.WordValue.TheVariants as value
 use Rattle.world_text.specs.declared.expecting.Parsed.{Parsed}
 use Rattle.world_text.specs.declared.expecting.Parsed.TheVariants.{Refuses, GoesOn, Begins}
 use Rattle.world_text.specs.declared.world.WorldText.{WorldText}
-use Rattle.world_text.specs.Tree.{Tree}
 use Rattle.world_text.specs.Placing.{object_fault, process_fault}
 
--- the world of a tree
-abbrev pub world_of : PolicyNames → CapSet → Tree → WorldText
-world_of policy bound t = record { policy = policy; world = record { top = top_of policy; bound = bound; objects = t.objects; procs = t.procs } }
+-- the world that was read
+abbrev pub world_of : PartialWorld → WorldText
+world_of w = record { policy = w.policy; world = record { top = top_of w.policy; bound = w.bound; objects = w.builder.objects; procs = w.builder.procs } }
 
--- the first of some faults that is there, and else what comes
+-- the fault where a line has it, and else what follows
 abbrev pub unless : Bool → WorldFault → Parsed → Parsed
 unless faulty fault parsed = cond faulty (Refuses fault) parsed
 
--- a fault that is there, and else what comes
+-- the fault if there is one, and else what follows
 abbrev pub refuse_or : Option WorldFault → Parsed → Parsed
 refuse_or None parsed = parsed
 refuse_or (Some fault) parsed = Refuses fault
 
--- what comes of a value that is there
-abbrev pub with_form : {X : Type 0} → Option X → WorldFault → (X → Parsed) → Parsed
-with_form None fault k = Refuses fault
-with_form (Some x) fault k = k x
+-- what follows from a value; `syntax` where there is none
+abbrev pub with_form : {X : Type 0} → Option X → (X → Parsed) → Parsed
+with_form None k = Refuses Syntax
+with_form (Some x) k = k x
+
+-- what follows from the value of a word; `syntax` or `unknown_name` where it has none
+abbrev pub with_value : {X : Type 0} → WordValue X → (X → Parsed) → Parsed
+with_value value.Malformed k = Refuses Syntax
+with_value value.UnknownName k = Refuses UnknownName
+with_value (value.Known x) k = k x
 
 abbrev pub or_else : Option Parsed → Parsed → Parsed
 or_else None other = other
@@ -84,141 +94,131 @@ parse_categories levels names =
     (unless (not (are_distinct names)) Repeated
     (GoesOn (at.Bound (record { levels = levels; cats = names })))))
 
--- what a text of capabilities says that has the form of one: a value, or none where a name in it is unknown; its first fault decides
-abbrev pub known_of : {X : Type 0} → Result X CapTextError → Option (Option X)
-known_of (Ok x) = Some (Some x)
-known_of (Err (error.UnknownName at)) = Some None
-known_of (Err _) = None
+-- what a capability text says; its first fault decides
+abbrev pub caps_value : {X : Type 0} → Result X CapTextError → WordValue X
+caps_value (Ok x) = value.Known x
+caps_value (Err (error.UnknownName at)) = value.UnknownName
+caps_value (Err _) = value.Malformed
 
 -- the set of a set text
-abbrev pub set_of : List ℕ → Option (Option CapSet)
-set_of word = known_of (parse_set word)
+abbrev pub set_of : List ℕ → WordValue CapSet
+set_of text = caps_value (parse_set text)
 
 -- `bound SET`
 abbrev pub parse_bound : PolicyNames → Names → Parsed
-parse_bound policy (w ∷ []) = with_form (set_of w) Syntax (λ bound. with_form bound UnknownName (λ bound. GoesOn (at.Tree policy bound (record { objects = []; procs = [] }))))
+parse_bound policy (w ∷ []) = with_value (set_of w) (λ bound. GoesOn (at.Tree (record { policy = policy; bound = bound; builder = record { objects = []; procs = [] } })))
 parse_bound policy _ = Refuses Syntax
 
 -- ---- the tree
 
 -- the state of a capability text
-abbrev pub caps_of : List ℕ → Option (Option CapState)
-caps_of word = known_of (parse_caps word)
+abbrev pub caps_of : List ℕ → WordValue CapState
+caps_of text = caps_value (parse_caps text)
 
 -- an absolute path
-abbrev pub path_of : List ℕ → Option PathValue
-path_of word = cond (is_none (path_fault word) && (parse_path word).absolute) (Some (parse_path word)) None
+abbrev pub absolute_path : List ℕ → Option PathValue
+absolute_path word = then (path_of word) (λ path. keep_if path.absolute path)
 
--- a word that has the form of a label's text
-abbrev pub label_form : List ℕ → Option (List ℕ)
-label_form word = cond (is_label_text word) (Some word) None
+-- the value of a text that has the form of a label's
+abbrev pub label_value : Option Label → WordValue Label
+label_value None = value.UnknownName
+label_value (Some label) = value.Known label
 
--- what the words of a tree line stand for, but for the label
-pub record ObjectFields : Type 0 where
-  pub path : PathValue
-  pub mode : ℕ
-  pub owner : ℕ
-  pub group : ℕ
-  pub label : List ℕ
+-- the label of a label's text
+abbrev pub label_of : PolicyNames → List ℕ → WordValue Label
+label_of policy text = cond (is_label_text text) (label_value (parse_label policy text)) value.Malformed
+
+-- two values; the form of both words counts before the names in either
+abbrev pub both : {A B : Type 0} → WordValue A → WordValue B → WordValue (A × B)
+both value.Malformed b = value.Malformed
+both value.UnknownName value.Malformed = value.Malformed
+both value.UnknownName value.UnknownName = value.UnknownName
+both value.UnknownName (value.Known b) = value.UnknownName
+both (value.Known a) value.Malformed = value.Malformed
+both (value.Known a) value.UnknownName = value.UnknownName
+both (value.Known a) (value.Known b) = value.Known (a, b)
 
 -- `PATH MODE UID GID LABEL`
-unfoldable pub object_fields_of : (path mode uid gid label : List ℕ) → Option ObjectFields
-object_fields_of path mode uid gid label =
-    then (path_of path) (λ path. then (mode_of mode) (λ mode. then (number_of uid) (λ owner. then (number_of gid) (λ group. then (label_form label) (λ label.
-    Some (record { path = path; mode = mode; owner = owner; group = group; label = label }))))))
+unfoldable pub object_fields_of : PolicyNames → (path mode uid gid label : List ℕ) → Option ObjectFields
+object_fields_of policy path mode uid gid label =
+    then (absolute_path path) (λ path. then (mode_of mode) (λ mode. then (number_of uid) (λ owner. then (number_of gid) (λ group.
+    Some (record { path = path; mode = mode; owner = owner; group = group; label = label_of policy label })))))
 
 -- an object comes after those before it, if it can
-abbrev pub parse_object : PolicyNames → CapSet → Tree → WorldObject → Parsed
-parse_object policy bound t o = refuse_or (object_fault t o) (GoesOn (at.Tree policy bound (record t { objects = t.objects ++ o ∷ [] })))
+abbrev pub parse_object : PartialWorld → WorldObject → Parsed
+parse_object w o = refuse_or (object_fault w.builder o) (GoesOn (at.Tree (record w { builder = record w.builder { objects = w.builder.objects ++ o ∷ [] } })))
 
 -- the object of a tree line
-abbrev pub made : ObjectFields → CapState → Label → Body → WorldObject
-made p caps label body = record { path = p.path; label = label; attr = record { owner = p.owner; group = p.group; mode = p.mode; caps = caps }; body = body }
+abbrev pub object_of : ObjectFields → Label → CapState → Body → WorldObject
+object_of f label caps body = record { path = f.path; label = label; attr = record { owner = f.owner; group = f.group; mode = f.mode; caps = caps }; body = body }
 
--- a tree line: its form and that of its capabilities, the names of its label and those of its capabilities, and then where it stands
-abbrev pub parse_tree : PolicyNames → CapSet → Tree → Option ObjectFields → Option (Option CapState) → Body → Parsed
-parse_tree policy bound t form caps body =
-    with_form form Syntax (λ p. with_form caps Syntax (λ caps. with_form (parse_label policy p.label) UnknownName (λ label. with_form caps UnknownName (λ caps.
-    parse_object policy bound t (made p caps label body)))))
+-- a tree line: its form, then its names, and then where it stands
+abbrev pub parse_tree : PartialWorld → Option ObjectFields → WordValue CapState → Body → Parsed
+parse_tree w form caps body = with_form form (λ f. with_value (both f.label caps) (λ x. parse_object w (object_of f x.0 x.1 body)))
 
 -- ---- processes
 
--- what the words of a process line stand for, but for the label and the capabilities
-pub record ProcFields : Type 0 where
-  pub label : List ℕ
-  pub user : ℕ
-  pub group : ℕ
-  pub groups : List ℕ
-
 -- `LABEL UID GID GROUPS`
-unfoldable pub proc_fields_of : (label uid gid groups : List ℕ) → Option ProcFields
-proc_fields_of label uid gid groups =
-    then (label_form label) (λ label. then (number_of uid) (λ user. then (number_of gid) (λ group. then (groups_of groups) (λ groups.
-    Some (record { label = label; user = user; group = group; groups = groups })))))
+unfoldable pub proc_fields_of : PolicyNames → (label uid gid groups : List ℕ) → Option ProcFields
+proc_fields_of policy label uid gid groups =
+    then (number_of uid) (λ user. then (number_of gid) (λ group. then (groups_of groups) (λ groups.
+    Some (record { label = label_of policy label; user = user; group = group; groups = groups }))))
 
--- what is effective in a process is permitted
-abbrev pub may_start : Option CapState → Bool
-may_start None = true
-may_start (Some caps) = is_within caps.e caps.p
+-- a state that a process may have: what is effective is permitted
+abbrev pub proc_caps : WordValue CapState → WordValue CapState
+proc_caps (value.Known caps) = cond (is_within caps.e caps.p) (value.Known caps) value.Malformed
+proc_caps other = other
 
--- the state of a capability text that may be that of a process
-abbrev pub proc_caps_of : List ℕ → Option (Option CapState)
-proc_caps_of word = then (caps_of word) (λ caps. keep_if (may_start caps) caps)
+abbrev pub proc_caps_of : List ℕ → WordValue CapState
+proc_caps_of text = proc_caps (caps_of text)
 
 -- the ids of a process: its user and its group are real, effective and saved
 abbrev pub ids_of : ProcFields → Ids
-ids_of o = record { ruid = o.user; euid = o.user; suid = o.user; rgid = o.group; egid = o.group; sgid = o.group; groups = o.groups }
+ids_of f = record { ruid = f.user; euid = f.user; suid = f.user; rgid = f.group; egid = f.group; sgid = f.group; groups = f.groups }
 
 -- a process comes after those before it, if it can
-abbrev pub parse_process : PolicyNames → CapSet → Tree → WorldProc → Parsed
-parse_process policy bound t w = refuse_or (process_fault t w) (GoesOn (at.Tree policy bound (record t { procs = t.procs ++ w ∷ [] })))
+abbrev pub parse_process : PartialWorld → WorldProc → Parsed
+parse_process w p = refuse_or (process_fault w.builder p) (GoesOn (at.Tree (record w { builder = record w.builder { procs = w.builder.procs ++ p ∷ [] } })))
 
--- a process line: its form and that of its capabilities, the names of its label and those of its capabilities, and then whether it may stand there
-abbrev pub parse_proc : PolicyNames → CapSet → Tree → Option ProcFields → Option (Option CapState) → Parsed
-parse_proc policy bound t form caps =
-    with_form form Syntax (λ o. with_form caps Syntax (λ caps. with_form (parse_label policy o.label) UnknownName (λ label. with_form caps UnknownName (λ caps.
-    parse_process policy bound t (record { label = label; ids = ids_of o; caps = caps })))))
+-- a process line: its form, then its names, and then whether it may stand there
+abbrev pub parse_proc : PartialWorld → Option ProcFields → WordValue CapState → Parsed
+parse_proc w form caps = with_form form (λ f. with_value (both f.label caps) (λ x. parse_process w (record { label = x.0; ids = ids_of f; caps = x.1 })))
 
 -- ---- lines
 
--- `dir PATH MODE UID GID LABEL`
-abbrev pub parse_dir : PolicyNames → CapSet → Tree → Names → Parsed
-parse_dir policy bound t (path ∷ mode ∷ uid ∷ gid ∷ label ∷ []) = parse_tree policy bound t (object_fields_of path mode uid gid label) (Some (Some no_flags)) body.Dir
-parse_dir policy bound t _ = Refuses Syntax
+-- `dir PATH MODE UID GID LABEL` or `fifo PATH MODE UID GID LABEL`
+abbrev pub parse_plain : PartialWorld → Body → Names → Parsed
+parse_plain w b (path ∷ mode ∷ uid ∷ gid ∷ label ∷ []) = parse_tree w (object_fields_of w.policy path mode uid gid label) (value.Known no_flags) b
+parse_plain w b _ = Refuses Syntax
 
 -- `file PATH MODE UID GID LABEL BYTES [CAPS]`
-abbrev pub parse_file : PolicyNames → CapSet → Tree → Names → Parsed
-parse_file policy bound t (path ∷ mode ∷ uid ∷ gid ∷ label ∷ bytes ∷ []) = parse_tree policy bound t (object_fields_of path mode uid gid label) (Some (Some no_flags)) (body.File bytes)
-parse_file policy bound t (path ∷ mode ∷ uid ∷ gid ∷ label ∷ bytes ∷ caps ∷ []) = parse_tree policy bound t (object_fields_of path mode uid gid label) (caps_of caps) (body.File bytes)
-parse_file policy bound t _ = Refuses Syntax
-
--- `fifo PATH MODE UID GID LABEL`
-abbrev pub parse_fifo : PolicyNames → CapSet → Tree → Names → Parsed
-parse_fifo policy bound t (path ∷ mode ∷ uid ∷ gid ∷ label ∷ []) = parse_tree policy bound t (object_fields_of path mode uid gid label) (Some (Some no_flags)) body.Fifo
-parse_fifo policy bound t _ = Refuses Syntax
+abbrev pub parse_file : PartialWorld → Names → Parsed
+parse_file w (path ∷ mode ∷ uid ∷ gid ∷ label ∷ bytes ∷ []) = parse_tree w (object_fields_of w.policy path mode uid gid label) (value.Known no_flags) (body.File bytes)
+parse_file w (path ∷ mode ∷ uid ∷ gid ∷ label ∷ bytes ∷ caps ∷ []) = parse_tree w (object_fields_of w.policy path mode uid gid label) (caps_of caps) (body.File bytes)
+parse_file w _ = Refuses Syntax
 
 -- `proc LABEL UID GID GROUPS CAPS`
-abbrev pub parse_proc_line : PolicyNames → CapSet → Tree → Names → Parsed
-parse_proc_line policy bound t (label ∷ uid ∷ gid ∷ groups ∷ caps ∷ []) = parse_proc policy bound t (proc_fields_of label uid gid groups) (proc_caps_of caps)
-parse_proc_line policy bound t _ = Refuses Syntax
+abbrev pub parse_proc_line : PartialWorld → Names → Parsed
+parse_proc_line w (label ∷ uid ∷ gid ∷ groups ∷ caps ∷ []) = parse_proc w (proc_fields_of w.policy label uid gid groups) (proc_caps_of caps)
+parse_proc_line w _ = Refuses Syntax
 
 -- `script`, once the root is there
-abbrev pub parse_script : PolicyNames → CapSet → Tree → Names → Parsed
-parse_script policy bound t [] = unless (length t.objects == 0) Syntax (Begins (world_of policy bound t))
-parse_script policy bound t _ = Refuses Syntax
+abbrev pub parse_script : PartialWorld → Names → Parsed
+parse_script w [] = unless (length w.builder.objects == 0) Syntax (Begins (world_of w))
+parse_script w _ = Refuses Syntax
 
 -- what a line with a keyword says, and else another
 abbrev pub by_keyword : List ℕ → List LineWord → (Names → Parsed) → Parsed → Parsed
 by_keyword keyword ws parsed other = or_else (option_map parsed (after_keyword keyword ws)) other
 
 -- a line of the tree, a process or the beginning of the script
-abbrev pub parse_tree_line : PolicyNames → CapSet → Tree → List LineWord → Parsed
-parse_tree_line policy bound t ws =
-    by_keyword (codes "dir") ws (parse_dir policy bound t)
-    (by_keyword (codes "file") ws (parse_file policy bound t)
-    (by_keyword (codes "fifo") ws (parse_fifo policy bound t)
-    (by_keyword (codes "proc") ws (parse_proc_line policy bound t)
-    (by_keyword (codes "script") ws (parse_script policy bound t)
+abbrev pub parse_tree_line : PartialWorld → List LineWord → Parsed
+parse_tree_line w ws =
+    by_keyword (codes "dir") ws (parse_plain w body.Dir)
+    (by_keyword (codes "file") ws (parse_file w)
+    (by_keyword (codes "fifo") ws (parse_plain w body.Fifo)
+    (by_keyword (codes "proc") ws (parse_proc_line w)
+    (by_keyword (codes "script") ws (parse_script w)
     (Refuses Syntax)))))
 
 -- what the words of a line say
@@ -227,11 +227,11 @@ parse_words at.Format ws = by_keyword (codes "world") ws parse_format (Refuses S
 parse_words at.Levels ws = by_keyword (codes "levels") ws parse_levels (Refuses Syntax)
 parse_words (at.Categories levels) ws = by_keyword (codes "categories") ws (parse_categories levels) (Refuses Syntax)
 parse_words (at.Bound policy) ws = by_keyword (codes "bound") ws (parse_bound policy) (Refuses Syntax)
-parse_words (at.Tree policy bound t) ws = parse_tree_line policy bound t ws
+parse_words (at.Tree w) ws = parse_tree_line w ws
 
--- what a line says: it is too long, it is blank, or its words count
+-- what a line says: one that is too long is refused, a blank one changes nothing, and else its words decide
 unfoldable pub parse_line : Expecting → List ℕ → Parsed
 parse_line expecting line =
     unless (nat_lt MAX_LINE (length line)) Syntax
     (cond (is_blank line) (GoesOn expecting)
-    (with_form (words_of line) Syntax (parse_words expecting)))
+    (with_form (words_of line) (parse_words expecting)))

@@ -1,4 +1,4 @@
--- What stands at the paths of a world as it is read, and how many are counted at each label.
+-- What stands at each path of a world so far, and how many objects and processes each label has.
 use Rattle.std.specs.Prelude.{◌≡◌, ℕ, Bool, true, false, List, Option, None, Some, unwrap_or}
 use Rattle.std.specs.BTreeMap.{BTreeMap, get}
 use Rattle.std.specs.Cmp.Lexicographic.{slice_cmp}
@@ -33,11 +33,11 @@ pub record IsIndexed (t : Tree) (index : BTreeMap (List Name) PathEntry) (object
   pub procs_are : (l : Label) → count_in proc_counts l ≡ procs_at l t.procs
 
 -- whether a directory stands there
-abbrev pub is_standing_dir : Option PathEntry → Bool
-is_standing_dir None = false
-is_standing_dir (Some s) = s.is_dir
+abbrev pub is_dir_entry : Option PathEntry → Bool
+is_dir_entry None = false
+is_dir_entry (Some s) = s.is_dir
 
 -- whether a label dominates that of what stands there
-abbrev pub is_above_standing : Label → Option PathEntry → Bool
-is_above_standing label None = true
-is_above_standing label (Some s) = dominates label s.label
+abbrev pub is_above_entry : Label → Option PathEntry → Bool
+is_above_entry label None = true
+is_above_entry label (Some s) = dominates label s.label

@@ -18,11 +18,11 @@ use Rattle.world_text.specs.Written.{next_number, written}
 
 -- how the reading of a world ends
 pub data Reading : Type 0 where
-  -- with a world, and the pieces of the text from the line of this number on, which is the first of its script
+  -- with a world, the number of the first line of its script, and the pieces of the text from there on
   Accepted : (world : WorldText) (n : ℕ) (script : List (List ℕ)) → Reading
-  -- at the line of this number
+  -- at the line of this number, for this fault
   Refused : (n : ℕ) (fault : WorldFault) → Reading
-  -- before the script: of the line of this number no more is there than these bytes, without a line feed
+  -- before the script, in the line of this number, of which these bytes are there
   Ended : (n : ℕ) (last : List ℕ) → Reading
 
 abbrev pub after : Parsed → ℕ → List (List ℕ) → (Expecting → Reading) → Reading
@@ -55,8 +55,8 @@ error_at n fault.RootLabel = error.RootLabel n
 error_at n fault.LabelOrder = error.LabelOrder n
 error_at n fault.TooMany = error.TooMany n
 
--- why a reading gives no world; a text that ends before its world does is refused at the line that would be next, or at the
--- line inside which it ends
+-- why a reading gives no world; a text that ends too early is refused at the line in which it ends, which is the next one after
+-- a line feed
 abbrev pub error_of : Reading → Option WorldError
 error_of (Accepted world n script) = None
 error_of (Refused n fault) = Some (error_at n fault)
@@ -67,14 +67,14 @@ abbrev pub IsNotRead : Reading → WorldError → Type 0
 IsNotRead r (error.NoMemory _) = Unit {0}
 IsNotRead r e = error_of r ≡ Some e
 
--- what the prefix of a text says, as it is answered
+-- the answer says what the text says
 abbrev pub IsPrefix : Reading → Prefix → Type 0
 IsPrefix (Accepted world n script) (prefix.World w m rest) = (world ≡ w) × (n ≡ m) × (script ≡ pieces 10 rest.now)
 IsPrefix (Refused n fault) (prefix.Refused m why) = (n ≡ m) × (fault ≡ why)
 IsPrefix (Ended n last) (prefix.Ended m rest) = (n ≡ m) × (last ≡ rest.now)
 IsPrefix _ _ = ⊥
 
--- each line before a script has a byte at least, its line feed
+-- each line before the script takes at least one byte, its line feed
 abbrev pub IsWithin : ℕ → Prefix → Type 0
 IsWithin size (prefix.World w n rest) = length rest.now + n ≤ size + 1
 IsWithin size _ = Unit {0}
@@ -89,7 +89,7 @@ abbrev pub IsWorldWritten : Reading → List ℕ → Type 0
 IsWorldWritten (Accepted world n script) text = text ≡ written world
 IsWorldWritten _ text = ⊥
 
--- a text is read, and another one, which is its world written, is read as the same world where its lines are short
+-- a text is read as a world, and the written form of this world is read as the same where its lines are short
 abbrev pub RoundTrips : Reading → Reading → Type 0
 RoundTrips (Accepted world n script) round_trip = HasShortLines world → round_trip ≡ Accepted world (next_number world) ([] ∷ [])
 RoundTrips _ round_trip = ⊥

@@ -71,7 +71,7 @@ object_words policy o =
     bare (body_keyword o.body) ∷ with_quotes_if_needed (path_text o.path.names) ∷ bare (mode_text o.attr.mode) ∷ bare (decimal o.attr.owner) ∷ bare (decimal o.attr.group)
     ∷ bare (label_text policy o.label) ∷ body_words o.body o.attr.caps
 
--- a process line: the label, the user, the group, the further groups and the capabilities
+-- a process line: the label, the user, the group, the supplementary groups and the capabilities
 unfoldable pub process_words : PolicyNames → WorldProc → List LineWord
 process_words policy p =
     bare (codes "proc") ∷ bare (label_text policy p.label) ∷ bare (decimal p.ids.euid) ∷ bare (decimal p.ids.egid) ∷ bare (groups_text p.ids.groups) ∷ quoted (caps_text p.caps) ∷ []

@@ -6,7 +6,7 @@ ghost use Rattle.kern_model.specs.declared.limits.TheConstants.{MAX_OBJECTS, MAX
 ghost use Rattle.kern_model.specs.Kinds.{kind_of, is_dir};
 ghost use Rattle.kern_model.specs.Rules.{same_label};
 ghost use Rattle.kern_model.specs.World.{given, objects_at, procs_at};
-ghost use Rattle.world_text.specs.PathEntry.{path_entry_of, count_in, is_standing_dir, is_above_standing};
+ghost use Rattle.world_text.specs.PathEntry.{path_entry_of, count_in, is_dir_entry, is_above_entry};
 ghost use Rattle.world_text.specs.Placing.{directory_of, is_root, object_fault, process_fault};
 
 use crate::{NoMemory, WorldFault};
@@ -60,20 +60,20 @@ fn path_entry_of(object: &WorldObject) -> PathEntry
     }
 }
 
-fn is_standing_dir(standing: &Option<PathEntry>) -> bool
-    ensures { result ≡ is_standing_dir standing.now }
+fn is_dir_entry(entry: &Option<PathEntry>) -> bool
+    ensures { result ≡ is_dir_entry entry.now }
 {
-    match standing {
-        Some(standing) => standing.is_dir,
+    match entry {
+        Some(entry) => entry.is_dir,
         None => false,
     }
 }
 
-fn is_above_standing(label: &Label, standing: &Option<PathEntry>) -> bool
-    ensures { result ≡ is_above_standing label.now standing.now }
+fn is_above_entry(label: &Label, entry: &Option<PathEntry>) -> bool
+    ensures { result ≡ is_above_entry label.now entry.now }
 {
-    match standing {
-        Some(standing) => label.dominates(&standing.label),
+    match entry {
+        Some(entry) => label.dominates(&entry.label),
         None => true,
     }
 }
@@ -84,11 +84,11 @@ fn is_root(path: &Path) -> bool
     path.components().is_empty()
 }
 
-// Whether an object is the root, or a directory stands where its directory is to be.
+// Whether an object is the root, or its directory is there.
 fn has_parent(object: &WorldObject, directory: &Option<PathEntry>) -> bool
-    ensures { result ≡ (is_root object.now.path.names || is_standing_dir directory.now) }
+    ensures { result ≡ (is_root object.now.path.names || is_dir_entry directory.now) }
 {
-    is_root(&object.path) || is_standing_dir(directory)
+    is_root(&object.path) || is_dir_entry(directory)
 }
 
 // Whether an object may be the root: a directory of the lowest label.
@@ -115,8 +115,8 @@ fn copy_names(alloc: Global, names: &[Name]) -> Result<NameList, NoMemory>
     Ok(copies)
 }
 
-/// Objects and processes in the order of their lines. Beside them stand what is at each path and how many there are at
-/// each label, so that neither is looked for or counted anew for each line.
+/// Objects and processes in the order of their lines, with an index of their paths and counts at each label, so that no
+/// line is compared with all lines before it.
 #[derive(Drop)]
 pub struct WorldBuilder {
     objects: ObjectList,
@@ -165,7 +165,7 @@ impl WorldBuilder {
     }
 
     // What stands at a path of these names.
-    fn standing(&self, names: &NameList) -> Option<PathEntry>
+    fn entry_at(&self, names: &NameList) -> Option<PathEntry>
         ensures { result ≡ option_map path_entry_of (given self.now.objects names.now) }
     {
         self.index.get(names).copied()
@@ -175,10 +175,10 @@ impl WorldBuilder {
     fn is_given(&self, path: &Path) -> bool
         ensures { result ≡ is_some (given self.now.objects path.now.names) }
     {
-        self.standing(&path.names).is_some()
+        self.entry_at(&path.names).is_some()
     }
 
-    // What stands where the path's directory is to be; the root has none.
+    // What stands at the path of the directory. The root has none.
     fn directory_of(&self, alloc: Global, path: &Path) -> Result<Option<PathEntry>, NoMemory>
         ensures { IfOk result (λ directory. directory ≡ option_map path_entry_of (directory_of self.now.objects path.now.names)) }
     {
@@ -187,7 +187,7 @@ impl WorldBuilder {
             return Ok(None);
         }
         let parent = copy_names(alloc, &names[..names.len() - 1])?;
-        Ok(self.standing(&parent))
+        Ok(self.entry_at(&parent))
     }
 
     // Whether no number of the label is left for an object.
@@ -222,7 +222,7 @@ impl WorldBuilder {
         if is_wrong_root(object) {
             return Ok(Some(WorldFault::RootLabel));
         }
-        if !is_above_standing(&object.label, &directory) {
+        if !is_above_entry(&object.label, &directory) {
             return Ok(Some(WorldFault::LabelOrder));
         }
         if self.is_full_of_objects(&object.label) {

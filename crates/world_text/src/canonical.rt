@@ -1,4 +1,4 @@
-// The written form of a text.
+// The canonical form of a world's text.
 ghost use Rattle.std.specs.Prelude.{IfOk, IfErr};
 ghost use Rattle.world_text.specs.Reading.{read_text, IsWorldWritten, RoundTrips, IsNotRead};
 

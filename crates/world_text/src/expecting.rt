@@ -1,21 +1,19 @@
-// What each line of a world says, by how far its reading has come.
+// What each line of a world says, by which line is due.
 ghost use Rattle.std.specs.Prelude.{◌≡◌, [], IfOk, MatchOption, None, Some};
-ghost use Rattle.lab_text.specs.Text.{parse_label};
 ghost use Rattle.kern_model.specs.declared.objects.Body.TheVariants as body;
-ghost use Rattle.world_text.specs.Expecting.{world_of, after_keyword, parse_format, parse_levels, parse_categories, known_of, parse_bound, caps_of, may_start, proc_caps_of, path_of, label_form, object_fields_of, proc_fields_of, parse_tree, parse_proc, parse_object, parse_process, parse_dir, parse_file, parse_fifo, parse_proc_line, parse_script, parse_tree_line, parse_words, parse_line};
-ghost use Rattle.world_text.specs.Lines.{bytes_in, Makes, placed_in, owned_in, IsPlaced, IsOwned};
+ghost use Rattle.world_text.specs.Expecting.{world_of, after_keyword, parse_format, parse_levels, parse_categories, caps_value, label_of, both, parse_bound, caps_of, proc_caps_of, absolute_path, object_fields_of, proc_fields_of, parse_tree, parse_proc, parse_object, parse_process, parse_plain, parse_file, parse_proc_line, parse_script, parse_tree_line, parse_words, parse_line};
+ghost use Rattle.world_text.specs.Lines.{bytes_in, Makes, object_fields_in, proc_fields_in};
 
 use crate::builder::WorldBuilder;
 use crate::{NoMemory, WorldFault, WorldText};
 use cap_bits::{CapSet, CapState};
 use cap_clause::{CapTextError, cap_from_text, set_from_text};
-use fs_path::{
-    ByteList, LineWord, List, Path, PathError, groups_of, is_blank, mode_of, number_of, words_of,
-};
+use fs_path::{ByteList, LineWord, List, Path, groups_of, is_blank, mode_of, number_of, words_of};
 use kern_model::limits::MAX_LINE;
 use kern_model::{Attr, Body, Gid, GroupList, Ids, Mode, Uid, World, WorldObject, WorldProc};
 use lab_lattice::Label;
 use lab_text::{LabelError, Policy, PolicyError, Word, are_label_names, mac_from_text, top};
+use line_text::path_of;
 use std::alloc::Global;
 use std::marker::Model;
 
@@ -31,7 +29,15 @@ pub enum Expecting {
     /// The bound.
     Bound(Policy),
     /// A tree line, a process or the beginning of the script.
-    Tree(Policy, CapSet, WorldBuilder),
+    Tree(PartialWorld),
+}
+
+/// A world of which the head is read, with the objects and processes so far.
+#[derive(Drop)]
+pub struct PartialWorld {
+    policy: Policy,
+    bound: CapSet,
+    builder: WorldBuilder,
 }
 
 /// What comes of a line.
@@ -80,6 +86,12 @@ fn syntax() -> Parsed
     ensures { result ≡ Parsed.Refuses WorldFault.Syntax }
 {
     Parsed::Refuses(WorldFault::Syntax)
+}
+
+fn unknown_name() -> Parsed
+    ensures { result ≡ Parsed.Refuses WorldFault.UnknownName }
+{
+    Parsed::Refuses(WorldFault::UnknownName)
 }
 
 // `world 1`.
@@ -151,14 +163,36 @@ fn parse_categories(
     }
 }
 
-// What a text of capabilities says that has the form of one: a value, or none where a name in it is unknown.
-fn known_of<T: Copy>(parsed: Result<T, CapTextError>) -> Option<Option<T>>
-    ensures { result ≡ known_of parsed }
+/// What a word with names in it says.
+#[derive(Clone, Copy)]
+pub enum WordValue<T> {
+    /// It has not the form that is due.
+    Malformed,
+    /// It has the form, but a name in it is unknown.
+    UnknownName,
+    /// It stands for this value.
+    Known(T),
+}
+
+// What a capability text says. Its first fault decides.
+fn caps_value<T: Copy>(parsed: Result<T, CapTextError>) -> WordValue<T>
+    ensures { result ≡ caps_value parsed }
 {
     match parsed {
-        Ok(value) => Some(Some(value)),
-        Err(CapTextError::UnknownName(_)) => Some(None),
-        Err(_) => None,
+        Ok(value) => WordValue::Known(value),
+        Err(CapTextError::UnknownName(_)) => WordValue::UnknownName,
+        Err(_) => WordValue::Malformed,
+    }
+}
+
+// Two values. The form of both words counts before the names in either.
+fn both<A: Copy, B: Copy>(a: WordValue<A>, b: WordValue<B>) -> WordValue<(A, B)>
+    ensures { result ≡ both a b }
+{
+    match (a, b) {
+        (WordValue::Malformed, _) | (_, WordValue::Malformed) => WordValue::Malformed,
+        (WordValue::Known(a), WordValue::Known(b)) => WordValue::Known((a, b)),
+        _ => WordValue::UnknownName,
     }
 }
 
@@ -169,94 +203,81 @@ fn parse_bound(alloc: Global, policy: Policy, words: &[LineWord]) -> Parsed
     let [word] = words else {
         return syntax();
     };
-    match known_of(set_from_text(word.bytes.items())) {
-        Some(Some(bound)) => Parsed::GoesOn(Expecting::Tree(
+    match caps_value(set_from_text(word.bytes.items())) {
+        WordValue::Malformed => syntax(),
+        WordValue::UnknownName => unknown_name(),
+        WordValue::Known(bound) => Parsed::GoesOn(Expecting::Tree(PartialWorld {
             policy,
             bound,
-            WorldBuilder::new(alloc),
-        )),
-        Some(None) => Parsed::Refuses(WorldFault::UnknownName),
-        None => syntax(),
+            builder: WorldBuilder::new(alloc),
+        })),
     }
 }
 
-// The state of a capability text, or none where a name in it is unknown.
-fn caps_of(word: &[u8]) -> Option<Option<CapState>>
+// The state of a capability text.
+fn caps_of(word: &[u8]) -> WordValue<CapState>
     ensures { result ≡ caps_of word.now }
 {
-    known_of(cap_from_text(word))
+    caps_value(cap_from_text(word))
 }
 
-// Whether what is effective is permitted, as in each process.
-fn may_start(caps: &Option<CapState>) -> bool
-    ensures { result ≡ may_start caps.now }
-{
-    match caps {
-        Some(caps) => caps.e.within(&caps.p),
-        None => true,
-    }
-}
-
-// The state of a capability text that may be that of a process, or none where a name in it is unknown.
-fn proc_caps_of(word: &[u8]) -> Option<Option<CapState>>
+// The state of a capability text, where what is effective is permitted.
+fn proc_caps_of(word: &[u8]) -> WordValue<CapState>
     ensures { result ≡ proc_caps_of word.now }
 {
-    let caps = caps_of(word)?;
-    may_start(&caps).then_some(caps)
+    match caps_of(word) {
+        WordValue::Known(caps) => {
+            if caps.e.within(&caps.p) {
+                WordValue::Known(caps)
+            } else {
+                WordValue::Malformed
+            }
+        }
+        other => other,
+    }
 }
 
 // An absolute path.
-fn path_of(alloc: Global, word: &[u8]) -> Result<Option<Path>, NoMemory>
-    ensures { IfOk result (λ path. path ≡ path_of word.now) }
+fn absolute_path(alloc: Global, word: &[u8]) -> Result<Option<Path>, NoMemory>
+    ensures { IfOk result (λ path. path ≡ absolute_path word.now) }
 {
-    match Path::read(alloc, word) {
-        Ok(path) => {
-            if path.absolute {
-                Ok(Some(path))
-            } else {
-                Ok(None)
-            }
-        }
-        Err(PathError::NoMemory(e)) => Err(e),
-        Err(_) => Ok(None),
-    }
+    Ok(path_of(alloc, word)?.filter(|path| path.absolute))
 }
 
-// What a word of a label's form stands for: a label, or none where a name in it is unknown.
-fn label_of(policy: &Policy, word: &[u8]) -> Option<Option<Label>>
-    ensures { MatchOption result (label_form word.now ≡ None) (λ label. (label_form word.now ≡ Some word.now) × (label ≡ parse_label policy.now word.now)) }
+// The label of a label's text.
+fn label_of(policy: &Policy, word: &[u8]) -> WordValue<Label>
+    ensures { result ≡ label_of policy.now word.now }
 {
     match mac_from_text(policy, word) {
-        Ok(label) => Some(Some(label)),
-        Err(LabelError::Syntax(_)) => None,
-        Err(_) => Some(None),
+        Ok(label) => WordValue::Known(label),
+        Err(LabelError::Syntax(_)) => WordValue::Malformed,
+        Err(_) => WordValue::UnknownName,
     }
 }
 
-/// What the words of a tree line stand for.
+/// What the words of a tree line stand for, up to the label.
 #[derive(Drop)]
-struct ObjectFields {
+pub struct ObjectFields {
     path: Path,
     mode: Mode,
     owner: Uid,
     group: Gid,
-    /// None where a name in it is unknown.
-    label: Option<Label>,
+    label: WordValue<Label>,
 }
 
 // `PATH MODE UID GID LABEL`.
 #[tactic(auto, unfolding(crate::specs::Expecting::object_fields_of))]
-fn placed_in(
+fn object_fields_in(
     alloc: Global,
     policy: &Policy,
     words: &[LineWord],
 ) -> Result<Option<ObjectFields>, NoMemory>
-    ensures { IfOk result (λ parsed. IsPlaced policy.now (placed_in (bytes_in words.now)) parsed) }
+    ensures { IfOk result (λ parsed. parsed ≡ object_fields_in policy.now (bytes_in words.now)) }
 {
     let [path, mode, uid, gid, label, ..] = words else {
         return Ok(None);
     };
-    let Some(path) = path_of(alloc, path.bytes.items())? else {
+    let Some(path) = absolute_path(alloc, path.bytes.items())? else {
         return Ok(None);
     };
     let Some(mode) = mode_of(mode.bytes.items()) else {
@@ -268,23 +289,19 @@ fn placed_in(
     let Some(group) = number_of(gid.bytes.items()) else {
         return Ok(None);
     };
-    let Some(label) = label_of(policy, label.bytes.items()) else {
-        return Ok(None);
-    };
     Ok(Some(ObjectFields {
         path,
         mode,
         owner,
         group,
-        label,
+        label: label_of(policy, label.bytes.items()),
     }))
 }
 
-/// What the words of a process line stand for, but for the capabilities.
+/// What the words of a process line stand for, up to the groups.
 #[derive(Drop)]
-struct ProcFields {
-    /// None where a name in it is unknown.
-    label: Option<Label>,
+pub struct ProcFields {
+    label: WordValue<Label>,
     user: Uid,
     group: Gid,
     groups: GroupList,
@@ -292,17 +309,14 @@ struct ProcFields {
 
 // `LABEL UID GID GROUPS`.
 #[tactic(auto, unfolding(crate::specs::Expecting::proc_fields_of))]
-fn owned_in(
+fn proc_fields_in(
     alloc: Global,
     policy: &Policy,
     words: &[LineWord],
 ) -> Result<Option<ProcFields>, NoMemory>
-    ensures { IfOk result (λ parsed. IsOwned policy.now (owned_in (bytes_in words.now)) parsed) }
+    ensures { IfOk result (λ parsed. parsed ≡ proc_fields_in policy.now (bytes_in words.now)) }
 {
     let [label, uid, gid, groups, ..] = words else {
-        return Ok(None);
-    };
-    let Some(label) = label_of(policy, label.bytes.items()) else {
         return Ok(None);
     };
     let Some(user) = number_of(uid.bytes.items()) else {
@@ -315,7 +329,7 @@ fn owned_in(
         return Ok(None);
     };
     Ok(Some(ProcFields {
-        label,
+        label: label_of(policy, label.bytes.items()),
         user,
         group,
         groups,
@@ -325,36 +339,47 @@ fn owned_in(
 // Puts an object after those before it.
 fn parse_object(
     alloc: Global,
-    policy: Policy,
-    bound: CapSet,
-    builder: WorldBuilder,
+    so_far: PartialWorld,
     object: WorldObject,
 ) -> Result<Parsed, NoMemory>
-    ensures { IfOk result (λ parsed. parsed ≡ parse_object policy bound builder object) }
+    ensures { IfOk result (λ parsed. parsed ≡ parse_object so_far object) }
 {
+    let PartialWorld {
+        policy,
+        bound,
+        builder,
+    } = so_far;
     match builder.object_fault(alloc, &object)? {
         Some(fault) => Ok(Parsed::Refuses(fault)),
         None => {
             let builder = builder.with_object(alloc, object)?;
-            Ok(Parsed::GoesOn(Expecting::Tree(policy, bound, builder)))
+            Ok(Parsed::GoesOn(Expecting::Tree(PartialWorld {
+                policy,
+                bound,
+                builder,
+            })))
         }
     }
 }
 
 // Puts a process after those before it.
-fn parse_process(
-    policy: Policy,
-    bound: CapSet,
-    builder: WorldBuilder,
-    process: WorldProc,
-) -> Result<Parsed, NoMemory>
-    ensures { IfOk result (λ parsed. parsed ≡ parse_process policy bound builder process) }
+fn parse_process(so_far: PartialWorld, process: WorldProc) -> Result<Parsed, NoMemory>
+    ensures { IfOk result (λ parsed. parsed ≡ parse_process so_far process) }
 {
+    let PartialWorld {
+        policy,
+        bound,
+        builder,
+    } = so_far;
     match builder.process_fault(&process) {
         Some(fault) => Ok(Parsed::Refuses(fault)),
         None => {
             let builder = builder.with_process(process)?;
-            Ok(Parsed::GoesOn(Expecting::Tree(policy, bound, builder)))
+            Ok(Parsed::GoesOn(Expecting::Tree(PartialWorld {
+                policy,
+                bound,
+                builder,
+            })))
         }
     }
 }
@@ -362,19 +387,14 @@ fn parse_process(
 // A tree line whose first five words are these, with these capabilities and this body.
 fn parse_tree(
     alloc: Global,
-    policy: Policy,
-    bound: CapSet,
-    builder: WorldBuilder,
+    so_far: PartialWorld,
     words: &[LineWord],
-    caps: Option<Option<CapState>>,
+    caps: WordValue<CapState>,
     body: Body,
 ) -> Result<Parsed, NoMemory>
-    ensures { IfOk result (λ parsed. parsed ≡ parse_tree policy bound builder (placed_in (bytes_in words.now)) caps body) }
+    ensures { IfOk result (λ parsed. parsed ≡ parse_tree so_far (object_fields_in so_far.policy (bytes_in words.now)) caps body) }
 {
-    let Some(placed) = placed_in(alloc, &policy, words)? else {
-        return Ok(syntax());
-    };
-    let Some(caps) = caps else {
+    let Some(fields) = object_fields_in(alloc, &so_far.policy, words)? else {
         return Ok(syntax());
     };
     let ObjectFields {
@@ -383,40 +403,38 @@ fn parse_tree(
         owner,
         group,
         label,
-    } = placed;
-    let (Some(label), Some(caps)) = (label, caps) else {
-        return Ok(Parsed::Refuses(WorldFault::UnknownName));
-    };
-    let attr = Attr {
-        owner,
-        group,
-        mode,
-        caps,
-    };
-    let object = WorldObject {
-        path,
-        label,
-        attr,
-        body,
-    };
-    parse_object(alloc, policy, bound, builder, object)
+    } = fields;
+    match both(label, caps) {
+        WordValue::Malformed => Ok(syntax()),
+        WordValue::UnknownName => Ok(unknown_name()),
+        WordValue::Known((label, caps)) => {
+            let attr = Attr {
+                owner,
+                group,
+                mode,
+                caps,
+            };
+            let object = WorldObject {
+                path,
+                label,
+                attr,
+                body,
+            };
+            parse_object(alloc, so_far, object)
+        }
+    }
 }
 
 // A process line whose first four words are these, with these capabilities.
 fn parse_proc(
     alloc: Global,
-    policy: Policy,
-    bound: CapSet,
-    builder: WorldBuilder,
+    so_far: PartialWorld,
     words: &[LineWord],
-    caps: Option<Option<CapState>>,
+    caps: WordValue<CapState>,
 ) -> Result<Parsed, NoMemory>
-    ensures { IfOk result (λ parsed. parsed ≡ parse_proc policy bound builder (owned_in (bytes_in words.now)) caps) }
+    ensures { IfOk result (λ parsed. parsed ≡ parse_proc so_far (proc_fields_in so_far.policy (bytes_in words.now)) caps) }
 {
-    let Some(owned) = owned_in(alloc, &policy, words)? else {
-        return Ok(syntax());
-    };
-    let Some(caps) = caps else {
+    let Some(fields) = proc_fields_in(alloc, &so_far.policy, words)? else {
         return Ok(syntax());
     };
     let ProcFields {
@@ -424,54 +442,39 @@ fn parse_proc(
         user,
         group,
         groups,
-    } = owned;
-    let (Some(label), Some(caps)) = (label, caps) else {
-        return Ok(Parsed::Refuses(WorldFault::UnknownName));
-    };
-    let ids = Ids {
-        ruid: user,
-        euid: user,
-        suid: user,
-        rgid: group,
-        egid: group,
-        sgid: group,
-        groups,
-    };
-    parse_process(policy, bound, builder, WorldProc { label, ids, caps })
+    } = fields;
+    match both(label, caps) {
+        WordValue::Malformed => Ok(syntax()),
+        WordValue::UnknownName => Ok(unknown_name()),
+        WordValue::Known((label, caps)) => {
+            let ids = Ids {
+                ruid: user,
+                euid: user,
+                suid: user,
+                rgid: group,
+                egid: group,
+                sgid: group,
+                groups,
+            };
+            parse_process(so_far, WorldProc { label, ids, caps })
+        }
+    }
 }
 
-// `dir PATH MODE UID GID LABEL`.
-fn parse_dir(
+// `dir PATH MODE UID GID LABEL` or `fifo PATH MODE UID GID LABEL`.
+fn parse_plain(
     alloc: Global,
-    policy: Policy,
-    bound: CapSet,
-    builder: WorldBuilder,
+    so_far: PartialWorld,
     words: &[LineWord],
+    body: Body,
 ) -> Result<Parsed, NoMemory>
-    ensures { IfOk result (λ parsed. parsed ≡ parse_dir policy bound builder (bytes_in words.now)) }
+    ensures { IfOk result (λ parsed. parsed ≡ parse_plain so_far body (bytes_in words.now)) }
 {
     if words.len() != 5 {
         return Ok(syntax());
     }
-    let caps = Some(Some(CapState::none()));
-    parse_tree(alloc, policy, bound, builder, words, caps, Body::Dir)
-}
-
-// `fifo PATH MODE UID GID LABEL`.
-fn parse_fifo(
-    alloc: Global,
-    policy: Policy,
-    bound: CapSet,
-    builder: WorldBuilder,
-    words: &[LineWord],
-) -> Result<Parsed, NoMemory>
-    ensures { IfOk result (λ parsed. parsed ≡ parse_fifo policy bound builder (bytes_in words.now)) }
-{
-    if words.len() != 5 {
-        return Ok(syntax());
-    }
-    let caps = Some(Some(CapState::none()));
-    parse_tree(alloc, policy, bound, builder, words, caps, Body::Fifo)
+    let caps = WordValue::Known(CapState::none());
+    parse_tree(alloc, so_far, words, caps, body)
 }
 
 // A file with the bytes that a word stands for.
@@ -482,24 +485,18 @@ fn file_of(alloc: Global, word: &LineWord) -> Result<Body, NoMemory>
 }
 
 // `file PATH MODE UID GID LABEL BYTES [CAPS]`.
-fn parse_file(
-    alloc: Global,
-    policy: Policy,
-    bound: CapSet,
-    builder: WorldBuilder,
-    words: &[LineWord],
-) -> Result<Parsed, NoMemory>
-    ensures { IfOk result (λ parsed. parsed ≡ parse_file policy bound builder (bytes_in words.now)) }
+fn parse_file(alloc: Global, so_far: PartialWorld, words: &[LineWord]) -> Result<Parsed, NoMemory>
+    ensures { IfOk result (λ parsed. parsed ≡ parse_file so_far (bytes_in words.now)) }
 {
     if words.len() == 6 {
-        let caps = Some(Some(CapState::none()));
+        let caps = WordValue::Known(CapState::none());
         let body = file_of(alloc, &words[5])?;
-        return parse_tree(alloc, policy, bound, builder, words, caps, body);
+        return parse_tree(alloc, so_far, words, caps, body);
     }
     if words.len() == 7 {
         let caps = caps_of(words[6].bytes.items());
         let body = file_of(alloc, &words[5])?;
-        return parse_tree(alloc, policy, bound, builder, words, caps, body);
+        return parse_tree(alloc, so_far, words, caps, body);
     }
     Ok(syntax())
 }
@@ -507,23 +504,26 @@ fn parse_file(
 // `proc LABEL UID GID GROUPS CAPS`.
 fn parse_proc_line(
     alloc: Global,
-    policy: Policy,
-    bound: CapSet,
-    builder: WorldBuilder,
+    so_far: PartialWorld,
     words: &[LineWord],
 ) -> Result<Parsed, NoMemory>
-    ensures { IfOk result (λ parsed. parsed ≡ parse_proc_line policy bound builder (bytes_in words.now)) }
+    ensures { IfOk result (λ parsed. parsed ≡ parse_proc_line so_far (bytes_in words.now)) }
 {
     if words.len() != 5 {
         return Ok(syntax());
     }
     let caps = proc_caps_of(words[4].bytes.items());
-    parse_proc(alloc, policy, bound, builder, words, caps)
+    parse_proc(alloc, so_far, words, caps)
 }
 
-fn world_of(policy: Policy, bound: CapSet, builder: WorldBuilder) -> WorldText
-    ensures { result ≡ world_of policy bound builder }
+fn world_of(so_far: PartialWorld) -> WorldText
+    ensures { result ≡ world_of so_far }
 {
+    let PartialWorld {
+        policy,
+        bound,
+        builder,
+    } = so_far;
     let (objects, procs) = builder.into_lists();
     let world = World {
         top: top(&policy),
@@ -535,39 +535,37 @@ fn world_of(policy: Policy, bound: CapSet, builder: WorldBuilder) -> WorldText
 }
 
 // `script`.
-fn parse_script(policy: Policy, bound: CapSet, builder: WorldBuilder, words: &[LineWord]) -> Parsed
-    ensures { result ≡ parse_script policy bound builder (bytes_in words.now) }
+fn parse_script(so_far: PartialWorld, words: &[LineWord]) -> Parsed
+    ensures { result ≡ parse_script so_far (bytes_in words.now) }
 {
-    if !words.is_empty() || builder.is_empty() {
+    if !words.is_empty() || so_far.builder.is_empty() {
         return syntax();
     }
-    Parsed::Begins(world_of(policy, bound, builder))
+    Parsed::Begins(world_of(so_far))
 }
 
 // A tree line, a process or the beginning of the script.
 fn parse_tree_line(
     alloc: Global,
-    policy: Policy,
-    bound: CapSet,
-    builder: WorldBuilder,
+    so_far: PartialWorld,
     words: &[LineWord],
 ) -> Result<Parsed, NoMemory>
-    ensures { IfOk result (λ parsed. parsed ≡ parse_tree_line policy bound builder words.now) }
+    ensures { IfOk result (λ parsed. parsed ≡ parse_tree_line so_far words.now) }
 {
     if let Some(words) = after_keyword(b"dir", words) {
-        return parse_dir(alloc, policy, bound, builder, words);
+        return parse_plain(alloc, so_far, words, Body::Dir);
     }
     if let Some(words) = after_keyword(b"file", words) {
-        return parse_file(alloc, policy, bound, builder, words);
+        return parse_file(alloc, so_far, words);
     }
     if let Some(words) = after_keyword(b"fifo", words) {
-        return parse_fifo(alloc, policy, bound, builder, words);
+        return parse_plain(alloc, so_far, words, Body::Fifo);
     }
     if let Some(words) = after_keyword(b"proc", words) {
-        return parse_proc_line(alloc, policy, bound, builder, words);
+        return parse_proc_line(alloc, so_far, words);
     }
     match after_keyword(b"script", words) {
-        Some(words) => Ok(parse_script(policy, bound, builder, words)),
+        Some(words) => Ok(parse_script(so_far, words)),
         None => Ok(syntax()),
     }
 }
@@ -594,9 +592,7 @@ fn parse_words(alloc: Global, expecting: Expecting, words: &[LineWord]) -> Resul
             Some(words) => Ok(parse_bound(alloc, policy, words)),
             None => Ok(syntax()),
         },
-        Expecting::Tree(policy, bound, builder) => parse_tree_line(
-            alloc, policy, bound, builder, words,
-        ),
+        Expecting::Tree(so_far) => parse_tree_line(alloc, so_far, words),
     }
 }
 

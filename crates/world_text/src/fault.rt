@@ -5,8 +5,8 @@ ghost use Rattle.world_text.specs.Reading.{error_at};
 use crate::NoMemory;
 use thiserror::Error;
 
-/// Why a line of a world is refused. Of several causes the first that is listed here counts, but that of a line of levels
-/// or categories `TooMany` goes before `Repeated`.
+/// Why a line of a world is refused. Of several faults the first that is listed here counts; in a line of levels or
+/// categories `TooMany` counts before `Repeated`.
 #[derive(Clone, Copy, Debug, PartialEq, Eq)]
 pub enum WorldFault {
     /// It is longer than 2,048 bytes, has not the form of the line that is due, has capabilities effective in a process
@@ -26,8 +26,8 @@ pub enum WorldFault {
     TooMany,
 }
 
-/// Why no world was read: the fault of a line, with the number of that line, counted from 1. Of several faults that one
-/// counts which [`WorldFault`] says.
+/// Why no world was read: the fault of a line, and the number of that line, counted from 1. [`WorldFault`] says which of
+/// several faults counts.
 #[derive(Clone, Copy, Debug, PartialEq, Eq, Error)]
 pub enum WorldError {
     /// The line is longer than 2,048 bytes, has not the form of the line that is due, has capabilities effective in a

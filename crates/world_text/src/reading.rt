@@ -15,7 +15,7 @@ pub enum Prefix<'a> {
     World(WorldText, u64, &'a [u8]),
     /// The line with this number is refused.
     Refused(u64, WorldFault),
-    /// The text ends before the script begins: of the line with this number no more is there than these bytes.
+    /// The text ends before the script, in the line with this number, of which these bytes are there.
     Ended(u64, &'a [u8]),
 }
 

@@ -7,4 +7,4 @@ use Rattle.world_text.proofs.expecting.parse_proc_line.Goals as goal
 pub returns : goal.returns
 returns c =
     IfOk-weaker c.parse_proc.result _ _
-    (λ parsed h. h ∙ proc_read c.args.policy c.args.bound c.args.builder c.args.words.now c.index-words-4.result c.proc_caps_of-caps.result c.if-words-ne5.false (c.proc_caps_of-caps.ensures ∙ ap proc_caps_of c.items.ensures)) c.parse_proc.ensures
+    (λ parsed h. h ∙ proc_read c.args.so_far c.args.words.now c.index-words-4.result c.proc_caps_of-caps.result c.if-words-ne5.false (c.proc_caps_of-caps.ensures ∙ ap proc_caps_of c.items.ensures)) c.parse_proc.ensures

@@ -12,7 +12,7 @@ pub returns : goal.returns
 returns c =
     let apart = eqb-false (length c.components-names.result.now) 0 (sym c.if-is_empty.ensures) in
     let some : 0 < length c.components-names.result.now = omega arith in
-    c.standing.ensures
+    c.entry_at.ensures
     ∙ ap (λ (ns : List Name). option_map path_entry_of (given c.args.self.now.objects ns)) c.in_ok-parent.ensures
     ∙ ap (option_map path_entry_of) (sym (directory_stands c.args.self.now.objects c.components-names.result.now some))
     ∙ ap (λ (ns : List Name). option_map path_entry_of (directory_of c.args.self.now.objects ns)) c.components-names.ensures.names

@@ -7,4 +7,4 @@ use Rattle.world_text.proofs.builder.WorldBuilder.is_given.Goals as goal
 
 pub returns : goal.returns
 returns c =
-    c.is_some.ensures ∙ ap is_some c.standing.ensures ∙ is_given _ ∙ ap (λ (p : PathValue). is_some (given c.args.self.now.objects p.names)) c.path.view_is
+    c.is_some.ensures ∙ ap is_some c.entry_at.ensures ∙ is_given _ ∙ ap (λ (p : PathValue). is_some (given c.args.self.now.objects p.names)) c.path.view_is

@@ -15,19 +15,19 @@ returns-then-is_wrong_root c =
     fault_reported c.args.self.now c.args.object.now c.in_ok-directory.directory false true true _ _ c.in_ok-directory.ensures (sym c.is_given.ensures ∙ c.if-is_given.false)
     (sym c.has_parent.ensures ∙ c.if-not-has_parent.false) (sym c.is_wrong_root.ensures ∙ c.if-is_wrong_root.true) refl refl
 
-pub returns-then-not-is_above_standing : goal.returns-then-not-is_above_standing
-returns-then-not-is_above_standing c =
+pub returns-then-not-is_above_entry : goal.returns-then-not-is_above_entry
+returns-then-not-is_above_entry c =
     fault_reported c.args.self.now c.args.object.now c.in_ok-directory.directory false true false false _ c.in_ok-directory.ensures (sym c.is_given.ensures ∙ c.if-is_given.false)
-    (sym c.has_parent.ensures ∙ c.if-not-has_parent.false) (sym c.is_wrong_root.ensures ∙ c.if-is_wrong_root.false) (sym c.is_above_standing.ensures ∙ c.if-not-is_above_standing.true) refl
+    (sym c.has_parent.ensures ∙ c.if-not-has_parent.false) (sym c.is_wrong_root.ensures ∙ c.if-is_wrong_root.false) (sym c.is_above_entry.ensures ∙ c.if-not-is_above_entry.true) refl
 
 pub returns-then-is_full_of_objects : goal.returns-then-is_full_of_objects
 returns-then-is_full_of_objects c =
     fault_reported c.args.self.now c.args.object.now c.in_ok-directory.directory false true false true true c.in_ok-directory.ensures (sym c.is_given.ensures ∙ c.if-is_given.false)
-    (sym c.has_parent.ensures ∙ c.if-not-has_parent.false) (sym c.is_wrong_root.ensures ∙ c.if-is_wrong_root.false) (sym c.is_above_standing.ensures ∙ c.if-not-is_above_standing.false)
+    (sym c.has_parent.ensures ∙ c.if-not-has_parent.false) (sym c.is_wrong_root.ensures ∙ c.if-is_wrong_root.false) (sym c.is_above_entry.ensures ∙ c.if-not-is_above_entry.false)
     (sym c.is_full_of_objects.ensures ∙ c.if-is_full_of_objects.true)
 
 pub returns : goal.returns
 returns c =
     fault_reported c.args.self.now c.args.object.now c.in_ok-directory.directory false true false true false c.in_ok-directory.ensures (sym c.is_given.ensures ∙ c.if-is_given.false)
-    (sym c.has_parent.ensures ∙ c.if-not-has_parent.false) (sym c.is_wrong_root.ensures ∙ c.if-is_wrong_root.false) (sym c.is_above_standing.ensures ∙ c.if-not-is_above_standing.false)
+    (sym c.has_parent.ensures ∙ c.if-not-has_parent.false) (sym c.is_wrong_root.ensures ∙ c.if-is_wrong_root.false) (sym c.is_above_entry.ensures ∙ c.if-not-is_above_entry.false)
     (sym c.is_full_of_objects.ensures ∙ c.if-is_full_of_objects.false)
