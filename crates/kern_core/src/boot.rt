@@ -8,34 +8,34 @@ ghost use Rattle.kern_model.specs.Boot.{boot_object, boot_objects, boot_process,
 ghost use Rattle.kern_core.specs.Tables.{state_of_tables};
 ghost use Rattle.kern_core.specs.Starts.{CanStart, RoomForObjects, IsSpotOf};
 
-use crate::from_world::{object_from, process_from};
+use crate::from_world::{copy_body, process_from};
 use crate::process::root_directory;
-use crate::tables::{Entries, Numbers, Objects, Procs, Spot, Tables};
+use crate::tables::{Entries, Procs, Spot, Tables};
 use cap_bits::CapSet;
-use kern_model::{Name, NoMemory, Oid, Pid, Rec, RecList, WorldObject, WorldProc};
+use fs_nodes::{NodeError, Nodes};
+use kern_model::{Name, NoMemory, Numbers, Oid, Pid, Rec, RecList, WorldObject, WorldProc};
 use lab_lattice::Label;
 use std::alloc::Global;
 
 impl Tables {
     /// Tables without objects and processes.
-    pub fn empty(alloc: Global, bound: CapSet, top: Label) -> Tables
-        ensures { state_of_tables result ≡ nothing bound top }
+    pub fn empty(alloc: Global, bound: CapSet, top: Label) -> Result<Tables, NoMemory>
+        ensures { IfOk result (λ tables. state_of_tables tables ≡ nothing bound top) }
     {
-        Tables {
+        Ok(Tables {
             alloc,
-            objects: Objects::new(alloc),
+            nodes: Nodes::new(alloc)?,
             entries: Entries::new(alloc),
             procs: Procs::new(alloc),
-            object_numbers: Numbers::new(alloc),
             process_numbers: Numbers::new(alloc),
             bound,
             top,
-        }
+        })
     }
 
     /// Makes the objects of a world, in order.
     pub fn boot_objects(&mut self, objects: &[WorldObject]) -> Result<(), NoMemory>
-        requires { RoomForObjects self.old.object_numbers objects.now }
+        requires { RoomForObjects self.old.nodes.table.numbers objects.now }
         ensures { OnOk result (state_of_tables self.new ≡ boot_objects (state_of_tables self.old) objects.now) }
     {
         for object in objects {
@@ -60,17 +60,16 @@ impl Tables {
 
     // Makes an object under the next number of its label, and its entry.
     fn boot_object(&mut self, object: &WorldObject) -> Result<(), NoMemory>
-        requires { drawn self.old.object_numbers object.now.label < MAX_OBJECTS }
+        requires { drawn self.old.nodes.table.numbers object.now.label < MAX_OBJECTS }
         ensures { OnOk result (state_of_tables self.new ≡ boot_object (state_of_tables self.old) object.now) }
     {
         let spot = self.spot_of(root_directory(), object.path.components())?;
-        let n = self.object_numbers.last(&object.label) + 1;
-        let id = Oid {
-            label: object.label,
-            n,
+        let body = copy_body(&object.body)?;
+        let id = match self.nodes.create(object.label, object.attr, body) {
+            Ok(id) => id,
+            Err(NodeError::Full) => unreachable!(),
+            Err(NodeError::NoMemory(e)) => return Err(e),
         };
-        self.object_numbers.set(object.label, n)?;
-        self.objects.set(id, object_from(self.alloc, object)?)?;
         if let Some(spot) = spot {
             self.entries.set(spot, id)?;
         }

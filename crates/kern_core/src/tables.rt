@@ -5,28 +5,24 @@ ghost use Rattle.kern_model.specs.State.{look};
 ghost use Rattle.kern_core.specs.Tables.{state_of_tables, metadata_of};
 
 mod entries;
-mod numbers;
-mod objects;
 mod procs;
 
 use cap_bits::{CapSet, CapState};
 pub use entries::{Entries, Spot};
-use kern_model::{Attr, Kind, Oid};
+use fs_nodes::Nodes;
+use kern_model::{Attr, Kind, Numbers, Oid};
 use lab_lattice::Label;
-pub use numbers::Numbers;
-pub use objects::Objects;
 pub use procs::Procs;
 use std::alloc::Global;
 
-/// Objects, entries and processes, the last numbers drawn of each label, the bound of capabilities over exec, and the
-/// highest label.
+/// Objects, entries and processes, the last number of a process drawn of each label, the bound of capabilities over exec,
+/// and the highest label.
 #[derive(Drop)]
 pub struct Tables {
     pub alloc: Global,
-    pub objects: Objects,
+    pub nodes: Nodes,
     pub entries: Entries,
     pub procs: Procs,
-    pub object_numbers: Numbers,
     pub process_numbers: Numbers,
     pub bound: CapSet,
     pub top: Label,
@@ -59,7 +55,7 @@ impl Tables {
     pub fn metadata(&self, id: &Oid) -> Metadata
         ensures { result ≡ metadata_of (state_of_tables self.now) id.now }
     {
-        match self.objects.get(id) {
+        match self.nodes.get(id) {
             Some(object) => Metadata {
                 id: *id,
                 kind: object.kind,

@@ -8,5 +8,5 @@ use Rattle.kern_core.proofs.tables.Tables.boot_objects.Given as goal
 abbrev pub invariant-loop-object : goal.invariant-loop-object
 invariant-loop-object l = record {
   same : boot_objects (state_of_tables l.self) (drop l.object-index l.objects) ≡ boot_objects (state_of_tables l.fn.self) l.objects;
-  room : RoomForObjects l.self.object_numbers (drop l.object-index l.objects);
+  room : RoomForObjects l.self.nodes.table.numbers (drop l.object-index l.objects);
 }
