@@ -7,12 +7,16 @@ use Rattle.std.specs.Option.{ok_or, option_and_then, option_map}
 use Rattle.std.proofs.lemmas.Bool.{and_parts, and_from}
 use Rattle.std.proofs.lemmas.Bool.Decides.{nat_tests}
 use Rattle.std.proofs.lemmas.Int.{ints}
+use Rattle.fs_path.proofs.PathLaws.{path_form}
+use Rattle.fs_path.specs.Path.{PathValue}
+use Rattle.fs_path.specs.PathText.{path_fault, parse_path}
+use Rattle.fs_path.specs.declared.path.PathError.{PathError}
 use Rattle.fs_path.specs.Split.{split_once}
 use Rattle.fs_path.specs.Options.{keep_if}
 use Rattle.fs_path.specs.Values.{mode_of, number_of, numeral, digits_value}
 use Rattle.fs_path.specs.Words.{is_blank, words_of}
 use Rattle.fs_path.specs.declared.words.LineWord.{LineWord}
-use Rattle.kern_model.specs.Arguments.{are_flags, is_call, is_number}
+use Rattle.kern_model.specs.Arguments.{are_flags, are_names, is_call, is_number}
 use Rattle.kern_model.specs.Kinds.{is_mode, is_permission}
 use Rattle.kern_model.specs.declared.limits.TheConstants.{MAX_FILE_BYTES, MAX_LINE, MAX_NUMBER, MAX_OFFSET, MAX_PERMISSIONS, MAX_PROCS}
 use Rattle.kern_model.specs.declared.calls.Call.{Call}
@@ -25,7 +29,7 @@ use Rattle.lab_lattice.specs.Label.{Label, dominates}
 use Rattle.lab_text.specs.Policy.{PolicyNames, top_of}
 use Rattle.lab_text.proofs.Parsed.{parsed_valid}
 use Rattle.lab_text.specs.Text.{parse_label}
-use Rattle.script_text.specs.Argument.{process, pid_by, label as a_label, tag as a_tag, pid as a_pid, up_to as a_number_up_to, mode as a_mode, permissions as a_permission, offset as an_offset, signed, flags as some_flags, flags_in, is_in_order, numbered}
+use Rattle.script_text.specs.Argument.{process, pid_by, path_by, path as a_path, label as a_label, tag as a_tag, pid as a_pid, up_to as a_number_up_to, mode as a_mode, permissions as a_permission, offset as an_offset, signed, flags as some_flags, flags_in, is_in_order, numbered}
 use Rattle.kern_model.specs.Named.{call_named}
 use Rattle.script_text.specs.Calls.{parse_call, none_parsed, one_parsed, two_parsed, three_parsed}
 use Rattle.script_text.specs.Line.{MayBePlayed, bytes_in, item_by, parse_item, parse_line, parse_words}
@@ -80,6 +84,14 @@ mode_fine w m h = by_numeral (numeral 8 4 0 4095 w) (λ n e. (numeral_within 8 4
       where
         below : nat_le n 4095 ≡ true → nat_lt n 4096 ≡ true
         below le = grind (arith, nat_tests)
+
+path_fine : (w : List ℕ) (path : PathValue) → a_path w ≡ Ok path → are_names path ≡ true
+unfolding a_path
+path_fine w path h = by_fault (path_fault w) refl h
+  where
+    by_fault : (o : Option PathError) → path_fault w ≡ o → path_by o (parse_path w) ≡ Ok path → are_names path ≡ true
+    by_fault None fine h = let is : parse_path w ≡ path = cc in ap are_names (sym is) ∙ (path_form w fine).named
+    by_fault (Some fault) e h = absurd (cc)
 
 permission_fine : (w : List ℕ) (m : ℕ) → a_permission w ≡ Ok m → is_permission m ≡ true
 unfolding a_permission
@@ -203,17 +215,17 @@ module _ (policy : PolicyNames) where
   one_fine name.Close w c h = from_made MayBeMade call.Close _ c h (λ fd _. refl)
   one_fine name.Dup w c h = from_made MayBeMade call.Dup _ c h (λ fd _. refl)
   one_fine name.Fstat w c h = from_made MayBeMade call.Fstat _ c h (λ fd _. refl)
-  one_fine name.Rmdir w c h = from_made MayBeMade call.Rmdir _ c h (λ path _. refl)
-  one_fine name.Unlink w c h = from_made MayBeMade call.Unlink _ c h (λ path _. refl)
-  one_fine name.Readdir w c h = from_made MayBeMade call.Readdir _ c h (λ path _. refl)
-  one_fine name.Stat w c h = from_made MayBeMade call.Stat _ c h (λ path _. refl)
-  one_fine name.Chdir w c h = from_made MayBeMade call.Chdir _ c h (λ path _. refl)
+  one_fine name.Rmdir w c h = from_made MayBeMade call.Rmdir _ c h (path_fine w)
+  one_fine name.Unlink w c h = from_made MayBeMade call.Unlink _ c h (path_fine w)
+  one_fine name.Readdir w c h = from_made MayBeMade call.Readdir _ c h (path_fine w)
+  one_fine name.Stat w c h = from_made MayBeMade call.Stat _ c h (path_fine w)
+  one_fine name.Chdir w c h = from_made MayBeMade call.Chdir _ c h (path_fine w)
   one_fine name.Umask w c h = from_made MayBeMade call.Umask _ c h (permission_fine w)
-  one_fine name.CapGetFile w c h = from_made MayBeMade call.CapGetFile _ c h (λ path _. refl)
+  one_fine name.CapGetFile w c h = from_made MayBeMade call.CapGetFile _ c h (path_fine w)
   one_fine name.CapGetFd w c h = from_made MayBeMade call.CapGetFd _ c h (λ fd _. refl)
-  one_fine name.MacGetFile w c h = from_made MayBeMade call.MacGetFile _ c h (λ path _. refl)
+  one_fine name.MacGetFile w c h = from_made MayBeMade call.MacGetFile _ c h (path_fine w)
   one_fine name.MacGetFd w c h = from_made MayBeMade call.MacGetFd _ c h (λ fd _. refl)
-  one_fine name.Exec w c h = from_made MayBeMade call.Exec _ c h (λ path _. refl)
+  one_fine name.Exec w c h = from_made MayBeMade call.Exec _ c h (path_fine w)
   one_fine name.Exit w c h = from_made MayBeMade call.Exit _ c h (λ code _. refl)
   one_fine name.Setuid w c h = from_made MayBeMade call.Setuid _ c h (λ user _. refl)
   one_fine name.Setgid w c h = from_made MayBeMade call.Setgid _ c h (λ group _. refl)
@@ -225,26 +237,26 @@ module _ (policy : PolicyNames) where
 
   two_fine : (n : CallName) (v w : List ℕ) (c : Call) → two_parsed policy n v w ≡ Ok c → MayBeMade c
   unfolding two_parsed is_call
-  two_fine name.OpenPath v w c h = from_two (λ path flags. call.OpenPath path flags None) _ _ c h (λ path flags _ f. let is = flags_fine false w flags f in and_from _ _ is.fit (without_mode flags is))
+  two_fine name.OpenPath v w c h = from_two (λ path flags. call.OpenPath path flags None) _ _ c h (λ path flags e f. let is = flags_fine false w flags f in and_from _ _ (and_from _ _ (path_fine v path e) is.fit) (without_mode flags is))
   two_fine name.Read v w c h = from_two call.Read _ _ c h (λ fd n _ n_is. number_fine MAX_FILE_BYTES w n n_is)
   two_fine name.Write v w c h = from_two call.Write _ _ c h (λ fd bytes _ _. refl)
-  two_fine name.Mkfifo v w c h = from_two call.Mkfifo _ _ c h (λ path mode _ m. mode_fine w mode m)
-  two_fine name.Mkdir v w c h = from_two call.Mkdir _ _ c h (λ path mode _ m. mode_fine w mode m)
-  two_fine name.Link v w c h = from_two call.Link _ _ c h (λ path to _ _. refl)
-  two_fine name.Rename v w c h = from_two call.Rename _ _ c h (λ path to _ _. refl)
-  two_fine name.Chmod v w c h = from_two call.Chmod _ _ c h (λ path mode _ m. mode_fine w mode m)
-  two_fine name.CapSetFile v w c h = from_two call.CapSetFile _ _ c h (λ path caps _ _. refl)
+  two_fine name.Mkfifo v w c h = from_two call.Mkfifo _ _ c h (λ path mode e m. and_from _ _ (path_fine v path e) (mode_fine w mode m))
+  two_fine name.Mkdir v w c h = from_two call.Mkdir _ _ c h (λ path mode e m. and_from _ _ (path_fine v path e) (mode_fine w mode m))
+  two_fine name.Link v w c h = from_two call.Link _ _ c h (λ path to e f. and_from _ _ (path_fine v path e) (path_fine w to f))
+  two_fine name.Rename v w c h = from_two call.Rename _ _ c h (λ path to e f. and_from _ _ (path_fine v path e) (path_fine w to f))
+  two_fine name.Chmod v w c h = from_two call.Chmod _ _ c h (λ path mode e m. and_from _ _ (path_fine v path e) (mode_fine w mode m))
+  two_fine name.CapSetFile v w c h = from_two call.CapSetFile _ _ c h (λ path caps e _. path_fine v path e)
   two_fine name.CapSetFd v w c h = from_two call.CapSetFd _ _ c h (λ fd caps _ _. refl)
-  two_fine name.MacSetFile v w c h = from_two call.MacSetFile _ _ c h (λ path label _ l. label_fine w label l)
+  two_fine name.MacSetFile v w c h = from_two call.MacSetFile _ _ c h (λ path label e l. and_from _ _ (path_fine v path e) (label_fine w label l))
   two_fine name.MacSetFd v w c h = from_two call.MacSetFd _ _ c h (λ fd label _ l. label_fine w label l)
   two_fine name.Kill v w c h = from_two call.Kill _ _ c h (λ target signal t _. pid_fine v target t)
   two_fine _ v w c h = absurd (cc)
 
   three_fine : (n : CallName) (u v w : List ℕ) (c : Call) → three_parsed n u v w ≡ Ok c → MayBeMade c
   unfolding three_parsed is_call
-  three_fine name.OpenPath u v w c h = from_three (λ path flags mode. call.OpenPath path flags (Some mode)) _ _ _ c h (λ path flags mode _ f m. let is = flags_fine true v flags f in and_from _ _ is.fit (and_from _ _ (with_mode flags is) (mode_fine w mode m)))
+  three_fine name.OpenPath u v w c h = from_three (λ path flags mode. call.OpenPath path flags (Some mode)) _ _ _ c h (λ path flags mode e f m. let is = flags_fine true v flags f in and_from _ _ (and_from _ _ (path_fine u path e) is.fit) (and_from _ _ (with_mode flags is) (mode_fine w mode m)))
   three_fine name.Lseek u v w c h = from_three call.Lseek _ _ _ c h (λ fd from offset _ _ o. offset_fine w offset o)
-  three_fine name.Chown u v w c h = from_three call.Chown _ _ _ c h (λ path user group _ _ _. refl)
+  three_fine name.Chown u v w c h = from_three call.Chown _ _ _ c h (λ path user group e _ _. path_fine u path e)
   three_fine _ u v w c h = absurd (cc)
 
   call_fine : (n : CallName) (ws : List (List ℕ)) (c : Call) → parse_call policy n ws ≡ Ok c → MayBeMade c
