@@ -1,3 +1,3 @@
-// Tables of texts and what they denote.
+// Texts and what they denote.
 mod paths;
 mod words;

@@ -1,91 +1,86 @@
-// How texts of paths are read, against tables.
-use crate::{Name, Path, PathError};
+// How texts of paths are read.
+use crate::{Name, NoMemory, Path, PathError};
 use std::alloc::Global;
 use std::test::Fail;
 
-// A text: its prefix, a part, how often the part is repeated after it, and its suffix.
-type Text = (&'static [u8], &'static [u8], usize, &'static [u8]);
-
-// Whether a path starts at the root, and its names.
-type Parts = (bool, &'static [&'static [u8]]);
-
-const MANY: [&[u8]; 32] = [b"a"; 32];
-
-const PATHS: [(Text, Parts); 12] = [
-    ((b"/a//./b/", b"", 0, b""), (true, &[b"a", b"b"])),
-    ((b"/", b"", 0, b""), (true, &[])),
-    ((b".", b"", 0, b""), (false, &[])),
-    ((b"./", b"", 0, b""), (false, &[])),
-    ((b"//", b"", 0, b""), (true, &[])),
-    ((b"a", b"", 0, b""), (false, &[b"a"])),
-    ((b"...", b"", 0, b""), (false, &[b"..."])),
-    ((b"", b"n", 63, b""), (false, &[&[b'n'; 63]])),
-    ((b"/", b"a/", 31, b"a"), (true, &MANY)),
-    ((b"", b"/", 1023, b""), (true, &[])),
-    ((b"", b"a/", 32, b".//"), (false, &MANY)),
-    ((b"\xff /", b"", 0, b""), (false, &[b"\xff "])),
-];
-
-const FAULTS: [(Text, PathError); 16] = [
-    ((b"", b"", 0, b""), PathError::Empty),
-    ((b"/a/../b", b"", 0, b""), PathError::BadByte(3)),
-    ((b"", b"n", 64, b""), PathError::NameTooLong(0)),
-    ((b"", b"a/", 32, b"a"), PathError::TooDeep),
-    ((b"", b"a", 1024, b""), PathError::TooLong),
-    ((b"..", b"", 0, b""), PathError::BadByte(0)),
-    ((b"a/..", b"", 0, b""), PathError::BadByte(2)),
-    ((b"a\0b", b"", 0, b""), PathError::BadByte(1)),
-    ((b"/\0", b"", 0, b""), PathError::BadByte(1)),
-    ((b"/a/", b"n", 64, b""), PathError::NameTooLong(3)),
-    ((b"", b"/", 1024, b""), PathError::TooLong),
-    ((b"/a/x\0", b"n", 62, b"/.."), PathError::NameTooLong(3)),
-    ((b"/a/\0/", b"n", 64, b""), PathError::BadByte(3)),
-    ((b"", b"a/", 32, b".."), PathError::BadByte(64)),
-    ((b"", b"a/", 32, &[b'n'; 64]), PathError::NameTooLong(64)),
-    ((b"", b"a/", 32, b"x\0"), PathError::TooDeep),
-];
-
-fn text_of(alloc: Global, text: Text) -> Result<Vec<u8>, Fail> {
-    let (prefix, part, times, suffix) = text;
-    let mut bytes = Vec::from_slice(alloc, prefix)?;
-    for _ in 0..times {
-        bytes.extend_from_slice(part)?;
+// A path with a `/` after each name.
+fn written(alloc: Global, path: &Path) -> Result<Vec<u8>, NoMemory> {
+    let mut text = Vec::new(alloc);
+    for name in path.components() {
+        text.extend_from_slice(name.bytes())?;
+        text.push(b'/')?;
     }
-    bytes.extend_from_slice(suffix)?;
-    Ok(bytes)
+    Ok(text)
 }
 
-fn is_path(path: &Path, parts: Parts) -> bool {
-    let (absolute, names) = parts;
-    let found = path.components();
-    path.absolute == absolute
-        && found.len() == names.len()
-        && found
-            .iter()
-            .zip(names)
-            .all(|(name, bytes)| name.bytes() == *bytes)
+// Whether a text is read as a path of these names, which starts at the root or not.
+fn is_read(alloc: Global, text: &[u8], absolute: bool, names: &[u8]) -> bool {
+    let Ok(path) = Path::read(alloc, text) else {
+        return false;
+    };
+    match written(alloc, &path) {
+        Ok(found) => path.absolute == absolute && found.as_slice() == names,
+        Err(_) => false,
+    }
+}
+
+// Whether a text is refused for this cause.
+fn is_refused(alloc: Global, text: &[u8], cause: PathError) -> bool {
+    match Path::read(alloc, text) {
+        Ok(_) => false,
+        Err(found) => found == cause,
+    }
 }
 
 #[test]
-fn paths(rt: HostRuntime) -> Result<(), Fail> {
-    for (text, parts) in PATHS {
-        let text = text_of(rt.alloc(), text)?;
-        let path = Path::read(rt.alloc(), &text)?;
-        assert!(rt; is_path(&path, parts), "{text:?}");
-    }
+fn paths(rt: HostRuntime) {
+    assert!(rt; is_read(rt.alloc(), b"/a//./b/", true, b"a/b/"));
+    assert!(rt; is_read(rt.alloc(), b"/", true, b""));
+    assert!(rt; is_read(rt.alloc(), b"./", false, b""));
+    assert!(rt; is_read(rt.alloc(), b"...", false, b".../"));
+    assert!(rt; is_read(rt.alloc(), b"\xff ", false, b"\xff /"));
+}
+
+#[test]
+fn faults(rt: HostRuntime) {
+    assert!(rt; is_refused(rt.alloc(), b"", PathError::Empty));
+    assert!(rt; is_refused(rt.alloc(), b"/a/../b", PathError::BadByte(3)));
+    assert!(rt; is_refused(rt.alloc(), b"a\0b", PathError::BadByte(1)));
+}
+
+#[test]
+fn long_texts(rt: HostRuntime) -> Result<(), NoMemory> {
+    let long = vec![in rt.alloc(); b'n'; 1024]?;
+    assert!(rt; is_refused(rt.alloc(), &long, PathError::TooLong));
+    let slashes = vec![in rt.alloc(); b'/'; 1023]?;
+    assert!(rt; is_read(rt.alloc(), &slashes, true, b""));
     Ok(())
 }
 
 #[test]
-fn faults(rt: HostRuntime) -> Result<(), Fail> {
-    for (text, fault) in FAULTS {
-        let text = text_of(rt.alloc(), text)?;
-        assert_eq!(rt;
-            Path::read(rt.alloc(), &text).err(),
-            Some(fault),
-            "{text:?}"
-        );
+fn long_names(rt: HostRuntime) -> Result<(), NoMemory> {
+    let name = vec![in rt.alloc(); b'n'; 63]?;
+    assert!(rt; Path::read(rt.alloc(), &name).is_ok());
+    let name = vec![in rt.alloc(); b'n'; 64]?;
+    assert!(rt; is_refused(rt.alloc(), &name, PathError::NameTooLong(0)));
+    Ok(())
+}
+
+// A text of so many names.
+fn names(alloc: Global, count: usize) -> Result<Vec<u8>, NoMemory> {
+    let mut text = Vec::new(alloc);
+    for _ in 0..count {
+        text.extend_from_slice(b"a/")?;
     }
+    Ok(text)
+}
+
+#[test]
+fn many_names(rt: HostRuntime) -> Result<(), NoMemory> {
+    let few = names(rt.alloc(), 32)?;
+    assert!(rt; is_read(rt.alloc(), &few, false, &few));
+    let many = names(rt.alloc(), 33)?;
+    assert!(rt; is_refused(rt.alloc(), &many, PathError::TooDeep));
     Ok(())
 }
 
@@ -93,7 +88,7 @@ fn faults(rt: HostRuntime) -> Result<(), Fail> {
 fn path_of_one_name(rt: HostRuntime) -> Result<(), Fail> {
     let name = Name::read(rt.alloc(), b"a")?.ok_or("a name")?;
     let path = Path::in_root(rt.alloc(), name.copy()?)?;
-    assert!(rt; is_path(&path, (true, &[b"a"])));
-    assert_eq!(rt; name.bytes(), b"a".as_slice());
+    assert!(rt; path.absolute);
+    assert!(rt; written(rt.alloc(), &path)?.as_slice() == b"a/".as_slice());
     Ok(())
 }

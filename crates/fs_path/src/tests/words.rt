@@ -1,188 +1,135 @@
-// Lines, values and how they are written, against tables.
+// Lines and values, read and written.
 use crate::{
     NoMemory, groups_of, is_blank, mode_of, number_of, put_groups, put_mode, put_number,
     put_quoted, put_word, words_of,
 };
 use std::alloc::Global;
 
-// Whether a line is read as these words, each with whether it is quoted.
-fn reads(alloc: Global, line: &[u8], expected: &[(bool, &[u8])]) -> Result<bool, NoMemory> {
+// The words of a line, each after a quote where it is quoted, and before a comma.
+fn parsed(alloc: Global, line: &[u8]) -> Result<Option<Vec<u8>>, NoMemory> {
     let Some(words) = words_of(alloc, line)? else {
-        return Ok(false);
+        return Ok(None);
     };
-    let words = words.items();
-    if words.len() != expected.len() {
-        return Ok(false);
-    }
-    for (word, expected) in words.iter().zip(expected) {
-        if word.quoted != expected.0 || word.bytes.items() != expected.1 {
-            return Ok(false);
+    let mut text = Vec::new(alloc);
+    for word in words.items() {
+        if word.quoted {
+            text.push(b'"')?;
         }
+        text.extend_from_slice(word.bytes.items())?;
+        text.push(b',')?;
     }
-    Ok(true)
+    Ok(Some(text))
+}
+
+fn is_read(alloc: Global, line: &[u8], words: &[u8]) -> bool {
+    match parsed(alloc, line) {
+        Ok(Some(found)) => found.as_slice() == words,
+        _ => false,
+    }
+}
+
+fn is_refused(alloc: Global, line: &[u8]) -> bool {
+    match words_of(alloc, line) {
+        Ok(words) => words.is_none(),
+        Err(_) => false,
+    }
 }
 
 #[test]
-fn lines_are_read_as_words(rt: HostRuntime) -> Result<(), NoMemory> {
-    let alloc = rt.alloc();
-    assert!(rt; reads(alloc, b"", &[])?);
-    assert!(rt; reads(alloc, b"   ", &[])?);
-    assert!(rt;
-        reads(
-            alloc,
-            b"open /a~!#'{} 0,1",
-            &[(false, b"open"), (false, b"/a~!#'{}"), (false, b"0,1")]
-        )?
-    );
-    assert!(rt; reads(alloc, b"  a   bc  ", &[(false, b"a"), (false, b"bc")])?);
-    assert!(rt; reads(alloc, b"\"\"", &[(true, b"")])?);
-    assert!(rt; reads(alloc, b" \"a b\" \"c\" ", &[(true, b"a b"), (true, b"c")])?);
-    assert!(rt;
-        reads(
-            alloc,
-            br#""\"\\\x20\xFf\x0a\xaB""#,
-            &[(true, b"\"\\ \xff\n\xab")]
-        )?
-    );
-    assert!(rt; reads(alloc, b"#a", &[(false, b"#a")])?);
-    Ok(())
+fn lines_are_read_as_words(rt: HostRuntime) {
+    assert!(rt; is_read(rt.alloc(), b"   ", b""));
+    assert!(rt; is_read(rt.alloc(), b"  a   #'{} ", b"a,#'{},"));
+    assert!(rt; is_read(rt.alloc(), b" \"a b\" \"\" ", b"\"a b,\","));
+    assert!(rt; is_read(rt.alloc(), br#""\"\\\x20\xFf\x0a""#, b"\"\"\\ \xff\n,"));
 }
 
 #[test]
-fn lines_of_no_form_are_refused(rt: HostRuntime) -> Result<(), NoMemory> {
-    let refused: [&[u8]; 17] = [
-        b"\"",
-        b"\"a",
-        br#""a\""#,
-        br#""\"#,
-        br#""a"b"#,
-        br#""a""b""#,
-        br#"a"b""#,
-        br"a\b",
-        br#""\n""#,
-        br#""\X41""#,
-        br#""\x4""#,
-        br#""\x4g""#,
-        b"a\tb",
-        b"\"a\tb\"",
-        b"a b\n",
-        b"\x7f",
-        b"\"\x80\"",
-    ];
-    for line in refused {
-        assert!(rt; words_of(rt.alloc(), line)?.is_none(), "{line:?}");
-    }
-    Ok(())
+fn lines_of_no_form_are_refused(rt: HostRuntime) {
+    assert!(rt; is_refused(rt.alloc(), b"\"a"));
+    assert!(rt; is_refused(rt.alloc(), br#""a""b""#));
+    assert!(rt; is_refused(rt.alloc(), br#""\x4g""#));
+    assert!(rt; is_refused(rt.alloc(), b"a\tb"));
+    assert!(rt; is_refused(rt.alloc(), b"\"\x80\""));
 }
 
 #[test]
 fn blank_lines(rt: HostRuntime) {
-    let blank: [&[u8]; 5] = [b"", b"  ", b"#", b"# \"", b"  #a"];
-    for line in blank {
-        assert!(rt; is_blank(line), "{line:?}");
+    assert!(rt; is_blank(b"  "));
+    assert!(rt; is_blank(b"  #a"));
+    assert!(rt; !is_blank(b" a #"));
+}
+
+#[test]
+fn numbers(rt: HostRuntime) {
+    assert!(rt; number_of(b"0000000042") == Some(42));
+    assert!(rt; number_of(b"4294967295") == Some(4_294_967_295));
+    assert!(rt; number_of(b"4294967296").is_none());
+    assert!(rt; number_of(b"00000000001").is_none());
+    assert!(rt; number_of(b"+1").is_none());
+}
+
+#[test]
+fn modes(rt: HostRuntime) {
+    assert!(rt; mode_of(b"0755") == Some(0o755));
+    assert!(rt; mode_of(b"6777") == Some(0o6777));
+    assert!(rt; mode_of(b"1000").is_none());
+    assert!(rt; mode_of(b"00644").is_none());
+}
+
+fn are_groups(alloc: Global, word: &[u8], numbers: &[u32]) -> bool {
+    match groups_of(alloc, word) {
+        Ok(Some(groups)) => groups.items() == numbers,
+        _ => false,
     }
-    let others: [&[u8]; 4] = [b"a", b" a #", b"\"#\"", b"\t"];
-    for line in others {
-        assert!(rt; !is_blank(line), "{line:?}");
+}
+
+fn are_no_groups(alloc: Global, word: &[u8]) -> bool {
+    match groups_of(alloc, word) {
+        Ok(groups) => groups.is_none(),
+        Err(_) => false,
     }
 }
 
 #[test]
-fn numbers_and_modes(rt: HostRuntime) {
-    assert_eq!(rt; number_of(b"0"), Some(0));
-    assert_eq!(rt; number_of(b"0000000042"), Some(42));
-    assert_eq!(rt; number_of(b"4294967295"), Some(4_294_967_295));
-    let no_numbers: [&[u8]; 8] = [
-        b"",
-        b"4294967296",
-        b"9999999999",
-        b"00000000001",
-        b"-1",
-        b"+1",
-        b"1 ",
-        b"0x1",
-    ];
-    for word in no_numbers {
-        assert_eq!(rt; number_of(word), None, "{word:?}");
-    }
-    assert_eq!(rt; mode_of(b"0"), Some(0));
-    assert_eq!(rt; mode_of(b"644"), Some(0o644));
-    assert_eq!(rt; mode_of(b"0755"), Some(0o755));
-    assert_eq!(rt; mode_of(b"6777"), Some(0o6777));
-    let no_modes: [&[u8]; 6] = [b"", b"1000", b"7777", b"00644", b"8", b"-"];
-    for word in no_modes {
-        assert_eq!(rt; mode_of(word), None, "{word:?}");
-    }
+fn groups(rt: HostRuntime) {
+    assert!(rt; are_groups(rt.alloc(), b"-", &[]));
+    assert!(rt; are_groups(rt.alloc(), b"7,0,4294967295", &[7, 0, 4_294_967_295]));
+    assert!(rt; are_no_groups(rt.alloc(), b"1,,2"));
+    assert!(rt; are_no_groups(rt.alloc(), b"0,1,2,3,4,5,6,7,8,9,10,11,12,13,14,15,16"));
 }
 
 #[test]
-fn groups(rt: HostRuntime) -> Result<(), NoMemory> {
-    let alloc = rt.alloc();
-    let read: [(&[u8], &[u32]); 4] = [
-        (b"-", &[]),
-        (b"5", &[5]),
-        (b"7,0,7,4294967295", &[7, 0, 7, 4_294_967_295]),
-        (
-            b"0,1,2,3,4,5,6,7,8,9,10,11,12,13,14,15",
-            &[0, 1, 2, 3, 4, 5, 6, 7, 8, 9, 10, 11, 12, 13, 14, 15],
-        ),
-    ];
-    for (word, expected) in read {
-        match groups_of(alloc, word)? {
-            Some(groups) => assert_eq!(rt; groups.items(), expected),
-            None => assert!(rt; false, "{word:?}"),
-        }
-    }
-    let refused: [&[u8]; 9] = [
-        b"",
-        b"--",
-        b"-,1",
-        b"1,",
-        b",1",
-        b"1,,2",
-        b"1, 2",
-        b"1,4294967296",
-        b"0,1,2,3,4,5,6,7,8,9,10,11,12,13,14,15,16",
-    ];
-    for word in refused {
-        assert!(rt; groups_of(alloc, word)?.is_none(), "{word:?}");
-    }
+fn quoted(rt: HostRuntime) -> Result<(), NoMemory> {
+    let mut text = Vec::new(rt.alloc());
+    put_quoted(&mut text, b"a ~\"\\\n\x7f\xff")?;
+    assert!(rt; text.as_slice() == br#""a ~\"\\\x0a\x7f\xff""#.as_slice());
     Ok(())
 }
 
 #[test]
-fn writing(rt: HostRuntime) -> Result<(), NoMemory> {
-    let alloc = rt.alloc();
-    let mut text = Vec::new(alloc);
-    put_quoted(&mut text, b"")?;
-    put_quoted(&mut text, b"a ~\"\\\n\x7f\xff")?;
-    assert_eq!(rt; text.as_slice(), br#""""a ~\"\\\x0a\x7f\xff""#.as_slice());
-    let mut text = Vec::new(alloc);
-    put_number(alloc, &mut text, 0)?;
-    text.push(b' ')?;
-    put_number(alloc, &mut text, u64::MAX)?;
-    text.push(b' ')?;
-    put_mode(&mut text, 0)?;
+fn numbers_and_modes_are_written(rt: HostRuntime) -> Result<(), NoMemory> {
+    let mut text = Vec::new(rt.alloc());
+    put_number(rt.alloc(), &mut text, u64::MAX)?;
     put_mode(&mut text, 0o6041)?;
-    text.push(b' ')?;
-    put_groups(alloc, &mut text, &[])?;
-    put_groups(alloc, &mut text, &[5])?;
-    text.push(b' ')?;
-    put_groups(alloc, &mut text, &[10, 0, 4_294_967_295])?;
-    assert_eq!(rt;
-        text.as_slice(),
-        b"0 18446744073709551615 00006041 -5 10,0,4294967295".as_slice()
-    );
+    assert!(rt; text.as_slice() == b"184467440737095516156041".as_slice());
+    Ok(())
+}
+
+#[test]
+fn groups_are_written(rt: HostRuntime) -> Result<(), NoMemory> {
+    let mut text = Vec::new(rt.alloc());
+    put_groups(rt.alloc(), &mut text, &[])?;
+    put_groups(rt.alloc(), &mut text, &[10, 0, 4_294_967_295])?;
+    assert!(rt; text.as_slice() == b"-10,0,4294967295".as_slice());
     Ok(())
 }
 
 #[test]
 fn words_stand_between_quotes_where_they_must(rt: HostRuntime) -> Result<(), NoMemory> {
     let mut text = Vec::new(rt.alloc());
-    for word in [b"a~b".as_slice(), b"a b", b"\"", b""] {
-        put_word(&mut text, word)?;
-        text.push(b' ')?;
-    }
-    assert_eq!(rt; text.as_slice(), br#"a~b "a b" "\"" "" "#.as_slice());
+    put_word(&mut text, b"a~b")?;
+    put_word(&mut text, b"a b")?;
+    put_word(&mut text, b"")?;
+    assert!(rt; text.as_slice() == br#"a~b"a b""""#.as_slice());
     Ok(())
 }
