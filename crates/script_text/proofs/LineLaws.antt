@@ -1,5 +1,5 @@
 -- What is read of a line may be played: its labels lie below top, and its numbers, modes and flags are in their ranges.
-use Rattle.std.specs.Prelude.{◌≡◌, ℕ, ◌/◌, ◌%◌, ◌==◌, ◌||◌, nat_le, nat_lt, Bool, true, false, not, cond, List, [], ◌∷◌, length, drop, codes, Option, None, Some, Ok, Err, ℤ, pos, neg_ℤ, unsigned_abs, refl}
+use Rattle.std.specs.Prelude.{◌≡◌, ℕ, ◌/◌, ◌%◌, ◌==◌, ◌||◌, nat_le, nat_lt, Bool, true, false, not, cond, List, [], ◌∷◌, length, drop, codes, Option, None, Some, Ok, Err, ℤ, pos, neg_ℤ, unsigned_abs, refl, is_none}
 use Rattle.std.proofs.Common.{sym, ◌∙◌, ap, subst, arith}
 use Rattle.std.specs.Bool.{beq}
 use Rattle.std.specs.List.{starts_with}
@@ -29,7 +29,7 @@ use Rattle.lab_lattice.specs.Label.{Label, dominates}
 use Rattle.lab_text.specs.Policy.{PolicyNames, top_of}
 use Rattle.lab_text.proofs.Parsed.{parsed_valid}
 use Rattle.lab_text.specs.Text.{parse_label}
-use Rattle.script_text.specs.Argument.{process, pid_by, path_by, path as a_path, label as a_label, tag as a_tag, pid as a_pid, up_to as a_number_up_to, mode as a_mode, permissions as a_permission, offset as an_offset, signed, flags as some_flags, flags_in, is_in_order, numbered}
+use Rattle.script_text.specs.Argument.{process, pid_by, path as a_path, label as a_label, tag as a_tag, pid as a_pid, up_to as a_number_up_to, mode as a_mode, permissions as a_permission, offset as an_offset, signed, flags as some_flags, flags_in, is_in_order, numbered}
 use Rattle.kern_model.specs.Named.{call_named}
 use Rattle.script_text.specs.Calls.{parse_call, none_parsed, one_parsed, two_parsed, three_parsed}
 use Rattle.script_text.specs.Line.{MayBePlayed, bytes_in, item_by, parse_item, parse_line, parse_words}
@@ -89,7 +89,7 @@ path_fine : (w : List ℕ) (path : PathValue) → a_path w ≡ Ok path → are_n
 unfolding a_path
 path_fine w path h = by_fault (path_fault w) refl h
   where
-    by_fault : (o : Option PathError) → path_fault w ≡ o → path_by o (parse_path w) ≡ Ok path → are_names path ≡ true
+    by_fault : (o : Option PathError) → path_fault w ≡ o → ok_or (cond (is_none o) (Some (parse_path w)) None) error.BadPath ≡ Ok path → are_names path ≡ true
     by_fault None fine h = let is : parse_path w ≡ path = cc in ap are_names (sym is) ∙ (path_form w fine).named
     by_fault (Some fault) e h = absurd (cc)
 
