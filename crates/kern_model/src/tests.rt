@@ -1,71 +1,9 @@
-// What no clause says: worlds, and whether each is valid.
+// Worlds, and whether each is valid; places and endings as they are written.
 use crate::*;
-use cap_bits::{Cap, CapSet, CapState};
+use cap_bits::{CapSet, CapState};
 use fs_path::{ByteList, PathError};
 use lab_lattice::{Cats, Label, Level};
 use std::alloc::Global;
-use std::test::Fail;
-
-/// What an object holds.
-#[derive(Clone, Copy)]
-enum Held {
-    Dir,
-    /// So many bytes.
-    File(usize),
-    Fifo,
-    Pipe,
-}
-
-/// An object: its path, the number of its level, its mode, what it holds, and whether it has a capability.
-type Line = (&'static [u8], u8, u16, Held, bool);
-
-/// A process: its users, the number of its level, how many groups it has besides, and whether its capability is
-/// permitted.
-type ProcLine = ([u32; 3], u8, usize, bool);
-
-const ROOT: Line = (b"/", 0, 0o755, Held::Dir, false);
-
-const DIR: Line = (b"/d", 1, 0o6777, Held::Dir, false);
-
-const FILE: Line = (b"/d/f", 2, 0o644, Held::File(65_536), true);
-
-const PROC: ProcLine = ([1, 1, 1], 2, 16, true);
-
-// The highest level is 2.
-const WORLDS: &[(&[Line], &[ProcLine], bool)] = &[
-    (&[ROOT], &[], true),
-    (&[ROOT, DIR, FILE], &[PROC, PROC], true),
-    (&[ROOT, (b"/p", 0, 0, Held::Fifo, false)], &[PROC], true),
-    (&[], &[], false),
-    (&[DIR], &[], false),
-    (&[(b"/", 1, 0o755, Held::Dir, false)], &[], false),
-    (&[(b"/", 0, 0o755, Held::File(0), false)], &[], false),
-    (&[ROOT, ROOT], &[], false),
-    (&[ROOT, DIR, FILE, FILE], &[], false),
-    (&[ROOT, FILE, DIR], &[], false),
-    (
-        &[ROOT, DIR, FILE, (b"/d/f/g", 2, 0, Held::Fifo, false)],
-        &[],
-        false,
-    ),
-    (&[ROOT, DIR, (b"/d/f", 0, 0, Held::Fifo, false)], &[], false),
-    (&[ROOT, (b"p", 0, 0, Held::Fifo, false)], &[], false),
-    (&[ROOT, (b"/p", 3, 0, Held::Fifo, false)], &[], false),
-    (&[ROOT, (b"/p", 0, 0o1777, Held::Fifo, false)], &[], false),
-    (&[ROOT, (b"/p", 0, 0, Held::Pipe, false)], &[], false),
-    (&[ROOT, (b"/p", 0, 0, Held::Fifo, true)], &[], false),
-    (&[ROOT, (b"/d", 0, 0, Held::Dir, true)], &[], false),
-    (
-        &[ROOT, (b"/f", 0, 0, Held::File(65_537), false)],
-        &[],
-        false,
-    ),
-    (&[ROOT], &[([2, 1, 1], 0, 0, true)], false),
-    (&[ROOT], &[([1, 1, 2], 0, 0, true)], false),
-    (&[ROOT], &[([1, 1, 1], 3, 0, true)], false),
-    (&[ROOT], &[([1, 1, 1], 0, 17, true)], false),
-    (&[ROOT], &[PROC, ([1, 1, 1], 0, 0, false)], false),
-];
 
 fn label(level: u8) -> Label {
     Label {
@@ -74,130 +12,102 @@ fn label(level: u8) -> Label {
     }
 }
 
-fn body_of(alloc: Global, held: Held) -> Result<Body, NoMemory> {
-    match held {
-        Held::Dir => Ok(Body::Dir),
-        Held::Fifo => Ok(Body::Fifo),
-        Held::Pipe => Ok(Body::Pipe),
-        Held::File(len) => {
-            let mut bytes = ByteList::new(alloc);
-            for _ in 0..len {
-                bytes.push(b'x')?;
-            }
-            Ok(Body::File(bytes))
-        }
-    }
-}
-
-fn object(alloc: Global, line: &Line) -> Result<WorldObject, PathError> {
-    let (path, level, mode, holds, raised) = *line;
-    let mut caps = CapState::none();
-    if raised {
-        caps.p = CapSet::none().with(Cap::Kill);
-    }
-    let body = body_of(alloc, holds)?;
-    let path = Path::read(alloc, path)?;
-    let attr = Attr {
-        owner: 0,
-        group: 0,
-        mode,
-        caps,
-    };
+fn object(alloc: Global, path: &[u8], level: u8, body: Body) -> Result<WorldObject, PathError> {
     Ok(WorldObject {
-        path,
+        path: Path::read(alloc, path)?,
         label: label(level),
-        attr,
+        attr: Attr {
+            owner: 0,
+            group: 0,
+            mode: 0o644,
+            caps: CapState::none(),
+        },
         body,
     })
 }
 
-fn process(alloc: Global, line: &ProcLine) -> Result<WorldProc, NoMemory> {
-    let ([ruid, euid, suid], level, count, permitted) = *line;
-    let mut groups = GroupList::new(alloc);
-    for _ in 0..count {
-        groups.push(7)?;
+fn process(alloc: Global, suid: u32) -> WorldProc {
+    WorldProc {
+        label: label(2),
+        ids: Ids {
+            ruid: 1,
+            euid: 1,
+            suid,
+            rgid: 5,
+            egid: 5,
+            sgid: 5,
+            groups: GroupList::new(alloc),
+        },
+        caps: CapState::none(),
     }
-    let mut caps = CapState::none();
-    caps.e = CapSet::none().with(Cap::Kill);
-    if permitted {
-        caps.p = CapSet::all();
-    }
-    let ids = Ids {
-        ruid,
-        euid,
-        suid,
-        rgid: 5,
-        egid: 5,
-        sgid: 5,
-        groups,
-    };
-    Ok(WorldProc {
-        label: label(level),
-        ids,
-        caps,
+}
+
+// A root, and a file in a directory above it.
+fn world(alloc: Global) -> Result<World, PathError> {
+    let mut objects = ObjectList::new(alloc);
+    objects.push(object(alloc, b"/", 0, Body::Dir)?)?;
+    objects.push(object(alloc, b"/d", 1, Body::Dir)?)?;
+    objects.push(object(alloc, b"/d/f", 2, Body::File(ByteList::new(alloc)))?)?;
+    Ok(World {
+        top: label(2),
+        bound: CapSet::all(),
+        objects,
+        procs: ProcList::new(alloc),
     })
 }
 
-fn world(alloc: Global, objects: &[Line], procs: &[ProcLine]) -> Result<World, PathError> {
-    let mut world = World {
-        top: label(2),
-        bound: CapSet::all(),
-        objects: ObjectList::new(alloc),
-        procs: ProcList::new(alloc),
-    };
-    for line in objects {
-        world.objects.push(object(alloc, line)?)?;
-    }
-    for line in procs {
-        world.procs.push(process(alloc, line)?)?;
-    }
-    Ok(world)
+// Whether the world is valid with this object besides.
+fn is_valid_with(alloc: Global, path: &[u8], level: u8, body: Body) -> Result<bool, PathError> {
+    let mut world = world(alloc)?;
+    world.objects.push(object(alloc, path, level, body)?)?;
+    Ok(world_valid(&world))
+}
+
+// Whether the world is valid with a process whose saved user is this.
+fn is_valid_for(alloc: Global, suid: u32) -> Result<bool, PathError> {
+    let mut world = world(alloc)?;
+    world.procs.push(process(alloc, suid))?;
+    Ok(world_valid(&world))
 }
 
 #[test]
-fn worlds(rt: HostRuntime) -> Result<(), Fail> {
-    for (place, (objects, procs, valid)) in WORLDS.iter().enumerate() {
-        let world = world(rt.alloc(), objects, procs)?;
-        assert_eq!(rt; world_valid(&world), *valid, "at {place}");
-    }
-    Ok(())
-}
-
-// One process more than a label has numbers.
-#[test]
-fn many_processes(rt: HostRuntime) -> Result<(), Fail> {
-    let mut world = world(rt.alloc(), &[ROOT], &[])?;
-    for _ in 0..4_095 {
-        world.procs.push(process(rt.alloc(), &PROC)?)?;
-    }
-    assert!(rt; world_valid(&world));
-    world.procs.push(process(rt.alloc(), &PROC)?)?;
-    assert!(rt; !world_valid(&world));
-    Ok(())
+fn objects(rt: HostRuntime) {
+    assert!(rt; is_valid_with(rt.alloc(), b"/p", 0, Body::Fifo) == Ok(true));
+    assert!(rt; is_valid_with(rt.alloc(), b"/p", 3, Body::Fifo) == Ok(false));
+    assert!(rt; is_valid_with(rt.alloc(), b"/p", 0, Body::Pipe) == Ok(false));
+    assert!(rt; is_valid_with(rt.alloc(), b"/d", 1, Body::Dir) == Ok(false));
+    assert!(rt; is_valid_with(rt.alloc(), b"/d/p", 0, Body::Fifo) == Ok(false));
+    assert!(rt; is_valid_with(rt.alloc(), b"/d/f/g", 2, Body::Fifo) == Ok(false));
 }
 
 #[test]
-fn places_and_endings(rt: HostRuntime) -> Result<(), NoMemory> {
-    let alloc = rt.alloc();
+fn processes(rt: HostRuntime) {
+    assert!(rt; is_valid_for(rt.alloc(), 1) == Ok(true));
+    assert!(rt; is_valid_for(rt.alloc(), 2) == Ok(false));
+}
+
+fn is_place(alloc: Global, place: Place, word: &[u8]) -> bool {
     let mut text = Vec::new(alloc);
-    let places = [
-        Place::First(0),
-        Place::Second(31),
-        Place::Handle,
-        Place::Target,
-        Place::Caller,
-    ];
-    for place in places {
-        put_place(alloc, &mut text, place)?;
-        text.push(b' ')?;
-    }
-    for ending in [Ending::Exit(255), Ending::Term, Ending::Kill] {
-        put_ending(alloc, &mut text, ending)?;
-        text.push(b' ')?;
-    }
-    assert_eq!(rt;
-        text.as_slice(),
-        b"p0 q31 fd pid self exit 255 kill TERM kill KILL ".as_slice()
-    );
-    Ok(())
+    put_place(alloc, &mut text, place).is_ok() && text.as_slice() == word
+}
+
+#[test]
+fn places(rt: HostRuntime) {
+    assert!(rt; is_place(rt.alloc(), Place::First(0), b"p0"));
+    assert!(rt; is_place(rt.alloc(), Place::Second(31), b"q31"));
+    assert!(rt; is_place(rt.alloc(), Place::Handle, b"fd"));
+    assert!(rt; is_place(rt.alloc(), Place::Target, b"pid"));
+    assert!(rt; is_place(rt.alloc(), Place::Caller, b"self"));
+}
+
+fn is_ending(alloc: Global, ending: Ending, words: &[u8]) -> bool {
+    let mut text = Vec::new(alloc);
+    put_ending(alloc, &mut text, ending).is_ok() && text.as_slice() == words
+}
+
+#[test]
+fn endings(rt: HostRuntime) {
+    assert!(rt; is_ending(rt.alloc(), Ending::Exit(255), b"exit 255"));
+    assert!(rt; is_ending(rt.alloc(), Ending::Term, b"kill TERM"));
+    assert!(rt; is_ending(rt.alloc(), Ending::Kill, b"kill KILL"));
 }
