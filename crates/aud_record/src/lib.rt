@@ -7,8 +7,6 @@ mod fault;
 mod fields;
 mod forms;
 mod reading;
-#[cfg(test)]
-mod tests;
 mod words;
 mod written;
 

@@ -4,8 +4,6 @@
 mod cap;
 mod set;
 mod state;
-#[cfg(test)]
-mod tests;
 
 pub use cap::Cap;
 pub use set::CapSet;

@@ -5,8 +5,6 @@ mod action;
 mod clause;
 mod error;
 mod list;
-#[cfg(test)]
-mod tests;
 mod written;
 
 pub use clause::cap_from_text;

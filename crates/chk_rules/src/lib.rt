@@ -4,8 +4,6 @@
 mod checks;
 mod rules;
 mod stop;
-#[cfg(test)]
-mod tests;
 
 pub use checks::{Checks, must, refuse_if};
 pub use kern_model::{Check, NoMemory, Verdict, Want};

@@ -5,8 +5,6 @@ mod buffers;
 mod index;
 mod keys;
 mod nodes;
-#[cfg(test)]
-mod tests;
 
 pub use buffers::Buffers;
 pub use fs_path::NoMemory;

@@ -6,8 +6,6 @@ mod name;
 mod path;
 mod split;
 mod steps;
-#[cfg(test)]
-mod tests;
 mod values;
 mod words;
 

@@ -9,8 +9,6 @@ mod kernel;
 mod outcome;
 mod process;
 mod tables;
-#[cfg(test)]
-mod tests;
 mod walk;
 
 pub use calls::built;

@@ -11,8 +11,6 @@ mod named;
 mod numbers;
 mod objects;
 mod records;
-#[cfg(test)]
-mod tests;
 mod valid;
 mod words;
 mod world;

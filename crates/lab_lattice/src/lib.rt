@@ -9,8 +9,6 @@ mod dual;
 mod lattice;
 mod level;
 mod pair;
-#[cfg(test)]
-mod tests;
 
 pub use cats::Cats;
 pub use dual::Dual;

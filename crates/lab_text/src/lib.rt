@@ -5,8 +5,6 @@ mod names;
 mod numbered;
 mod policy;
 mod scan;
-#[cfg(test)]
-mod tests;
 mod text;
 mod word;
 

@@ -2,8 +2,6 @@
 #![tactic(auto)]
 
 mod creds;
-#[cfg(test)]
-mod tests;
 
 pub use creds::{Creds, NotAllowed, copy_ids};
 pub use kern_model::NoMemory;

@@ -6,8 +6,6 @@ mod call;
 mod fault;
 mod line;
 mod reply;
-#[cfg(test)]
-mod tests;
 
 pub use fault::LineError;
 pub use fs_path::NoMemory;

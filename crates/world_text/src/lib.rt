@@ -6,8 +6,6 @@ mod canonical;
 mod expecting;
 mod fault;
 mod reading;
-#[cfg(test)]
-mod tests;
 mod world;
 mod writing;
 

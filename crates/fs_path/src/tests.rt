@@ -1,3 +1,0 @@
-// Texts and what they denote.
-mod paths;
-mod words;

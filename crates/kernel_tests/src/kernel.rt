@@ -1,0 +1,275 @@
+// What no clause says: that calls succeed with ample memory, and what they answer in a small world.
+ghost use Rattle.std.specs.Prelude.{◌≡◌, ◌∷◌, [], true, codes, length, IfOk};
+ghost use Rattle.cap_bits.specs.CapSet.{no_caps};
+ghost use Rattle.fs_path.specs.Name.{is_name};
+ghost use Rattle.kern_model.specs.declared.objects.Body.TheVariants as body;
+ghost use Rattle.kern_model.specs.World.{IsWorld};
+ghost use Rattle.lab_lattice.specs.Label.{bottom};
+
+use cap_bits::{Cap, CapSet, CapState};
+use kern_core::{Kernel, built};
+use kern_model::{
+    Answer, Attr, Body, ByteList, Call, CheckName, Errno, GroupList, Ids, Mode, Name, ObjectList,
+    Oid, Outcome, Path, Pid, Place, ProcList, Rec, RecList, Reply, Thing, World, WorldObject,
+    WorldProc,
+};
+use lab_lattice::{Cats, Label, Level, Pair, bottom};
+use std::alloc::Global;
+use std::test::Fail;
+
+const OWNER: u32 = 7;
+
+fn name_of(alloc: Global, bytes: &[u8]) -> Result<Name, Fail>
+    ensures { IfOk result (λ name. name ≡ bytes.now) }
+{
+    match Name::read(alloc, bytes)? {
+        Some(name) => Ok(name),
+        None => Err(Fail::new("no name")),
+    }
+}
+
+fn attr(mode: Mode) -> Attr
+    ensures { result ≡ record { owner = 7; group = 7; mode = mode; caps = record { e = no_caps; i = no_caps; p = no_caps } } }
+{
+    Attr {
+        owner: OWNER,
+        group: OWNER,
+        mode,
+        caps: CapState::none(),
+    }
+}
+
+fn root(alloc: Global) -> WorldObject
+    ensures { result ≡ record { path = record { absolute = true; names = [] }; label = bottom; attr = record { owner = 7; group = 7; mode = 493; caps = record { e = no_caps; i = no_caps; p = no_caps } }; body = body.Dir } }
+{
+    WorldObject {
+        path: Path::root(alloc),
+        label: bottom(),
+        attr: attr(0o755),
+        body: Body::Dir,
+    }
+}
+
+fn file(alloc: Global, bytes: &[u8], label: Label) -> Result<WorldObject, Fail>
+    ensures { IfOk result (λ o. o ≡ record { path = record { absolute = true; names = bytes.now ∷ [] }; label = label; attr = record { owner = 7; group = 7; mode = 420; caps = record { e = no_caps; i = no_caps; p = no_caps } }; body = body.File [] }) }
+{
+    Ok(WorldObject {
+        path: Path::in_root(alloc, name_of(alloc, bytes)?)?,
+        label,
+        attr: attr(0o644),
+        body: Body::File(ByteList::new(alloc)),
+    })
+}
+
+fn process(alloc: Global, label: Label, caps: CapSet) -> WorldProc
+    ensures { result ≡ record { label = label; ids = record { ruid = 7; euid = 7; suid = 7; rgid = 7; egid = 7; sgid = 7; groups = [] }; caps = record { e = caps; i = no_caps; p = caps } } }
+{
+    WorldProc {
+        label,
+        ids: Ids {
+            ruid: OWNER,
+            euid: OWNER,
+            suid: OWNER,
+            rgid: OWNER,
+            egid: OWNER,
+            sgid: OWNER,
+            groups: GroupList::new(alloc),
+        },
+        caps: CapState {
+            e: caps,
+            i: CapSet::none(),
+            p: caps,
+        },
+    }
+}
+
+// A file of the lowest label and one of the highest; a process of the highest, and two of the lowest, of which the
+// second has these capabilities.
+fn world(alloc: Global, top: Label, caps: CapSet) -> Result<World, Fail>
+    ensures { IfOk result (λ w. IsWorld w) }
+{
+    let mut objects = ObjectList::new(alloc);
+    objects.push(root(alloc))?;
+    objects.push(file(alloc, b"low", bottom())?)?;
+    objects.push(file(alloc, b"high", top)?)?;
+    let mut procs = ProcList::new(alloc);
+    procs.push(process(alloc, top, CapSet::none()))?;
+    procs.push(process(alloc, bottom(), CapSet::none()))?;
+    procs.push(process(alloc, bottom(), caps))?;
+    Ok(World {
+        top,
+        bound: CapSet::none(),
+        objects,
+        procs,
+    })
+}
+
+fn booted(alloc: Global) -> Result<(Kernel, RecList), Fail> {
+    let world = world(alloc, top()?, CapSet::none().with(Cap::MacRead))?;
+    Ok(Kernel::boot(alloc, &world)?)
+}
+
+// The highest label of the world.
+fn top() -> Result<Label, Fail> {
+    Ok(Pair {
+        first: Level::new(3).ok_or("no level")?,
+        second: Cats::empty(),
+    })
+}
+
+// The number of a process of the lowest label.
+fn low(n: u16) -> Pid {
+    Pid { label: bottom(), n }
+}
+
+// Asks for the label of a file in the root directory.
+#[tactic(auto, using(std::proofs::lemmas::Bool::Decides::nat_tests), unfolding(kern_model::specs::Arguments::is_call))]
+fn ask(alloc: Global, kernel: &mut Kernel, who: &Pid, bytes: &[u8]) -> Result<Outcome, Fail> {
+    let name = name_of(alloc, bytes)?;
+    let _short = name.bytes();
+    let call = Call::MacGetFile(Path::in_root(alloc, name)?);
+    Ok(kernel.call(who, &call)?)
+}
+
+#[tactic(auto, unfolding(kern_model::specs::Arguments::is_call))]
+fn set(kernel: &mut Kernel, who: &Pid, caps: CapState) -> Result<Outcome, Fail> {
+    Ok(kernel.call(who, &Call::CapSetProc(caps))?)
+}
+
+#[tactic(auto, unfolding(kern_model::specs::Arguments::is_call))]
+fn sets_of(kernel: &mut Kernel, who: &Pid) -> Result<Outcome, Fail> {
+    Ok(kernel.call(who, &Call::CapGetProc)?)
+}
+
+// Whether the label is answered, and no record left.
+fn reports(outcome: &Outcome, label: Label) -> bool {
+    match &outcome.reply {
+        Reply::Done(Answer::Mark(mark)) => *mark == label && outcome.recs.items().is_empty(),
+        _ => false,
+    }
+}
+
+// Whether the sets are answered, and no record left.
+fn reports_caps(outcome: &Outcome, caps: CapState) -> bool {
+    match &outcome.reply {
+        Reply::Done(Answer::Caps(sets)) => *sets == caps && outcome.recs.items().is_empty(),
+        _ => false,
+    }
+}
+
+// Whether a call is denied at the check, with its record.
+fn denies(outcome: &Outcome, denial: (Errno, CheckName, Place), by: Pid) -> bool {
+    let (why, name, at) = denial;
+    let reported = match &outcome.reply {
+        Reply::Denied {
+            errno,
+            check,
+            place,
+        } => *errno == why && *check == name && *place == at,
+        _ => false,
+    };
+    match outcome.recs.items() {
+        [Rec::Deny(who, _, errno, check, _)] => {
+            reported && *who == by && *errno == why && *check == name
+        }
+        _ => false,
+    }
+}
+
+fn refuses(outcome: &Outcome, why: Errno) -> bool {
+    match &outcome.reply {
+        Reply::Refused(errno) => *errno == why && outcome.recs.items().is_empty(),
+        _ => false,
+    }
+}
+
+// Whether the label is answered by a capability.
+fn exercises(outcome: &Outcome, cap: Cap, object: Oid) -> bool {
+    let reported = match &outcome.reply {
+        Reply::Done(Answer::Mark(mark)) => *mark == object.label,
+        _ => false,
+    };
+    match outcome.recs.items() {
+        [Rec::Exercise(_, _, with, _, thing, label, None, Place::First(1))] => {
+            reported && *with == cap && *thing == Thing::Object(object) && *label == object.label
+        }
+        _ => false,
+    }
+}
+
+// Whether the one record is of sets that were set.
+fn sets(outcome: &Outcome, by: Pid, caps: CapState) -> bool {
+    match outcome.recs.items() {
+        [Rec::CapSetProc(who, sets)] => *who == by && *sets == caps,
+        _ => false,
+    }
+}
+
+// Whether the record is of a process that starts.
+fn starts(rec: &Rec, by: Pid, caps: CapState) -> bool {
+    match rec {
+        Rec::Boot(who, label, sets) => *who == by && *label == by.label && *sets == caps,
+        _ => false,
+    }
+}
+
+#[test]
+fn a_small_world_starts(rt: HostRuntime) -> Result<(), Fail> {
+    let first = Pid {
+        label: top()?,
+        n: 1,
+    };
+    let (kernel, recs) = booted(rt.alloc())?;
+    match recs.items() {
+        [a, b, _] => {
+            assert!(rt; starts(a, first, CapState::none()) && starts(b, low(1), CapState::none()))
+        }
+        _ => assert!(rt; false),
+    }
+    let live = kernel.live()?;
+    assert!(rt; live.items() == [low(1), low(2), first].as_slice());
+    assert!(rt; kernel.label_of(&low(3)).is_none() && !kernel.failed());
+    Ok(())
+}
+
+#[test]
+fn labels_are_reported_or_denied(rt: HostRuntime) -> Result<(), Fail> {
+    let alloc = rt.alloc();
+    let (mut kernel, _) = booted(alloc)?;
+    let denial = (Errno::EACCES, CheckName::MacRead, Place::First(1));
+    assert!(rt; reports(&ask(alloc, &mut kernel, &low(1), b"low")?, bottom()));
+    assert!(rt; refuses(&ask(alloc, &mut kernel, &low(1), b"lower")?, Errno::ENOENT));
+    assert!(rt; denies(&ask(alloc, &mut kernel, &low(1), b"high")?, denial, low(1)));
+    Ok(())
+}
+
+#[test]
+fn capability_is_exercised(rt: HostRuntime) -> Result<(), Fail> {
+    let label = top()?;
+    let (mut kernel, _) = booted(rt.alloc())?;
+    let outcome = ask(rt.alloc(), &mut kernel, &low(2), b"high")?;
+    assert!(rt; exercises(&outcome, Cap::MacRead, Oid { label, n: 1 }));
+    Ok(())
+}
+
+#[test]
+fn own_sets_are_reported_and_shrink(rt: HostRuntime) -> Result<(), Fail> {
+    let none = CapState::none();
+    let (mut kernel, _) = booted(rt.alloc())?;
+    let own = kernel.caps_of(&low(2)).ok_or("no process")?;
+    let denial = (Errno::EPERM, CheckName::CapGrow, Place::Caller);
+    assert!(rt; reports_caps(&sets_of(&mut kernel, &low(2))?, own));
+    assert!(rt; denies(&set(&mut kernel, &low(1), own)?, denial, low(1)));
+    assert!(rt; sets(&set(&mut kernel, &low(2), none)?, low(2), none));
+    assert!(rt; kernel.caps_of(&low(2)) == Some(none));
+    Ok(())
+}
+
+#[test]
+fn number_without_a_process_is_refused(rt: HostRuntime) -> Result<(), Fail> {
+    let (mut kernel, _) = booted(rt.alloc())?;
+    let outcome = set(&mut kernel, &low(9), CapState::none())?;
+    assert!(rt; refuses(&outcome, Errno::ESRCH));
+    assert!(rt; built(&Call::CapGetProc) && !built(&Call::Getpid));
+    Ok(())
+}

@@ -1,0 +1,17 @@
+//! Unit tests of the crates of the kernel. They stand in a crate of their own, since a crate with tests is proved twice.
+#![tactic(auto)]
+
+#[cfg(test)]
+mod capabilities;
+#[cfg(test)]
+mod checks;
+#[cfg(test)]
+mod credentials;
+#[cfg(test)]
+mod kernel;
+#[cfg(test)]
+mod lattice;
+#[cfg(test)]
+mod model;
+#[cfg(test)]
+mod objects;
