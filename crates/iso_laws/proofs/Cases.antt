@@ -5,6 +5,7 @@ use Rattle.std.specs.FinMap as map
 use Rattle.cap_bits.specs.declared.cap.Cap.TheVariants as cap
 use Rattle.cap_bits.specs.CapSet.{is_within}
 use Rattle.cap_bits.specs.declared.state.CapState.{CapState}
+use Rattle.fs_path.specs.Name.{Name}
 use Rattle.fs_path.specs.Path.{PathValue}
 use Rattle.lab_lattice.specs.Label.{Label, dominates}
 use Rattle.kern_model.specs.declared.limits.TheConstants.{MAX_GROUPS}
@@ -15,10 +16,11 @@ use Rattle.kern_model.specs.declared.checks.Place.{Place}
 use Rattle.kern_model.specs.declared.checks.Place.TheVariants.{First}
 use Rattle.kern_model.specs.declared.objects.Object.{Object}
 use Rattle.kern_model.specs.declared.records.Rec.{Rec}
+use Rattle.kern_model.specs.Entries.{is_empty}
 use Rattle.kern_model.specs.Kinds.{is_permission}
-use Rattle.kern_model.specs.Rules.{same_label, mac_read, mac_subject}
+use Rattle.kern_model.specs.Rules.{same_label, mac_read, mac_write, mac_subject}
 use Rattle.kern_model.specs.Row.{Row}
-use Rattle.kern_model.specs.State.{State, Process, Change, SetProcess, changed_by, object_at}
+use Rattle.kern_model.specs.State.{State, Process, Change, SetProcess, DropEntry, changed_by, object_at, look}
 use Rattle.kern_model.specs.Step.{subject}
 use Rattle.kern_model.specs.Walk.{on_path, read_object, last_place}
 use Rattle.kern_model.specs.Isolation.{low, crosses, Kept}
@@ -26,8 +28,9 @@ use Rattle.kern_model.specs.Valid.{IsValid, IsDir, IsValidProcess}
 use Rattle.kern_model.proofs.MapLemmas.{some_same}
 use Rattle.iso_laws.proofs.Part.{part_changes, part_of_high}
 use Rattle.iso_laws.proofs.Rows.{Ends, Passes, Gives, ends_given}
-use Rattle.iso_laws.proofs.Sight.{same_side, ends_reach, new_side, read_low}
-use Rattle.iso_laws.proofs.Changes.{KeptProcess, kept_of, kept_process, valid_process}
+use Rattle.iso_laws.proofs.Sight.{same_side, ends_reach, new_side, read_low, write_side}
+use Rattle.iso_laws.proofs.Changes.{KeptProcess, kept_of, kept_process, kept_beside, valid_process}
+use Rattle.iso_laws.proofs.tree.Changes.{valid_drop}
 
 -- a law of changes holds of each kind of effect; where the arguments fit, what the effect sets is in its range
 pub record Cases (bad : Rec → Bool) (s : State) (who : Pid) (p : Process) (fit : Type 0) (P : List Change → Type 0) : Type 0 where
@@ -39,6 +42,8 @@ pub record Cases (bad : Rec → Bool) (s : State) (who : Pid) (p : Process) (fit
   pub label : (new : Label) → (not (same_label new p.label) ≡ true → Passes bad (subject who p) (mac_subject who p new)) → (fit → dominates s.top new ≡ true) → P (SetProcess who (record p { label = new }) ∷ [])
   -- another current directory, which the caller read
   pub cwd : (id : Oid) (place : Place) → Passes bad (subject who p) (mac_read s p id place) → IsDir s.objects id → P (SetProcess who (record p { cwd = id }) ∷ [])
+  -- an entry goes, of something without entries, and the caller wrote its directory
+  pub leave : (dir : Oid) (name : Name) (id : Oid) (place : Place) → Passes bad (subject who p) (mac_write s p dir place) → IsDir s.objects dir → look s dir name ≡ Some id → is_empty s id ≡ true → P (DropEntry (dir, name) ∷ [])
 
 -- ---- what the rows of every process share
 -- a law of changes, whatever the own record is
@@ -64,14 +69,17 @@ module _ (bad : Rec → Bool) (s : State) (valid : IsValid s) (who : Pid) (p : P
 
 -- ---- the laws
 -- a process that is not Low changes nothing in the part
-pub hidden_cases : (l : Label) (s : State) (who : Pid) (p : Process) (fit : Type 0) → low l who.label ≡ false → Cases (crosses l) s who p fit (λ cs. part_changes l s.top cs ≡ [])
-hidden_cases l s who p fit high =
+pub hidden_cases : (l : Label) (s : State) → Kept l s → (who : Pid) (p : Process) (fit : Type 0) → map.get s.procs who ≡ Some p → low l who.label ≡ false → Cases (crosses l) s who p fit (λ cs. part_changes l s.top cs ≡ [])
+hidden_cases l s kept who p fit is high =
+    let wrote : (id : Oid) (place : Place) → Passes (crosses l) (subject who p) (mac_write s p id place) → IsDir s.objects id → low l id.label ≡ false =
+    λ id place written dir. sym (write_side l s kept who p id (record { value = dir.object; is = dir.is }) place written) ∙ sym (kept.procs who p is) ∙ high in
     let unseen : (q : Process) → part_changes l s.top (SetProcess who q ∷ []) ≡ [] = λ q. part_of_high l s.top (SetProcess who q ∷ []) (high, tt) in
     record {
       none = refl;
       self = λ ids caps umask audited groups within fits. unseen _;
       label = λ new passes fits. unseen _;
       cwd = λ id place read dir. unseen _;
+      leave = λ dir name id place written is_dir at empty. part_of_high l s.top (DropEntry (dir, name) ∷ []) (wrote dir place written is_dir, tt);
     }
 
 -- a label that the caller was let have is on the side of its own
@@ -100,6 +108,7 @@ kept_cases l s kept who p fit is =
             fds = own.fds;
             cwd = λ is_low. read_low l s kept who p is_low id (record { value = dir.object; is = dir.is }) place read;
           });
+      leave = λ dir name id place written is_dir at empty. kept_beside l s kept _ s.object_numbers s.process_numbers s.description_numbers;
     }
 
 -- a valid state stays valid, whatever crosses
@@ -145,4 +154,5 @@ valid_cases bad s valid who p is =
             ended = own.ended;
             fds = own.fds;
           });
+      leave = λ dir name id place written is_dir at empty. valid_drop s valid (dir, name) id at empty;
     }

@@ -17,7 +17,7 @@ use Rattle.kern_model.specs.World.{same_names, parent_names, given}
 use Rattle.kern_model.proofs.MapLemmas.{never_some, some_same}
 
 -- ---- walks
-leads_step : (s : State) (dir : Oid) (name : Name) (names : List Name) (next : Oid) → look s dir name ≡ Some next → leads s dir (name ∷ names) ≡ leads s next names
+pub leads_step : (s : State) (dir : Oid) (name : Name) (names : List Name) (next : Oid) → look s dir name ≡ Some next → leads s dir (name ∷ names) ≡ leads s next names
 leads_step s dir name names next e = ap (option_and_then (λ (next : Oid). leads s next names)) e
 
 -- a state that has the entries of another leads where that does

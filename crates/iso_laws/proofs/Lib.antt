@@ -1,5 +1,6 @@
 pub mod AllLemmas
 pub mod PrefixLemmas
+pub mod Selections
 pub mod Part
 pub mod Rows
 pub mod Sight

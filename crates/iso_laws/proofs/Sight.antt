@@ -29,7 +29,7 @@ use Rattle.kern_model.proofs.KeyLaws.{oid_cmp_total, oid_cmp_exact, pid_cmp_tota
 use Rattle.kern_model.specs.Descriptors.{Opened, opened}
 use Rattle.kern_model.specs.Kinds.{is_dir}
 use Rattle.kern_model.specs.State.{State, Process, Description, Change, object_at, look, stub, stub_object, root}
-use Rattle.kern_model.specs.Rules.{cap_of, same_label, mode_allows, of_object, mac_read, dac_search}
+use Rattle.kern_model.specs.Rules.{cap_of, same_label, mode_allows, of_object, mac_read, mac_write, dac_search}
 use Rattle.kern_model.specs.Row.{Row, Need, Refuse, Subject, verdict_of, is_denied, noted, exercise_with, may}
 use Rattle.kern_model.specs.Walk.{Found, Start, Entry, walk_from, walk, reach, start_of, enter, or_missing, to_object}
 use Rattle.kern_model.specs.Step.{subject}
@@ -64,7 +64,8 @@ crossed l a c with fails named mac apart passes =
     ] (failed_verdict a c fails)
 
 -- ---- labels
-not_true : (b : Bool) → (b ≡ true → ⊥) → b ≡ false
+-- a test that can't hold does not
+pub not_true : (b : Bool) → (b ≡ true → ⊥) → b ≡ false
 not_true true h = absurd (h refl)
 not_true false h = refl
 
@@ -248,6 +249,16 @@ module _ (l : Label) (s : State) (kept : Kept l s) (who : Pid) (p : Process) (is
   read_crosses place = crossed l (subject who p) (mac_read s p id place) cap.MacRead read_fails refl refl
       (ap (λ b. differ b (low l (object_at s id).label)) is_low ∙ ap (λ x. not (low l x)) label_at ∙ ap not hidden_label)
 
+  -- nor written
+  pub write_fails : same_label p.label (object_at s id).label ≡ false
+  write_fails = not_true _ (λ same.
+      let side : true ≡ false = sym is_low ∙ same_side l p.label (object_at s id).label same ∙ ap (low l) label_at ∙ hidden_label in
+      cc)
+
+  pub write_crosses : (place : Place) → Passes (crosses l) (subject who p) (mac_write s p id place) → ⊥
+  write_crosses place = crossed l (subject who p) (mac_write s p id place) cap.MacWrite write_fails refl refl
+      (ap (λ b. differ b (low l (object_at s id).label)) is_low ∙ ap (λ x. not (low l x)) label_at ∙ ap not hidden_label)
+
   pub top_high : IsValid s → low l s.top ≡ false
   top_high valid = top_hidden l s.top there.value.label (valid.objects id there.value there.is).below hidden_label
 
@@ -257,6 +268,17 @@ read_low l s kept who p is_low id there place passes =
     elim (low l id.label) as (λ b. low l id.label ≡ b → b ≡ true) [
       | true ↦ λ _. refl
       | false ↦ λ high. absurd (read_crosses l s kept who p is_low id there high place passes)
+    ] refl
+
+-- what a process wrote is on its side
+pub write_side : (l : Label) (s : State) → Kept l s → (who : Pid) (p : Process) (id : Oid) → IsThere s.objects id → (place : Place) → Passes (crosses l) (subject who p) (mac_write s p id place) → low l p.label ≡ low l id.label
+write_side l s kept who p id there place passes =
+    let label : Label = (object_at s id).label in
+    let at : low l label ≡ low l id.label = ap (λ (o : Object). low l o.label) (get_or-found _ _ _ _ there.is) ∙ sym (kept.objects id there.value there.is) in
+    elim (same_label p.label label) as (λ b. same_label p.label label ≡ b → low l p.label ≡ low l id.label) [
+      | true ↦ λ same. same_side l p.label label same ∙ at
+      | false ↦ λ other.
+          differ_false _ _ (not_true (differ (low l p.label) (low l label)) (λ apart. crossed l (subject who p) (mac_write s p id place) cap.MacWrite other refl refl apart passes)) ∙ at
     ] refl
 
 module _ (l : Label) (s : State) (kept : Kept l s) (valid : IsValid s) (who : Pid) (p : Process) (is_low : low l p.label ≡ true) where
@@ -275,6 +297,21 @@ module _ (l : Label) (s : State) (kept : Kept l s) (valid : IsValid s) (who : Pi
             alike_hidden (crosses l) l s.top (subject who p) (mac_read s p id place) (mac_read (by_number l s) p (stub s.top) place) r (r' (stub s.top)) refl refl
             (failed_verdict (subject who p) (mac_read (by_number l s) p (stub s.top) place) fails' ∙ sym (failed_verdict (subject who p) (mac_read s p id place) (read_fails l s kept who p is_low id there h)))
             (read_crosses l s kept who p is_low id there h place)
+      ] refl
+
+  -- and so is what passed its mac_write
+  pub alike_mac_write : (id : Oid) → IsThere s.objects id → (place : Place) (r : Row) (r' : Oid → Row) → (low l id.label ≡ true → Same r (r' id)) → Same (Need (mac_write s p id place) r) (Need (mac_write (by_number l s) p (shown l s.top id) place) (r' (shown l s.top id)))
+  alike_mac_write id there place r r' rest =
+      elim (low l id.label) as (λ b. low l id.label ≡ b → Same (Need (mac_write s p id place) r) (Need (mac_write (by_number l s) p (cond b id (stub s.top)) place) (r' (cond b id (stub s.top))))) [
+        | true ↦ λ h. alike_same (crosses l) l s.top (subject who p) _ _ r (r' id) (ap (λ o. of_object check.MacWrite (same_label p.label o.label) None id o place) (object_low l s id h)) (λ _. rest h)
+        | false ↦ λ h.
+            let top : low l s.top ≡ false = top_high l s kept who p is_low id there h valid in
+            let stub_label : (object_at (by_number l s) (stub s.top)).label ≡ s.top = ap (λ o. o.label) (object_stub l s top) in
+            let fails' : same_label p.label (object_at (by_number l s) (stub s.top)).label ≡ false =
+            ap (same_label p.label) stub_label ∙ not_true _ (λ same. let side : true ≡ false = sym is_low ∙ same_side l p.label s.top same ∙ top in cc) in
+            alike_hidden (crosses l) l s.top (subject who p) (mac_write s p id place) (mac_write (by_number l s) p (stub s.top) place) r (r' (stub s.top)) refl refl
+            (failed_verdict (subject who p) (mac_write (by_number l s) p (stub s.top) place) fails' ∙ sym (failed_verdict (subject who p) (mac_write s p id place) (write_fails l s kept who p is_low id there h)))
+            (write_crosses l s kept who p is_low id there h place)
       ] refl
 
   pub alike_enter : (dir : Oid) → IsThere s.objects dir → (place : Place) (r : Row) (r' : Oid → Row) → (low l dir.label ≡ true → IsDir s.objects dir → Same r (r' dir)) → Same (enter s p dir place r) (enter (by_number l s) p (shown l s.top dir) place (r' (shown l s.top dir)))

@@ -5,8 +5,12 @@ use Rattle.kern_model.specs.declared.calls.Call.{Call}
 use Rattle.kern_model.specs.declared.calls.Call.TheVariants as call
 use Rattle.kern_model.specs.declared.world.ScriptItem.{ScriptItem}
 
--- whether they are proved for a call: one that reports or sets what its caller is, or that reports the label or the capability sets of an object
+-- whether they are proved for a call: one that reports or sets what its caller is, or that reports what an object is or what a directory contains
 abbrev pub has_laws : Call → Bool
+has_laws (call.Rmdir path) = true
+has_laws (call.Unlink path) = true
+has_laws (call.Readdir path) = true
+has_laws (call.Stat path) = true
 has_laws (call.Chdir path) = true
 has_laws (call.Umask mode) = true
 has_laws (call.CapGetFile path) = true

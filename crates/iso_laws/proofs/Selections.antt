@@ -1,0 +1,278 @@
+-- What tests, counts and lists of a map's entries say of a selection of it, and of the map after a change.
+use Rattle.std.specs.Prelude.{◌≡◌, ℕ, ◌+◌, ◌≤◌, Bool, true, false, not, ◌||◌, ◌&&◌, List, [], ◌∷◌, ◌++◌, Option, Some, None, refl, cond, count_by, length}
+use Rattle.std.specs.declared.cmp.Ordering.{Ordering}
+use Rattle.std.specs.Ordering.{eq_by_cmp, is_eq}
+use Rattle.std.specs.Option.{option_map, option_and_then}
+use Rattle.std.specs.List.{AllByRecursion, list_any, flat_map, find as find_in}
+use Rattle.std.specs.Cmp.{IsTotalOrder}
+use Rattle.std.specs.FinMap as map
+use Rattle.std.specs.FinMap.{FinMap, IsAntisymmetric, find, is_sorted, get-from_entries, get-entries, entries_sorted, same_map, get-insert, get-remove, from_sorted, from_entries, entries-from_sorted, get-from_sorted}
+use Rattle.std.specs.FinMap.Entries.{below_all}
+use Rattle.std.proofs.Common.{sym, ◌∙◌, ap, subst, arith, T}
+use Rattle.std.proofs.lemmas.List.Sums.{sum_by-cons}
+use Rattle.std.proofs.lemmas.Cmp.{tied_itself}
+use Rattle.kern_model.specs.Maps.{with_entry, selected, select, where_key, any_entry, count_entries}
+use Rattle.kern_model.proofs.MapLemmas.{each-entries, same_key, some_same, never_some, get-select, get-insert_same, other_key, remove-insert, count_entries-one}
+
+head_T : (a b : Bool) → T (a && b) → T a
+head_T true b p = tt
+head_T false b p = p
+
+tail_T : (a b : Bool) → T (a && b) → T b
+tail_T true b p = p
+tail_T false b p = absurd p
+
+both_T : (a b : Bool) → T a → T b → T (a && b)
+both_T true b p q = q
+both_T false b p q = p
+
+-- what a test says of the entry, if there is one
+abbrev pub test_after : {K Y : Type 0} → (K → Y → Bool) → K → Option Y → Bool
+test_after p k None = false
+test_after p k (Some y) = p k y
+
+-- what a function lists of the entry, if there is one
+abbrev pub list_after : {K Y A : Type 0} → (K → Y → List A) → K → Option Y → List A
+list_after g k None = []
+list_after g k (Some y) = g k y
+
+-- ---- the entries of a selection are the selected entries
+module _ {K X Y : Type 0} {R : K → K → Ordering} (o : IsTotalOrder R) (exact : IsAntisymmetric R) (f : K → X → Option Y) where
+  below-selected : (k : K) (es : List (K × X)) → T (below_all R k es) → T (below_all R k (selected f es))
+  below-selected k [] h = tt
+  below-selected k (e ∷ es) h =
+      let rest = below-selected k es (tail_T _ _ h) in
+      elim (f e.0 e.1) as (λ w. T (below_all R k (with_entry e.0 w (selected f es)))) [ None ↦ rest | Some y ↦ both_T _ _ (head_T _ _ h) rest ]
+
+  sorted-selected : (es : List (K × X)) → T (is_sorted R es) → T (is_sorted R (selected f es))
+  sorted-selected [] h = tt
+  sorted-selected (e ∷ es) h =
+      let rest = sorted-selected es (tail_T _ _ h) in
+      elim (f e.0 e.1) as (λ w. T (is_sorted R (with_entry e.0 w (selected f es)))) [ None ↦ rest | Some y ↦ both_T _ _ (below-selected e.0 es (head_T _ _ h)) rest ]
+
+  pub entries-select : (m : FinMap R X) → map.entries (select f m) ≡ selected f (map.entries m)
+  unfolding select
+  entries-select m =
+      let es : List (K × Y) = selected f (map.entries m) in
+      let sorted : T (is_sorted R es) = sorted-selected (map.entries m) (entries_sorted m) in
+      ap map.entries (same_map o exact (from_entries es) (from_sorted es) (λ q. get-from_entries o es q ∙ sym (get-from_sorted R es q sorted))) ∙ entries-from_sorted R es sorted
+
+  -- a test, which is met by what is selected of an entry where it was met by the entry
+  module _ (p : K → X → Bool) (p' : K → Y → Bool) where
+    abbrev Agree : K × X → Type 0
+    Agree e = test_after p' e.0 (f e.0 e.1) ≡ p e.0 e.1
+
+    any-selected : (es : List (K × X)) → AllByRecursion Agree es → list_any (λ (e : K × Y). p' e.0 e.1) (selected f es) ≡ list_any (λ (e : K × X). p e.0 e.1) es
+    any-selected [] h = refl
+    any-selected (e ∷ es) h =
+        let rest = any-selected es h.1 in
+        elim (f e.0 e.1) as (λ w. test_after p' e.0 w ≡ p e.0 e.1 → list_any (λ (e : K × Y). p' e.0 e.1) (with_entry e.0 w (selected f es)) ≡ (p e.0 e.1 || list_any (λ (e : K × X). p e.0 e.1) es)) [
+          | None ↦ λ t. rest ∙ ap (λ b. b || list_any (λ (e : K × X). p e.0 e.1) es) t
+          | Some y ↦ λ t. λ i. t i || rest i
+        ] h.0
+
+    count-selected : (es : List (K × X)) → AllByRecursion Agree es → count_by (λ (e : K × Y). p' e.0 e.1) (selected f es) ≡ count_by (λ (e : K × X). p e.0 e.1) es
+    count-selected [] h = refl
+    count-selected (e ∷ es) h =
+        let rest = count-selected es h.1 in
+        let one = sum_by-cons (λ (e : K × X). cond (p e.0 e.1) 1 0) e es in
+        elim (f e.0 e.1) as (λ w. test_after p' e.0 w ≡ p e.0 e.1 → count_by (λ (e : K × Y). p' e.0 e.1) (with_entry e.0 w (selected f es)) ≡ count_by (λ (e : K × X). p e.0 e.1) (e ∷ es)) [
+          | None ↦ λ t.
+              let n : ℕ = count_by (λ (e : K × X). p e.0 e.1) es in
+              let none : n ≡ cond false 1 0 + n = omega arith in
+              rest ∙ none ∙ ap (λ b. cond b 1 0 + n) t ∙ sym one
+          | Some y ↦ λ t. sum_by-cons (λ (e : K × Y). cond (p' e.0 e.1) 1 0) (e.0, y) (selected f es) ∙ (λ i. cond (t i) 1 0 + rest i) ∙ sym one
+        ] h.0
+
+    find-selected : (es : List (K × X)) → AllByRecursion Agree es → option_map (λ (e : K × Y). e.0) (find_in (λ (e : K × Y). p' e.0 e.1) (selected f es)) ≡ option_map (λ (e : K × X). e.0) (find_in (λ (e : K × X). p e.0 e.1) es)
+    find-selected [] h = refl
+    find-selected (e ∷ es) h =
+        let rest = find-selected es h.1 in
+        let after : Bool → Option K = λ b. option_map (λ (e : K × X). e.0) (cond b (Some e) (find_in (λ (e : K × X). p e.0 e.1) es)) in
+        elim (f e.0 e.1) as (λ w. test_after p' e.0 w ≡ p e.0 e.1 → option_map (λ (e : K × Y). e.0) (find_in (λ (e : K × Y). p' e.0 e.1) (with_entry e.0 w (selected f es))) ≡ after (p e.0 e.1)) [
+          | None ↦ λ t. rest ∙ ap after t
+          | Some y ↦ λ t.
+              ap (λ b. option_map (λ (e : K × Y). e.0) (cond b (Some (e.0, y)) (find_in (λ (e : K × Y). p' e.0 e.1) (selected f es)))) t
+              ∙ elim (p e.0 e.1) as (λ b. option_map (λ (e : K × Y). e.0) (cond b (Some (e.0, y)) (find_in (λ (e : K × Y). p' e.0 e.1) (selected f es))) ≡ after b) [ true ↦ refl | false ↦ rest ]
+        ] h.0
+
+    module _ (m : FinMap R X) (agree : (k : K) (x : X) → map.get m k ≡ Some x → Agree (k, x)) where
+      listed : AllByRecursion Agree (map.entries m)
+      listed = each-entries o exact (λ (k : K) (x : X). Agree (k, x)) m agree
+
+      pub any_entry-select : any_entry p' (select f m) ≡ any_entry p m
+      unfolding any_entry
+      any_entry-select = ap (list_any (λ (e : K × Y). p' e.0 e.1)) (entries-select m) ∙ any-selected (map.entries m) listed
+
+      pub count_entries-select : count_entries p' (select f m) ≡ count_entries p m
+      unfolding count_entries
+      count_entries-select = ap (count_by (λ (e : K × Y). p' e.0 e.1)) (entries-select m) ∙ count-selected (map.entries m) listed
+
+      -- the first entry that meets it has the same key
+      pub find-select : option_map (λ (e : K × Y). e.0) (find_in (λ (e : K × Y). p' e.0 e.1) (map.entries (select f m))) ≡ option_map (λ (e : K × X). e.0) (find_in (λ (e : K × X). p e.0 e.1) (map.entries m))
+      find-select = ap (λ (es : List (K × Y)). option_map (λ (e : K × Y). e.0) (find_in (λ (e : K × Y). p' e.0 e.1) es)) (entries-select m) ∙ find-selected (map.entries m) listed
+
+  -- a list made of each entry, which is made of what is selected of it
+  module _ {A : Type 0} (g : K → X → List A) (g' : K → Y → List A) where
+    abbrev Lists : K × X → Type 0
+    Lists e = list_after g' e.0 (f e.0 e.1) ≡ g e.0 e.1
+
+    flat_map-selected : (es : List (K × X)) → AllByRecursion Lists es → flat_map (λ (e : K × Y). g' e.0 e.1) (selected f es) ≡ flat_map (λ (e : K × X). g e.0 e.1) es
+    flat_map-selected [] h = refl
+    flat_map-selected (e ∷ es) h =
+        let rest = flat_map-selected es h.1 in
+        elim (f e.0 e.1) as (λ w. list_after g' e.0 w ≡ g e.0 e.1 → flat_map (λ (e : K × Y). g' e.0 e.1) (with_entry e.0 w (selected f es)) ≡ g e.0 e.1 ++ flat_map (λ (e : K × X). g e.0 e.1) es) [
+          | None ↦ λ t. rest ∙ ap (λ xs. xs ++ flat_map (λ (e : K × X). g e.0 e.1) es) t
+          | Some y ↦ λ t. λ i. t i ++ rest i
+        ] h.0
+
+    pub flat_map-select : (m : FinMap R X) → ((k : K) (x : X) → map.get m k ≡ Some x → Lists (k, x)) → flat_map (λ (e : K × Y). g' e.0 e.1) (map.entries (select f m)) ≡ flat_map (λ (e : K × X). g e.0 e.1) (map.entries m)
+    flat_map-select m agree = ap (flat_map (λ (e : K × Y). g' e.0 e.1)) (entries-select m) ∙ flat_map-selected (map.entries m) (each-entries o exact (λ (k : K) (x : X). Lists (k, x)) m agree)
+
+-- ---- whether an entry passes a test
+module _ {K X : Type 0} {R : K → K → Ordering} (o : IsTotalOrder R) (exact : IsAntisymmetric R) (p : K → X → Bool) where
+  abbrev passing : List (K × X) → ℕ
+  passing es = count_by (λ (e : K × X). p e.0 e.1) es
+
+  or_parts_false : (a b : Bool) → (a || b) ≡ false → (a ≡ false) × (b ≡ false)
+  or_parts_false true b e = absurd (cc)
+  or_parts_false false b e = (refl, e)
+
+  none_of : (es : List (K × X)) → list_any (λ (e : K × X). p e.0 e.1) es ≡ false → (k : K) (x : X) → find R k es ≡ Some x → p k x ≡ false
+  none_of [] h k x f = absurd (cc)
+  none_of (e ∷ es) h k x f =
+      let parts = or_parts_false (p e.0 e.1) _ h in
+      elim (eq_by_cmp R k e.0) as (λ b. eq_by_cmp R k e.0 ≡ b → cond b (Some e.1) (find R k es) ≡ Some x → p k x ≡ false) [
+        | true ↦ λ t g. (λ i. p (same_key exact k e.0 t i) (sym (some_same e.1 x g) i)) ∙ parts.0
+        | false ↦ λ t g. none_of es parts.1 k x g
+      ] refl f
+
+  -- where none does, no entry that is there does
+  pub none_passes : (m : FinMap R X) → any_entry p m ≡ false → (k : K) (x : X) → map.get m k ≡ Some x → p k x ≡ false
+  unfolding any_entry
+  none_passes m h k x e = none_of (map.entries m) h k x (sym (get-entries m k) ∙ e)
+
+  fails_all : (es : List (K × X)) → AllByRecursion (λ (e : K × X). p e.0 e.1 ≡ false) es → list_any (λ (e : K × X). p e.0 e.1) es ≡ false
+  fails_all [] h = refl
+  fails_all (e ∷ es) h = ap (λ b. b || list_any (λ (e : K × X). p e.0 e.1) es) h.0 ∙ fails_all es h.1
+
+  -- where no entry that is there does, none does
+  pub none_pass : (m : FinMap R X) → ((k : K) (x : X) → map.get m k ≡ Some x → p k x ≡ false) → any_entry p m ≡ false
+  unfolding any_entry
+  none_pass m h = fails_all (map.entries m) (each-entries o exact (λ (k : K) (x : X). p k x ≡ false) m h)
+
+  -- ---- how many do
+  one_first : (e : K × X) (es : List (K × X)) → passing (e ∷ es) ≡ cond (p e.0 e.1) 1 0 + passing es
+  one_first e es = sum_by-cons (λ (e : K × X). cond (p e.0 e.1) 1 0) e es
+
+  none_counted : (es : List (K × X)) → AllByRecursion (λ (e : K × X). p e.0 e.1 ≡ false) es → passing es ≡ 0
+  none_counted [] h = refl
+  none_counted (e ∷ es) h =
+      let rest = none_counted es h.1 in
+      let first = one_first e es ∙ ap (λ b. cond b 1 0 + passing es) h.0 in
+      omega (arith, first, rest)
+
+  some_counted : (es : List (K × X)) (k : K) (x : X) → find R k es ≡ Some x → p k x ≡ true → 1 ≤ passing es
+  some_counted [] k x f t = absurd (cc)
+  some_counted (e ∷ es) k x f t =
+      elim (eq_by_cmp R k e.0) as (λ b. eq_by_cmp R k e.0 ≡ b → cond b (Some e.1) (find R k es) ≡ Some x → 1 ≤ passing (e ∷ es)) [
+        | true ↦ λ same g.
+            let is : p e.0 e.1 ≡ true = (λ i. p (sym (same_key exact k e.0 same) i) (some_same e.1 x g i)) ∙ t in
+            let first = one_first e es ∙ ap (λ b. cond b 1 0 + passing es) is in
+            omega (arith, first)
+        | false ↦ λ _ g. let rest = some_counted es k x g t in omega (arith, one_first e es, rest)
+      ] refl f
+
+  pub count_none : (m : FinMap R X) → ((k : K) (x : X) → map.get m k ≡ Some x → p k x ≡ false) → count_entries p m ≡ 0
+  unfolding count_entries
+  count_none m h = none_counted (map.entries m) (each-entries o exact (λ (k : K) (x : X). p k x ≡ false) m h)
+
+  pub count_some : (m : FinMap R X) (k : K) (x : X) → map.get m k ≡ Some x → p k x ≡ true → 1 ≤ count_entries p m
+  unfolding count_entries
+  count_some m k x e t = some_counted (map.entries m) k x (sym (get-entries m k) ∙ e) t
+
+-- ---- how many pass a test after a change at one key
+module _ {K X : Type 0} {R : K → K → Ordering} (o : IsTotalOrder R) (exact : IsAntisymmetric R) (p : K → X → Bool) (k : K) where
+  abbrev at_key : K → X → Bool
+  at_key q y = eq_by_cmp R q k && p q y
+
+  abbrev elsewhere : K → X → Bool
+  elsewhere q y = not (eq_by_cmp R q k) && p q y
+
+  split_list : (es : List (K × X)) → count_by (λ (e : K × X). p e.0 e.1) es ≡ count_by (λ (e : K × X). at_key e.0 e.1) es + count_by (λ (e : K × X). elsewhere e.0 e.1) es
+  split_list [] = refl
+  split_list (e ∷ es) =
+      let rest = split_list es in
+      let all = sum_by-cons (λ (e : K × X). cond (p e.0 e.1) 1 0) e es in
+      let here = sum_by-cons (λ (e : K × X). cond (at_key e.0 e.1) 1 0) e es in
+      let there = sum_by-cons (λ (e : K × X). cond (elsewhere e.0 e.1) 1 0) e es in
+      let one : cond (p e.0 e.1) 1 0 ≡ cond (at_key e.0 e.1) 1 0 + cond (elsewhere e.0 e.1) 1 0 =
+      elim (eq_by_cmp R e.0 k) as (λ b. cond (p e.0 e.1) 1 0 ≡ cond (b && p e.0 e.1) 1 0 + cond (not b && p e.0 e.1) 1 0) [ true ↦ omega arith | false ↦ omega arith ] in
+      omega (arith, rest, all, here, there, one)
+
+  split : (m : FinMap R X) → count_entries p m ≡ count_entries at_key m + count_entries elsewhere m
+  unfolding count_entries
+  split m = split_list (map.entries m)
+
+  keep_other : K → X → Option X
+  keep_other q y = cond (not (eq_by_cmp R q k)) (Some y) None
+
+  nothing : (w : Option X) → None ≡ option_and_then (λ (y : X). cond false (Some y) None) w
+  nothing None = refl
+  nothing (Some y) = refl
+
+  itself : (w : Option X) → w ≡ option_and_then (λ (y : X). cond true (Some y) None) w
+  itself None = refl
+  itself (Some y) = refl
+
+  -- a map without a key is a selection of it
+  removed_is : (m : FinMap R X) → map.remove m k ≡ select keep_other m
+  unfolding keep_other
+  removed_is m = same_map o exact _ _ (λ q.
+      get-remove o m k q
+      ∙ elim (eq_by_cmp R q k) as (λ b. cond b None (map.get m q) ≡ option_and_then (λ y. cond (not b) (Some y) None) (map.get m q)) [
+        | true ↦ nothing (map.get m q)
+        | false ↦ itself (map.get m q)
+      ]
+      ∙ sym (get-select exact keep_other o m q))
+
+  counted_elsewhere : (m : FinMap R X) → count_entries p (map.remove m k) ≡ count_entries elsewhere m
+  unfolding keep_other
+  counted_elsewhere m =
+      ap (count_entries p) (removed_is m)
+      ∙ count_entries-select o exact keep_other elsewhere p m (λ q y _.
+      elim (eq_by_cmp R q k) as (λ b. test_after p q (cond (not b) (Some y) None) ≡ (not b && p q y)) [ true ↦ refl | false ↦ refl ])
+
+  -- no more after the key went, and fewer where its entry passed
+  pub count_remove : (m : FinMap R X) → count_entries p (map.remove m k) ≤ count_entries p m
+  count_remove m = omega (arith, counted_elsewhere m, split m)
+
+  pub count_removed : (m : FinMap R X) (x : X) → map.get m k ≡ Some x → p k x ≡ true → count_entries p (map.remove m k) + 1 ≤ count_entries p m
+  count_removed m x e t =
+      let passes : at_key k x ≡ true = ap (λ r. is_eq r && p k x) (tied_itself o k) ∙ t in
+      omega (arith, counted_elsewhere m, split m, count_some o exact at_key m k x e passes)
+
+  -- at most one more after an entry was set where none was, and none where it does not pass
+  module _ (m : FinMap R X) (x : X) (absent : map.get m k ≡ None) where
+    without : count_entries elsewhere (map.insert m k x) ≡ count_entries p m
+    without = sym (counted_elsewhere (map.insert m k x)) ∙ ap (count_entries p) (remove-insert o exact m k x absent)
+
+    first_of : (a b : Bool) → (a && b) ≡ true → a ≡ true
+    first_of true b e = refl
+    first_of false b e = e
+
+    pub count_insert : count_entries p (map.insert m k x) ≤ count_entries p m + 1
+    count_insert =
+        let one = count_entries-one o exact at_key (map.insert m k x) (λ a b y z _ _ f g. same_key exact a k (first_of _ _ f) ∙ sym (same_key exact b k (first_of _ _ g))) in
+        omega (arith, split (map.insert m k x), without, one)
+
+    pub count_insert_other : p k x ≡ false → count_entries p (map.insert m k x) ≤ count_entries p m
+    count_insert_other fail =
+        let none = count_none o exact at_key (map.insert m k x) (λ q y e.
+        elim (eq_by_cmp R q k) as (λ b. eq_by_cmp R q k ≡ b → (b && p q y) ≡ false) [
+          | true ↦ λ t.
+              let is : y ≡ x = some_same y x (sym e ∙ ap (map.get (map.insert m k x)) (same_key exact q k t) ∙ get-insert_same o m k x) in
+              (λ i. p (same_key exact q k t i) (is i)) ∙ fail
+          | false ↦ λ _. refl
+        ] refl) in
+        omega (arith, split (map.insert m k x), without, none)
