@@ -1,5 +1,7 @@
 // What no clause says: that the calls succeed with ample memory.
-ghost use Rattle.std.specs.Prelude.{IfOk};
+ghost use Rattle.std.specs.Prelude.{◌≡◌, [], Some, IfOk};
+ghost use Rattle.std.specs.FinMap as map;
+ghost use Rattle.kern_model.specs.declared.objects.Object.{Object};
 ghost use Rattle.fs_nodes.specs.Nodes.{IsFile, IsStream};
 
 use cap_bits::CapState;
@@ -24,20 +26,22 @@ fn with_file(alloc: Global) -> Result<(Nodes, Oid), Fail>
 {
     let mut nodes = Nodes::new(alloc)?;
     let body = Body::File(ByteList::from_slice(alloc, b"abc")?);
-    let id = nodes.create(bottom(), attr(), body).ok().ok_or("full")?;
-    Ok((nodes, id))
+    match nodes.create(bottom(), attr(), body) {
+        Ok(id) => Ok((nodes, id)),
+        Err(_) => Err(Fail::new("no file is made")),
+    }
 }
 
 // The objects with one FIFO, and its number.
 fn with_fifo(alloc: Global) -> Result<(Nodes, Oid), Fail>
-    ensures { IfOk result (λ made. IsStream made.0.table.objects made.1) }
+    ensures stream { IfOk result (λ made. IsStream made.0.table.objects made.1) }
+    ensures empty { IfOk result (λ made. (o : Object) → map.get made.0.table.objects made.1 ≡ Some o → o.bytes ≡ []) }
 {
     let mut nodes = Nodes::new(alloc)?;
-    let id = nodes
-        .create(bottom(), attr(), Body::Fifo)
-        .ok()
-        .ok_or("full")?;
-    Ok((nodes, id))
+    match nodes.create(bottom(), attr(), Body::Fifo) {
+        Ok(id) => Ok((nodes, id)),
+        Err(_) => Err(Fail::new("no FIFO is made")),
+    }
 }
 
 #[test]
