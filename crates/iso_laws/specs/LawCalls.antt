@@ -5,7 +5,7 @@ use Rattle.kern_model.specs.declared.calls.Call.{Call}
 use Rattle.kern_model.specs.declared.calls.Call.TheVariants as call
 use Rattle.kern_model.specs.declared.world.ScriptItem.{ScriptItem}
 
--- whether they are proved for a call: one that reports or sets what its caller is, or that reports what an object is or what a directory contains
+-- whether they are proved for a call: one that reports or sets what its caller is, that reports what an object is or what a directory contains, or that takes an entry away
 abbrev pub has_laws : Call → Bool
 has_laws (call.Rmdir path) = true
 has_laws (call.Unlink path) = true
