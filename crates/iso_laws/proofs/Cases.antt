@@ -1,14 +1,14 @@
 -- What the changes of a row meet. A law of changes holds of a row where it holds of each kind of effect.
-use Rattle.std.specs.Prelude.{◌≡◌, ℕ, ◌≤◌, length, Bool, true, false, not, List, [], ◌∷◌, Option, Some, refl}
+use Rattle.std.specs.Prelude.{◌≡◌, ℕ, ◌+◌, ◌≤◌, length, Bool, true, false, not, List, [], ◌∷◌, Option, None, Some, refl}
 use Rattle.std.proofs.Common.{sym, ◌∙◌, ap, subst}
 use Rattle.std.specs.FinMap as map
 use Rattle.cap_bits.specs.declared.cap.Cap.TheVariants as cap
 use Rattle.cap_bits.specs.CapSet.{is_within}
 use Rattle.cap_bits.specs.declared.state.CapState.{CapState}
-use Rattle.fs_path.specs.Name.{Name}
+use Rattle.fs_path.specs.Name.{Name, is_name}
 use Rattle.fs_path.specs.Path.{PathValue}
 use Rattle.lab_lattice.specs.Label.{Label, dominates}
-use Rattle.kern_model.specs.declared.limits.TheConstants.{MAX_GROUPS}
+use Rattle.kern_model.specs.declared.limits.TheConstants.{MAX_GROUPS, MAX_LINKS}
 use Rattle.kern_model.specs.declared.numbers.Ids.{Ids}
 use Rattle.kern_model.specs.declared.numbers.Oid.{Oid}
 use Rattle.kern_model.specs.declared.numbers.Pid.{Pid}
@@ -16,21 +16,22 @@ use Rattle.kern_model.specs.declared.checks.Place.{Place}
 use Rattle.kern_model.specs.declared.checks.Place.TheVariants.{First}
 use Rattle.kern_model.specs.declared.objects.Object.{Object}
 use Rattle.kern_model.specs.declared.records.Rec.{Rec}
-use Rattle.kern_model.specs.Entries.{is_empty}
-use Rattle.kern_model.specs.Kinds.{is_permission}
+use Rattle.kern_model.specs.Create.{made, has_object_number}
+use Rattle.kern_model.specs.Entries.{is_empty, is_removed, link_count}
+use Rattle.kern_model.specs.Kinds.{is_dir as dir_kind, is_permission}
 use Rattle.kern_model.specs.Rules.{same_label, mac_read, mac_write, mac_subject}
 use Rattle.kern_model.specs.Row.{Row}
-use Rattle.kern_model.specs.State.{State, Process, Change, SetProcess, DropEntry, changed_by, object_at, look}
+use Rattle.kern_model.specs.State.{State, Process, Change, SetObject, SetProcess, SetEntry, DropEntry, changed, changed_by, next_object, object_at, look}
 use Rattle.kern_model.specs.Step.{subject}
 use Rattle.kern_model.specs.Walk.{on_path, read_object, last_place}
 use Rattle.kern_model.specs.Isolation.{low, crosses, Kept}
 use Rattle.kern_model.specs.Valid.{IsValid, IsDir, IsValidProcess}
-use Rattle.kern_model.proofs.MapLemmas.{some_same}
+use Rattle.kern_model.proofs.MapLemmas.{some_same, never_some}
 use Rattle.iso_laws.proofs.Part.{part_changes, part_of_high}
 use Rattle.iso_laws.proofs.Rows.{Ends, Passes, Gives, ends_given}
-use Rattle.iso_laws.proofs.Sight.{same_side, ends_reach, new_side, read_low, write_side}
-use Rattle.iso_laws.proofs.Changes.{KeptProcess, kept_of, kept_process, kept_beside, valid_process}
-use Rattle.iso_laws.proofs.tree.Changes.{valid_drop}
+use Rattle.iso_laws.proofs.Sight.{IsNamed, same_side, ends_reach, new_side, read_low, write_side}
+use Rattle.iso_laws.proofs.Changes.{KeptProcess, kept_of, kept_process, kept_object, kept_beside, valid_process}
+use Rattle.iso_laws.proofs.tree.Changes.{IsFresh, next_absent, not_true_false, valid_drop, valid_link, valid_made}
 
 -- a law of changes holds of each kind of effect; where the arguments fit, what the effect sets is in its range
 pub record Cases (bad : Rec → Bool) (s : State) (who : Pid) (p : Process) (fit : Type 0) (P : List Change → Type 0) : Type 0 where
@@ -44,6 +45,13 @@ pub record Cases (bad : Rec → Bool) (s : State) (who : Pid) (p : Process) (fit
   pub cwd : (id : Oid) (place : Place) → Passes bad (subject who p) (mac_read s p id place) → IsDir s.objects id → P (SetProcess who (record p { cwd = id }) ∷ [])
   -- an entry goes, of something without entries, and the caller wrote its directory
   pub leave : (dir : Oid) (name : Name) (id : Oid) (place : Place) → Passes bad (subject who p) (mac_write s p dir place) → IsDir s.objects dir → look s dir name ≡ Some id → is_empty s id ≡ true → P (DropEntry (dir, name) ∷ [])
+
+  -- an entry of a file is set where none was, in a directory that is not removed and that the caller wrote
+  pub enter : (dir : Oid) (name : Name) (id : Oid) (place : Place) → Passes bad (subject who p) (mac_write s p dir place) → (is_dir : IsDir s.objects dir) → look s dir name ≡ None → is_removed s dir ≡ false
+      → (named : IsNamed s id) → not (dir_kind named.object.kind) ≡ true → link_count s id + 1 ≤ MAX_LINKS → dominates named.object.label is_dir.object.label ≡ true → (fit → is_name name ≡ true) → P (SetEntry (dir, name) id ∷ [])
+  -- an object is made in such a directory
+  pub make : (dir : Oid) (name : Name) (o : Object) (place : Place) → Passes bad (subject who p) (mac_write s p dir place) → (is_dir : IsDir s.objects dir) → look s dir name ≡ None → is_removed s dir ≡ false
+      → IsFresh p o → has_object_number s p ≡ true → dominates p.label is_dir.object.label ≡ true → (fit → is_name name ≡ true) → P (made s p dir name o)
 
 -- ---- what the rows of every process share
 -- a law of changes, whatever the own record is
@@ -71,8 +79,9 @@ module _ (bad : Rec → Bool) (s : State) (valid : IsValid s) (who : Pid) (p : P
 -- a process that is not Low changes nothing in the part
 pub hidden_cases : (l : Label) (s : State) → Kept l s → (who : Pid) (p : Process) (fit : Type 0) → map.get s.procs who ≡ Some p → low l who.label ≡ false → Cases (crosses l) s who p fit (λ cs. part_changes l s.top cs ≡ [])
 hidden_cases l s kept who p fit is high =
+    let mine : low l p.label ≡ false = sym (kept.procs who p is) ∙ high in
     let wrote : (id : Oid) (place : Place) → Passes (crosses l) (subject who p) (mac_write s p id place) → IsDir s.objects id → low l id.label ≡ false =
-    λ id place written dir. sym (write_side l s kept who p id (record { value = dir.object; is = dir.is }) place written) ∙ sym (kept.procs who p is) ∙ high in
+    λ id place written dir. sym (write_side l s kept who p id (record { value = dir.object; is = dir.is }) place written) ∙ mine in
     let unseen : (q : Process) → part_changes l s.top (SetProcess who q ∷ []) ≡ [] = λ q. part_of_high l s.top (SetProcess who q ∷ []) (high, tt) in
     record {
       none = refl;
@@ -80,6 +89,8 @@ hidden_cases l s kept who p fit is high =
       label = λ new passes fits. unseen _;
       cwd = λ id place read dir. unseen _;
       leave = λ dir name id place written is_dir at empty. part_of_high l s.top (DropEntry (dir, name) ∷ []) (wrote dir place written is_dir, tt);
+      enter = λ dir name id place written is_dir free standing named no_dir few order fits. part_of_high l s.top (SetEntry (dir, name) id ∷ []) (wrote dir place written is_dir, tt);
+      make = λ dir name o place written is_dir free standing fresh left order fits. part_of_high l s.top (made s p dir name o) (mine, (mine, (wrote dir place written is_dir, tt)));
     }
 
 -- a label that the caller was let have is on the side of its own
@@ -91,8 +102,8 @@ given_side l who p new passes =
     ] refl
 
 -- what is kept stays kept
-pub kept_cases : (l : Label) (s : State) → Kept l s → (who : Pid) (p : Process) (fit : Type 0) → map.get s.procs who ≡ Some p → Cases (crosses l) s who p fit (λ cs. Kept l (changed_by s cs))
-kept_cases l s kept who p fit is =
+pub kept_cases : (l : Label) (s : State) → Kept l s → IsValid s → (who : Pid) (p : Process) (fit : Type 0) → map.get s.procs who ≡ Some p → Cases (crosses l) s who p fit (λ cs. Kept l (changed_by s cs))
+kept_cases l s kept valid who p fit is =
     let own : KeptProcess l who p = kept_of l s kept who p is in
     record {
       none = kept;
@@ -109,6 +120,13 @@ kept_cases l s kept who p fit is =
             cwd = λ is_low. read_low l s kept who p is_low id (record { value = dir.object; is = dir.is }) place read;
           });
       leave = λ dir name id place written is_dir at empty. kept_beside l s kept _ s.object_numbers s.process_numbers s.description_numbers;
+      enter = λ dir name id place written is_dir free standing named no_dir few order fits. kept_beside l s kept _ s.object_numbers s.process_numbers s.description_numbers;
+      make = λ dir name o place written is_dir free standing fresh left order fits.
+          let new : Oid = next_object s p.label in
+          kept_beside l (changed s (SetObject new o)) (kept_object l s kept new o (ap (low l) (sym fresh.label)) (λ did d e at _.
+          let described = valid.descriptions did d e in
+          absurd (never_some (map.get s.objects new) described.object (next_absent s valid p.label) (ap (map.get s.objects) (sym at) ∙ described.object_is))))
+          _ _ s.process_numbers s.description_numbers;
     }
 
 -- a valid state stays valid, whatever crosses
@@ -155,4 +173,6 @@ valid_cases bad s valid who p is =
             fds = own.fds;
           });
       leave = λ dir name id place written is_dir at empty. valid_drop s valid (dir, name) id at empty;
+      enter = λ dir name id place written is_dir free standing named no_dir few order fits. valid_link s valid dir name id is_dir free standing named.object named.is (not_true_false _ no_dir) named.no_pipe few order (fits tt);
+      make = λ dir name o place written is_dir free standing fresh left order fits. valid_made s valid p dir name o fresh is_dir free standing own.below left order (fits tt);
     }

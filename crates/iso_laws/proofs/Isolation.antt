@@ -25,6 +25,9 @@ use Rattle.iso_laws.proofs.audit.Isolation as audit
 -- each row of a Low process ends in the part as it ends in the state
 module _ (l : Label) (s : State) (kept : Kept l s) (valid : IsValid s) (who : Pid) (p : Process) (is : map.get s.procs who ≡ Some p) (is_low : low l p.label ≡ true) where
   pub low_row : (c : Call) → has_laws c ≡ true → Same l s who p (row s who p c) (row (by_number l s) who p c)
+  low_row (call.Mkfifo path mode) _ = tree.mkfifo_low l s kept valid who p is is_low path mode
+  low_row (call.Mkdir path mode) _ = tree.mkdir_low l s kept valid who p is is_low path mode
+  low_row (call.Link path to) _ = tree.link_low l s kept valid who p is is_low path to
   low_row (call.Rmdir path) _ = tree.rmdir_low l s kept valid who p is is_low path
   low_row (call.Unlink path) _ = tree.unlink_low l s kept valid who p is is_low path
   low_row (call.Readdir path) _ = tree.readdir_low l s kept valid who p is is_low path
@@ -53,6 +56,9 @@ module _ (l : Label) (s : State) (kept : Kept l s) (valid : IsValid s) (who : Pi
 module _ (bad : Rec → Bool) (s : State) (valid : IsValid s) (who : Pid) (p : Process) (is : map.get s.procs who ≡ Some p) (fit : Type 0) (P : List Change → Type 0) (cases : Cases bad s who p fit P) where
   pub row_meets : (c : Call) → (fit → is_call s.top c ≡ true) → has_laws c ≡ true → Meets bad who p P (row s who p c)
   unfolding is_call
+  row_meets (call.Mkfifo path mode) args _ = tree.mkfifo_meets bad s valid who p is fit P cases path mode args
+  row_meets (call.Mkdir path mode) args _ = tree.mkdir_meets bad s valid who p is fit P cases path mode args
+  row_meets (call.Link path to) args _ = tree.link_meets bad s valid who p is fit P cases path to args
   row_meets (call.Rmdir path) args _ = tree.rmdir_meets bad s valid who p is fit P cases path
   row_meets (call.Unlink path) args _ = tree.unlink_meets bad s valid who p is fit P cases path
   row_meets (call.Readdir path) args _ = tree.readdir_meets bad s valid who p is fit P cases path

@@ -1,16 +1,16 @@
 -- What a Low process reads of a state and of its part.
 use Rattle.std.specs.Prelude.{◌≡◌, ℕ, ◌+◌, Bool, true, false, not, ◌&&◌, ◌||◌, List, [], ◌∷◌, Option, Some, None, refl, cond}
 use Rattle.std.specs.Option.{option_map, option_and_then}
-use Rattle.std.specs.List.{list_any}
+use Rattle.std.specs.List.{list_all, list_any}
 use Rattle.std.proofs.Common.{sym, ◌∙◌, ap, subst}
 use Rattle.std.proofs.lemmas.Bool.{and_parts}
 use Rattle.std.specs.FinMap as map
 use Rattle.cap_bits.specs.declared.cap.Cap.{Cap}
 use Rattle.cap_bits.specs.declared.cap.Cap.TheVariants as cap
-use Rattle.fs_path.specs.Name.{Name}
+use Rattle.fs_path.specs.Name.{Name, is_name}
 use Rattle.fs_path.specs.Path.{PathValue}
 use Rattle.lab_lattice.specs.Label.{Label, dominates}
-use Rattle.lab_lattice.proofs.Labels.{dominates_through, dominates_bottom}
+use Rattle.lab_lattice.proofs.Labels.{dominates_through, dominates_bottom, label_cmp_total, label_cmp_exact}
 use Rattle.kern_model.specs.declared.numbers.Pid.{Pid}
 use Rattle.kern_model.specs.declared.numbers.Oid.{Oid}
 use Rattle.kern_model.specs.declared.numbers.Did.{Did}
@@ -28,7 +28,7 @@ use Rattle.kern_model.specs.Maps.{get_or}
 use Rattle.kern_model.proofs.KeyLaws.{oid_cmp_total, oid_cmp_exact, pid_cmp_total, pid_cmp_exact, did_cmp_total, did_cmp_exact, spot_cmp_total, spot_cmp_exact}
 use Rattle.kern_model.specs.Descriptors.{Opened, opened}
 use Rattle.kern_model.specs.Kinds.{is_dir}
-use Rattle.kern_model.specs.State.{State, Process, Description, Change, object_at, look, stub, stub_object, root}
+use Rattle.kern_model.specs.State.{State, Process, Description, Change, drawn, object_at, look, stub, stub_object, root}
 use Rattle.kern_model.specs.Rules.{cap_of, same_label, mode_allows, of_object, mac_read, mac_write, dac_search}
 use Rattle.kern_model.specs.Row.{Row, Need, Refuse, Subject, verdict_of, is_denied, noted, exercise_with, may}
 use Rattle.kern_model.specs.Walk.{Found, Start, Entry, walk_from, walk, reach, start_of, enter, or_missing, to_object}
@@ -147,14 +147,31 @@ pub not_false : (b : Bool) → not b ≡ false → b ≡ true
 not_false true h = refl
 not_false false h = sym h
 
+-- an object that a path may lead to: it is there, and is no pipe
+pub record IsNamed (s : State) (id : Oid) : Type 0 where
+  pub object : Object
+  pub is : map.get s.objects id ≡ Some object
+  pub no_pipe : object.kind ≡ kind.Pipe → ⊥
+
 -- what any walk found is there
-abbrev pub FoundIn : State → Found → Type 0
-FoundIn s (Start id) = IsThere s.objects id
-FoundIn s (Entry dir name object) = IsDir s.objects dir × (object ≡ look s dir name)
+abbrev pub FoundIn : State → List Name → Found → Type 0
+FoundIn s names (Start id) = IsNamed s id
+FoundIn s names (Entry dir name object) = IsDir s.objects dir × (object ≡ look s dir name) × (list_all is_name names ≡ true → is_name name ≡ true)
+
+-- what a walk of the names after the first one found
+found_after : (s : State) (name : Name) (names : List Name) (found : Found) → FoundIn s names found → FoundIn s (name ∷ names) found
+found_after s name names (Start id) f = f
+found_after s name names (Entry dir last object) f = (f.0, f.1, λ h. f.2 (and_parts (is_name name) (list_all is_name names) h).1)
 
 -- what an entry leads to is there
 pub led_there : (s : State) → IsValid s → (dir : Oid) (name : Name) (id : Oid) → look s dir name ≡ Some id → IsThere s.objects id
 led_there s valid dir name id e = let entry = valid.entries (dir, name) id e in record { value = entry.object; is = entry.object_is }
+
+led_named : (s : State) → IsValid s → (dir : Oid) (name : Name) (id : Oid) → look s dir name ≡ Some id → IsNamed s id
+led_named s valid dir name id e = let entry = valid.entries (dir, name) id e in record { object = entry.object; is = entry.object_is; no_pipe = entry.no_pipe }
+
+dir_named : (s : State) (id : Oid) → IsDir s.objects id → IsNamed s id
+dir_named s id dir = record { object = dir.object; is = dir.is; no_pipe = λ pipe. let no : kind.Dir ≡ kind.Pipe = sym dir.dir ∙ pipe in cc }
 
 -- the root is there
 pub root_there : (s : State) → IsValid s → IsThere s.objects root
@@ -166,6 +183,11 @@ start_there s valid who p path is =
     let cwd = (valid.procs who p is).cwd in
     elim path.absolute as (λ b. IsThere s.objects (cond b root p.cwd)) [ true ↦ root_there s valid | false ↦ record { value = cwd.object; is = cwd.is } ]
 
+start_named : (s : State) → IsValid s → (who : Pid) (p : Process) (path : PathValue) → map.get s.procs who ≡ Some p → IsNamed s (start_of p path)
+start_named s valid who p path is =
+    let r = valid.root_is in
+    elim path.absolute as (λ b. IsNamed s (cond b root p.cwd)) [ true ↦ dir_named s root (record { object = r.object; is = r.is; dir = r.root_dir }) | false ↦ dir_named s p.cwd (valid.procs who p is).cwd ]
+
 -- ---- any process
 module _ (bad : Rec → Bool) (s : State) (valid : IsValid s) (who : Pid) (p : Process) (P : List Change → Type 0) (none : P []) where
   abbrev Meets : Row → Type 0
@@ -174,22 +196,22 @@ module _ (bad : Rec → Bool) (s : State) (valid : IsValid s) (who : Pid) (p : P
   pub ends_enter : (dir : Oid) (place : Place) (r : Row) → (Passes bad (subject who p) (mac_read s p dir place) → IsDir s.objects dir → Meets r) → Meets (enter s p dir place r)
   ends_enter dir place r h = ends_need bad (subject who p) P none _ _ (λ read. ends_refuse bad (subject who p) P none _ _ _ (λ is. ends_need bad (subject who p) P none _ _ (λ _. h read (dir_there s dir (not_false _ is)))))
 
-  pub ends_walk_from : (place : ℕ → Place) (at : ℕ) (dir : Oid) (names : List Name) (k : Found → Row) → IsThere s.objects dir → ((found : Found) → FoundIn s found → Meets (k found)) → Meets (walk_from s p place at dir names k)
+  pub ends_walk_from : (place : ℕ → Place) (at : ℕ) (dir : Oid) (names : List Name) (k : Found → Row) → IsNamed s dir → ((found : Found) → FoundIn s names found → Meets (k found)) → Meets (walk_from s p place at dir names k)
   ends_walk_from place at dir [] k there h = h (Start dir) there
-  ends_walk_from place at dir (name ∷ []) k there h = ends_enter dir (place at) _ (λ _ is. h (Entry dir name (look s dir name)) (is, refl))
+  ends_walk_from place at dir (name ∷ []) k there h = ends_enter dir (place at) _ (λ _ is. h (Entry dir name (look s dir name)) (is, refl, λ named. (and_parts (is_name name) true named).0))
   ends_walk_from place at dir (name ∷ next ∷ names) k there h =
-      ends_enter dir (place at) _ (λ _ _. ends_missing bad (subject who p) P none (look s dir name) _ (λ id e. ends_walk_from place (at + 1) id (next ∷ names) k (led_there s valid dir name id e) h))
+      ends_enter dir (place at) _ (λ _ _. ends_missing bad (subject who p) P none (look s dir name) _ (λ id e. ends_walk_from place (at + 1) id (next ∷ names) k (led_named s valid dir name id e) (λ found f. h found (found_after s name (next ∷ names) found f))))
 
-  pub ends_walk : map.get s.procs who ≡ Some p → (place : ℕ → Place) (path : PathValue) (k : Found → Row) → ((found : Found) → FoundIn s found → Meets (k found)) → Meets (walk s p place path k)
-  ends_walk is place path k h = ends_walk_from place 0 (start_of p path) path.names k (start_there s valid who p path is) h
+  pub ends_walk : map.get s.procs who ≡ Some p → (place : ℕ → Place) (path : PathValue) (k : Found → Row) → ((found : Found) → FoundIn s path.names found → Meets (k found)) → Meets (walk s p place path k)
+  ends_walk is place path k h = ends_walk_from place 0 (start_of p path) path.names k (start_named s valid who p path is) h
 
-  ends_to_object : (k : Oid → Row) → ((id : Oid) → IsThere s.objects id → Meets (k id)) → (found : Found) → FoundIn s found → Meets (to_object found k)
-  ends_to_object k h (Start id) there = h id there
-  ends_to_object k h (Entry dir name object) f = ends_missing bad (subject who p) P none object k (λ id e. h id (led_there s valid dir name id (sym f.1 ∙ e)))
+  ends_to_object : (k : Oid → Row) → ((id : Oid) → IsNamed s id → Meets (k id)) → (names : List Name) (found : Found) → FoundIn s names found → Meets (to_object found k)
+  ends_to_object k h names (Start id) there = h id there
+  ends_to_object k h names (Entry dir name object) f = ends_missing bad (subject who p) P none object k (λ id e. h id (led_named s valid dir name id (sym f.1 ∙ e)))
 
   -- a walk to an object that is there
-  pub ends_reach : map.get s.procs who ≡ Some p → (place : ℕ → Place) (path : PathValue) (k : Oid → Row) → ((id : Oid) → IsThere s.objects id → Meets (k id)) → Meets (reach s p place path k)
-  ends_reach is place path k h = ends_walk is place path _ (ends_to_object k h)
+  pub ends_reach : map.get s.procs who ≡ Some p → (place : ℕ → Place) (path : PathValue) (k : Oid → Row) → ((id : Oid) → IsNamed s id → Meets (k id)) → Meets (reach s p place path k)
+  ends_reach is place path k h = ends_walk is place path _ (ends_to_object k h path.names)
 
 -- ---- a Low process and the part
 same_map : {X : Type 0} (w : Option X) → option_map (same {X = X}) w ≡ w
@@ -200,6 +222,11 @@ module _ (l : Label) (s : State) where
   get_low : (id : Oid) → low l id.label ≡ true → map.get (by_number l s).objects id ≡ map.get s.objects id
   unfolding by_number
   get_low id h = get-select_kept oid_cmp_total oid_cmp_exact (low_oid l) same s.objects id h ∙ same_map _
+
+  -- at a Low label the part has the same last number
+  pub drawn_low : (label : Label) → low l label ≡ true → drawn (by_number l s).object_numbers label ≡ drawn s.object_numbers label
+  unfolding by_number
+  drawn_low label h = get_or-same _ _ label 0 (get-select_kept label_cmp_total label_cmp_exact (low l) same s.object_numbers label h ∙ same_map _)
 
   -- a Low number's process is the same in the part
   pub get_process : (q : Pid) → low l q.label ≡ true → map.get (by_number l s).procs q ≡ map.get s.procs q

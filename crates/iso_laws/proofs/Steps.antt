@@ -56,7 +56,7 @@ module _ (l : Label) (s : State) (who : Pid) (c : Call) (laws : has_laws c ≡ t
 pub kept_step : KeptStep
 kept_step l s who c laws valid kept = by_process s who c (λ o. crossing l o.recs ≡ false → Kept l o.state)
     (λ _ _. kept)
-    (λ p is h. met l s who c laws (λ cs. Kept l (changed_by s cs)) valid p is (kept_cases l s kept who p _ is) h)
+    (λ p is h. met l s who c laws (λ cs. Kept l (changed_by s cs)) valid p is (kept_cases l s kept valid who p _ is) h)
 
 pub other_step : OtherStep
 other_step l s who c laws valid kept high = by_process s who c (λ o. (crossing l o.recs ≡ false → Kept l o.state) → crossing l o.recs ≡ false → part l o.state ≡ part l s)

@@ -7,6 +7,9 @@ use Rattle.kern_model.specs.declared.world.ScriptItem.{ScriptItem}
 
 -- whether they are proved for a call: one that reports or sets what its caller is, that reports what an object is or what a directory contains, or that takes an entry away
 abbrev pub has_laws : Call → Bool
+has_laws (call.Mkfifo path mode) = true
+has_laws (call.Mkdir path mode) = true
+has_laws (call.Link path to) = true
 has_laws (call.Rmdir path) = true
 has_laws (call.Unlink path) = true
 has_laws (call.Readdir path) = true

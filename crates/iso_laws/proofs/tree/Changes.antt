@@ -1,16 +1,18 @@
 -- A valid state stays valid where its objects and entries change.
-use Rattle.std.specs.Prelude.{◌≡◌, ◌⊎◌, ℕ, ◌+◌, ◌≤◌, Bool, true, false, not, ◌&&◌, List, [], ◌∷◌, ◌++◌, Option, Some, None, refl, cond}
+use Rattle.std.specs.Prelude.{◌≡◌, ◌⊎◌, ℕ, ◌+◌, ◌≤◌, Bool, true, false, not, ◌&&◌, List, [], ◌∷◌, ◌++◌, Option, Some, None, refl, cond, length}
 use Rattle.std.specs.List.{AllByRecursion}
 use Rattle.std.specs.Option.{option_and_then}
 use Rattle.std.specs.Ordering.{eq_by_cmp, is_eq}
 use Rattle.std.specs.FinMap as map
 use Rattle.std.specs.FinMap.{FinMap, get-remove}
 use Rattle.std.proofs.Common.{sym, ◌∙◌, ap, subst, arith, inl, inr}
-use Rattle.std.proofs.lemmas.Bool.{and_parts, and_from}
+use Rattle.std.proofs.lemmas.Bool.{and_parts, and_from, ltb-true}
 use Rattle.std.proofs.lemmas.Cmp.{tied_itself}
-use Rattle.fs_path.specs.Name.{Name}
-use Rattle.lab_lattice.specs.Label.{Label, label_cmp}
-use Rattle.kern_model.specs.declared.limits.TheConstants.{MAX_LINKS, MAX_OBJECTS}
+use Rattle.cap_bits.specs.State.{no_flags}
+use Rattle.fs_path.specs.Name.{Name, is_name}
+use Rattle.lab_lattice.specs.Label.{Label, dominates, label_cmp}
+use Rattle.lab_lattice.proofs.Labels.{label_cmp_total, label_cmp_exact}
+use Rattle.kern_model.specs.declared.limits.TheConstants.{MAX_FILE_BYTES, MAX_LINKS, MAX_OBJECTS, MAX_PIPE_BYTES}
 use Rattle.kern_model.specs.declared.calls.Ending.{Ending}
 use Rattle.kern_model.specs.declared.numbers.Pid.{Pid}
 use Rattle.kern_model.specs.declared.numbers.Oid.{Oid}
@@ -18,17 +20,20 @@ use Rattle.kern_model.specs.declared.numbers.Did.{Did}
 use Rattle.kern_model.specs.declared.objects.Kind.{Kind}
 use Rattle.kern_model.specs.declared.objects.Kind.TheVariants as kind
 use Rattle.kern_model.specs.declared.objects.Object.{Object}
+use Rattle.kern_model.specs.Create.{made, has_object_number}
 use Rattle.kern_model.specs.Entries.{is_empty, is_held, is_removed, link_count}
 use Rattle.kern_model.specs.Keys.{Spot, oid_cmp, spot_cmp, same_oid}
-use Rattle.kern_model.specs.Kinds.{is_dir}
+use Rattle.kern_model.specs.Kinds.{is_dir, is_mode}
 use Rattle.kern_model.specs.Maps.{any_entry}
-use Rattle.kern_model.specs.State.{State, Process, Description, DropEntry, changed, drawn, look, object_at, stub_object, root}
+use Rattle.kern_model.specs.State.{State, Process, Description, DropEntry, SetEntry, changed, changed_by, drawn, next_object, look, object_at, stub_object, root}
 use Rattle.kern_model.specs.Valid.{IsValid, IsThere, IsDir, IsDrawn, AreFew, IsReached, IsHeld, IsRoot, IsValidObject, IsValidEntry, IsValidEnd, IsValidProcess, IsValidDescription, leads}
 use Rattle.kern_model.proofs.KeyLaws.{oid_cmp_total, oid_cmp_exact, spot_cmp_total, spot_cmp_exact}
-use Rattle.kern_model.proofs.MapLemmas.{same_key, some_same, never_some, each-remove, get_or-found}
-use Rattle.iso_laws.proofs.Leading.{leads_step}
+use Rattle.kern_model.proofs.MapLemmas.{same_key, some_same, never_some, each-remove, each-insert, get-insert_same, get-insert_kept, get_or-found}
+use Rattle.kern_model.proofs.TableLemmas.{each_set_at}
+use Rattle.iso_laws.proofs.Leading.{leads_step, leads_kept, leads_on}
 use Rattle.iso_laws.proofs.Sight.{not_true}
-use Rattle.iso_laws.proofs.Selections.{none_passes, none_pass, count_remove}
+use Rattle.iso_laws.proofs.Selections.{none_passes, none_pass, count_none, count_remove, count_insert, count_insert_other}
+use Rattle.iso_laws.proofs.ValidLemmas.{still_drawn, next_drawn, still_below}
 
 pub not_true_false : (b : Bool) → not b ≡ true → b ≡ false
 not_true_false true h = sym h
@@ -219,3 +224,203 @@ module _ (s : State) (valid : IsValid s) (spot : Spot) (id : Oid) (is : map.get 
       (λ at q e. tree_entry s s.objects left s.object_numbers (λ x o g. g) at q (valid.entries at q (was at q e)))
       (λ a b q o e g. valid.one_entry a b q o (was a q e) (was b q g))
       valid.object_numbers
+
+-- ---- an entry where none was, in a directory that is not removed
+distinct : (a b : Oid) → (a ≡ b → ⊥) → same_oid a b ≡ false
+distinct a b other = not_true _ (λ t. other (same_key oid_cmp_exact a b t))
+
+module _ (s : State) (valid : IsValid s) (objects : FinMap oid_cmp Object) (object_numbers : FinMap label_cmp ℕ) (dir : Oid) (name : Name) (to : Oid) (dir_is : IsDir s.objects dir) (free : look s dir name ≡ None) (standing : is_removed s dir ≡ false) where
+  abbrev added : FinMap spot_cmp Oid
+  added = map.insert s.entries (dir, name) to
+
+  abbrev more_state : State
+  more_state = with_tree s objects added object_numbers
+
+  kept_entry : (at : Spot) (q : Oid) → map.get s.entries at ≡ Some q → map.get added at ≡ Some q
+  kept_entry = get-insert_kept spot_cmp_total spot_cmp_exact s.entries (dir, name) to free
+
+  -- an entry that leads elsewhere was there
+  old_entry : (at : Spot) (q : Oid) → map.get added at ≡ Some q → (q ≡ to → ⊥) → map.get s.entries at ≡ Some q
+  old_entry = each-insert spot_cmp_total spot_cmp_exact (λ (at : Spot) (q : Oid). (q ≡ to → ⊥) → map.get s.entries at ≡ Some q) s.entries (λ at q e _. e) (dir, name) to (λ other. absurd (other refl))
+
+  none_more : (p : Spot → Oid → Bool) → any_entry p s.entries ≡ false → p (dir, name) to ≡ false → any_entry p added ≡ false
+  none_more p none unmet = none_pass spot_cmp_total spot_cmp_exact p added
+      (each-insert spot_cmp_total spot_cmp_exact (λ (at : Spot) (q : Oid). p at q ≡ false) s.entries (none_passes spot_cmp_total spot_cmp_exact p s.entries none) (dir, name) to unmet)
+
+  dir_reached : IsReached s dir
+  dir_reached = elim ((valid.objects dir dir_is.object dir_is.is).reached dir_is.dir) as (λ w. IsReached s dir) [
+    | inl r ↦ r
+    | inr gone ↦ let no : true ≡ false = sym gone.0 ∙ standing in absurd (cc)
+  ]
+
+  leads_more : (names : List Name) (q : Oid) → leads s root names ≡ Some q → leads more_state root names ≡ Some q
+  leads_more = leads_kept s more_state kept_entry root
+
+  reached_now : IsReached more_state to
+  reached_now = record {
+    names = dir_reached.names ++ name ∷ [];
+    lead = leads_on more_state root dir_reached.names dir name to (leads_more dir_reached.names dir dir_reached.lead) (get-insert_same spot_cmp_total s.entries (dir, name) to);
+  }
+
+  reached_still : (q : Oid) (o : Object) → map.get s.objects q ≡ Some o → o.kind ≡ kind.Dir → (to ≡ q → ⊥) → IsReached more_state q ⊎ ((is_removed more_state q ≡ true) × (is_empty more_state q ≡ true))
+  reached_still q o o_is q_dir other = elim ((valid.objects q o o_is).reached q_dir) as (λ w. IsReached more_state q ⊎ ((is_removed more_state q ≡ true) × (is_empty more_state q ≡ true))) [
+    | inl r ↦ inl (record { names = r.names; lead = leads_more r.names q r.lead })
+    | inr gone ↦
+        let parts = and_parts (not (same_oid q root)) (not (is_held s q)) gone.0 in
+        inr (
+          and_from _ _ parts.0 (ap not (none_more (λ (at : Spot) (x : Oid). same_oid x q) (not_true_false _ parts.1) (distinct to q other))),
+          ap not (none_more (λ (at : Spot) (x : Oid). same_oid at.0 q) (not_true_false _ gone.1) (distinct dir q (λ same.
+              let no : true ≡ false = sym gone.0 ∙ ap (is_removed s) (sym same) ∙ standing in
+              cc))),
+        )
+  ]
+
+  names_still : (q : Oid) → (to ≡ q → ⊥) → link_count more_state q ≤ link_count s q
+  names_still q other = count_insert_other spot_cmp_total spot_cmp_exact (λ (at : Spot) (x : Oid). same_oid x q) (dir, name) s.entries to free (distinct to q other)
+
+  names_more : link_count more_state to ≤ link_count s to + 1
+  names_more = count_insert spot_cmp_total spot_cmp_exact (λ (at : Spot) (x : Oid). same_oid x to) (dir, name) s.entries to free
+
+-- ---- a further name
+no_dir_is : (o : Object) → is_dir o.kind ≡ false → o.kind ≡ kind.Dir → ⊥
+no_dir_is o no_dir dir = let no : true ≡ false = ap is_dir (sym dir) ∙ no_dir in cc
+
+module _ (s : State) (valid : IsValid s) (dir : Oid) (name : Name) (id : Oid) (dir_is : IsDir s.objects dir) (free : look s dir name ≡ None) (standing : is_removed s dir ≡ false) (o : Object) (is : map.get s.objects id ≡ Some o) (no_dir : is_dir o.kind ≡ false) where
+  abbrev linked : State
+  linked = more_state s valid s.objects s.object_numbers dir name id dir_is free standing
+
+  linked_object : link_count s id + 1 ≤ MAX_LINKS → (q : Oid) (x : Object) → map.get s.objects q ≡ Some x → IsValidObject linked q x
+  linked_object few q x e =
+      let old : IsValidObject s q x = valid.objects q x e in
+      elim (eq_by_cmp oid_cmp q id) as (λ b. eq_by_cmp oid_cmp q id ≡ b → IsValidObject linked q x) [
+        | true ↦ λ t.
+            let same : q ≡ id = same_key oid_cmp_exact q id t in
+            let is_o : x ≡ o = some_same x o (sym e ∙ ap (map.get s.objects) same ∙ is) in
+            let more : link_count linked id ≤ MAX_LINKS = omega (arith, few, names_more s valid s.objects s.object_numbers dir name id dir_is free standing) in
+            tree_object s s.objects (added s valid s.objects s.object_numbers dir name id dir_is free standing) s.object_numbers q x old old.drawn_already (λ _. subst (λ (z : Oid). link_count linked z ≤ MAX_LINKS) (sym same) more)
+            (λ q_dir. absurd (no_dir_is o no_dir (ap (λ (z : Object). z.kind) (sym is_o) ∙ q_dir)))
+        | false ↦ λ t.
+            let other : id ≡ q → ⊥ = λ same. let no : true ≡ false = ap is_eq (sym (tied_itself oid_cmp_total q)) ∙ ap (λ (z : Oid). eq_by_cmp oid_cmp q z) (sym same) ∙ t in cc in
+            let fewer = names_still s valid s.objects s.object_numbers dir name id dir_is free standing q other in
+            tree_object s s.objects (added s valid s.objects s.object_numbers dir name id dir_is free standing) s.object_numbers q x old old.drawn_already (λ nd. omega (arith, fewer, old.few_names nd))
+            (λ q_dir. reached_still s valid s.objects s.object_numbers dir name id dir_is free standing q x e q_dir other)
+      ] refl
+
+  pub valid_link : (o.kind ≡ kind.Pipe → ⊥) → link_count s id + 1 ≤ MAX_LINKS → dominates o.label dir_is.object.label ≡ true → is_name name ≡ true → IsValid (changed s (SetEntry (dir, name) id))
+  valid_link no_pipe few order named =
+      let entries = added s valid s.objects s.object_numbers dir name id dir_is free standing in
+      valid_tree s s.objects entries s.object_numbers (λ q x e. e) valid (linked_object few)
+      (each-insert spot_cmp_total spot_cmp_exact (IsValidEntry linked) s.entries (λ at q e. tree_entry s s.objects entries s.object_numbers (λ x y g. g) at q (valid.entries at q e)) (dir, name) id (record {
+        name = named;
+        dir = dir_is.object;
+        dir_is = dir_is.is;
+        is_dir = dir_is.dir;
+        object = o;
+        object_is = is;
+        no_root = λ same. no_dir_is o no_dir (ap (λ (x : Object). x.kind) (some_same o valid.root_is.object (sym is ∙ ap (map.get s.objects) same ∙ valid.root_is.is)) ∙ valid.root_is.root_dir);
+        no_pipe = no_pipe;
+        order = order;
+      }))
+      (λ a b q x e g q_is q_dir.
+      let other : q ≡ id → ⊥ = λ same. no_dir_is o no_dir (ap (λ (z : Object). z.kind) (some_same o x (sym is ∙ ap (map.get s.objects) (sym same) ∙ q_is)) ∙ q_dir) in
+      valid.one_entry a b q x (old_entry s valid s.objects s.object_numbers dir name id dir_is free standing a q e other) (old_entry s valid s.objects s.object_numbers dir name id dir_is free standing b q g other) q_is q_dir)
+      valid.object_numbers
+
+-- ---- an object that is made
+-- an object as its maker may have it
+pub record IsFresh (p : Process) (o : Object) : Type 0 where
+  pub label : o.label ≡ p.label
+  pub mode : is_mode o.attr.mode ≡ true
+  pub caps : o.attr.caps ≡ no_flags
+  pub bytes : o.bytes ≡ []
+  pub no_pipe : o.kind ≡ kind.Pipe → ⊥
+
+-- the next number has nothing
+pub next_absent : (s : State) → IsValid s → (l : Label) → map.get s.objects (next_object s l) ≡ None
+next_absent s valid l =
+    elim (map.get s.objects (next_object s l)) as (λ w. map.get s.objects (next_object s l) ≡ w → w ≡ None) [
+      | None ↦ λ _. refl
+      | Some x ↦ λ e. absurd (omega (arith, (valid.objects (next_object s l) x e).drawn_already.1))
+    ] refl
+
+module _ (s : State) (valid : IsValid s) (p : Process) (dir : Oid) (name : Name) (o : Object) (fresh : IsFresh p o) (dir_is : IsDir s.objects dir) (free : look s dir name ≡ None) (standing : is_removed s dir ≡ false) where
+  abbrev new : Oid
+  new = next_object s p.label
+
+  abbrev more_objects : FinMap oid_cmp Object
+  more_objects = map.insert s.objects new o
+
+  abbrev more_numbers : FinMap label_cmp ℕ
+  more_numbers = map.insert s.object_numbers p.label (drawn s.object_numbers p.label + 1)
+
+  abbrev entries_now : FinMap spot_cmp Oid
+  entries_now = added s valid more_objects more_numbers dir name new dir_is free standing
+
+  abbrev made_state : State
+  made_state = more_state s valid more_objects more_numbers dir name new dir_is free standing
+
+  still : (q : Oid) (x : Object) → map.get s.objects q ≡ Some x → map.get more_objects q ≡ Some x
+  still = get-insert_kept oid_cmp_total oid_cmp_exact s.objects new o (next_absent s valid p.label)
+
+  is_other : (q : Oid) (x : Object) → map.get s.objects q ≡ Some x → new ≡ q → ⊥
+  is_other q x e same = never_some (map.get s.objects new) x (next_absent s valid p.label) (ap (map.get s.objects) same ∙ e)
+
+  no_names : link_count s new ≡ 0
+  no_names = count_none spot_cmp_total spot_cmp_exact (λ (at : Spot) (x : Oid). same_oid x new) s.entries (λ at q e. let entry = valid.entries at q e in distinct q new (λ same. is_other q entry.object entry.object_is (sym same)))
+
+  made_object : dominates s.top p.label ≡ true → (q : Oid) (x : Object) → map.get more_objects q ≡ Some x → IsValidObject made_state q x
+  made_object below = each-insert oid_cmp_total oid_cmp_exact (IsValidObject made_state) s.objects
+      (λ q x e.
+      let old : IsValidObject s q x = valid.objects q x e in
+      let fewer = names_still s valid more_objects more_numbers dir name new dir_is free standing q (is_other q x e) in
+      tree_object s more_objects entries_now more_numbers q x old (still_drawn s.object_numbers p.label q.label q.n old.drawn_already) (λ nd. omega (arith, fewer, old.few_names nd))
+      (λ q_dir. reached_still s valid more_objects more_numbers dir name new dir_is free standing q x e q_dir (is_other q x e)))
+      new o (record {
+        below = ap (dominates s.top) fresh.label ∙ below;
+        drawn_already = next_drawn s.object_numbers p.label;
+        mode = fresh.mode;
+        only_files = λ _. fresh.caps;
+        dir_bytes = λ _. fresh.bytes;
+        file_bytes = λ _. subst (λ (xs : List ℕ). length xs ≤ MAX_FILE_BYTES) (sym fresh.bytes) (omega arith);
+        stream_bytes = λ _. subst (λ (xs : List ℕ). length xs ≤ MAX_PIPE_BYTES) (sym fresh.bytes) (omega arith);
+        fifo_bytes = λ _ _. fresh.bytes;
+        few_names = λ _. omega (arith, no_names, names_more s valid more_objects more_numbers dir name new dir_is free standing);
+        reached = λ _. inl (reached_now s valid more_objects more_numbers dir name new dir_is free standing);
+      })
+
+  made_entry : dominates p.label dir_is.object.label ≡ true → is_name name ≡ true → (at : Spot) (q : Oid) → map.get entries_now at ≡ Some q → IsValidEntry made_state at q
+  made_entry order named = each-insert spot_cmp_total spot_cmp_exact (IsValidEntry made_state) s.entries (λ at q e. tree_entry s more_objects entries_now more_numbers still at q (valid.entries at q e)) (dir, name) new (record {
+    name = named;
+    dir = dir_is.object;
+    dir_is = still dir dir_is.object dir_is.is;
+    is_dir = dir_is.dir;
+    object = o;
+    object_is = get-insert_same oid_cmp_total s.objects new o;
+    no_root = is_other root valid.root_is.object valid.root_is.is;
+    no_pipe = fresh.no_pipe;
+    order = ap (λ (l : Label). dominates l dir_is.object.label) fresh.label ∙ order;
+  })
+
+  -- what an entry leads to, where something was there before
+  one_made : (a b : Spot) (q : Oid) (x : Object) → map.get entries_now a ≡ Some q → map.get entries_now b ≡ Some q → map.get more_objects q ≡ Some x → x.kind ≡ kind.Dir → a ≡ b
+  one_made a b q x e g q_is q_dir =
+      let at_new : (at : Spot) (z : Oid) → map.get entries_now at ≡ Some z → z ≡ new → at ≡ (dir, name) =
+      each-insert spot_cmp_total spot_cmp_exact (λ (at : Spot) (z : Oid). z ≡ new → at ≡ (dir, name)) s.entries
+      (λ at z h same. let entry = valid.entries at z h in absurd (is_other z entry.object entry.object_is (sym same))) (dir, name) new (λ _. refl) in
+      let was_there : (z : Oid) (y : Object) → map.get more_objects z ≡ Some y → (z ≡ new → ⊥) → map.get s.objects z ≡ Some y =
+      each-insert oid_cmp_total oid_cmp_exact (λ (z : Oid) (y : Object). (z ≡ new → ⊥) → map.get s.objects z ≡ Some y) s.objects (λ z y h _. h) new o (λ other. absurd (other refl)) in
+      elim (eq_by_cmp oid_cmp q new) as (λ v. eq_by_cmp oid_cmp q new ≡ v → a ≡ b) [
+        | true ↦ λ t. let same = same_key oid_cmp_exact q new t in at_new a q e same ∙ sym (at_new b q g same)
+        | false ↦ λ t.
+            let other : q ≡ new → ⊥ = λ same. let no : true ≡ false = ap is_eq (sym (tied_itself oid_cmp_total q)) ∙ ap (λ (z : Oid). eq_by_cmp oid_cmp q z) same ∙ t in cc in
+            valid.one_entry a b q x (old_entry s valid more_objects more_numbers dir name new dir_is free standing a q e other) (old_entry s valid more_objects more_numbers dir name new dir_is free standing b q g other) (was_there q x q_is other) q_dir
+      ] refl
+
+  few_numbers : dominates s.top p.label ≡ true → has_object_number s p ≡ true → AreFew s.top more_numbers MAX_OBJECTS
+  few_numbers below left = record {
+    below = still_below s.object_numbers p.label s.top below valid.object_numbers.below;
+    few = each_set_at label_cmp_total label_cmp_exact (λ (l : Label) (n : ℕ). n ≤ MAX_OBJECTS) 0 s.object_numbers p.label (drawn s.object_numbers p.label + 1) (omega (arith, ltb-true (drawn s.object_numbers p.label) MAX_OBJECTS left)) valid.object_numbers.few;
+  }
+
+  pub valid_made : dominates s.top p.label ≡ true → has_object_number s p ≡ true → dominates p.label dir_is.object.label ≡ true → is_name name ≡ true → IsValid (changed_by s (made s p dir name o))
+  valid_made below left order named = valid_tree s more_objects entries_now more_numbers still valid (made_object below) (made_entry order named) one_made (few_numbers below left)

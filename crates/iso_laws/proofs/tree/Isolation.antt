@@ -1,40 +1,67 @@
 -- The calls on entries: a Low process in the state and in its part, and what the changes meet.
-use Rattle.std.specs.Prelude.{◌≡◌, Bool, true, false, not, List, [], ◌∷◌, Option, None, Some, refl}
-use Rattle.std.proofs.Common.{sym, ◌∙◌, ap, subst}
+use Rattle.std.specs.Prelude.{◌≡◌, ℕ, ◌+◌, ◌/◌, ◌%◌, ◌==◌, ◌<◌, ◌≤◌, ◌&&◌, nat_le, nat_lt, Bool, true, false, not, List, [], ◌∷◌, Option, None, Some, refl}
+use Rattle.std.proofs.Common.{sym, ◌∙◌, ap, subst, arith}
+use Rattle.std.proofs.lemmas.Bool.{and_parts, and_from, leb-false}
+use Rattle.std.proofs.lemmas.Bool.Decides.{nat_tests}
+use Rattle.std.proofs.lemmas.Nat.{and_le_l, and_le_r}
+use Rattle.std.specs.Int.{bit_not, w16}
+use Rattle.std.specs.List.{list_all}
 use Rattle.std.specs.FinMap as map
-use Rattle.fs_path.specs.Name.{Name}
+use Rattle.fs_path.specs.Name.{Name, is_name}
 use Rattle.fs_path.specs.Path.{PathValue}
-use Rattle.lab_lattice.specs.Label.{Label}
+use Rattle.lab_lattice.specs.Label.{Label, dominates}
 use Rattle.kern_model.specs.declared.calls.Answer.TheVariants as answer
 use Rattle.kern_model.specs.declared.calls.Errno.TheVariants as errno
 use Rattle.kern_model.specs.declared.calls.Answer.{Answer}
 use Rattle.kern_model.specs.declared.checks.Check.{Check}
 use Rattle.kern_model.specs.declared.checks.CheckName.TheVariants as check
 use Rattle.kern_model.specs.declared.checks.Place.{Place}
-use Rattle.kern_model.specs.declared.checks.Place.TheVariants.{First}
+use Rattle.kern_model.specs.declared.checks.Place.TheVariants.{First, Second}
 use Rattle.kern_model.specs.declared.checks.Want.TheVariants as want
 use Rattle.kern_model.specs.declared.numbers.Oid.{Oid}
 use Rattle.kern_model.specs.declared.numbers.Pid.{Pid}
+use Rattle.kern_model.specs.declared.limits.TheConstants.{MAX_LINKS, MAX_OBJECTS}
+use Rattle.kern_model.specs.declared.objects.Body.{Body}
+use Rattle.kern_model.specs.declared.objects.Body.TheVariants as body
+use Rattle.kern_model.specs.declared.objects.Kind.TheVariants as kind
 use Rattle.kern_model.specs.declared.objects.Object.{Object}
+use Rattle.kern_model.specs.Arguments.{are_names}
+use Rattle.kern_model.specs.Create.{made, make_in, enter_in, attr_of, has_object_number}
 use Rattle.kern_model.specs.declared.records.Rec.{Rec}
-use Rattle.kern_model.specs.Entries.{names_in, is_empty}
+use Rattle.kern_model.specs.Entries.{names_in, is_empty, is_removed, link_count}
 use Rattle.kern_model.specs.Isolation.{low, crosses, Kept}
-use Rattle.kern_model.specs.Kinds.{is_dir}
+use Rattle.kern_model.specs.Kinds.{is_dir, is_mode, permissions, masked, kind_of, bytes_of, object_with}
 use Rattle.kern_model.specs.Row.{Row, Need, Refuse, Commit}
-use Rattle.kern_model.specs.Rules.{of_object, mode_allows, same_label, mac_write, dac_read, unlink_dir}
+use Rattle.kern_model.specs.Rules.{of_object, mode_allows, same_label, cap_of, mac_write, dac_read, created_order, held_order, link_dir, unlink_dir}
 use Rattle.kern_model.specs.Stat.{stat_of}
-use Rattle.kern_model.specs.State.{State, Process, Change, DropEntry, object_at, look}
+use Rattle.kern_model.specs.State.{State, Process, Change, DrawObject, SetObject, SetEntry, DropEntry, drawn, next_object, object_at, stub_object, look}
 use Rattle.kern_model.specs.Step.{subject}
-use Rattle.kern_model.specs.TreeRows.{chdir_row, stand_in, readdir_row, stat_row, rmdir_row, unlink_row, leave_from}
+use Rattle.kern_model.specs.TreeRows.{chdir_row, stand_in, readdir_row, stat_row, rmdir_row, unlink_row, leave_from, make_row, mkdir_row, mkfifo_row, link_row}
+use Rattle.kern_model.proofs.MapLemmas.{get_or-found}
 use Rattle.kern_model.specs.Valid.{IsValid, IsThere, IsDir}
-use Rattle.kern_model.specs.Walk.{Found, Start, Entry, to_entry_of_object, last_place, dir_place}
+use Rattle.kern_model.specs.Walk.{Found, Start, Entry, walk, to_entry_of_object, to_new_name, last_place, dir_place}
 use Rattle.iso_laws.proofs.Cases.{Cases, Meets, meets_given, meets_path, meets_read}
 use Rattle.iso_laws.proofs.LowRows.{Same, seen_self, low_itself}
-use Rattle.iso_laws.proofs.Part.{by_number, shown, part_of_low}
+use Rattle.iso_laws.proofs.Part.{by_number, shown, part_changes, part_of_low}
 use Rattle.iso_laws.proofs.Rows.{Passes, alike_same, alike_refuse, alike_give, alike_fail, alike_missing, ends_fail, ends_give, ends_need, ends_refuse, ends_missing}
-use Rattle.iso_laws.proofs.Sight.{alike_reach, alike_walk, alike_enter, alike_mac_read, alike_mac_write, ends_enter, ends_walk, object_low, led_there, part_found, Seen, FoundIn, met_rule, not_false}
+use Rattle.iso_laws.proofs.Sight.{alike_reach, alike_walk, alike_enter, alike_mac_read, alike_mac_write, ends_enter, ends_walk, ends_reach, object_low, drawn_low, shown_low, led_there, part_found, Seen, FoundIn, met_rule, not_false}
 use Rattle.iso_laws.proofs.tree.Changes.{no_entries, not_true_false}
-use Rattle.iso_laws.proofs.tree.Entries.{names_low, empty_low, stat_of_low}
+use Rattle.iso_laws.proofs.tree.Entries.{names_low, empty_low, link_count_low, removed_low, stat_of_low}
+
+-- permission bits are a mode
+masked_is_mode : (mode umask : ℕ) → is_mode (masked mode umask) ≡ true
+masked_is_mode mode umask =
+    let m : ℕ = masked mode umask in
+    let small : m < 512 = omega (arith, and_le_l (permissions mode) (bit_not w16 umask), and_le_r mode 511) in
+    let none : m / 512 ≡ 0 = omega (arith, small) in
+    and_from (nat_lt m 4096) ((m / 512) % 2 == 0) (below m small) (ap (λ n. n % 2 == 0) none)
+  where
+    below : (m : ℕ) → m < 512 → nat_lt m 4096 ≡ true
+    below m h = grind (arith, nat_tests)
+
+-- one more than what is not too many
+below_limit : (n : ℕ) → nat_le MAX_LINKS n ≡ false → n + 1 ≤ MAX_LINKS
+below_limit n h = omega (arith, leb-false MAX_LINKS n h)
 
 module _ (l : Label) (s : State) (kept : Kept l s) (valid : IsValid s) (who : Pid) (p : Process) (is : map.get s.procs who ≡ Some p) (is_low : low l p.label ≡ true) where
   abbrev part_s : State
@@ -108,6 +135,76 @@ module _ (l : Label) (s : State) (kept : Kept l s) (valid : IsValid s) (who : Pi
       (λ dir name id h _ e. low_leave path dir id h (led_there s valid dir name id e) (unlinking s path dir name id) (unlinking part_s path dir name)
       (λ low_id. low_check id low_id (λ o. of_object check.UnlinkDir (not (is_dir o.kind)) None id o (last_place (λ n. First n) path)) _ _ (λ _. seen_drop dir name h))))
 
+  -- the row goes on from a name that nothing has, in a Low directory
+  low_new_name : (k k' : Oid → Name → Row) → ((dir : Oid) (name : Name) → low l dir.label ≡ true → IsDir s.objects dir → Same l s who p (k dir name) (k' dir name))
+      → (found : Found) → Seen l s kept valid who p is_low found → Same l s who p (to_new_name found k) (to_new_name (part_found l s kept valid who p is_low found) k')
+  low_new_name k k' h (Start id) seen = alike_fail (crosses l) l s.top (subject who p) errno.EEXIST
+  low_new_name k k' h (Entry dir name None) seen = h dir name seen.0 seen.1
+  low_new_name k k' h (Entry dir name (Some id)) seen = alike_fail (crosses l) l s.top (subject who p) errno.EEXIST
+
+  -- a Low directory that gets an entry, where the order of labels is asked alike
+  low_enter_in : (dir : Oid) → low l dir.label ≡ true → IsDir s.objects dir → (place : Place) (c c' : Check) → c' ≡ c → (r r' : Row) → Same l s who p r r' → Same l s who p (enter_in s p dir place c r) (enter_in part_s p dir place c' r')
+  low_enter_in dir h is_dir place c c' e r r' rest =
+      low_check dir h (λ o. of_object check.MacWrite (same_label p.label o.label) None dir o place) _ _
+      (λ _. low_check dir h (λ o. of_object check.DacWrite (mode_allows o.attr p.ids want.Write) None dir o place) _ _
+      (λ _. alike_same (crosses l) l s.top (subject who p) c c' _ _ e
+      (λ _. alike_refuse (crosses l) l s.top (subject who p) errno.ENOENT _ _ _ _ (removed_low l s kept valid dir (record { value = is_dir.object; is = is_dir.is }) h) (λ _. rest))))
+
+  -- an object with the next number n of the caller's label
+  abbrev made_at : Oid → Name → Object → ℕ → List Change
+  made_at dir name o n = DrawObject p.label (n + 1) ∷ SetObject (record { label = p.label; n = n + 1 }) o ∷ SetEntry (dir, name) (record { label = p.label; n = n + 1 }) ∷ []
+
+  seen_made : (dir : Oid) (name : Name) (o : Object) → low l dir.label ≡ true → made part_s p dir name o ≡ part_changes l s.top (made s p dir name o)
+  seen_made dir name o h =
+      let n : ℕ = drawn s.object_numbers p.label in
+      ap (made_at dir name o) (drawn_low l s p.label is_low)
+      ∙ ap (λ (q : Oid). DrawObject p.label (n + 1) ∷ SetObject (next_object s p.label) o ∷ SetEntry (dir, name) q ∷ []) (sym (shown_low l s (next_object s p.label) is_low))
+      ∙ sym (part_of_low l s.top (made s p dir name o) (is_low, (is_low, (h, tt))))
+
+  same_room : has_object_number part_s p ≡ has_object_number s p
+  same_room = ap (λ n. nat_lt n MAX_OBJECTS) (drawn_low l s p.label is_low)
+
+  make_low : (path : PathValue) (mode : ℕ) (b : Body) → Same l s who p (make_row s who p path mode b) (make_row part_s who p path mode b)
+  make_low path mode b =
+      let o : Object = object_with p.label (attr_of p (masked mode p.umask)) b in
+      let place : Place = dir_place (λ n. First n) path in
+      alike_walk l s kept valid who p is_low is (λ n. First n) path _ _
+      (low_new_name (λ dir name. make_in s p dir place (Refuse errno.ENOSPC (not (has_object_number s p)) (Commit (made s p dir name o) answer.Nothing None)))
+      (λ dir name. make_in part_s p dir place (Refuse errno.ENOSPC (not (has_object_number part_s p)) (Commit (made part_s p dir name o) answer.Nothing None)))
+      (λ dir name h is_dir. low_enter_in dir h is_dir place (created_order s p dir place) (created_order part_s p dir place) (ap (λ (d : Object). of_object check.LabelOrder (dominates p.label d.label) None dir d place) (object_low l s dir h)) _ _
+      (alike_refuse (crosses l) l s.top (subject who p) errno.ENOSPC _ _ _ _ (ap not same_room)
+      (λ _. alike_give (crosses l) l s.top (subject who p) _ _ answer.Nothing None (seen_made dir name o h)))))
+
+  pub mkdir_low : (path : PathValue) (mode : ℕ) → Same l s who p (mkdir_row s who p path mode) (mkdir_row part_s who p path mode)
+  mkdir_low path mode = make_low path mode body.Dir
+
+  pub mkfifo_low : (path : PathValue) (mode : ℕ) → Same l s who p (mkfifo_row s who p path mode) (mkfifo_row part_s who p path mode)
+  mkfifo_low path mode = make_low path mode body.Fifo
+
+  -- the part sees a further name of a Low object
+  seen_entry : (dir : Oid) (name : Name) (id : Oid) → low l dir.label ≡ true → low l id.label ≡ true → SetEntry (dir, name) id ∷ [] ≡ part_changes l s.top (SetEntry (dir, name) id ∷ [])
+  seen_entry dir name id h low_id = ap (λ (q : Oid). SetEntry (dir, name) q ∷ []) (sym (shown_low l s id low_id)) ∙ sym (part_of_low l s.top (SetEntry (dir, name) id ∷ []) (h, tt))
+
+  abbrev naming : State → PathValue → Oid → Oid → Name → Row
+  naming t to id dir name = enter_in t p dir (dir_place (λ n. Second n) to) (held_order t id dir (dir_place (λ n. Second n) to)) (Commit (SetEntry (dir, name) id ∷ []) answer.Nothing None)
+
+  abbrev linking : State → PathValue → Place → Oid → Row
+  linking t to place id = Need (link_dir t id place) (Refuse errno.EMLINK (nat_le MAX_LINKS (link_count t id)) (walk t p (λ n. Second n) to (λ found. to_new_name found (naming t to id))))
+
+  pub link_low : (path to : PathValue) → Same l s who p (link_row s who p path to) (link_row part_s who p path to)
+  link_low path to =
+      let place : Place = last_place (λ n. First n) path in
+      let there_place : Place = dir_place (λ n. Second n) to in
+      alike_reach l s kept valid who p is_low is (λ n. First n) path _ _
+      (λ id there. alike_mac_write l s kept valid who p is_low id there place (linking s to place id) (linking part_s to place)
+      (λ low_id. low_check id low_id (λ o. of_object check.LinkDir (not (is_dir o.kind)) None id o place) _ _
+      (λ _. alike_refuse (crosses l) l s.top (subject who p) errno.EMLINK _ _ _ _ (ap (nat_le MAX_LINKS) (link_count_low l s kept valid id there low_id))
+      (λ _. alike_walk l s kept valid who p is_low is (λ n. Second n) to _ _
+      (low_new_name (naming s to id) (naming part_s to id)
+      (λ dir name h is_dir. low_enter_in dir h is_dir there_place (held_order s id dir there_place) (held_order part_s id dir there_place)
+      (λ i. of_object check.LabelOrder (dominates (object_low l s id low_id i).label (object_low l s dir h i).label) None dir (object_low l s dir h i) there_place) _ _
+      (alike_give (crosses l) l s.top (subject who p) _ _ answer.Nothing None (seen_entry dir name id h low_id))))))))
+
   pub chdir_low : (path : PathValue) → Same l s who p (chdir_row s who p path) (chdir_row (by_number l s) who p path)
   chdir_low path =
       alike_reach l s kept valid who p is_low is (λ n. First n) path _ _
@@ -123,9 +220,9 @@ module _ (bad : Rec → Bool) (s : State) (valid : IsValid s) (who : Pid) (p : P
 
   -- the row goes on from an entry of an object
   meets_entry_of_object : (k : Oid → Name → Oid → Row) → ((dir : Oid) (name : Name) (id : Oid) → IsDir s.objects dir → look s dir name ≡ Some id → Meets bad who p P (k dir name id))
-      → (found : Found) → FoundIn s found → Meets bad who p P (to_entry_of_object found k)
-  meets_entry_of_object k h (Start id) there = ends_fail bad (subject who p) P cases.none errno.EBUSY
-  meets_entry_of_object k h (Entry dir name object) f = ends_missing bad (subject who p) P cases.none object (k dir name) (λ id e. h dir name id f.0 (sym f.1 ∙ e))
+      → (names : List Name) (found : Found) → FoundIn s names found → Meets bad who p P (to_entry_of_object found k)
+  meets_entry_of_object k h names (Start id) there = ends_fail bad (subject who p) P cases.none errno.EBUSY
+  meets_entry_of_object k h names (Entry dir name object) f = ends_missing bad (subject who p) P cases.none object (k dir name) (λ id e. h dir name id f.0 (sym f.1 ∙ e))
 
   -- and an entry may be taken away
   meets_leave : (path : PathValue) (dir id : Oid) (r : Row) → (Passes bad (subject who p) (mac_write s p dir (dir_place (λ n. First n) path)) → Meets bad who p P r) → Meets bad who p P (leave_from s p path dir id r)
@@ -138,7 +235,7 @@ module _ (bad : Rec → Bool) (s : State) (valid : IsValid s) (who : Pid) (p : P
       ends_walk bad s valid who p P cases.none is (λ n. First n) path _
       (meets_entry_of_object (λ dir name id. leave_from s p path dir id (Refuse errno.ENOTDIR (not (is_dir (object_at s id).kind)) (Refuse errno.ENOTEMPTY (not (is_empty s id)) (Commit (DropEntry (dir, name) ∷ []) answer.Nothing None))))
       (λ dir name id is_dir at. meets_leave path dir id _ (λ written. ends_refuse bad (subject who p) P cases.none _ _ _ (λ _. ends_refuse bad (subject who p) P cases.none _ _ _ (λ empty.
-      ends_give bad (subject who p) P cases.none _ answer.Nothing None (cases.leave dir name id place written is_dir at (not_false _ empty)))))))
+      ends_give bad (subject who p) P cases.none _ answer.Nothing None (cases.leave dir name id place written is_dir at (not_false _ empty)))))) path.names)
 
   pub unlink_meets : (path : PathValue) → Meets bad who p P (unlink_row s who p path)
   unlink_meets path =
@@ -147,7 +244,55 @@ module _ (bad : Rec → Bool) (s : State) (valid : IsValid s) (who : Pid) (p : P
       (meets_entry_of_object (λ dir name id. leave_from s p path dir id (Need (unlink_dir s id (last_place (λ n. First n) path)) (Commit (DropEntry (dir, name) ∷ []) answer.Nothing None)))
       (λ dir name id is_dir at. meets_leave path dir id _ (λ written. ends_need bad (subject who p) P cases.none _ _ (λ passes.
       ends_give bad (subject who p) P cases.none _ answer.Nothing None
-      (cases.leave dir name id place written is_dir at (no_entries s valid id (not_true_false _ (met_rule bad (subject who p) (unlink_dir s id (last_place (λ n. First n) path)) refl passes))))))))
+      (cases.leave dir name id place written is_dir at (no_entries s valid id (not_true_false _ (met_rule bad (subject who p) (unlink_dir s id (last_place (λ n. First n) path)) refl passes))))))) path.names)
+
+  -- the row goes on from a name that nothing has
+  meets_new_name : (names : List Name) (k : Oid → Name → Row) → ((dir : Oid) (name : Name) → IsDir s.objects dir → look s dir name ≡ None → (list_all is_name names ≡ true → is_name name ≡ true) → Meets bad who p P (k dir name))
+      → (found : Found) → FoundIn s names found → Meets bad who p P (to_new_name found k)
+  meets_new_name names k h (Start id) there = ends_fail bad (subject who p) P cases.none errno.EEXIST
+  meets_new_name names k h (Entry dir name None) f = h dir name f.0 (sym f.1) f.2
+  meets_new_name names k h (Entry dir name (Some id)) f = ends_fail bad (subject who p) P cases.none errno.EEXIST
+
+  -- a directory gets an entry, where the order of labels holds
+  meets_enter_in : (dir : Oid) (place : Place) (c : Check) (r : Row) → cap_of c.name ≡ None → (Passes bad (subject who p) (mac_write s p dir place) → c.holds ≡ true → is_removed s dir ≡ false → Meets bad who p P r) → Meets bad who p P (enter_in s p dir place c r)
+  meets_enter_in dir place c r unnamed h =
+      ends_need bad (subject who p) P cases.none _ _ (λ written. ends_need bad (subject who p) P cases.none _ _ (λ _. ends_need bad (subject who p) P cases.none _ _ (λ ordered.
+      ends_refuse bad (subject who p) P cases.none _ _ _ (λ standing. h written (met_rule bad (subject who p) c unnamed ordered) standing))))
+
+  dir_at : (dir : Oid) (is_dir : IsDir s.objects dir) → object_at s dir ≡ is_dir.object
+  dir_at dir is_dir = get_or-found s.objects dir (stub_object s.top) is_dir.object is_dir.is
+
+  make_meets : (path : PathValue) (mode : ℕ) (b : Body) → bytes_of b ≡ [] → (kind_of b ≡ kind.Pipe → ⊥) → (fit → are_names path ≡ true) → Meets bad who p P (make_row s who p path mode b)
+  make_meets path mode b no_bytes no_pipe args =
+      let o : Object = object_with p.label (attr_of p (masked mode p.umask)) b in
+      let place : Place = dir_place (λ n. First n) path in
+      ends_walk bad s valid who p P cases.none is (λ n. First n) path _
+      (meets_new_name path.names (λ dir name. make_in s p dir place (Refuse errno.ENOSPC (not (has_object_number s p)) (Commit (made s p dir name o) answer.Nothing None)))
+      (λ dir name is_dir free named. meets_enter_in dir place (created_order s p dir place) _ refl (λ written order standing.
+      ends_refuse bad (subject who p) P cases.none _ _ _ (λ room. ends_give bad (subject who p) P cases.none _ answer.Nothing None
+      (cases.make dir name o place written is_dir free standing (record { label = refl; mode = masked_is_mode mode p.umask; caps = refl; bytes = no_bytes; no_pipe = no_pipe }) (not_false _ room)
+      (ap (λ (d : Object). dominates p.label d.label) (sym (dir_at dir is_dir)) ∙ order) (λ f. named (args f)))))))
+
+  pub mkdir_meets : (path : PathValue) (mode : ℕ) → (fit → are_names path && is_mode mode ≡ true) → Meets bad who p P (mkdir_row s who p path mode)
+  mkdir_meets path mode args = make_meets path mode body.Dir refl (λ e. let no : kind.Dir ≡ kind.Pipe = e in cc) (λ f. (and_parts (are_names path) (is_mode mode) (args f)).0)
+
+  pub mkfifo_meets : (path : PathValue) (mode : ℕ) → (fit → are_names path && is_mode mode ≡ true) → Meets bad who p P (mkfifo_row s who p path mode)
+  mkfifo_meets path mode args = make_meets path mode body.Fifo refl (λ e. let no : kind.Fifo ≡ kind.Pipe = e in cc) (λ f. (and_parts (are_names path) (is_mode mode) (args f)).0)
+
+  pub link_meets : (path to : PathValue) → (fit → are_names path && are_names to ≡ true) → Meets bad who p P (link_row s who p path to)
+  link_meets path to args =
+      let place : Place = last_place (λ n. First n) path in
+      let there_place : Place = dir_place (λ n. Second n) to in
+      ends_reach bad s valid who p P cases.none is (λ n. First n) path _
+      (λ id named_id.
+      let at_id : object_at s id ≡ named_id.object = get_or-found s.objects id (stub_object s.top) named_id.object named_id.is in
+      ends_need bad (subject who p) P cases.none _ _ (λ _. ends_need bad (subject who p) P cases.none _ _ (λ passes. ends_refuse bad (subject who p) P cases.none _ _ _ (λ few.
+      ends_walk bad s valid who p P cases.none is (λ n. Second n) to _
+      (meets_new_name to.names (λ dir name. enter_in s p dir there_place (held_order s id dir there_place) (Commit (SetEntry (dir, name) id ∷ []) answer.Nothing None))
+      (λ dir name stands free named. meets_enter_in dir there_place (held_order s id dir there_place) _ refl (λ written order standing.
+      ends_give bad (subject who p) P cases.none _ answer.Nothing None
+      (cases.enter dir name id there_place written stands free standing named_id (ap (λ (o : Object). not (is_dir o.kind)) (sym at_id) ∙ met_rule bad (subject who p) (link_dir s id place) refl passes)
+      (below_limit (link_count s id) few) ((λ i. dominates (sym at_id i).label (sym (dir_at dir stands) i).label) ∙ order) (λ f. named (and_parts (are_names path) (are_names to) (args f)).1)))))))))
 
   pub chdir_meets : (path : PathValue) → Meets bad who p P (chdir_row s who p path)
   chdir_meets path =
