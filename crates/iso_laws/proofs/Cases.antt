@@ -45,7 +45,6 @@ pub record Cases (bad : Rec → Bool) (s : State) (who : Pid) (p : Process) (fit
   pub cwd : (id : Oid) (place : Place) → Passes bad (subject who p) (mac_read s p id place) → IsDir s.objects id → P (SetProcess who (record p { cwd = id }) ∷ [])
   -- an entry goes, of something without entries, and the caller wrote its directory
   pub leave : (dir : Oid) (name : Name) (id : Oid) (place : Place) → Passes bad (subject who p) (mac_write s p dir place) → IsDir s.objects dir → look s dir name ≡ Some id → is_empty s id ≡ true → P (DropEntry (dir, name) ∷ [])
-
   -- an entry of a file is set where none was, in a directory that is not removed and that the caller wrote
   pub enter : (dir : Oid) (name : Name) (id : Oid) (place : Place) → Passes bad (subject who p) (mac_write s p dir place) → (is_dir : IsDir s.objects dir) → look s dir name ≡ None → is_removed s dir ≡ false
       → (named : IsNamed s id) → not (dir_kind named.object.kind) ≡ true → link_count s id + 1 ≤ MAX_LINKS → dominates named.object.label is_dir.object.label ≡ true → (fit → is_name name ≡ true) → P (SetEntry (dir, name) id ∷ [])

@@ -5,7 +5,7 @@ use Rattle.kern_model.specs.declared.calls.Call.{Call}
 use Rattle.kern_model.specs.declared.calls.Call.TheVariants as call
 use Rattle.kern_model.specs.declared.world.ScriptItem.{ScriptItem}
 
--- whether they are proved for a call: one that reports or sets what its caller is, that reports what an object is or what a directory contains, or that takes an entry away
+-- whether they are proved for a call: one that reports or sets what its caller is, that reports what an object is or what a directory contains, or that makes an entry or takes one away
 abbrev pub has_laws : Call → Bool
 has_laws (call.Mkfifo path mode) = true
 has_laws (call.Mkdir path mode) = true
