@@ -8,7 +8,7 @@ use Rattle.kern_model.specs.declared.calls.Call.{Call}
 use Rattle.kern_model.specs.declared.calls.Call.TheVariants as call
 use Rattle.kern_model.specs.declared.numbers.Pid.{Pid}
 use Rattle.kern_model.specs.declared.records.Rec.{Rec}
-use Rattle.kern_model.specs.Arguments.{is_call}
+use Rattle.kern_model.specs.Arguments.{has_names, is_call}
 use Rattle.kern_model.specs.Isolation.{low, Kept}
 use Rattle.kern_model.specs.State.{State, Process, Change}
 use Rattle.kern_model.specs.Table.{row}
@@ -54,31 +54,31 @@ module _ (l : Label) (s : State) (kept : Kept l s) (valid : IsValid s) (who : Pi
 
 -- the changes of each row meet what those of each kind of effect meet
 module _ (bad : Rec → Bool) (s : State) (valid : IsValid s) (who : Pid) (p : Process) (is : map.get s.procs who ≡ Some p) (fit : Type 0) (P : List Change → Type 0) (cases : Cases bad s who p fit P) where
-  pub row_meets : (c : Call) → (fit → is_call s.top c ≡ true) → has_laws c ≡ true → Meets bad who p P (row s who p c)
-  unfolding is_call
-  row_meets (call.Mkfifo path mode) args _ = tree.mkfifo_meets bad s valid who p is fit P cases path mode args
-  row_meets (call.Mkdir path mode) args _ = tree.mkdir_meets bad s valid who p is fit P cases path mode args
-  row_meets (call.Link path to) args _ = tree.link_meets bad s valid who p is fit P cases path to args
-  row_meets (call.Rmdir path) args _ = tree.rmdir_meets bad s valid who p is fit P cases path
-  row_meets (call.Unlink path) args _ = tree.unlink_meets bad s valid who p is fit P cases path
-  row_meets (call.Readdir path) args _ = tree.readdir_meets bad s valid who p is fit P cases path
-  row_meets (call.Stat path) args _ = tree.stat_meets bad s valid who p is fit P cases path
-  row_meets (call.Chdir path) args _ = tree.chdir_meets bad s valid who p is fit P cases path
-  row_meets (call.Umask mode) args _ = processes.umask_meets bad s valid who p is fit P cases mode args
-  row_meets (call.CapGetFile path) args _ = attributes.cap_get_file_meets bad s valid who p is fit P cases path
-  row_meets (call.CapGetFd fd) args _ = attributes.cap_get_fd_meets bad s valid who p is fit P cases fd
-  row_meets (call.MacGetFile path) args _ = attributes.mac_get_file_meets bad s valid who p is fit P cases path
-  row_meets (call.MacGetFd fd) args _ = attributes.mac_get_fd_meets bad s valid who p is fit P cases fd
-  row_meets (call.Exec path) args _ = processes.exec_meets bad s valid who p is fit P cases path
-  row_meets call.Getpid args _ = processes.getpid_meets bad s valid who p is fit P cases
-  row_meets call.Getppid args _ = processes.getppid_meets bad s valid who p is fit P cases
-  row_meets call.Getids args _ = processes.getids_meets bad s valid who p is fit P cases
-  row_meets (call.Setuid user) args _ = processes.setuid_meets bad s valid who p is fit P cases user
-  row_meets (call.Setgid group) args _ = processes.setgid_meets bad s valid who p is fit P cases group
-  row_meets call.CapGetProc args _ = processes.cap_get_proc_meets bad s valid who p is fit P cases
-  row_meets (call.CapSetProc caps) args _ = processes.cap_set_proc_meets bad s valid who p is fit P cases caps
-  row_meets call.MacGetProc args _ = processes.mac_get_proc_meets bad s valid who p is fit P cases
-  row_meets (call.MacSetProc new) args _ = processes.mac_set_proc_meets bad s valid who p is fit P cases new args
-  row_meets (call.AudWrite bytes) args _ = audit.aud_write_meets bad s valid who p is fit P cases bytes
-  row_meets (call.AudSwitch on) args _ = audit.aud_switch_meets bad s valid who p is fit P cases on
-  row_meets c args none = absurd (true≢false (sym none))
+  pub row_meets : (c : Call) → (fit → is_call s.top c ≡ true) → (fit → has_names c ≡ true) → has_laws c ≡ true → Meets bad who p P (row s who p c)
+  unfolding is_call has_names
+  row_meets (call.Mkfifo path mode) _ names _ = tree.mkfifo_meets bad s valid who p is fit P cases path mode names
+  row_meets (call.Mkdir path mode) _ names _ = tree.mkdir_meets bad s valid who p is fit P cases path mode names
+  row_meets (call.Link path to) _ names _ = tree.link_meets bad s valid who p is fit P cases path to names
+  row_meets (call.Rmdir path) _ _ _ = tree.rmdir_meets bad s valid who p is fit P cases path
+  row_meets (call.Unlink path) _ _ _ = tree.unlink_meets bad s valid who p is fit P cases path
+  row_meets (call.Readdir path) _ _ _ = tree.readdir_meets bad s valid who p is fit P cases path
+  row_meets (call.Stat path) _ _ _ = tree.stat_meets bad s valid who p is fit P cases path
+  row_meets (call.Chdir path) _ _ _ = tree.chdir_meets bad s valid who p is fit P cases path
+  row_meets (call.Umask mode) args _ _ = processes.umask_meets bad s valid who p is fit P cases mode args
+  row_meets (call.CapGetFile path) _ _ _ = attributes.cap_get_file_meets bad s valid who p is fit P cases path
+  row_meets (call.CapGetFd fd) _ _ _ = attributes.cap_get_fd_meets bad s valid who p is fit P cases fd
+  row_meets (call.MacGetFile path) _ _ _ = attributes.mac_get_file_meets bad s valid who p is fit P cases path
+  row_meets (call.MacGetFd fd) _ _ _ = attributes.mac_get_fd_meets bad s valid who p is fit P cases fd
+  row_meets (call.Exec path) _ _ _ = processes.exec_meets bad s valid who p is fit P cases path
+  row_meets call.Getpid _ _ _ = processes.getpid_meets bad s valid who p is fit P cases
+  row_meets call.Getppid _ _ _ = processes.getppid_meets bad s valid who p is fit P cases
+  row_meets call.Getids _ _ _ = processes.getids_meets bad s valid who p is fit P cases
+  row_meets (call.Setuid user) _ _ _ = processes.setuid_meets bad s valid who p is fit P cases user
+  row_meets (call.Setgid group) _ _ _ = processes.setgid_meets bad s valid who p is fit P cases group
+  row_meets call.CapGetProc _ _ _ = processes.cap_get_proc_meets bad s valid who p is fit P cases
+  row_meets (call.CapSetProc caps) _ _ _ = processes.cap_set_proc_meets bad s valid who p is fit P cases caps
+  row_meets call.MacGetProc _ _ _ = processes.mac_get_proc_meets bad s valid who p is fit P cases
+  row_meets (call.MacSetProc new) args _ _ = processes.mac_set_proc_meets bad s valid who p is fit P cases new args
+  row_meets (call.AudWrite bytes) _ _ _ = audit.aud_write_meets bad s valid who p is fit P cases bytes
+  row_meets (call.AudSwitch on) _ _ _ = audit.aud_switch_meets bad s valid who p is fit P cases on
+  row_meets c _ _ none = absurd (true≢false (sym none))

@@ -5,7 +5,7 @@ use Rattle.std.proofs.lemmas.Bool.{and_parts}
 use Rattle.std.proofs.lemmas.List.{append-nil}
 use Rattle.lab_lattice.specs.Label.{Label}
 use Rattle.kern_model.specs.declared.world.ScriptItem.{ScriptItem}
-use Rattle.kern_model.specs.Arguments.{is_call, is_item, is_script}
+use Rattle.kern_model.specs.Arguments.{has_names, is_call, is_item, is_script}
 use Rattle.kern_model.specs.State.{State}
 use Rattle.kern_model.specs.Step.{StepResult, step}
 use Rattle.kern_model.specs.Run.{CallRecord, played, run}
@@ -20,6 +20,7 @@ use Rattle.iso_laws.proofs.Steps.{low_step, other_step, kept_step, valid_step, t
 record First (s : State) (i : ScriptItem) (is : List ScriptItem) : Type 0 where
   laws : has_laws i.call ≡ true
   args : is_call s.top i.call ≡ true
+  names : has_names i.call ≡ true
   later_laws : have_laws is ≡ true
   later_args : is_script (step s i.who i.call).state.top is ≡ true
 
@@ -29,7 +30,8 @@ first_of_script s i is laws args =
     let args' = and_parts (is_item s.top i) (is_script s.top is) args in
     record {
       laws = laws'.0;
-      args = (and_parts _ _ args'.0).1;
+      args = (and_parts _ _ (and_parts _ _ args'.0).0).1;
+      names = (and_parts _ _ args'.0).1;
       later_laws = laws'.1;
       later_args = ap (λ top. is_script top is) (top_step s i.who i.call) ∙ args'.1;
     }
@@ -81,7 +83,7 @@ module _ (l : Label) where
       elim (crossing l (step s i.who i.call).recs) as (λ b. crossing l (step s i.who i.call).recs ≡ b → AnswersAlone (run s (i ∷ is)) (all_answers (run (part l s) (part_script l (i ∷ is))))) [
         | true ↦ λ crosses. alone_none (played s i) (run next is) _ crosses
         | false ↦ λ inside.
-            let rest : AnswersAlone (run next is) (all_answers (run (part l next) (part_script l is))) = answers_alone is next first.later_laws first.later_args (valid_step s i.who i.call first.laws first.args valid) (kept_step l s i.who i.call first.laws valid kept inside) in
+            let rest : AnswersAlone (run next is) (all_answers (run (part l next) (part_script l is))) = answers_alone is next first.later_laws first.later_args (valid_step s i.who i.call first.laws first.args first.names valid) (kept_step l s i.who i.call first.laws valid kept inside) in
             elim (low l i.who.label) as (λ b. low l i.who.label ≡ b → AnswersAlone (run s (i ∷ is)) (all_answers (run (part l s) (cond b (i ∷ part_script l is) (part_script l is))))) [
               | true ↦ λ is_low.
                   let e = low_step l s i.who i.call (record { laws = first.laws; valid = valid; kept = kept; is_low = is_low; inside = inside }) in

@@ -6,7 +6,7 @@ use Rattle.std.specs.FinMap as map
 use Rattle.lab_lattice.specs.Label.{Label}
 use Rattle.kern_model.specs.declared.numbers.Pid.{Pid}
 use Rattle.kern_model.specs.declared.calls.Call.{Call}
-use Rattle.kern_model.specs.Arguments.{is_call}
+use Rattle.kern_model.specs.Arguments.{has_names, is_call}
 use Rattle.kern_model.specs.Maps.{where_key}
 use Rattle.kern_model.proofs.KeyLaws.{pid_cmp_total, pid_cmp_exact}
 use Rattle.kern_model.specs.Names.{name_of}
@@ -41,17 +41,17 @@ module _ (s : State) (who : Pid) (c : Call) where
 
 -- a valid state stays valid, whatever crosses
 pub valid_step : ValidStep
-valid_step s who c laws args valid = by_process s who c (λ o. IsValid o.state)
+valid_step s who c laws args names valid = by_process s who c (λ o. IsValid o.state)
     (λ _. valid)
-    (λ p is. (row_meets never s valid who p is (Unit {0}) (λ cs. IsValid (changed_by s cs)) (valid_cases never s valid who p is) c (λ _. args) laws).ends [] (none_never (judged_row s who c p).used))
+    (λ p is. (row_meets never s valid who p is (Unit {0}) (λ cs. IsValid (changed_by s cs)) (valid_cases never s valid who p is) c (λ _. args) (λ _. names) laws).ends [] (none_never (judged_row s who c p).used))
 
 module _ (l : Label) (s : State) (who : Pid) (c : Call) (laws : has_laws c ≡ true) where
   -- what a row's changes meet, where the step does not cross
-  met : (P : List Change → Type 0) → IsValid s → (p : Process) → map.get s.procs who ≡ Some p → Cases (crosses l) s who p (is_call s.top c ≡ true) P
+  met : (P : List Change → Type 0) → IsValid s → (p : Process) → map.get s.procs who ≡ Some p → Cases (crosses l) s who p ((is_call s.top c ≡ true) × (has_names c ≡ true)) P
       → crossing l (settled s who p (name_of c) (judged_row s who c p)).recs ≡ false → P (changes_of (judged_row s who c p).end)
   met P valid p is cases h =
       let j : CheckOutcome = judged_row s who c p in
-      (row_meets (crosses l) s valid who p is (is_call s.top c ≡ true) P cases c (λ args. args) laws).ends [] (bad_prefix (crosses l) j.used (own_of who p (name_of c) j.end) h)
+      (row_meets (crosses l) s valid who p is ((is_call s.top c ≡ true) × (has_names c ≡ true)) P cases c (λ fit. fit.0) (λ fit. fit.1) laws).ends [] (bad_prefix (crosses l) j.used (own_of who p (name_of c) j.end) h)
 
 pub kept_step : KeptStep
 kept_step l s who c laws valid kept = by_process s who c (λ o. crossing l o.recs ≡ false → Kept l o.state)

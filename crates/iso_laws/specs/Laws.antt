@@ -6,7 +6,7 @@ use Rattle.kern_model.specs.declared.numbers.Pid.{Pid}
 use Rattle.kern_model.specs.declared.calls.Call.{Call}
 use Rattle.kern_model.specs.declared.world.World.{World}
 use Rattle.kern_model.specs.declared.world.ScriptItem.{ScriptItem}
-use Rattle.kern_model.specs.Arguments.{is_call, is_script}
+use Rattle.kern_model.specs.Arguments.{has_names, is_call, is_script}
 use Rattle.kern_model.specs.Boot.{boot}
 use Rattle.kern_model.specs.Drawing.{StayDrawn, NumbersGoOn, NothingComesBack}
 use Rattle.kern_model.specs.Isolation.{low, crossing, part, part_script, answers, alone, up_to, Kept}
@@ -51,9 +51,9 @@ OtherStep = (l : Label) (s : State) (who : Pid) (c : Call) → has_laws c ≡ tr
 abbrev pub KeptStep : Type 0
 KeptStep = (l : Label) (s : State) (who : Pid) (c : Call) → has_laws c ≡ true → IsValid s → Kept l s → crossing l (step s who c).recs ≡ false → Kept l (step s who c).state
 
--- a valid state stays valid, where the arguments are in their ranges
+-- a valid state stays valid, where the arguments are in their ranges and what an entry may be named by is a name
 abbrev pub ValidStep : Type 0
-ValidStep = (s : State) (who : Pid) (c : Call) → has_laws c ≡ true → is_call s.top c ≡ true → IsValid s → IsValid (step s who c).state
+ValidStep = (s : State) (who : Pid) (c : Call) → has_laws c ≡ true → is_call s.top c ≡ true → has_names c ≡ true → IsValid s → IsValid (step s who c).state
 
 -- ---- the first state of a world
 

@@ -28,7 +28,7 @@ use Rattle.kern_model.specs.World.{IsWorld}
 use Rattle.iso_laws.proofs.Laws.{refusals_are_named, numbers_step, valid_boot, valid_step}
 use Rattle.kern_core.specs.Built.{is_built}
 use Rattle.kern_core.specs.Kernel.{IsStopped}
-use Rattle.kern_core.proofs.BuiltLaws.{built_laws}
+use Rattle.kern_core.proofs.BuiltLaws.{built_laws, built_names}
 
 -- ---- a call that stopped
 kept_at : (s : State) (who : Pid) (p : Process) (name : CallName) (j : CheckOutcome) → IsStopped (settled s who p name j).reply → (settled s who p name j).state ≡ s
@@ -60,7 +60,7 @@ module _ {E : Type 0} (s t : State) (who : Pid) (c : Call) (r : Result reported.
   -- leaves a valid state valid
   pub valid_played : is_built c ≡ true → is_call s.top c ≡ true → ∥ IsValid s ∥₁ → OnOk r (∥ IsValid t ∥₁)
   valid_played built arguments valid =
-      let after : IsValid s → IsValid (step s who c).state = valid_step s who c (built_laws c built) arguments in
+      let after : IsValid s → IsValid (step s who c).state = valid_step s who c (built_laws c built) arguments (built_names c built) in
       IfOk-weaker r _ _ (λ o e. ∥∥₁_map valid (λ v. subst IsValid (ap (λ (u : StepResult). u.state) e) (after v))) is
 
   -- lets numbers go on

@@ -29,36 +29,33 @@ is_number top who = nat_le 1 who.n && nat_le who.n MAX_PROCS && dominates top wh
 abbrev pub are_names : PathValue → Bool
 are_names path = list_all is_name path.names
 
--- whether labels, numbers, modes, flags and the names of paths are in their ranges, where top is the highest label
+-- whether labels, numbers, modes and flags are in their ranges, where top is the highest label
 unfoldable pub is_call : Label → Call → Bool
-is_call top (call.OpenPath path flags mode) = are_names path && are_flags flags && is_mode_if flags.c mode
+is_call top (call.OpenPath path flags mode) = are_flags flags && is_mode_if flags.c mode
 is_call top (call.Read fd n) = nat_le n MAX_FILE_BYTES
 is_call top (call.Lseek fd from offset) = nat_le (unsigned_abs offset) MAX_OFFSET
-is_call top (call.Mkfifo path mode) = are_names path && is_mode mode
-is_call top (call.Mkdir path mode) = are_names path && is_mode mode
-is_call top (call.Rmdir path) = are_names path
-is_call top (call.Link path to) = are_names path && are_names to
-is_call top (call.Unlink path) = are_names path
-is_call top (call.Rename path to) = are_names path && are_names to
-is_call top (call.Readdir path) = are_names path
-is_call top (call.Stat path) = are_names path
-is_call top (call.Chdir path) = are_names path
-is_call top (call.Chmod path mode) = are_names path && is_mode mode
-is_call top (call.Chown path user group) = are_names path
+is_call top (call.Mkfifo path mode) = is_mode mode
+is_call top (call.Mkdir path mode) = is_mode mode
+is_call top (call.Chmod path mode) = is_mode mode
 is_call top (call.Umask mode) = is_permission mode
-is_call top (call.CapGetFile path) = are_names path
-is_call top (call.CapSetFile path caps) = are_names path
-is_call top (call.MacGetFile path) = are_names path
-is_call top (call.MacSetFile path label) = are_names path && dominates top label
+is_call top (call.MacSetFile path label) = dominates top label
 is_call top (call.MacSetFd fd label) = dominates top label
-is_call top (call.Exec path) = are_names path
 is_call top (call.Kill target signal) = is_number top target
 is_call top (call.MacSetProc label) = dominates top label
 is_call top _ = true
 
+-- whether the names that a call may give to an entry are names
+unfoldable pub has_names : Call → Bool
+has_names (call.OpenPath path flags mode) = are_names path
+has_names (call.Mkfifo path mode) = are_names path
+has_names (call.Mkdir path mode) = are_names path
+has_names (call.Link path to) = are_names to
+has_names (call.Rename path to) = are_names to
+has_names _ = true
+
 -- an item of a script that may be played
 abbrev pub is_item : Label → ScriptItem → Bool
-is_item top item = is_number top item.who && is_call top item.call
+is_item top item = is_number top item.who && is_call top item.call && has_names item.call
 
 -- a script that may be played
 abbrev pub is_script : Label → List ScriptItem → Bool

@@ -4,7 +4,7 @@ use Rattle.std.specs.Prelude.{nat_lt, Result, Ok, Err}
 use Rattle.std.proofs.lemmas.Bool.{and_from}
 use Rattle.lab_lattice.specs.Label.{Label}
 use Rattle.lab_text.specs.Policy.{PolicyNames, top_of}
-use Rattle.kern_model.specs.Arguments.{is_call, is_number, is_script}
+use Rattle.kern_model.specs.Arguments.{has_names, is_call, is_number, is_script}
 use Rattle.kern_model.specs.World.{IsWorld}
 use Rattle.kern_model.specs.declared.calls.Call.{Call}
 use Rattle.kern_model.specs.declared.numbers.Pid.{Pid}
@@ -32,9 +32,9 @@ pub record MayBePlayed (top : Label) (s : Script) : Type 0 where
   pub laws : have_laws s.items ≡ true
 
 module _ (policy : PolicyNames) where
-  by_built : (who : Pid) (c : Call) (n : ℕ) (more : Script) → (is_number (top_of policy) who ≡ true) × (is_call (top_of policy) c ≡ true) → (b : Bool) → is_built c ≡ b → MayBePlayed (top_of policy) more
+  by_built : (who : Pid) (c : Call) (n : ℕ) (more : Script) → (is_number (top_of policy) who ≡ true) × (is_call (top_of policy) c ≡ true) × (has_names c ≡ true) → (b : Bool) → is_built c ≡ b → MayBePlayed (top_of policy) more
       → MayBePlayed (top_of policy) (cond b (script (item_of who c ∷ more.items) more.ending) (script [] (Refused n part.Script refusal.NotBuilt)))
-  by_built who c n more fit true built rest = record { arguments = and_from _ _ (and_from _ _ fit.0 fit.1) rest.arguments; laws = and_from _ _ (built_laws c built) rest.laws }
+  by_built who c n more fit true built rest = record { arguments = and_from _ _ (and_from _ _ (and_from _ _ fit.0 fit.1.0) fit.1.1) rest.arguments; laws = and_from _ _ (built_laws c built) rest.laws }
   by_built who c n more fit false built rest = record { arguments = refl; laws = refl }
 
   after_played : (text : List ℕ) (parsed : Result Line LineError) → parse_line policy text ≡ parsed → (n : ℕ) (more : Script) → MayBePlayed (top_of policy) more → MayBePlayed (top_of policy) (after_line parsed n more)

@@ -16,7 +16,7 @@ use Rattle.fs_path.specs.Options.{keep_if}
 use Rattle.fs_path.specs.Values.{mode_of, number_of, numeral, digits_value}
 use Rattle.fs_path.specs.Words.{is_blank, words_of}
 use Rattle.fs_path.specs.declared.words.LineWord.{LineWord}
-use Rattle.kern_model.specs.Arguments.{are_flags, are_names, is_call, is_number}
+use Rattle.kern_model.specs.Arguments.{are_flags, are_names, has_names, is_call, is_number}
 use Rattle.kern_model.specs.Kinds.{is_mode, is_permission}
 use Rattle.kern_model.specs.declared.limits.TheConstants.{MAX_FILE_BYTES, MAX_LINE, MAX_NUMBER, MAX_OFFSET, MAX_PERMISSIONS, MAX_PROCS}
 use Rattle.kern_model.specs.declared.calls.Call.{Call}
@@ -185,7 +185,7 @@ module _ (policy : PolicyNames) where
 
   -- a call that may be made
   abbrev MayBeMade : Call → Type 0
-  MayBeMade c = is_call (top_of policy) c ≡ true
+  MayBeMade c = (is_call (top_of policy) c ≡ true) × (has_names c ≡ true)
 
   from_two : {A B : Type 0} (make : A → B → Call) (a : Reading A) (b : Reading B) (c : Call) → made (λ args. make args.0 args.1) (both a b) ≡ Ok c
       → ((x : A) (y : B) → a ≡ Ok x → b ≡ Ok y → MayBeMade (make x y)) → MayBeMade c
@@ -199,64 +199,64 @@ module _ (policy : PolicyNames) where
       p args.0 args.1.0 args.1.1 is.0 others.0 others.1)
 
   none_fine : (n : CallName) (c : Call) → none_parsed n ≡ Ok c → MayBeMade c
-  unfolding none_parsed is_call
-  none_fine name.Pipe c h = let e : call.Pipe ≡ c = cc in subst MayBeMade e refl
-  none_fine name.Fork c h = let e : call.Fork ≡ c = cc in subst MayBeMade e refl
-  none_fine name.Wait c h = let e : call.Wait ≡ c = cc in subst MayBeMade e refl
-  none_fine name.Getpid c h = let e : call.Getpid ≡ c = cc in subst MayBeMade e refl
-  none_fine name.Getppid c h = let e : call.Getppid ≡ c = cc in subst MayBeMade e refl
-  none_fine name.Getids c h = let e : call.Getids ≡ c = cc in subst MayBeMade e refl
-  none_fine name.CapGetProc c h = let e : call.CapGetProc ≡ c = cc in subst MayBeMade e refl
-  none_fine name.MacGetProc c h = let e : call.MacGetProc ≡ c = cc in subst MayBeMade e refl
+  unfolding none_parsed is_call has_names
+  none_fine name.Pipe c h = let e : call.Pipe ≡ c = cc in subst MayBeMade e (refl, refl)
+  none_fine name.Fork c h = let e : call.Fork ≡ c = cc in subst MayBeMade e (refl, refl)
+  none_fine name.Wait c h = let e : call.Wait ≡ c = cc in subst MayBeMade e (refl, refl)
+  none_fine name.Getpid c h = let e : call.Getpid ≡ c = cc in subst MayBeMade e (refl, refl)
+  none_fine name.Getppid c h = let e : call.Getppid ≡ c = cc in subst MayBeMade e (refl, refl)
+  none_fine name.Getids c h = let e : call.Getids ≡ c = cc in subst MayBeMade e (refl, refl)
+  none_fine name.CapGetProc c h = let e : call.CapGetProc ≡ c = cc in subst MayBeMade e (refl, refl)
+  none_fine name.MacGetProc c h = let e : call.MacGetProc ≡ c = cc in subst MayBeMade e (refl, refl)
   none_fine _ c h = absurd (cc)
 
   one_fine : (n : CallName) (w : List ℕ) (c : Call) → one_parsed policy n w ≡ Ok c → MayBeMade c
-  unfolding one_parsed is_call
-  one_fine name.Close w c h = from_made MayBeMade call.Close _ c h (λ fd _. refl)
-  one_fine name.Dup w c h = from_made MayBeMade call.Dup _ c h (λ fd _. refl)
-  one_fine name.Fstat w c h = from_made MayBeMade call.Fstat _ c h (λ fd _. refl)
-  one_fine name.Rmdir w c h = from_made MayBeMade call.Rmdir _ c h (path_fine w)
-  one_fine name.Unlink w c h = from_made MayBeMade call.Unlink _ c h (path_fine w)
-  one_fine name.Readdir w c h = from_made MayBeMade call.Readdir _ c h (path_fine w)
-  one_fine name.Stat w c h = from_made MayBeMade call.Stat _ c h (path_fine w)
-  one_fine name.Chdir w c h = from_made MayBeMade call.Chdir _ c h (path_fine w)
-  one_fine name.Umask w c h = from_made MayBeMade call.Umask _ c h (permission_fine w)
-  one_fine name.CapGetFile w c h = from_made MayBeMade call.CapGetFile _ c h (path_fine w)
-  one_fine name.CapGetFd w c h = from_made MayBeMade call.CapGetFd _ c h (λ fd _. refl)
-  one_fine name.MacGetFile w c h = from_made MayBeMade call.MacGetFile _ c h (path_fine w)
-  one_fine name.MacGetFd w c h = from_made MayBeMade call.MacGetFd _ c h (λ fd _. refl)
-  one_fine name.Exec w c h = from_made MayBeMade call.Exec _ c h (path_fine w)
-  one_fine name.Exit w c h = from_made MayBeMade call.Exit _ c h (λ code _. refl)
-  one_fine name.Setuid w c h = from_made MayBeMade call.Setuid _ c h (λ user _. refl)
-  one_fine name.Setgid w c h = from_made MayBeMade call.Setgid _ c h (λ group _. refl)
-  one_fine name.CapSetProc w c h = from_made MayBeMade call.CapSetProc _ c h (λ caps _. refl)
-  one_fine name.MacSetProc w c h = from_made MayBeMade call.MacSetProc _ c h (label_fine w)
-  one_fine name.AudWrite w c h = from_made MayBeMade call.AudWrite _ c h (λ bytes _. refl)
-  one_fine name.AudSwitch w c h = from_made MayBeMade call.AudSwitch _ c h (λ on _. refl)
+  unfolding one_parsed is_call has_names
+  one_fine name.Close w c h = from_made MayBeMade call.Close _ c h (λ fd _. (refl, refl))
+  one_fine name.Dup w c h = from_made MayBeMade call.Dup _ c h (λ fd _. (refl, refl))
+  one_fine name.Fstat w c h = from_made MayBeMade call.Fstat _ c h (λ fd _. (refl, refl))
+  one_fine name.Rmdir w c h = from_made MayBeMade call.Rmdir _ c h (λ path _. (refl, refl))
+  one_fine name.Unlink w c h = from_made MayBeMade call.Unlink _ c h (λ path _. (refl, refl))
+  one_fine name.Readdir w c h = from_made MayBeMade call.Readdir _ c h (λ path _. (refl, refl))
+  one_fine name.Stat w c h = from_made MayBeMade call.Stat _ c h (λ path _. (refl, refl))
+  one_fine name.Chdir w c h = from_made MayBeMade call.Chdir _ c h (λ path _. (refl, refl))
+  one_fine name.Umask w c h = from_made MayBeMade call.Umask _ c h (λ mode m. (permission_fine w mode m, refl))
+  one_fine name.CapGetFile w c h = from_made MayBeMade call.CapGetFile _ c h (λ path _. (refl, refl))
+  one_fine name.CapGetFd w c h = from_made MayBeMade call.CapGetFd _ c h (λ fd _. (refl, refl))
+  one_fine name.MacGetFile w c h = from_made MayBeMade call.MacGetFile _ c h (λ path _. (refl, refl))
+  one_fine name.MacGetFd w c h = from_made MayBeMade call.MacGetFd _ c h (λ fd _. (refl, refl))
+  one_fine name.Exec w c h = from_made MayBeMade call.Exec _ c h (λ path _. (refl, refl))
+  one_fine name.Exit w c h = from_made MayBeMade call.Exit _ c h (λ code _. (refl, refl))
+  one_fine name.Setuid w c h = from_made MayBeMade call.Setuid _ c h (λ user _. (refl, refl))
+  one_fine name.Setgid w c h = from_made MayBeMade call.Setgid _ c h (λ group _. (refl, refl))
+  one_fine name.CapSetProc w c h = from_made MayBeMade call.CapSetProc _ c h (λ caps _. (refl, refl))
+  one_fine name.MacSetProc w c h = from_made MayBeMade call.MacSetProc _ c h (λ label l. (label_fine w label l, refl))
+  one_fine name.AudWrite w c h = from_made MayBeMade call.AudWrite _ c h (λ bytes _. (refl, refl))
+  one_fine name.AudSwitch w c h = from_made MayBeMade call.AudSwitch _ c h (λ on _. (refl, refl))
   one_fine _ w c h = absurd (cc)
 
   two_fine : (n : CallName) (v w : List ℕ) (c : Call) → two_parsed policy n v w ≡ Ok c → MayBeMade c
-  unfolding two_parsed is_call
-  two_fine name.OpenPath v w c h = from_two (λ path flags. call.OpenPath path flags None) _ _ c h (λ path flags e f. let is = flags_fine false w flags f in and_from _ _ (and_from _ _ (path_fine v path e) is.fit) (without_mode flags is))
-  two_fine name.Read v w c h = from_two call.Read _ _ c h (λ fd n _ n_is. number_fine MAX_FILE_BYTES w n n_is)
-  two_fine name.Write v w c h = from_two call.Write _ _ c h (λ fd bytes _ _. refl)
-  two_fine name.Mkfifo v w c h = from_two call.Mkfifo _ _ c h (λ path mode e m. and_from _ _ (path_fine v path e) (mode_fine w mode m))
-  two_fine name.Mkdir v w c h = from_two call.Mkdir _ _ c h (λ path mode e m. and_from _ _ (path_fine v path e) (mode_fine w mode m))
-  two_fine name.Link v w c h = from_two call.Link _ _ c h (λ path to e f. and_from _ _ (path_fine v path e) (path_fine w to f))
-  two_fine name.Rename v w c h = from_two call.Rename _ _ c h (λ path to e f. and_from _ _ (path_fine v path e) (path_fine w to f))
-  two_fine name.Chmod v w c h = from_two call.Chmod _ _ c h (λ path mode e m. and_from _ _ (path_fine v path e) (mode_fine w mode m))
-  two_fine name.CapSetFile v w c h = from_two call.CapSetFile _ _ c h (λ path caps e _. path_fine v path e)
-  two_fine name.CapSetFd v w c h = from_two call.CapSetFd _ _ c h (λ fd caps _ _. refl)
-  two_fine name.MacSetFile v w c h = from_two call.MacSetFile _ _ c h (λ path label e l. and_from _ _ (path_fine v path e) (label_fine w label l))
-  two_fine name.MacSetFd v w c h = from_two call.MacSetFd _ _ c h (λ fd label _ l. label_fine w label l)
-  two_fine name.Kill v w c h = from_two call.Kill _ _ c h (λ target signal t _. pid_fine v target t)
+  unfolding two_parsed is_call has_names
+  two_fine name.OpenPath v w c h = from_two (λ path flags. call.OpenPath path flags None) _ _ c h (λ path flags e f. let is = flags_fine false w flags f in (and_from _ _ is.fit (without_mode flags is), path_fine v path e))
+  two_fine name.Read v w c h = from_two call.Read _ _ c h (λ fd n _ n_is. (number_fine MAX_FILE_BYTES w n n_is, refl))
+  two_fine name.Write v w c h = from_two call.Write _ _ c h (λ fd bytes _ _. (refl, refl))
+  two_fine name.Mkfifo v w c h = from_two call.Mkfifo _ _ c h (λ path mode e m. (mode_fine w mode m, path_fine v path e))
+  two_fine name.Mkdir v w c h = from_two call.Mkdir _ _ c h (λ path mode e m. (mode_fine w mode m, path_fine v path e))
+  two_fine name.Link v w c h = from_two call.Link _ _ c h (λ path to _ f. (refl, path_fine w to f))
+  two_fine name.Rename v w c h = from_two call.Rename _ _ c h (λ path to _ f. (refl, path_fine w to f))
+  two_fine name.Chmod v w c h = from_two call.Chmod _ _ c h (λ path mode _ m. (mode_fine w mode m, refl))
+  two_fine name.CapSetFile v w c h = from_two call.CapSetFile _ _ c h (λ path caps _ _. (refl, refl))
+  two_fine name.CapSetFd v w c h = from_two call.CapSetFd _ _ c h (λ fd caps _ _. (refl, refl))
+  two_fine name.MacSetFile v w c h = from_two call.MacSetFile _ _ c h (λ path label _ l. (label_fine w label l, refl))
+  two_fine name.MacSetFd v w c h = from_two call.MacSetFd _ _ c h (λ fd label _ l. (label_fine w label l, refl))
+  two_fine name.Kill v w c h = from_two call.Kill _ _ c h (λ target signal t _. (pid_fine v target t, refl))
   two_fine _ v w c h = absurd (cc)
 
   three_fine : (n : CallName) (u v w : List ℕ) (c : Call) → three_parsed n u v w ≡ Ok c → MayBeMade c
-  unfolding three_parsed is_call
-  three_fine name.OpenPath u v w c h = from_three (λ path flags mode. call.OpenPath path flags (Some mode)) _ _ _ c h (λ path flags mode e f m. let is = flags_fine true v flags f in and_from _ _ (and_from _ _ (path_fine u path e) is.fit) (and_from _ _ (with_mode flags is) (mode_fine w mode m)))
-  three_fine name.Lseek u v w c h = from_three call.Lseek _ _ _ c h (λ fd from offset _ _ o. offset_fine w offset o)
-  three_fine name.Chown u v w c h = from_three call.Chown _ _ _ c h (λ path user group e _ _. path_fine u path e)
+  unfolding three_parsed is_call has_names
+  three_fine name.OpenPath u v w c h = from_three (λ path flags mode. call.OpenPath path flags (Some mode)) _ _ _ c h (λ path flags mode e f m. let is = flags_fine true v flags f in (and_from _ _ is.fit (and_from _ _ (with_mode flags is) (mode_fine w mode m)), path_fine u path e))
+  three_fine name.Lseek u v w c h = from_three call.Lseek _ _ _ c h (λ fd from offset _ _ o. (offset_fine w offset o, refl))
+  three_fine name.Chown u v w c h = from_three call.Chown _ _ _ c h (λ path user group _ _ _. (refl, refl))
   three_fine _ u v w c h = absurd (cc)
 
   call_fine : (n : CallName) (ws : List (List ℕ)) (c : Call) → parse_call policy n ws ≡ Ok c → MayBeMade c

@@ -3,7 +3,7 @@ use Rattle.std.specs.Prelude.{◌≡◌, ℕ, true, ◌||◌, nat_lt, cond, List
 use Rattle.fs_path.specs.declared.words.LineWord.{LineWord}
 use Rattle.fs_path.specs.Words.{is_blank, words_of}
 use Rattle.kern_model.specs.declared.limits.TheConstants.{MAX_LINE}
-use Rattle.kern_model.specs.Arguments.{is_call, is_number}
+use Rattle.kern_model.specs.Arguments.{has_names, is_call, is_number}
 use Rattle.kern_model.specs.Named.{call_named}
 use Rattle.kern_model.specs.declared.calls.CallName.{CallName}
 use Rattle.lab_lattice.specs.Label.{Label}
@@ -44,4 +44,4 @@ parse_line policy text =
 -- what a line says may be played, where top is the highest label
 abbrev pub MayBePlayed : Label → Line → Type 0
 MayBePlayed top line.Blank = Unit {0}
-MayBePlayed top (line.One who call) = (is_number top who ≡ true) × (is_call top call ≡ true)
+MayBePlayed top (line.One who call) = (is_number top who ≡ true) × (is_call top call ≡ true) × (has_names call ≡ true)

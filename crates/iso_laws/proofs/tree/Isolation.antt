@@ -273,13 +273,13 @@ module _ (bad : Rec → Bool) (s : State) (valid : IsValid s) (who : Pid) (p : P
       (cases.make dir name o place written is_dir free standing (record { label = refl; mode = masked_is_mode mode p.umask; caps = refl; bytes = no_bytes; no_pipe = no_pipe }) (not_false _ room)
       (ap (λ (d : Object). dominates p.label d.label) (sym (dir_at dir is_dir)) ∙ order) (λ f. named (args f)))))))
 
-  pub mkdir_meets : (path : PathValue) (mode : ℕ) → (fit → are_names path && is_mode mode ≡ true) → Meets bad who p P (mkdir_row s who p path mode)
-  mkdir_meets path mode args = make_meets path mode body.Dir refl (λ e. let no : kind.Dir ≡ kind.Pipe = e in cc) (λ f. (and_parts (are_names path) (is_mode mode) (args f)).0)
+  pub mkdir_meets : (path : PathValue) (mode : ℕ) → (fit → are_names path ≡ true) → Meets bad who p P (mkdir_row s who p path mode)
+  mkdir_meets path mode args = make_meets path mode body.Dir refl (λ e. let no : kind.Dir ≡ kind.Pipe = e in cc) args
 
-  pub mkfifo_meets : (path : PathValue) (mode : ℕ) → (fit → are_names path && is_mode mode ≡ true) → Meets bad who p P (mkfifo_row s who p path mode)
-  mkfifo_meets path mode args = make_meets path mode body.Fifo refl (λ e. let no : kind.Fifo ≡ kind.Pipe = e in cc) (λ f. (and_parts (are_names path) (is_mode mode) (args f)).0)
+  pub mkfifo_meets : (path : PathValue) (mode : ℕ) → (fit → are_names path ≡ true) → Meets bad who p P (mkfifo_row s who p path mode)
+  mkfifo_meets path mode args = make_meets path mode body.Fifo refl (λ e. let no : kind.Fifo ≡ kind.Pipe = e in cc) args
 
-  pub link_meets : (path to : PathValue) → (fit → are_names path && are_names to ≡ true) → Meets bad who p P (link_row s who p path to)
+  pub link_meets : (path to : PathValue) → (fit → are_names to ≡ true) → Meets bad who p P (link_row s who p path to)
   link_meets path to args =
       let place : Place = last_place (λ n. First n) path in
       let there_place : Place = dir_place (λ n. Second n) to in
@@ -292,7 +292,7 @@ module _ (bad : Rec → Bool) (s : State) (valid : IsValid s) (who : Pid) (p : P
       (λ dir name stands free named. meets_enter_in dir there_place (held_order s id dir there_place) _ refl (λ written order standing.
       ends_give bad (subject who p) P cases.none _ answer.Nothing None
       (cases.enter dir name id there_place written stands free standing named_id (ap (λ (o : Object). not (is_dir o.kind)) (sym at_id) ∙ met_rule bad (subject who p) (link_dir s id place) refl passes)
-      (below_limit (link_count s id) few) ((λ i. dominates (sym at_id i).label (sym (dir_at dir stands) i).label) ∙ order) (λ f. named (and_parts (are_names path) (are_names to) (args f)).1)))))))))
+      (below_limit (link_count s id) few) ((λ i. dominates (sym at_id i).label (sym (dir_at dir stands) i).label) ∙ order) (λ f. named (args f))))))))))
 
   pub chdir_meets : (path : PathValue) → Meets bad who p P (chdir_row s who p path)
   chdir_meets path =
