@@ -278,7 +278,8 @@ module _ (policy : PolicyNames) where
       by_name None h = absurd (cc)
       by_name (Some n) h = from_made (MayBePlayed (top_of policy)) (λ item. line.One item.0 item.1) _ l h (λ item e.
           let is = both_are _ _ item e in
-          (tag_fine tag.bytes item.0 is.0, call_fine n (bytes_in ws) item.1 is.1))
+          let call_is = call_fine n (bytes_in ws) item.1 is.1 in
+          (tag_fine tag.bytes item.0 is.0, call_is.0, call_is.1))
 
       by_quotes : (v : Bool) → cond v (Err error.Syntax) (item_by policy tag.bytes (bytes_in ws) (call_named call.bytes)) ≡ Ok l → MayBePlayed (top_of policy) l
       by_quotes true h = absurd (cc)
