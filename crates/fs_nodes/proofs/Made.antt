@@ -1,9 +1,8 @@
 -- A new object gets a place of its own.
-use Rattle.std.specs.Prelude.{◌≡◌, ◌≢◌, ℕ, ◌+◌, ◌≤◌, true, false, Option, Some, None, IsSome, Result, Ok, Err, OnErr, refl, cond, is_some}
+use Rattle.std.specs.Prelude.{◌≡◌, ◌≢◌, ℕ, ◌+◌, ◌≤◌, true, false, Some, None, IsSome, Result, Ok, Err, OnErr, refl, cond, is_some}
 use Rattle.std.specs.FinMap as map
 use Rattle.std.specs.FinMap.{FinMap, get-insert, same_map, len-insert}
 use Rattle.std.proofs.Common.{ap, sym, ◌∙◌, subst, arith}
-use Rattle.std.proofs.lemmas.Bool.{true≢false}
 use Rattle.slab.specs.Slab.{Slab, slab_len, Updates, get}
 use Rattle.lab_lattice.specs.Label.{Label, label_cmp}
 use Rattle.lab_lattice.proofs.Labels.{label_cmp_total, label_cmp_exact}
@@ -12,7 +11,7 @@ use Rattle.kern_model.specs.declared.objects.Object.{Object}
 use Rattle.kern_model.specs.Keys.{oid_cmp, same_oid}
 use Rattle.kern_model.proofs.KeyLaws.{oid_cmp_total, oid_cmp_exact}
 use Rattle.kern_model.specs.State.{drawn}
-use Rattle.kern_model.proofs.MapLemmas.{same_key, some_same, never_some, get-insert_same, get_or-found}
+use Rattle.kern_model.proofs.MapLemmas.{same_key, some_same, get-insert_same, get_or-found}
 use Rattle.kern_model.proofs.TableLemmas.{each_set_at}
 use Rattle.fs_nodes.specs.Nodes.{IsPlaced, objects_in}
 use Rattle.fs_nodes.proofs.Places.{at_key, at_no_key, some_is, there_is}

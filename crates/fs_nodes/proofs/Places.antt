@@ -1,26 +1,22 @@
 -- Objects at their places in the slab, after one of them is changed or made.
-use Rattle.std.specs.Prelude.{◌≡◌, ◌≢◌, ◌↔◌, ℕ, ◌+◌, ◌≤◌, ◌<◌, ◌==◌, Bool, true, false, Option, Some, None, IsSome, refl, cond, length, slice_set, slice_index_or, is_some, count_by, Result, Ok, Err, OnOk}
-use Rattle.std.specs.Ordering.{eq_by_cmp}
+use Rattle.std.specs.Prelude.{◌≡◌, ◌≢◌, ℕ, ◌+◌, ◌<◌, ◌==◌, Bool, true, false, Option, Some, None, IsSome, refl, cond, length, slice_set, is_some, Result, Ok, Err, OnOk, OnErr}
 use Rattle.std.specs.Option.{option_and_then}
 use Rattle.std.specs.FinMap as map
 use Rattle.std.specs.FinMap.{FinMap, get-insert, same_map, len-insert, len-empty, get-empty}
 use Rattle.std.proofs.Common.{ap, sym, ◌∙◌, subst, arith, inl, inr}
 use Rattle.std.proofs.lemmas.Bool.{cases_lt, true≢false}
 use Rattle.std.proofs.lemmas.Bool.Decides.{nat_tests}
-use Rattle.std.proofs.lemmas.List.{get_or-set_same, get_or-set_other, get_or_past}
+use Rattle.std.proofs.lemmas.List.{get_or-set_same, get_or-set_other, get_or_past, set-get_or}
 use Rattle.std.proofs.lemmas.List.Sums.{sum_by-set}
-use Rattle.slab.specs.Slab.{Slab, slab_len, with_value, Updates, get}
-use Rattle.lab_lattice.specs.Label.{Label, label_cmp}
-use Rattle.lab_lattice.proofs.Labels.{label_cmp_total, label_cmp_exact}
+use Rattle.slab.specs.Slab.{Slab, slab_len, with_value, get}
+use Rattle.lab_lattice.specs.Label.{label_cmp}
 use Rattle.kern_model.specs.declared.numbers.Oid.{Oid}
 use Rattle.kern_model.specs.declared.objects.Object.{Object}
 use Rattle.kern_model.specs.Keys.{oid_cmp, same_oid}
 use Rattle.kern_model.proofs.KeyLaws.{oid_cmp_total, oid_cmp_exact}
-use Rattle.kern_model.specs.Maps.{select}
-use Rattle.kern_model.specs.State.{drawn}
 use Rattle.kern_model.specs.Valid.{IsThere}
-use Rattle.kern_model.proofs.MapLemmas.{get-select, same_key, some_same, never_some, get-insert_same}
-use Rattle.fs_nodes.specs.Nodes.{NodeTable, NodeSlots, IsPlaced, objects_in, with_object, next_in}
+use Rattle.kern_model.proofs.MapLemmas.{get-select, same_key, some_same, never_some}
+use Rattle.fs_nodes.specs.Nodes.{NodeTable, NodeSlots, IsPlaced, objects_in, with_object}
 
 -- a table that stands in a slab
 abbrev pub at_slots : Slab Object → FinMap oid_cmp ℕ → FinMap label_cmp ℕ → NodeSlots
@@ -81,6 +77,10 @@ module _ (slots : Slab Object) (key : ℕ) (there : IsSome (get slots key)) (o :
       let counted = sum_by-set (λ (slot : Option Object). cond (is_some slot) 1 0) slots.slots key (Some o) None (within slots key there) in
       let one = one_of (is_some (get slots key)) there in
       omega (arith, counted, one)
+
+-- a slab with the value that a slot has already
+pub same_value : (slots : Slab Object) (key : ℕ) (o : Object) → get slots key ≡ Some o → with_value slots key o ≡ slots
+same_value slots key o is = ap (λ w. record slots { slots = slice_set slots.slots key w }) (sym is) ∙ ap (λ l. record slots { slots = l }) (set-get_or slots.slots key None)
 
 -- the key of an object is its own
 pub one_key : {slots : Slab Object} {keys : FinMap oid_cmp ℕ} {numbers : FinMap label_cmp ℕ} → IsPlaced slots keys numbers → (a b : Oid) (key : ℕ) → map.get keys a ≡ Some key → map.get keys b ≡ Some key → a ≡ b
@@ -158,11 +158,12 @@ none_placed slots numbers none = record {
   drawn_already = λ id key e. absurd (never_some (map.get map.empty id) key (get-empty oid_cmp id) e);
 }
 
--- a slot that an object has is not empty
-pub never_vacant : {slots : Slab Object} {keys : FinMap oid_cmp ℕ} {numbers : FinMap label_cmp ℕ} → IsPlaced slots keys numbers → (id : Oid) (key : ℕ) → map.get keys id ≡ Some key → get slots key ≡ None → ⊥
-never_vacant {slots = slots} placed id key e = there_is (get slots key) (placed.there id key e)
-
 -- what holds where it succeeded, and what follows from it
 pub on_ok : {X E P Q : Type 0} (r : Result X E) → (P → Q) → OnOk r P → OnOk r Q
 on_ok (Ok x) f p = f p
 on_ok (Err e) f p = tt
+
+-- and the same where it failed
+pub on_err : {X E P Q : Type 0} (r : Result X E) → (P → Q) → OnErr r P → OnErr r Q
+on_err (Ok x) f p = tt
+on_err (Err e) f p = f p

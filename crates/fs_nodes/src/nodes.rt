@@ -1,5 +1,6 @@
 // The objects.
-ghost use Rattle.std.specs.Prelude.{◌≡◌, ◌↔◌, ◌≤◌, ◌<◌, ◌+◌, ◌++◌, ℕ, [], Some, None, Err, IfOk, OnErr, OnOk, drop, length, min, nat_lt, option_copied, take};
+ghost use Rattle.std.specs.Prelude.{◌≡◌, ◌↔◌, ◌≤◌, ◌<◌, ◌+◌, ◌++◌, ℕ, [], Some, None, Err, IfOk, IsSome, OnErr, OnOk, drop, length, min, nat_lt, option_copied, take};
+ghost use Rattle.std.specs.Borrow.{sem};
 ghost use Rattle.std.specs.FinMap as map;
 ghost use Rattle.slab.specs.Slab.{get, slab_len};
 ghost use Rattle.kern_model.specs.Keys.{same_oid};
@@ -10,13 +11,14 @@ ghost use Rattle.kern_model.specs.Valid.{IsThere};
 ghost use Rattle.kern_model.specs.declared.limits.TheConstants.{MAX_FILE_BYTES, MAX_OBJECTS};
 ghost use Rattle.kern_model.specs.declared.numbers.Oid.{Oid as Number};
 ghost use Rattle.kern_model.specs.declared.objects.Object.{Object as Value};
+ghost use Rattle.fs_nodes.specs.Lending.{LendsObject};
 ghost use Rattle.fs_nodes.specs.Nodes.{IsFile, next_in, no_nodes, with_new, with_object};
 
 use crate::NoMemory;
 use crate::buffers::Buffers;
 use crate::index::Index;
 use fs_path::ByteList;
-use kern_model::limits::{MAX_FILE_BYTES, MAX_OBJECTS};
+use kern_model::limits::MAX_FILE_BYTES;
 use kern_model::{Attr, Body, Kind, Object, Oid};
 use lab_lattice::Label;
 use slab::Slab;
@@ -129,7 +131,7 @@ impl Nodes {
     pub fn can_create(&self, label: &Label) -> bool
         ensures { result ≡ nat_lt (drawn self.now.table.numbers label.now) MAX_OBJECTS }
     {
-        (self.index.numbers.last(label) as usize) < MAX_OBJECTS
+        self.index.next(label).is_some()
     }
 
     /// Makes an object under the next number of its label, and returns the number.
@@ -153,10 +155,7 @@ impl Nodes {
         requires { IsThere self.old.table.objects id.now }
         ensures { (o : Value) → map.get self.old.table.objects id.now ≡ Some o → self.new.table ≡ with_object self.old.table id.now (record o { attr = attr }) }
     {
-        let key = self.index.place(id);
-        let Some(object) = self.slots.get_mut(key) else {
-            unreachable!();
-        };
+        let object = object_at(&mut self.slots, self.index.place(id));
         object.attr = attr;
     }
 
@@ -165,10 +164,7 @@ impl Nodes {
         requires { IsThere self.old.table.objects id.now }
         ensures { (o : Value) → map.get self.old.table.objects id.now ≡ Some o → self.new.table ≡ with_object self.old.table id.now (record o { label = label }) }
     {
-        let key = self.index.place(id);
-        let Some(object) = self.slots.get_mut(key) else {
-            unreachable!();
-        };
+        let object = object_at(&mut self.slots, self.index.place(id));
         object.label = label;
     }
 
@@ -177,10 +173,7 @@ impl Nodes {
         requires { IsFile self.old.table.objects id.now }
         ensures { (o : Value) → map.get self.old.table.objects id.now ≡ Some o → self.new.table ≡ with_object self.old.table id.now (record o { bytes = [] }) }
     {
-        let key = self.index.place(id);
-        let Some(object) = self.slots.get_mut(key) else {
-            unreachable!();
-        };
+        let object = object_at(&mut self.slots, self.index.place(id));
         object.bytes = ByteList::new(self.alloc);
     }
 
@@ -192,10 +185,7 @@ impl Nodes {
         ensures too_big { (o : Value) → map.get self.old.table.objects id.now ≡ Some o → (result ≡ Err WriteError.TooBig) ↔ (at ≤ length o.bytes) × (MAX_FILE_BYTES < at + length bytes.now) }
         ensures err { OnErr result (self.new.table ≡ self.old.table) }
     {
-        let key = self.index.place(id);
-        let Some(object) = self.slots.get_mut(key) else {
-            unreachable!();
-        };
+        let object = object_at(&mut self.slots, self.index.place(id));
         write_over(&mut object.bytes, at, bytes)
     }
 
@@ -211,6 +201,18 @@ impl Nodes {
         let from = (at as usize).min(bytes.len());
         let to = from + (n as usize).min(bytes.len() - from);
         ByteList::from_slice(self.alloc, &bytes[from..to])
+    }
+}
+
+// The object under a key of the slab that has one.
+fn object_at(slots: &mut Slab<Object>, key: usize) -> &mut Object
+    requires { IsSome (get slots.old key) }
+    ensures* writes_back { sem 𝓛 (LendsObject slots.entry key result) }
+    ensures value { get slots.old key ≡ Some result.now }
+{
+    match slots.get_mut(key) {
+        Some(object) => object,
+        None => unreachable!(),
     }
 }
 
@@ -263,26 +265,17 @@ impl Buffers for Nodes {
     }
 
     fn put_bytes(&mut self, id: &Oid, bytes: &[u8]) -> Result<(), NoMemory> {
-        let key = self.index.place(id);
-        let Some(object) = self.slots.get_mut(key) else {
-            unreachable!();
-        };
+        let object = object_at(&mut self.slots, self.index.place(id));
         object.bytes.extend_from_slice(bytes)
     }
 
     fn take_bytes(&mut self, id: &Oid, buf: &mut [u8]) -> usize {
-        let key = self.index.place(id);
-        let Some(object) = self.slots.get_mut(key) else {
-            unreachable!();
-        };
+        let object = object_at(&mut self.slots, self.index.place(id));
         object.bytes.take_first(buf)
     }
 
     fn drop_bytes(&mut self, id: &Oid) {
-        let key = self.index.place(id);
-        let Some(object) = self.slots.get_mut(key) else {
-            unreachable!();
-        };
+        let object = object_at(&mut self.slots, self.index.place(id));
         object.bytes = ByteList::new(self.alloc);
     }
 

@@ -1,8 +1,6 @@
-use Rattle.std.specs.Prelude.{◌≡◌}
-use Rattle.std.proofs.Common.{ap, sym, ◌∙◌}
+use Rattle.std.proofs.Common.{ap, ◌∙◌}
 use Rattle.std.specs.FinMap as map
 use Rattle.kern_model.proofs.KeyLaws.{oid_cmp_total, oid_cmp_exact}
-use Rattle.fs_nodes.specs.declared.index.Index.{Index}
 use Rattle.kern_model.proofs.MapLemmas.{remove-insert}
 use Rattle.fs_nodes.proofs.index.Index.enter.Goals as goal
 

@@ -1,22 +1,21 @@
 use Rattle.std.specs.Prelude.{List, ℕ}
 use Rattle.std.proofs.Common.{ap, sym, ◌∙◌, subst}
-use Rattle.std.specs.Option.{option_copied_mut}
 use Rattle.kern_model.specs.declared.objects.Object.{Object}
 use Rattle.kern_model.specs.Valid.{IsThere}
 use Rattle.fs_nodes.specs.Nodes.{NodeSlots, with_object}
-use Rattle.fs_nodes.proofs.Places.{key_there, still_placed, table_set, never_vacant}
+use Rattle.fs_nodes.proofs.Places.{key_there, still_placed, table_set}
 use Rattle.fs_nodes.proofs.nodes.Nodes.truncate.Goals as goal
 
-pub place-key-requires : goal.place-key-requires
-place-key-requires c = key_there c.self.inside.slots c.self.inside.index.keys c.args.id.now (subst (λ (n : NodeSlots). IsThere n.table.objects c.args.id.now) (sym c.self.view_is) (record { value = c.requires.object; is = c.requires.is }))
+pub place-requires : goal.place-requires
+place-requires c = key_there c.self.inside.slots c.self.inside.index.keys c.args.id.now (subst (λ (n : NodeSlots). IsThere n.table.objects c.args.id.now) (sym c.self.view_is) (record { value = c.requires.object; is = c.requires.is }))
 
 pub invariant_of-self : goal.invariant_of-self
-invariant_of-self c = still_placed c.self.invariant c.args.id.now c.place-key.result c.place-key.ensures _
+invariant_of-self c = still_placed c.self.invariant c.args.id.now c.place.result c.place.ensures _
 
 pub returns : goal.returns
 returns c old h =
-    table_set c.self.invariant c.args.id.now c.place-key.result c.place-key.ensures (λ (o : Object). record o { bytes = c.new.result }) c.in-Some.object.now old
-    (sym c.get_mut.ensures.value ∙ ap option_copied_mut c.in-Some.is) c.args.self.now c.self.view_is h ∙ ap (λ (bytes : List ℕ). with_object c.args.self.now.table c.args.id.now (record old { bytes = bytes })) c.new.ensures
+    table_set c.self.invariant c.args.id.now c.place.result c.place.ensures (λ (o : Object). record o { bytes = c.new.result }) c.object_at-object.result.now old
+    c.object_at-object.ensures.value c.args.self.now c.self.view_is h ∙ ap (λ (bytes : List ℕ). with_object c.args.self.now.table c.args.id.now (record old { bytes = bytes })) c.new.ensures
 
-pub unreachable-requires : goal.unreachable-requires
-unreachable-requires c = never_vacant c.self.invariant c.args.id.now c.place-key.result c.place-key.ensures (sym c.get_mut.ensures.value ∙ ap option_copied_mut c.in_default.is)
+pub object_at-object-requires : goal.object_at-object-requires
+object_at-object-requires c = c.self.invariant.there c.args.id.now c.place.result c.place.ensures
