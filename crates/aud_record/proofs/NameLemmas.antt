@@ -5,7 +5,7 @@ use Rattle.std.specs.Str.{str_to_ascii_lowercase}
 use Rattle.std.proofs.Common.{ap, sym, ◌∙◌}
 use Rattle.std.proofs.lemmas.Bool.{both_ways}
 use Rattle.cap_bits.specs.Cap.{cap_name, cap_named, all_caps}
-use Rattle.cap_bits.proofs.Names.{cap_named_by}
+use Rattle.cap_bits.proofs.Names.{cap_named_by, lower_name}
 use Rattle.cap_bits.specs.declared.cap.Cap.{Cap}
 use Rattle.cap_bits.specs.declared.cap.Cap.TheVariants as cap
 use Rattle.lab_text.specs.Names.{same_bytes}
@@ -13,10 +13,6 @@ use Rattle.kern_model.specs.Named.{named}
 use Rattle.kern_model.proofs.NamedLaws.{named_is}
 use Rattle.aud_record.proofs.ListedLaws.{cap_round_trip}
 use Rattle.aud_record.proofs.Numbers.{same_itself, same_is, none_from}
-
-lower_name : (c : Cap) → str_to_ascii_lowercase (cap_name c) ≡ cap_name c
-lower_name cap.Chown = refl
-lower_name _ = refl
 
 -- a capability's name names it in any spelling
 in_any_case : (word : List ℕ) (c : Cap) → named cap_name all_caps word ≡ Some c → cap_named word ≡ Some c

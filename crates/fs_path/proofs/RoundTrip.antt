@@ -5,16 +5,17 @@ use Rattle.std.specs.Cmp.Lexicographic.{pointwise}
 use Rattle.std.specs.Fmt.{decimal}
 use Rattle.std.specs.List.{flat_map, list_all, prefix_len, slice_split}
 use Rattle.std.specs.Option.{option_and_then, option_map}
-use Rattle.std.proofs.lemmas.Bool.{cases_Bool, and_parts, and_from, or_parts, eqb-true, eqb-false, ne_eqb, eq-eqb, leb-true, leb-false, ltb-true, lt-ltb, le-leb, lt-leb, cond-true, cond-false}
+use Rattle.std.proofs.lemmas.Bool.{cases_Bool, and_parts, and_from, or_parts, eqb-true, eqb-false, ne_eqb, leb-true, leb-false, ltb-true, lt-ltb, le-leb, lt-leb, cond-true, cond-false}
 use Rattle.std.proofs.lemmas.Fmt.{decimal_by_steps, decimal_nonempty, length-decimal-le}
 use Rattle.std.proofs.lemmas.List.{append-nil, length-append, take_at, drop_at, length-map}
 use Rattle.std.proofs.lemmas.List.Elements.{All-nil, All-cons}
 use Rattle.std.proofs.lemmas.List.Folds.{list_all-append}
 use Rattle.std.proofs.lemmas.List.Splits.{slice_split_none, slice_split_at}
 use Rattle.std.proofs.Math.Nat.{div-div-eq-div-mul}
+use Rattle.fs_path.specs.declared.values.TheConstants.{MAX_MODE}
 use Rattle.fs_path.specs.declared.words.LineWord.{LineWord}
 use Rattle.fs_path.specs.Options.{keep_if}
-use Rattle.fs_path.specs.Values.{is_digit, digits_value, numeral, number_of, mode_of, numbers_of, few_numbers, groups_of, mode_text, after_commas, groups_text}
+use Rattle.fs_path.specs.Values.{is_digit, digits_value, numeral, number_of, is_mode, mode_of, numbers_of, few_numbers, groups_of, mode_text, after_commas, groups_text}
 use Rattle.fs_path.specs.Split.{onto_piece}
 use Rattle.fs_path.specs.Words.{is_space, is_plain, is_bare, is_bare_text, hex_value, hex_pair, escaped, first_item, items_of, quoted_word, leading_word, apart, is_apart, first_word, trim_spaces, words_by, words_of, hex_digit, item_text, quoted_text, has_spelling, with_quotes_if_needed, spelling, after_spaces, line_text}
 use Rattle.fs_path.proofs.WordSteps.{items_next, words_are, words_first}
@@ -161,15 +162,16 @@ unfolding digits_value
 value_four a b c d = omega arith
 
 -- a mode is read again
-pub mode_round_trip : (m : ℕ) → m ≤ 4095 → (m / 512) % 2 ≡ 0 → mode_of (mode_text m) ≡ Some m
+pub mode_round_trip : (m : ℕ) → is_mode m ≡ true → mode_of (mode_text m) ≡ Some m
 unfolding mode_text
-mode_round_trip m small even =
+mode_round_trip m is =
+    let small = leb-true m MAX_MODE (and_parts _ _ is).0 in
     let digit = λ (k : ℕ). digit_is 8 (k % 8) (omega arith) in
     let digits : list_all (is_digit 8) (mode_text m) ≡ true = and_from _ _ (digit (m / 512)) (and_from _ _ (digit (m / 64)) (and_from _ _ (digit (m / 8)) (and_from _ _ (digit m) refl))) in
     let sixty_four = div-div-eq-div-mul m 8 8 in
     let whole : 512 * (m / 512 % 8) + 64 * (m / 64 % 8) + 8 * (m / 8 % 8) + m % 8 ≡ m = omega (arith, sixty_four, div-div-eq-div-mul m 64 8) in
-    ap (option_and_then (λ mode. keep_if ((mode / 512) % 2 == 0) mode)) (numeral_is 8 4 4095 m (mode_text m) (omega arith) (omega arith) digits (value_four (m / 512 % 8) (m / 64 % 8) (m / 8 % 8) (m % 8) ∙ whole) small)
-    ∙ ap (λ t. keep_if t m) (eq-eqb ((m / 512) % 2) 0 even)
+    ap (option_and_then (λ mode. keep_if (is_mode mode) mode)) (numeral_is 8 4 MAX_MODE m (mode_text m) (omega arith) (omega arith) digits (value_four (m / 512 % 8) (m / 64 % 8) (m / 8 % 8) (m % 8) ∙ whole) small)
+    ∙ ap (λ t. keep_if t m) is
 
 -- ---- lists of numbers
 

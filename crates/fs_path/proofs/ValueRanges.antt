@@ -1,13 +1,14 @@
 -- The ranges of numbers, modes and groups that words denote.
-use Rattle.std.specs.Prelude.{◌≡◌, ℕ, ◌≤◌, ◌<◌, ◌/◌, ◌%◌, ◌==◌, nat_le, Bool, true, false, cond, List, [], ◌∷◌, length, Option, Some, None, refl, codes}
+use Rattle.std.specs.Prelude.{◌≡◌, ℕ, ◌≤◌, ◌==◌, nat_le, Bool, true, false, cond, List, [], ◌∷◌, length, Option, Some, None, refl, codes}
 use Rattle.std.specs.Cmp.Lexicographic.{pointwise}
 use Rattle.std.specs.List.{slice_split}
 use Rattle.std.specs.Option.{option_map}
 use Rattle.std.proofs.Common.{ap, sym, subst, arith}
-use Rattle.std.proofs.lemmas.Bool.{and_parts, leb-true, eqb-true}
+use Rattle.std.proofs.lemmas.Bool.{and_parts, leb-true}
 use Rattle.std.proofs.lemmas.Option.{cond_some, option_and_then_some, same_Some}
 use Rattle.fs_path.specs.Options.{keep_if}
-use Rattle.fs_path.specs.Values.{numeral, number_of, mode_of, numbers_of, few_numbers, groups_of}
+use Rattle.fs_path.specs.Values.{numeral, number_of, is_mode, mode_of, numbers_of, few_numbers, groups_of}
+use Rattle.fs_path.specs.declared.values.TheConstants.{MAX_MODE}
 
 -- a numeral is at least its lowest and at most its highest value
 pub numeral_range : (base most low high : ℕ) (word : List ℕ) (n : ℕ) → numeral base most low high word ≡ Some n → (low ≤ n) × (n ≤ high)
@@ -18,12 +19,11 @@ numeral_range base most low high word n is =
     let first = and_parts _ _ last.0 in
     (subst (λ m. low ≤ m) kept.1 (leb-true _ _ first.1), subst (λ m. m ≤ high) kept.1 (leb-true _ _ last.1))
 
--- a mode has twelve bits, of which one is not set
-pub mode_range : (word : List ℕ) (mode : ℕ) → mode_of word ≡ Some mode → (mode < 4096) × ((mode / 512) % 2 ≡ 0)
-mode_range word mode is = option_and_then_some _ (numeral 8 4 0 4095 word) mode is (λ n n_is last.
+-- what is read as a mode is one
+pub mode_range : (word : List ℕ) (mode : ℕ) → mode_of word ≡ Some mode → is_mode mode ≡ true
+mode_range word mode is = option_and_then_some _ (numeral 8 4 0 MAX_MODE word) mode is (λ n n_is last.
     let kept = cond_some _ _ _ last in
-    let range = (numeral_range 8 4 0 4095 word n n_is).1 in
-    (subst (λ m. m < 4096) kept.1 (omega arith), subst (λ m. (m / 512) % 2 ≡ 0) kept.1 (eqb-true _ _ kept.0)))
+    subst (λ m. is_mode m ≡ true) kept.1 kept.0)
 
 -- each word denotes one number
 pub as_many : (words : List (List ℕ)) (numbers : List ℕ) → numbers_of words ≡ Some numbers → length numbers ≡ length words

@@ -5,6 +5,7 @@ use Rattle.std.specs.Fmt.{decimal}
 use Rattle.std.specs.List.{flat_map, list_all, slice_split}
 use Rattle.std.specs.Option.{option_and_then, option_map}
 use Rattle.fs_path.specs.Options.{keep_if}
+use Rattle.fs_path.specs.declared.values.TheConstants.{MAX_MODE, STICKY}
 
 -- ---- what is read
 
@@ -26,9 +27,13 @@ numeral base most low high w =
 abbrev pub number_of : List ℕ → Option ℕ
 number_of word = numeral 10 10 0 4294967295 word
 
--- 1 to 4 octal digits, without the bit 1000
+-- a mode lies within octal 6777
+abbrev pub is_mode : ℕ → Bool
+is_mode mode = nat_le mode MAX_MODE && (mode / STICKY) % 2 == 0
+
+-- 1 to 4 octal digits that are a mode
 abbrev pub mode_of : List ℕ → Option ℕ
-mode_of word = option_and_then (λ mode. keep_if ((mode / 512) % 2 == 0) mode) (numeral 8 4 0 4095 word)
+mode_of word = option_and_then (λ mode. keep_if (is_mode mode) mode) (numeral 8 4 0 MAX_MODE word)
 
 -- the numbers that words denote, where each denotes one
 abbrev pub numbers_of : List (List ℕ) → Option (List ℕ)

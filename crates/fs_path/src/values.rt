@@ -3,14 +3,18 @@ ghost use Rattle.std.specs.Prelude.{◌≡◌, ◌+◌, ◌%◌, ◌&&◌, ◌<�
 ghost use Rattle.std.specs.Fmt.{decimal};
 ghost use Rattle.std.specs.List.{list_all, slice_split};
 ghost use Rattle.fs_path.specs.Options.{keep_if};
-ghost use Rattle.fs_path.specs.Values.{is_digit, digits_value, numeral, number_of, mode_of, numbers_of, groups_of, mode_text, groups_text};
+ghost use Rattle.fs_path.specs.Values.{is_digit, digits_value, numeral, number_of, mode_of, is_mode, numbers_of, groups_of, mode_text, groups_text};
 
 use crate::{List, NoMemory};
 use std::alloc::Global;
 
 const MAX_NUMBER: u64 = u32::MAX as u64;
 
-const STICKY: u64 = 0o1000;
+// The greatest number of four octal digits.
+const MAX_MODE: u16 = 0o7777;
+
+// The bit that no mode has.
+const STICKY: u16 = 0o1000;
 
 const MAX_GROUPS: usize = 16;
 
@@ -59,15 +63,19 @@ pub fn number_of(word: &[u8]) -> Option<u32>
     Some(number as u32)
 }
 
-/// Permission and set-id bits: 1 to 4 octal digits without the bit 1000.
+/// Whether bits are a mode: permission and set-id bits, within octal 6777.
+pub fn is_mode(bits: u16) -> bool
+    ensures { result ≡ is_mode bits }
+{
+    bits <= MAX_MODE && bits / STICKY % 2 == 0
+}
+
+/// A mode: 1 to 4 octal digits without the bit 1000.
 pub fn mode_of(word: &[u8]) -> Option<u16>
     ensures { result ≡ mode_of word.now }
 {
-    let mode = numeral(word, 8, 4, 0, 0o7777)?;
-    if mode / STICKY % 2 != 0 {
-        return None;
-    }
-    Some(mode as u16)
+    let bits = numeral(word, 8, 4, 0, u64::from(MAX_MODE))? as u16;
+    is_mode(bits).then_some(bits)
 }
 
 // The numbers that words denote, where each denotes one.

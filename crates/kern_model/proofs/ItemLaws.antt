@@ -1,5 +1,5 @@
 -- A row and its list of items stop alike.
-use Rattle.std.specs.Prelude.{◌≡◌, Bool, true, false, List, [], ◌∷◌, Some, refl, cond}
+use Rattle.std.specs.Prelude.{◌≡◌, Bool, true, false, List, Some, refl, cond}
 use Rattle.std.proofs.Common.{sym, ◌∙◌, ap}
 use Rattle.kern_model.specs.declared.checks.Check.{Check}
 use Rattle.kern_model.specs.declared.checks.Verdict.{Verdict}

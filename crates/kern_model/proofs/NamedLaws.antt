@@ -1,5 +1,5 @@
 -- Words and what they name: what is found has the word, and each call, check and error number is found by its word.
-use Rattle.std.specs.Prelude.{◌≡◌, ℕ, Bool, true, false, ◌==◌, cond, List, [], ◌∷◌, Option, Some, refl}
+use Rattle.std.specs.Prelude.{◌≡◌, ℕ, Bool, true, false, ◌==◌, cond, List, [], ◌∷◌, Some, refl}
 use Rattle.std.specs.Cmp.Lexicographic.{pointwise, same_text}
 use Rattle.std.specs.List.{find}
 use Rattle.std.proofs.Common.{ap, sym, ◌∙◌}

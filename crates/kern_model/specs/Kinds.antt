@@ -1,7 +1,9 @@
 -- Kinds of objects, their modes, and what is reported of an object.
-use Rattle.std.specs.Prelude.{ℕ, ◌/◌, ◌%◌, ◌==◌, ◌&&◌, ◌||◌, nat_lt, Bool, true, false, List, [], bit_and}
+use Rattle.std.specs.Prelude.{ℕ, ◌==◌, ◌||◌, nat_le, Bool, true, false, List, [], bit_and}
 use Rattle.std.specs.Int.{bit_at, bit_not, w16}
+pub use Rattle.fs_path.specs.Values.{is_mode}
 use Rattle.lab_lattice.specs.Label.{Label}
+use Rattle.kern_model.specs.declared.limits.TheConstants.{MAX_PERMISSIONS}
 use Rattle.kern_model.specs.declared.objects.Attr.{Attr}
 use Rattle.kern_model.specs.declared.objects.Body.{Body}
 use Rattle.kern_model.specs.declared.objects.Body.TheVariants as body
@@ -43,13 +45,9 @@ object_with label attr body = record { kind = kind_of body; label = label; attr 
 
 -- ---- modes
 
--- a mode lies within octal 6777
-abbrev pub is_mode : ℕ → Bool
-is_mode mode = nat_lt mode 4096 && (mode / 512) % 2 == 0
-
 -- permission bits lie within octal 0777
 abbrev pub is_permission : ℕ → Bool
-is_permission mode = nat_lt mode 512
+is_permission mode = nat_le mode MAX_PERMISSIONS
 
 abbrev pub sets_user : ℕ → Bool
 sets_user mode = bit_at mode 11 == 1
@@ -63,7 +61,7 @@ has_set_id mode = sets_user mode || sets_group mode
 
 -- the permission bits of a mode
 abbrev pub permissions : ℕ → ℕ
-permissions mode = bit_and mode 511
+permissions mode = bit_and mode MAX_PERMISSIONS
 
 -- the permission bits of a mode but for those of an umask
 abbrev pub masked : ℕ → ℕ → ℕ

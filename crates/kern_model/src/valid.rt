@@ -8,12 +8,13 @@ ghost use Rattle.lab_lattice.specs.Label.{bottom, dominates};
 ghost use Rattle.kern_model.specs.declared.objects.Body.TheVariants as body;
 ghost use Rattle.kern_model.specs.declared.world.WorldObject.{WorldObject};
 ghost use Rattle.kern_model.specs.declared.world.WorldProc.{WorldProc};
-ghost use Rattle.kern_model.specs.Kinds.{is_file, kind_of, bytes_of, is_mode};
+ghost use Rattle.kern_model.specs.Kinds.{is_file, kind_of, bytes_of};
 ghost use Rattle.kern_model.specs.World.{objects_at, procs_at, same_names, parent_names, given, IsPlaced, ArePlaced, IsWorldObject, AreOne, IsWorldProc, HasRoom, IsWorld};
 
 use crate::limits::{MAX_FILE_BYTES, MAX_GROUPS, MAX_OBJECTS, MAX_PROCS};
-use crate::{Body, Ids, Mode, Name, World, WorldObject, WorldProc};
+use crate::{Body, Ids, Name, World, WorldObject, WorldProc};
 use cap_bits::CapState;
+use fs_path::is_mode;
 use lab_lattice::{Label, Lattice, bottom};
 
 // Whether two paths have the same names.
@@ -75,12 +76,6 @@ fn are_placed(objects: &[WorldObject]) -> bool
         }
     }
     true
-}
-
-fn is_mode(mode: Mode) -> bool
-    ensures { result ≡ is_mode mode }
-{
-    mode < 4096 && (mode / 512) % 2 == 0
 }
 
 // Whether there is no capability in any set.

@@ -4,10 +4,11 @@ use Rattle.std.proofs.Common.{sym, ◌∙◌, ap, subst, arith}
 use Rattle.std.specs.Bool.{beq}
 use Rattle.std.specs.List.{starts_with}
 use Rattle.std.specs.Option.{ok_or, option_and_then, option_map}
-use Rattle.std.proofs.lemmas.Bool.{and_parts, and_from}
+use Rattle.std.proofs.lemmas.Bool.{and_parts, and_from, le-leb}
 use Rattle.std.proofs.lemmas.Bool.Decides.{nat_tests}
 use Rattle.std.proofs.lemmas.Int.{ints}
 use Rattle.fs_path.proofs.PathLaws.{path_form}
+use Rattle.fs_path.proofs.ValueRanges.{mode_range, numeral_range}
 use Rattle.fs_path.specs.Path.{PathValue}
 use Rattle.fs_path.specs.PathText.{path_fault, parse_path}
 use Rattle.fs_path.specs.declared.path.PathError.{PathError}
@@ -64,26 +65,11 @@ from_made P make (Err e) b h p = absurd (cc)
 -- ---- arguments
 
 numeral_within : (base most low high : ℕ) (w : List ℕ) (n : ℕ) → numeral base most low high w ≡ Some n → (nat_le low n ≡ true) × (nat_le n high ≡ true)
-unfolding numeral
-numeral_within base most low high w n h =
-    let is = kept _ (digits_value base 0 w) n h in
-    let upper = and_parts _ (nat_le (digits_value base 0 w) high) is.0 in
-    let lower = and_parts _ (nat_le low (digits_value base 0 w)) upper.0 in
-    (ap (nat_le low) (sym is.1) ∙ lower.1, ap (λ v. nat_le v high) (sym is.1) ∙ upper.1)
+numeral_within base most low high w n h = let range = numeral_range base most low high w n h in (le-leb low n range.0, le-leb n high range.1)
 
 mode_fine : (w : List ℕ) (m : ℕ) → a_mode w ≡ Ok m → is_mode m ≡ true
 unfolding a_mode
-mode_fine w m h = by_numeral (numeral 8 4 0 4095 w) (λ n e. (numeral_within 8 4 0 4095 w n e).1) (there (mode_of w) _ m h)
-  where
-    by_numeral : (o : Option ℕ) → ((n : ℕ) → o ≡ Some n → nat_le n 4095 ≡ true) → option_and_then (λ mode. keep_if ((mode / 512) % 2 == 0) mode) o ≡ Some m → is_mode m ≡ true
-    by_numeral None within h = absurd (cc)
-    by_numeral (Some n) within h =
-        let is = kept ((n / 512) % 2 == 0) n m h in
-        let small : nat_lt n 4096 ≡ true = below (within n refl) in
-        ap is_mode (sym is.1) ∙ and_from (nat_lt n 4096) ((n / 512) % 2 == 0) small is.0
-      where
-        below : nat_le n 4095 ≡ true → nat_lt n 4096 ≡ true
-        below le = grind (arith, nat_tests)
+mode_fine w m h = mode_range w m (there (mode_of w) _ m h)
 
 path_fine : (w : List ℕ) (path : PathValue) → a_path w ≡ Ok path → are_names path ≡ true
 unfolding a_path
@@ -95,10 +81,7 @@ path_fine w path h = by_fault (path_fault w) refl h
 
 permission_fine : (w : List ℕ) (m : ℕ) → a_permission w ≡ Ok m → is_permission m ≡ true
 unfolding a_permission
-permission_fine w m h = below (numeral_within 8 4 0 MAX_PERMISSIONS w m (there (numeral 8 4 0 MAX_PERMISSIONS w) _ m h)).1
-  where
-    below : nat_le m MAX_PERMISSIONS ≡ true → nat_lt m 512 ≡ true
-    below le = grind (arith, nat_tests)
+permission_fine w m h = (numeral_within 8 4 0 MAX_PERMISSIONS w m (there (numeral 8 4 0 MAX_PERMISSIONS w) _ m h)).1
 
 number_fine : (high : ℕ) (w : List ℕ) (n : ℕ) → a_number_up_to high w ≡ Ok n → nat_le n high ≡ true
 unfolding a_number_up_to

@@ -303,9 +303,6 @@ path_formed word path is = option_and_then_some _ (path_of word) path is (λ p p
     let absolute = cond_some _ _ _ kept in
     subst (λ (p : PathValue). (p.absolute ≡ true) × HasForm p.absolute p.names) absolute.1 (absolute.0, subst (λ (p : PathValue). HasForm p.absolute p.names) said.1 (path_form word fine)))
 
-mode_formed : (word : List ℕ) (mode : ℕ) → mode_of word ≡ Some mode → is_mode mode ≡ true
-mode_formed word mode is = let range = mode_range word mode is in and_from _ _ (lt-ltb mode 4096 range.0) (ap (λ n. n == 0) range.1)
-
 fields_formed : (policy : PolicyNames) (path mode uid gid label : List ℕ) (f : ObjectFields) → object_fields_of policy path mode uid gid label ≡ Some f → IsFormed policy f
 unfolding object_fields_of
 fields_formed policy path mode uid gid label f is =
@@ -313,7 +310,7 @@ fields_formed policy path mode uid gid label f is =
     option_and_then_some _ (number_of uid) f rest (λ u _ rest. option_and_then_some _ (number_of gid) f rest (λ g _ last.
     let same : record { path = a; mode = m; owner = u; group = g; label = label_of policy label } ≡ f = same_Some _ _ last in
     let formed = path_formed path a a_is in
-    subst (λ (f : ObjectFields). IsFormed policy f) same (record { absolute = formed.0; path = formed.1; mode = mode_formed mode m m_is; below = label_below policy label })))))
+    subst (λ (f : ObjectFields). IsFormed policy f) same (record { absolute = formed.0; path = formed.1; mode = mode_range mode m m_is; below = label_below policy label })))))
 
 tree_sound : (w : PartialWorld) (form : Option ObjectFields) (caps : WordValue CapState) (b : Body) → MakePolicy w.policy → SoundTree w.policy w.builder
     → ((f : ObjectFields) → form ≡ Some f → IsFormed w.policy f) → length (bytes_of b) ≤ MAX_FILE_BYTES → (b ≡ body.Pipe → ⊥)

@@ -35,8 +35,7 @@ IsCanonicalBody body.Pipe = ⊥
 -- what the words of an object's line spell
 pub record IsCanonicalObject (o : WorldObject) : Type 0 where
   pub path : IsCanonicalPath o.path
-  pub mode : o.attr.mode ≤ 4095
-  pub not_sticky : (o.attr.mode / 512) % 2 ≡ 0
+  pub mode : is_mode o.attr.mode ≡ true
   pub owner : IsNumber o.attr.owner
   pub group : IsNumber o.attr.group
   pub body : IsCanonicalBody o.body
@@ -59,17 +58,13 @@ canonical_body body.Fifo no_pipe bytes = tt
 canonical_body body.Pipe no_pipe bytes = absurd (no_pipe refl)
 
 canonical_object : (top : Label) (o : WorldObject) → IsWorldObject top o → IsWrittenObject o → IsCanonicalObject o
-canonical_object top o is written =
-    let mode = and_parts _ _ is.mode in
-    let low = ltb-true o.attr.mode 4096 mode.0 in
-    record {
-      path = record { absolute = is.absolute; form = is.path; bytes = written.path };
-      mode = omega arith;
-      not_sticky = eqb-true _ _ mode.1;
-      owner = written.owner;
-      group = written.group;
-      body = canonical_body o.body is.no_pipe written.body;
-    }
+canonical_object top o is written = record {
+  path = record { absolute = is.absolute; form = is.path; bytes = written.path };
+  mode = is.mode;
+  owner = written.owner;
+  group = written.group;
+  body = canonical_body o.body is.no_pipe written.body;
+}
 
 canonical_ids : (top : Label) (p : WorldProc) → IsWorldProc top p → IsWrittenIds p.ids → IsCanonicalIds p.ids
 canonical_ids top p is written = record {

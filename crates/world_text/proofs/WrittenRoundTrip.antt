@@ -178,7 +178,7 @@ object_fields_round_trip : (policy : PolicyNames) (o : WorldObject) → MakePoli
     ≡ Some (record { path = o.path; mode = o.attr.mode; owner = o.attr.owner; group = o.attr.group; label = label_of policy (label_text policy o.label) })
 unfolding object_fields_of
 object_fields_round_trip policy o h valid is =
-    then_some _ _ _ (path_round_trip o.path is.path) ∙ then_some _ _ _ (mode_round_trip o.attr.mode is.mode is.not_sticky) ∙ then_some _ _ _ (number_round_trip o.attr.owner is.owner)
+    then_some _ _ _ (path_round_trip o.path is.path) ∙ then_some _ _ _ (mode_round_trip o.attr.mode is.mode) ∙ then_some _ _ _ (number_round_trip o.attr.owner is.owner)
     ∙ then_some _ _ _ (number_round_trip o.attr.group is.group)
 
 tree_says : (w : PartialWorld) (o : WorldObject) (caps : WordValue CapState) → MakePolicy w.policy → is_valid w.policy o.label ≡ true → IsCanonicalObject o → caps ≡ value.Known o.attr.caps

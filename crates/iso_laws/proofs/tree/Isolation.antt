@@ -1,7 +1,7 @@
 -- The calls on entries: a Low process in the state and in its part, and what the changes meet.
 use Rattle.std.specs.Prelude.{◌≡◌, ℕ, ◌+◌, ◌/◌, ◌%◌, ◌==◌, ◌<◌, ◌≤◌, ◌&&◌, nat_le, nat_lt, Bool, true, false, not, List, [], ◌∷◌, Option, None, Some, refl}
 use Rattle.std.proofs.Common.{sym, ◌∙◌, ap, subst, arith}
-use Rattle.std.proofs.lemmas.Bool.{and_parts, and_from, leb-false}
+use Rattle.std.proofs.lemmas.Bool.{and_parts, and_from, le-leb, leb-false}
 use Rattle.std.proofs.lemmas.Bool.Decides.{nat_tests}
 use Rattle.std.proofs.lemmas.Nat.{and_le_l, and_le_r}
 use Rattle.std.specs.Int.{bit_not, w16}
@@ -30,6 +30,8 @@ use Rattle.kern_model.specs.Create.{made, make_in, enter_in, attr_of, has_object
 use Rattle.kern_model.specs.declared.records.Rec.{Rec}
 use Rattle.kern_model.specs.Entries.{names_in, is_empty, is_removed, link_count}
 use Rattle.kern_model.specs.Isolation.{low, crosses, Kept}
+use Rattle.kern_model.specs.declared.limits.TheConstants.{MAX_PERMISSIONS}
+use Rattle.fs_path.specs.declared.values.TheConstants.{MAX_MODE, STICKY}
 use Rattle.kern_model.specs.Kinds.{is_dir, is_mode, permissions, masked, kind_of, bytes_of, object_with}
 use Rattle.kern_model.specs.Row.{Row, Need, Refuse, Commit}
 use Rattle.kern_model.specs.Rules.{of_object, mode_allows, same_label, cap_of, mac_write, dac_read, created_order, held_order, link_dir, unlink_dir}
@@ -52,12 +54,9 @@ use Rattle.iso_laws.proofs.tree.Entries.{names_low, empty_low, link_count_low, r
 masked_is_mode : (mode umask : ℕ) → is_mode (masked mode umask) ≡ true
 masked_is_mode mode umask =
     let m : ℕ = masked mode umask in
-    let small : m < 512 = omega (arith, and_le_l (permissions mode) (bit_not w16 umask), and_le_r mode 511) in
-    let none : m / 512 ≡ 0 = omega (arith, small) in
-    and_from (nat_lt m 4096) ((m / 512) % 2 == 0) (below m small) (ap (λ n. n % 2 == 0) none)
-  where
-    below : (m : ℕ) → m < 512 → nat_lt m 4096 ≡ true
-    below m h = grind (arith, nat_tests)
+    let small : m ≤ MAX_PERMISSIONS = omega (arith, and_le_l (permissions mode) (bit_not w16 umask), and_le_r mode MAX_PERMISSIONS) in
+    let none : m / STICKY ≡ 0 = omega (arith, small) in
+    and_from (nat_le m MAX_MODE) ((m / STICKY) % 2 == 0) (le-leb m MAX_MODE (omega (arith, small))) (ap (λ n. n % 2 == 0) none)
 
 -- one more than what is not too many
 below_limit : (n : ℕ) → nat_le MAX_LINKS n ≡ false → n + 1 ≤ MAX_LINKS
