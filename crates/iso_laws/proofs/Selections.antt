@@ -8,12 +8,12 @@ use Rattle.std.specs.Cmp.{IsTotalOrder}
 use Rattle.std.specs.FinMap as map
 use Rattle.std.specs.FinMap.{FinMap, IsAntisymmetric, find, is_sorted, get-from_entries, get-entries, entries_sorted, same_map, get-insert, get-remove, from_sorted, from_entries, entries-from_sorted, get-from_sorted}
 use Rattle.std.specs.FinMap.Entries.{below_all}
-use Rattle.std.proofs.Common.{sym, ◌∙◌, ap, subst, arith, T}
+use Rattle.std.proofs.Common.{sym, ◌∙◌, ap, arith, T}
 use Rattle.std.proofs.lemmas.Bool.{or_parts, true≢false}
 use Rattle.std.proofs.lemmas.List.Sums.{sum_by-cons, count_by-le-length}
 use Rattle.std.proofs.lemmas.Cmp.{tied_itself}
-use Rattle.kern_model.specs.Maps.{with_entry, selected, select, where_key, any_entry, count_entries}
-use Rattle.kern_model.proofs.MapLemmas.{each-entries, same_key, some_same, never_some, get-select, get-insert_same, other_key, remove-insert, count_entries-one}
+use Rattle.kern_model.specs.Maps.{with_entry, selected, select, any_entry, count_entries}
+use Rattle.kern_model.proofs.MapLemmas.{each-entries, same_key, some_same, get-select, get-insert_same, remove-insert, count_entries-one}
 
 head_T : (a b : Bool) → T (a && b) → T a
 head_T true b p = tt

@@ -1,5 +1,5 @@
 -- A valid state stays valid where its objects and entries change.
-use Rattle.std.specs.Prelude.{◌≡◌, ◌⊎◌, ℕ, ◌+◌, ◌≤◌, Bool, true, false, not, ◌&&◌, List, [], ◌∷◌, ◌++◌, Option, Some, None, refl, cond, length}
+use Rattle.std.specs.Prelude.{◌≡◌, ◌⊎◌, ℕ, ◌+◌, ◌≤◌, Bool, true, false, not, List, [], ◌∷◌, ◌++◌, Some, None, refl, length}
 use Rattle.std.specs.List.{AllByRecursion}
 use Rattle.std.specs.Option.{option_and_then}
 use Rattle.std.specs.Ordering.{eq_by_cmp, is_eq}
@@ -17,7 +17,6 @@ use Rattle.kern_model.specs.declared.calls.Ending.{Ending}
 use Rattle.kern_model.specs.declared.numbers.Pid.{Pid}
 use Rattle.kern_model.specs.declared.numbers.Oid.{Oid}
 use Rattle.kern_model.specs.declared.numbers.Did.{Did}
-use Rattle.kern_model.specs.declared.objects.Kind.{Kind}
 use Rattle.kern_model.specs.declared.objects.Kind.TheVariants as kind
 use Rattle.kern_model.specs.declared.objects.Object.{Object}
 use Rattle.kern_model.specs.Create.{made, has_object_number}
@@ -26,7 +25,7 @@ use Rattle.kern_model.specs.Keys.{Spot, oid_cmp, spot_cmp, same_oid}
 use Rattle.kern_model.specs.Kinds.{is_dir, is_mode}
 use Rattle.kern_model.specs.Maps.{any_entry}
 use Rattle.kern_model.specs.State.{State, Process, Description, DropEntry, SetEntry, changed, changed_by, drawn, next_object, look, object_at, stub_object, root}
-use Rattle.kern_model.specs.Valid.{IsValid, IsThere, IsDir, IsDrawn, AreFew, IsReached, IsHeld, IsRoot, IsValidObject, IsValidEntry, IsValidEnd, IsValidProcess, IsValidDescription, leads}
+use Rattle.kern_model.specs.Valid.{IsValid, IsDir, IsDrawn, AreFew, IsReached, IsHeld, IsValidObject, IsValidEntry, IsValidEnd, IsValidProcess, IsValidDescription, leads}
 use Rattle.kern_model.proofs.KeyLaws.{oid_cmp_total, oid_cmp_exact, spot_cmp_total, spot_cmp_exact}
 use Rattle.kern_model.proofs.MapLemmas.{same_key, some_same, never_some, each-remove, each-insert, get-insert_same, get-insert_kept, get_or-found}
 use Rattle.kern_model.proofs.TableLemmas.{each_set_at}

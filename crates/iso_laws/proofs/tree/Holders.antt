@@ -1,6 +1,6 @@
 -- The directories above a directory: how many there may be, and that the part finds the same ones.
-use Rattle.std.specs.Prelude.{◌≡◌, ℕ, zero, suc, ◌+◌, ◌≤◌, ◌<◌, ◌&&◌, ◌||◌, Bool, true, false, List, [], ◌∷◌, Option, Some, None, refl, cond, length}
-use Rattle.std.specs.Option.{option_map, option_and_then}
+use Rattle.std.specs.Prelude.{◌≡◌, ℕ, zero, suc, ◌+◌, ◌≤◌, ◌&&◌, ◌||◌, Bool, true, false, List, [], ◌∷◌, Some, None, refl, cond, length}
+use Rattle.std.specs.Option.{option_and_then}
 use Rattle.std.specs.Ordering.{is_eq}
 use Rattle.std.specs.FinMap as map
 use Rattle.std.specs.FinMap.{FinMap}
@@ -10,9 +10,8 @@ use Rattle.std.proofs.lemmas.Cmp.{tied_itself}
 use Rattle.fs_path.specs.Name.{Name}
 use Rattle.lab_lattice.specs.Label.{Label}
 use Rattle.kern_model.specs.declared.numbers.Oid.{Oid}
-use Rattle.kern_model.specs.declared.objects.Kind.TheVariants as kind
 use Rattle.kern_model.specs.declared.objects.Object.{Object}
-use Rattle.kern_model.specs.Entries.{is_held, is_removed, is_so_above, is_under, is_under_within, holder}
+use Rattle.kern_model.specs.Entries.{is_held, is_so_above, is_under, is_under_within, holder}
 use Rattle.kern_model.specs.Isolation.{low, Kept}
 use Rattle.kern_model.specs.Keys.{Spot, spot_cmp, same_oid}
 use Rattle.kern_model.specs.Kinds.{is_dir}

@@ -1,7 +1,7 @@
 -- The calls on entries: a Low process in the state and in its part, and what the changes meet.
 use Rattle.std.specs.Prelude.{◌≡◌, ℕ, ◌+◌, ◌/◌, ◌%◌, ◌==◌, ◌<◌, ◌≤◌, ◌&&◌, nat_le, nat_lt, Bool, true, false, not, List, [], ◌∷◌, Option, None, Some, refl, cond}
 use Rattle.std.proofs.Common.{sym, ◌∙◌, ap, subst, arith, inl, inr}
-use Rattle.std.proofs.lemmas.Bool.{and_parts, and_from, and_cases, leb-false}
+use Rattle.std.proofs.lemmas.Bool.{and_from, and_cases, leb-false}
 use Rattle.std.proofs.lemmas.Bool.Decides.{nat_tests}
 use Rattle.std.proofs.lemmas.Nat.{and_le_l, and_le_r}
 use Rattle.std.specs.Int.{bit_not, w16}
@@ -29,7 +29,7 @@ use Rattle.kern_model.specs.declared.objects.Object.{Object}
 use Rattle.kern_model.specs.Arguments.{are_names}
 use Rattle.kern_model.specs.Create.{made, make_in, enter_in, write_directory, attr_of, has_object_number}
 use Rattle.kern_model.specs.declared.records.Rec.{Rec}
-use Rattle.kern_model.specs.Entries.{names_in, is_empty, is_removed, is_under, link_count}
+use Rattle.kern_model.specs.Entries.{names_in, is_empty, is_removed, link_count}
 use Rattle.kern_model.specs.Isolation.{low, crosses, Kept}
 use Rattle.kern_model.specs.Keys.{same_oid}
 use Rattle.kern_model.specs.Kinds.{is_dir, is_mode, permissions, masked, kind_of, bytes_of, object_with}
