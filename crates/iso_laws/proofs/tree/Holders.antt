@@ -143,14 +143,14 @@ module _ (s : State) (valid : IsValid s) where
   ]
 
   -- and no deeper
-  one_depth : (es fs : FinMap spot_cmp Oid) → AreEntries s es → AreEntries s fs → (m n : ℕ) (id : Oid) → IsDir s.objects id → IsDeep s es m id → IsDeep s fs n id → m ≡ n
-  one_depth es fs from_a from_b zero zero id dir a b = refl
-  one_depth es fs from_a from_b zero (suc n) id dir a b = absurd (true≢false (sym (held_by s b.spot id (from_b b.spot id b.is)) ∙ a))
-  one_depth es fs from_a from_b (suc m) zero id dir a b = absurd (true≢false (sym (held_by s a.spot id (from_a a.spot id a.is)) ∙ b))
-  one_depth es fs from_a from_b (suc m) (suc n) id dir a b =
-      let a_is = from_a a.spot id a.is in
-      let same : b.spot ≡ a.spot = valid.one_entry b.spot a.spot id dir.object (from_b b.spot id b.is) a_is dir.is dir.dir in
-      ap suc (one_depth es fs from_a from_b m n a.spot.0 (dir_of a.spot id a_is) a.above (subst (λ (x : Spot). IsDeep s fs n x.0) same b.above))
+  one_depth : (es : FinMap spot_cmp Oid) → AreEntries s es → (m n : ℕ) (id : Oid) → IsDir s.objects id → IsDeep s es m id → IsDeep s es n id → m ≡ n
+  one_depth es from zero zero id dir a b = refl
+  one_depth es from zero (suc n) id dir a b = absurd (true≢false (sym (held_by s b.spot id (from b.spot id b.is)) ∙ a))
+  one_depth es from (suc m) zero id dir a b = absurd (true≢false (sym (held_by s a.spot id (from a.spot id a.is)) ∙ b))
+  one_depth es from (suc m) (suc n) id dir a b =
+      let a_is = from a.spot id a.is in
+      let same : b.spot ≡ a.spot = valid.one_entry b.spot a.spot id dir.object (from b.spot id b.is) a_is dir.is dir.dir in
+      ap suc (one_depth es from m n a.spot.0 (dir_of a.spot id a_is) a.above (subst (λ (x : Spot). IsDeep s es n x.0) same b.above))
 
   -- without the entry that leads to something, what is less deep is as deep as it was
   still_deep : (es : FinMap spot_cmp Oid) → AreEntries s es → (m : ℕ) (id : Oid) → IsDir s.objects id → (deep : IsDeep s es (suc m) id) → (n : ℕ) (x : Oid) → n ≤ m → IsDir s.objects x → IsDeep s es n x → IsDeep s (map.remove es deep.spot) n x
@@ -161,7 +161,7 @@ module _ (s : State) (valid : IsValid s) where
         spot = is.spot;
         is = get-remove_other spot_cmp_total es deep.spot is.spot (not_true _ (λ t.
             let same : x ≡ id = some_same x id (sym is.is ∙ ap (map.get es) (same_key spot_cmp_exact is.spot deep.spot t) ∙ deep.is) in
-            let depth : suc n ≡ suc m = one_depth es es from from (suc n) (suc m) x x_dir is (subst (λ (y : Oid). IsDeep s es (suc m) y) (sym same) deep) in
+            let depth : suc n ≡ suc m = one_depth es from (suc n) (suc m) x x_dir is (subst (λ (y : Oid). IsDeep s es (suc m) y) (sym same) deep) in
             absurd (omega (arith, less, depth)))) ∙ is.is;
         above = still_deep es from m id dir deep n is.spot.0 (omega (arith, less)) (dir_of is.spot x there) is.above;
       }
@@ -223,7 +223,7 @@ module _ (l : Label) (s : State) (kept : Kept l s) (valid : IsValid s) where
       find-select spot_cmp_total spot_cmp_exact (where_key (low_spot l) (shown l s.top)) (λ (spot : Spot) (to : Oid). same_oid to id) (λ (spot : Spot) (to : Oid). same_oid to id) s.entries
       (leads_to l s kept valid id (record { value = low_dir.dir.object; is = low_dir.dir.is }) low_dir.is_low) (λ (spot : Spot). spot.0)
 
-  -- the part has as many entries as the state has at Low spots
+  -- the part has no fewer entries than the state has at Low spots
   low_count : count_entries (λ (spot : Spot) (to : Oid). low_spot l spot) s.entries ≤ length (map.entries part_s.entries)
   unfolding by_number
   low_count =
