@@ -32,6 +32,7 @@ use Rattle.iso_laws.proofs.Rows.{Ends, Passes, Gives, ends_given}
 use Rattle.iso_laws.proofs.Sight.{IsNamed, same_side, ends_reach, new_side, read_low, write_side}
 use Rattle.iso_laws.proofs.Changes.{KeptProcess, kept_of, kept_process, kept_object, kept_beside, valid_process}
 use Rattle.iso_laws.proofs.tree.Changes.{IsFresh, next_absent, not_true_false, valid_drop, valid_link, valid_made}
+use Rattle.iso_laws.proofs.tree.Moves.{IsMove, valid_move}
 
 -- a law of changes holds of each kind of effect; where the arguments fit, what the effect sets is in its range
 pub record Cases (bad : Rec → Bool) (s : State) (who : Pid) (p : Process) (fit : Type 0) (P : List Change → Type 0) : Type 0 where
@@ -48,7 +49,10 @@ pub record Cases (bad : Rec → Bool) (s : State) (who : Pid) (p : Process) (fit
   -- an entry of a file is set where none was, in a directory that is not removed and that the caller wrote
   pub enter : (dir : Oid) (name : Name) (id : Oid) (place : Place) → Passes bad (subject who p) (mac_write s p dir place) → (is_dir : IsDir s.objects dir) → look s dir name ≡ None → is_removed s dir ≡ false
       → (named : IsNamed s id) → not (dir_kind named.object.kind) ≡ true → link_count s id + 1 ≤ MAX_LINKS → dominates named.object.label is_dir.object.label ≡ true → (fit → is_name name ≡ true) → P (SetEntry (dir, name) id ∷ [])
-  -- an object is made in such a directory
+  -- an entry moves to a spot of a directory, and the caller wrote both directories
+  pub move : (dir : Oid) (name : Name) (id into : Oid) (new : Name) (place there_place : Place) → Passes bad (subject who p) (mac_write s p dir place) → IsDir s.objects dir → Passes bad (subject who p) (mac_write s p into there_place)
+      → IsMove s dir name id into new → (fit → is_name new ≡ true) → P (DropEntry (dir, name) ∷ SetEntry (into, new) id ∷ [])
+  -- an object is made where none was, in a directory that is not removed and that the caller wrote
   pub make : (dir : Oid) (name : Name) (o : Object) (place : Place) → Passes bad (subject who p) (mac_write s p dir place) → (is_dir : IsDir s.objects dir) → look s dir name ≡ None → is_removed s dir ≡ false
       → IsFresh p o → has_object_number s p ≡ true → dominates p.label is_dir.object.label ≡ true → (fit → is_name name ≡ true) → P (made s p dir name o)
 
@@ -89,6 +93,7 @@ hidden_cases l s kept who p fit is high =
       cwd = λ id place read dir. unseen _;
       leave = λ dir name id place written is_dir at empty. part_of_high l s.top (DropEntry (dir, name) ∷ []) (wrote dir place written is_dir, tt);
       enter = λ dir name id place written is_dir free standing named no_dir few order fits. part_of_high l s.top (SetEntry (dir, name) id ∷ []) (wrote dir place written is_dir, tt);
+      move = λ dir name id into new place there_place written is_dir written_there move fits. part_of_high l s.top (DropEntry (dir, name) ∷ SetEntry (into, new) id ∷ []) (wrote dir place written is_dir, (wrote into there_place written_there move.into_is, tt));
       make = λ dir name o place written is_dir free standing fresh left order fits. part_of_high l s.top (made s p dir name o) (mine, (mine, (wrote dir place written is_dir, tt)));
     }
 
@@ -120,6 +125,7 @@ kept_cases l s kept valid who p fit is =
           });
       leave = λ dir name id place written is_dir at empty. kept_beside l s kept _ s.object_numbers s.process_numbers s.description_numbers;
       enter = λ dir name id place written is_dir free standing named no_dir few order fits. kept_beside l s kept _ s.object_numbers s.process_numbers s.description_numbers;
+      move = λ dir name id into new place there_place written is_dir written_there move fits. kept_beside l s kept _ s.object_numbers s.process_numbers s.description_numbers;
       make = λ dir name o place written is_dir free standing fresh left order fits.
           let new : Oid = next_object s p.label in
           kept_beside l (changed s (SetObject new o)) (kept_object l s kept new o (ap (low l) (sym fresh.label)) (λ did d e at _.
@@ -173,5 +179,6 @@ valid_cases bad s valid who p is =
           });
       leave = λ dir name id place written is_dir at empty. valid_drop s valid (dir, name) id at empty;
       enter = λ dir name id place written is_dir free standing named no_dir few order fits. valid_link s valid dir name id is_dir free standing named.object named.is (not_true_false _ no_dir) named.no_pipe few order (fits tt);
+      move = λ dir name id into new place there_place written is_dir written_there move fits. valid_move s valid dir name id into new move (fits tt);
       make = λ dir name o place written is_dir free standing fresh left order fits. valid_made s valid p dir name o fresh is_dir free standing own.below left order (fits tt);
     }

@@ -30,6 +30,7 @@ module _ (l : Label) (s : State) (kept : Kept l s) (valid : IsValid s) (who : Pi
   low_row (call.Link path to) _ = tree.link_low l s kept valid who p is is_low path to
   low_row (call.Rmdir path) _ = tree.rmdir_low l s kept valid who p is is_low path
   low_row (call.Unlink path) _ = tree.unlink_low l s kept valid who p is is_low path
+  low_row (call.Rename path to) _ = tree.rename_low l s kept valid who p is is_low path to
   low_row (call.Readdir path) _ = tree.readdir_low l s kept valid who p is is_low path
   low_row (call.Stat path) _ = tree.stat_low l s kept valid who p is is_low path
   low_row (call.Chdir path) _ = tree.chdir_low l s kept valid who p is is_low path
@@ -61,6 +62,7 @@ module _ (bad : Rec → Bool) (s : State) (valid : IsValid s) (who : Pid) (p : P
   row_meets (call.Link path to) _ names _ = tree.link_meets bad s valid who p is fit P cases path to names
   row_meets (call.Rmdir path) _ _ _ = tree.rmdir_meets bad s valid who p is fit P cases path
   row_meets (call.Unlink path) _ _ _ = tree.unlink_meets bad s valid who p is fit P cases path
+  row_meets (call.Rename path to) _ names _ = tree.rename_meets bad s valid who p is fit P cases path to names
   row_meets (call.Readdir path) _ _ _ = tree.readdir_meets bad s valid who p is fit P cases path
   row_meets (call.Stat path) _ _ _ = tree.stat_meets bad s valid who p is fit P cases path
   row_meets (call.Chdir path) _ _ _ = tree.chdir_meets bad s valid who p is fit P cases path

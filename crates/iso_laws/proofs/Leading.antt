@@ -29,14 +29,18 @@ leads_kept s t keeps dir (name ∷ names) id h =
       | Some next ↦ λ e g. leads_step t dir name names next (keeps (dir, name) next e) ∙ leads_kept s t keeps next names id g
     ] refl h
 
+-- names after names
+pub leads_append : (s : State) (dir : Oid) (names : List Name) (mid : Oid) (more : List Name) (id : Oid) → leads s dir names ≡ Some mid → leads s mid more ≡ Some id → leads s dir (names ++ more) ≡ Some id
+leads_append s dir [] mid more id h e = ap (λ (d : Oid). leads s d more) (some_same dir mid h) ∙ e
+leads_append s dir (name ∷ names) mid more id h e =
+    elim (look s dir name) as (λ w. look s dir name ≡ w → option_and_then (λ (at : Oid). leads s at names) w ≡ Some mid → leads s dir (name ∷ (names ++ more)) ≡ Some id) [
+      | None ↦ λ _ g. absurd (cc)
+      | Some at ↦ λ f g. leads_step s dir name (names ++ more) at f ∙ leads_append s at names mid more id g e
+    ] refl h
+
 -- one name more
 pub leads_on : (s : State) (dir : Oid) (names : List Name) (mid : Oid) (name : Name) (id : Oid) → leads s dir names ≡ Some mid → look s mid name ≡ Some id → leads s dir (names ++ name ∷ []) ≡ Some id
-leads_on s dir [] mid name id h e = leads_step s dir name [] id (ap (λ (d : Oid). look s d name) (some_same dir mid h) ∙ e)
-leads_on s dir (next ∷ names) mid name id h e =
-    elim (look s dir next) as (λ w. look s dir next ≡ w → option_and_then (λ (at : Oid). leads s at names) w ≡ Some mid → leads s dir (next ∷ (names ++ name ∷ [])) ≡ Some id) [
-      | None ↦ λ _ g. absurd (cc)
-      | Some at ↦ λ f g. leads_step s dir next (names ++ name ∷ []) at f ∙ leads_on s at names mid name id g e
-    ] refl h
+leads_on s dir names mid name id h e = leads_append s dir names mid (name ∷ []) id h (leads_step s mid name [] id e)
 
 -- names have a last one, which stands in the directory that the others lead to
 pub record IsEnd (names : List Name) : Type 0 where

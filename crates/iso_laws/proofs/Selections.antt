@@ -8,11 +8,12 @@ use Rattle.std.specs.Cmp.{IsTotalOrder}
 use Rattle.std.specs.FinMap as map
 use Rattle.std.specs.FinMap.{FinMap, IsAntisymmetric, find, is_sorted, get-from_entries, get-entries, entries_sorted, same_map, get-insert, get-remove, from_sorted, from_entries, entries-from_sorted, get-from_sorted}
 use Rattle.std.specs.FinMap.Entries.{below_all}
-use Rattle.std.proofs.Common.{sym, ◌∙◌, ap, subst, arith, T}
-use Rattle.std.proofs.lemmas.List.Sums.{sum_by-cons}
+use Rattle.std.proofs.Common.{sym, ◌∙◌, ap, arith, T}
+use Rattle.std.proofs.lemmas.Bool.{or_parts, true≢false}
+use Rattle.std.proofs.lemmas.List.Sums.{sum_by-cons, count_by-le-length}
 use Rattle.std.proofs.lemmas.Cmp.{tied_itself}
-use Rattle.kern_model.specs.Maps.{with_entry, selected, select, where_key, any_entry, count_entries}
-use Rattle.kern_model.proofs.MapLemmas.{each-entries, same_key, some_same, never_some, get-select, get-insert_same, other_key, remove-insert, count_entries-one}
+use Rattle.kern_model.specs.Maps.{with_entry, selected, select, any_entry, count_entries}
+use Rattle.kern_model.proofs.MapLemmas.{each-entries, same_key, some_same, get-select, get-insert_same, remove-insert, count_entries-one}
 
 head_T : (a b : Bool) → T (a && b) → T a
 head_T true b p = tt
@@ -35,6 +36,21 @@ test_after p k (Some y) = p k y
 abbrev pub list_after : {K Y A : Type 0} → (K → Y → List A) → K → Option Y → List A
 list_after g k None = []
 list_after g k (Some y) = g k y
+
+-- ---- the first item that meets a test
+module _ {X Y : Type 0} (p : X → Bool) (f : X → Y) where
+  pub find_none : (xs : List X) → list_any p xs ≡ false → option_map f (find_in p xs) ≡ None
+  find_none [] none = refl
+  find_none (x ∷ xs) none = let parts = or_parts (p x) (list_any p xs) none in ap (λ b. option_map f (cond b (Some x) (find_in p xs))) parts.0 ∙ find_none xs parts.1
+
+  -- where each item that meets it has one image
+  pub find_only : (y : Y) (xs : List X) → AllByRecursion (λ x. p x ≡ true → f x ≡ y) xs → list_any p xs ≡ true → option_map f (find_in p xs) ≡ Some y
+  find_only y [] h some = absurd (true≢false (sym some))
+  find_only y (x ∷ xs) h some =
+      elim (p x) as (λ b. p x ≡ b → (b || list_any p xs) ≡ true → option_map f (cond b (Some x) (find_in p xs)) ≡ Some y) [
+        | true ↦ λ t _. ap (λ (z : Y). Some z) (h.0 t)
+        | false ↦ λ _ rest. find_only y xs h.1 rest
+      ] refl some
 
 -- ---- the entries of a selection are the selected entries
 module _ {K X Y : Type 0} {R : K → K → Ordering} (o : IsTotalOrder R) (exact : IsAntisymmetric R) (f : K → X → Option Y) where
@@ -84,16 +100,16 @@ module _ {K X Y : Type 0} {R : K → K → Ordering} (o : IsTotalOrder R) (exact
           | Some y ↦ λ t. sum_by-cons (λ (e : K × Y). cond (p' e.0 e.1) 1 0) (e.0, y) (selected f es) ∙ (λ i. cond (t i) 1 0 + rest i) ∙ sym one
         ] h.0
 
-    find-selected : (es : List (K × X)) → AllByRecursion Agree es → option_map (λ (e : K × Y). e.0) (find_in (λ (e : K × Y). p' e.0 e.1) (selected f es)) ≡ option_map (λ (e : K × X). e.0) (find_in (λ (e : K × X). p e.0 e.1) es)
-    find-selected [] h = refl
-    find-selected (e ∷ es) h =
-        let rest = find-selected es h.1 in
-        let after : Bool → Option K = λ b. option_map (λ (e : K × X). e.0) (cond b (Some e) (find_in (λ (e : K × X). p e.0 e.1) es)) in
-        elim (f e.0 e.1) as (λ w. test_after p' e.0 w ≡ p e.0 e.1 → option_map (λ (e : K × Y). e.0) (find_in (λ (e : K × Y). p' e.0 e.1) (with_entry e.0 w (selected f es))) ≡ after (p e.0 e.1)) [
+    find-selected : {A : Type 0} (g : K → A) (es : List (K × X)) → AllByRecursion Agree es → option_map (λ (e : K × Y). g e.0) (find_in (λ (e : K × Y). p' e.0 e.1) (selected f es)) ≡ option_map (λ (e : K × X). g e.0) (find_in (λ (e : K × X). p e.0 e.1) es)
+    find-selected g [] h = refl
+    find-selected {A = A} g (e ∷ es) h =
+        let rest = find-selected g es h.1 in
+        let after : Bool → Option A = λ b. option_map (λ (e : K × X). g e.0) (cond b (Some e) (find_in (λ (e : K × X). p e.0 e.1) es)) in
+        elim (f e.0 e.1) as (λ w. test_after p' e.0 w ≡ p e.0 e.1 → option_map (λ (e : K × Y). g e.0) (find_in (λ (e : K × Y). p' e.0 e.1) (with_entry e.0 w (selected f es))) ≡ after (p e.0 e.1)) [
           | None ↦ λ t. rest ∙ ap after t
           | Some y ↦ λ t.
-              ap (λ b. option_map (λ (e : K × Y). e.0) (cond b (Some (e.0, y)) (find_in (λ (e : K × Y). p' e.0 e.1) (selected f es)))) t
-              ∙ elim (p e.0 e.1) as (λ b. option_map (λ (e : K × Y). e.0) (cond b (Some (e.0, y)) (find_in (λ (e : K × Y). p' e.0 e.1) (selected f es))) ≡ after b) [ true ↦ refl | false ↦ rest ]
+              ap (λ b. option_map (λ (e : K × Y). g e.0) (cond b (Some (e.0, y)) (find_in (λ (e : K × Y). p' e.0 e.1) (selected f es)))) t
+              ∙ elim (p e.0 e.1) as (λ b. option_map (λ (e : K × Y). g e.0) (cond b (Some (e.0, y)) (find_in (λ (e : K × Y). p' e.0 e.1) (selected f es))) ≡ after b) [ true ↦ refl | false ↦ rest ]
         ] h.0
 
     module _ (m : FinMap R X) (agree : (k : K) (x : X) → map.get m k ≡ Some x → Agree (k, x)) where
@@ -109,8 +125,8 @@ module _ {K X Y : Type 0} {R : K → K → Ordering} (o : IsTotalOrder R) (exact
       count_entries-select = ap (count_by (λ (e : K × Y). p' e.0 e.1)) (entries-select m) ∙ count-selected (map.entries m) listed
 
       -- the first entry that meets it has the same key
-      pub find-select : option_map (λ (e : K × Y). e.0) (find_in (λ (e : K × Y). p' e.0 e.1) (map.entries (select f m))) ≡ option_map (λ (e : K × X). e.0) (find_in (λ (e : K × X). p e.0 e.1) (map.entries m))
-      find-select = ap (λ (es : List (K × Y)). option_map (λ (e : K × Y). e.0) (find_in (λ (e : K × Y). p' e.0 e.1) es)) (entries-select m) ∙ find-selected (map.entries m) listed
+      pub find-select : {A : Type 0} (g : K → A) → option_map (λ (e : K × Y). g e.0) (find_in (λ (e : K × Y). p' e.0 e.1) (map.entries (select f m))) ≡ option_map (λ (e : K × X). g e.0) (find_in (λ (e : K × X). p e.0 e.1) (map.entries m))
+      find-select g = ap (λ (es : List (K × Y)). option_map (λ (e : K × Y). g e.0) (find_in (λ (e : K × Y). p' e.0 e.1) es)) (entries-select m) ∙ find-selected g (map.entries m) listed
 
   -- a list made of each entry, which is made of what is selected of it
   module _ {A : Type 0} (g : K → X → List A) (g' : K → Y → List A) where
@@ -134,14 +150,10 @@ module _ {K X : Type 0} {R : K → K → Ordering} (o : IsTotalOrder R) (exact :
   abbrev passing : List (K × X) → ℕ
   passing es = count_by (λ (e : K × X). p e.0 e.1) es
 
-  or_parts_false : (a b : Bool) → (a || b) ≡ false → (a ≡ false) × (b ≡ false)
-  or_parts_false true b e = absurd (cc)
-  or_parts_false false b e = (refl, e)
-
   none_of : (es : List (K × X)) → list_any (λ (e : K × X). p e.0 e.1) es ≡ false → (k : K) (x : X) → find R k es ≡ Some x → p k x ≡ false
   none_of [] h k x f = absurd (cc)
   none_of (e ∷ es) h k x f =
-      let parts = or_parts_false (p e.0 e.1) _ h in
+      let parts = or_parts (p e.0 e.1) _ h in
       elim (eq_by_cmp R k e.0) as (λ b. eq_by_cmp R k e.0 ≡ b → cond b (Some e.1) (find R k es) ≡ Some x → p k x ≡ false) [
         | true ↦ λ t g. (λ i. p (same_key exact k e.0 t i) (sym (some_same e.1 x g) i)) ∙ parts.0
         | false ↦ λ t g. none_of es parts.1 k x g
@@ -190,6 +202,34 @@ module _ {K X : Type 0} {R : K → K → Ordering} (o : IsTotalOrder R) (exact :
   pub count_some : (m : FinMap R X) (k : K) (x : X) → map.get m k ≡ Some x → p k x ≡ true → 1 ≤ count_entries p m
   unfolding count_entries
   count_some m k x e t = some_counted (map.entries m) k x (sym (get-entries m k) ∙ e) t
+
+-- no more entries pass a test than there are
+pub count_at_most : {K X : Type 0} {R : K → K → Ordering} (p : K → X → Bool) (m : FinMap R X) → count_entries p m ≤ length (map.entries m)
+unfolding count_entries
+count_at_most {K = K} {X = X} p m = count_by-le-length (λ (e : K × X). p e.0 e.1) (map.entries m)
+
+-- ---- a map of which a key was removed
+module _ {K X : Type 0} {R : K → K → Ordering} (o : IsTotalOrder R) (m : FinMap R X) (k : K) where
+  pub get-remove_same : map.get (map.remove m k) k ≡ None
+  get-remove_same = get-remove o m k k ∙ ap (λ r. cond (is_eq r) None (map.get m k)) (tied_itself o k)
+
+  pub get-remove_other : (q : K) → eq_by_cmp R q k ≡ false → map.get (map.remove m k) q ≡ map.get m q
+  get-remove_other q other = get-remove o m k q ∙ ap (λ b. cond b None (map.get m q)) other
+
+  -- nothing is at a key where nothing was
+  pub get-remove_none : (q : K) → map.get m q ≡ None → map.get (map.remove m k) q ≡ None
+  get-remove_none q none = get-remove o m k q ∙ elim (eq_by_cmp R q k) as (λ b. cond b None (map.get m q) ≡ None) [ true ↦ refl | false ↦ none ]
+
+-- what is set at a key does not depend on what was there
+pub insert-over_removed : {K X : Type 0} {R : K → K → Ordering} → IsTotalOrder R → IsAntisymmetric R → (m : FinMap R X) (k gone : K) (x : X)
+    → map.insert (map.remove (map.remove m k) gone) k x ≡ map.insert (map.remove m gone) k x
+insert-over_removed {R = R} o exact m k gone x = same_map o exact _ _ (λ q.
+    get-insert o (map.remove (map.remove m k) gone) k x q
+    ∙ elim (eq_by_cmp R q k) as (λ b. eq_by_cmp R q k ≡ b → cond b (Some x) (map.get (map.remove (map.remove m k) gone) q) ≡ cond b (Some x) (map.get (map.remove m gone) q)) [
+      | true ↦ λ _. refl
+      | false ↦ λ other. get-remove o (map.remove m k) gone q ∙ ap (cond (eq_by_cmp R q gone) None) (get-remove_other o m k q other) ∙ sym (get-remove o m gone q)
+    ] refl
+    ∙ sym (get-insert o (map.remove m gone) k x q))
 
 -- ---- how many pass a test after a change at one key
 module _ {K X : Type 0} {R : K → K → Ordering} (o : IsTotalOrder R) (exact : IsAntisymmetric R) (p : K → X → Bool) (k : K) where

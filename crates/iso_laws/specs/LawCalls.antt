@@ -5,13 +5,14 @@ use Rattle.kern_model.specs.declared.calls.Call.{Call}
 use Rattle.kern_model.specs.declared.calls.Call.TheVariants as call
 use Rattle.kern_model.specs.declared.world.ScriptItem.{ScriptItem}
 
--- whether they are proved for a call: one that reports or sets what its caller is, that reports what an object is or what a directory contains, or that makes an entry or takes one away
+-- whether they are proved for a call: one that reports or sets what its caller is, that reports what an object is or what a directory contains, or that makes an entry, moves one or takes one away
 abbrev pub has_laws : Call → Bool
 has_laws (call.Mkfifo path mode) = true
 has_laws (call.Mkdir path mode) = true
 has_laws (call.Link path to) = true
 has_laws (call.Rmdir path) = true
 has_laws (call.Unlink path) = true
+has_laws (call.Rename path to) = true
 has_laws (call.Readdir path) = true
 has_laws (call.Stat path) = true
 has_laws (call.Chdir path) = true

@@ -1,12 +1,12 @@
 -- A valid state stays valid where its objects and entries change.
-use Rattle.std.specs.Prelude.{◌≡◌, ◌⊎◌, ℕ, ◌+◌, ◌≤◌, Bool, true, false, not, ◌&&◌, List, [], ◌∷◌, ◌++◌, Option, Some, None, refl, cond, length}
+use Rattle.std.specs.Prelude.{◌≡◌, ◌⊎◌, ℕ, ◌+◌, ◌≤◌, Bool, true, false, not, List, [], ◌∷◌, ◌++◌, Some, None, refl, length}
 use Rattle.std.specs.List.{AllByRecursion}
 use Rattle.std.specs.Option.{option_and_then}
 use Rattle.std.specs.Ordering.{eq_by_cmp, is_eq}
 use Rattle.std.specs.FinMap as map
-use Rattle.std.specs.FinMap.{FinMap, get-remove}
+use Rattle.std.specs.FinMap.{FinMap}
 use Rattle.std.proofs.Common.{sym, ◌∙◌, ap, subst, arith, inl, inr}
-use Rattle.std.proofs.lemmas.Bool.{and_parts, and_from, ltb-true}
+use Rattle.std.proofs.lemmas.Bool.{true≢false, and_parts, and_from, ltb-true}
 use Rattle.std.proofs.lemmas.Cmp.{tied_itself}
 use Rattle.cap_bits.specs.State.{no_flags}
 use Rattle.fs_path.specs.Name.{Name, is_name}
@@ -17,7 +17,6 @@ use Rattle.kern_model.specs.declared.calls.Ending.{Ending}
 use Rattle.kern_model.specs.declared.numbers.Pid.{Pid}
 use Rattle.kern_model.specs.declared.numbers.Oid.{Oid}
 use Rattle.kern_model.specs.declared.numbers.Did.{Did}
-use Rattle.kern_model.specs.declared.objects.Kind.{Kind}
 use Rattle.kern_model.specs.declared.objects.Kind.TheVariants as kind
 use Rattle.kern_model.specs.declared.objects.Object.{Object}
 use Rattle.kern_model.specs.Create.{made, has_object_number}
@@ -26,18 +25,26 @@ use Rattle.kern_model.specs.Keys.{Spot, oid_cmp, spot_cmp, same_oid}
 use Rattle.kern_model.specs.Kinds.{is_dir, is_mode}
 use Rattle.kern_model.specs.Maps.{any_entry}
 use Rattle.kern_model.specs.State.{State, Process, Description, DropEntry, SetEntry, changed, changed_by, drawn, next_object, look, object_at, stub_object, root}
-use Rattle.kern_model.specs.Valid.{IsValid, IsThere, IsDir, IsDrawn, AreFew, IsReached, IsHeld, IsRoot, IsValidObject, IsValidEntry, IsValidEnd, IsValidProcess, IsValidDescription, leads}
+use Rattle.kern_model.specs.Valid.{IsValid, IsDir, IsDrawn, AreFew, IsReached, IsHeld, IsValidObject, IsValidEntry, IsValidEnd, IsValidProcess, IsValidDescription, leads}
 use Rattle.kern_model.proofs.KeyLaws.{oid_cmp_total, oid_cmp_exact, spot_cmp_total, spot_cmp_exact}
 use Rattle.kern_model.proofs.MapLemmas.{same_key, some_same, never_some, each-remove, each-insert, get-insert_same, get-insert_kept, get_or-found}
 use Rattle.kern_model.proofs.TableLemmas.{each_set_at}
 use Rattle.iso_laws.proofs.Leading.{leads_step, leads_kept, leads_on}
 use Rattle.iso_laws.proofs.Sight.{not_true}
-use Rattle.iso_laws.proofs.Selections.{none_passes, none_pass, count_none, count_remove, count_insert, count_insert_other}
+use Rattle.iso_laws.proofs.Selections.{none_passes, none_pass, count_none, count_remove, count_insert, count_insert_other, get-remove_same, get-remove_other}
 use Rattle.iso_laws.proofs.ValidLemmas.{still_drawn, next_drawn, still_below}
 
 pub not_true_false : (b : Bool) → not b ≡ true → b ≡ false
 not_true_false true h = sym h
 not_true_false false h = refl
+
+-- what is not one compares so
+pub distinct : (a b : Oid) → (a ≡ b → ⊥) → same_oid a b ≡ false
+distinct a b other = not_true _ (λ t. other (same_key oid_cmp_exact a b t))
+
+-- and what compares so is not one
+pub never_same : (a b : Oid) → same_oid a b ≡ false → a ≡ b → ⊥
+never_same a b other same = true≢false (ap is_eq (sym (tied_itself oid_cmp_total a)) ∙ ap (same_oid a) same ∙ other)
 
 -- what is no directory has no entries
 pub no_entries : (s : State) → IsValid s → (id : Oid) → is_dir (object_at s id).kind ≡ false → is_empty s id ≡ true
@@ -54,9 +61,7 @@ none_in s dir name empty =
     elim (look s dir name) as (λ w. look s dir name ≡ w → w ≡ None) [
       | None ↦ λ _. refl
       | Some id ↦ λ e.
-          let other : same_oid dir dir ≡ false = none_passes spot_cmp_total spot_cmp_exact (λ (spot : Spot) (at : Oid). same_oid spot.0 dir) s.entries (not_true_false _ empty) (dir, name) id e in
-          let no : true ≡ false = ap is_eq (sym (tied_itself oid_cmp_total dir)) ∙ other in
-          absurd (cc)
+          absurd (never_same dir dir (none_passes spot_cmp_total spot_cmp_exact (λ (spot : Spot) (at : Oid). same_oid spot.0 dir) s.entries (not_true_false _ empty) (dir, name) id e) refl)
     ] refl
 
 -- ---- other objects and entries
@@ -155,7 +160,7 @@ module _ (s : State) (valid : IsValid s) (spot : Spot) (id : Oid) (is : map.get 
   was = each-remove spot_cmp_total spot_cmp_exact (λ (at : Spot) (q : Oid). map.get s.entries at ≡ Some q) s.entries (λ at q e. e) spot
 
   gone : map.get left spot ≡ None
-  gone = get-remove spot_cmp_total s.entries spot spot ∙ ap (λ r. cond (is_eq r) None (map.get s.entries spot)) (tied_itself spot_cmp_total spot)
+  gone = get-remove_same spot_cmp_total s.entries spot
 
   -- nothing is met by what is left that was met by none
   still_none : (p : Spot → Oid → Bool) → any_entry p s.entries ≡ false → any_entry p left ≡ false
@@ -180,7 +185,7 @@ module _ (s : State) (valid : IsValid s) (spot : Spot) (id : Oid) (is : map.get 
                   inr (ends_there names q (subst (λ (d : Oid). leads s d names ≡ Some q) to g))
               | false ↦ λ t.
                   elim (leads_left names next q g) as (λ w. (leads next_state from (name ∷ names) ≡ Some q) ⊎ (q ≡ id)) [
-                    | inl rest ↦ inl (leads_step next_state from name names next (get-remove spot_cmp_total s.entries spot (from, name) ∙ ap (λ b. cond b None (map.get s.entries (from, name))) t ∙ e) ∙ rest)
+                    | inl rest ↦ inl (leads_step next_state from name names next (get-remove_other spot_cmp_total s.entries spot (from, name) t ∙ e) ∙ rest)
                     | inr ends ↦ inr ends
                   ]
             ] refl
@@ -226,8 +231,12 @@ module _ (s : State) (valid : IsValid s) (spot : Spot) (id : Oid) (is : map.get 
       valid.object_numbers
 
 -- ---- an entry where none was, in a directory that is not removed
-distinct : (a b : Oid) → (a ≡ b → ⊥) → same_oid a b ≡ false
-distinct a b other = not_true _ (λ t. other (same_key oid_cmp_exact a b t))
+-- names lead to such a directory
+pub standing_reached : (s : State) → IsValid s → (dir : Oid) → IsDir s.objects dir → is_removed s dir ≡ false → IsReached s dir
+standing_reached s valid dir dir_is standing = elim ((valid.objects dir dir_is.object dir_is.is).reached dir_is.dir) as (λ w. IsReached s dir) [
+  | inl r ↦ r
+  | inr gone ↦ absurd (true≢false (sym gone.0 ∙ standing))
+]
 
 module _ (s : State) (valid : IsValid s) (objects : FinMap oid_cmp Object) (object_numbers : FinMap label_cmp ℕ) (dir : Oid) (name : Name) (to : Oid) (dir_is : IsDir s.objects dir) (free : look s dir name ≡ None) (standing : is_removed s dir ≡ false) where
   abbrev added : FinMap spot_cmp Oid
@@ -248,10 +257,7 @@ module _ (s : State) (valid : IsValid s) (objects : FinMap oid_cmp Object) (obje
       (each-insert spot_cmp_total spot_cmp_exact (λ (at : Spot) (q : Oid). p at q ≡ false) s.entries (none_passes spot_cmp_total spot_cmp_exact p s.entries none) (dir, name) to unmet)
 
   dir_reached : IsReached s dir
-  dir_reached = elim ((valid.objects dir dir_is.object dir_is.is).reached dir_is.dir) as (λ w. IsReached s dir) [
-    | inl r ↦ r
-    | inr gone ↦ let no : true ≡ false = sym gone.0 ∙ standing in absurd (cc)
-  ]
+  dir_reached = standing_reached s valid dir dir_is standing
 
   leads_more : (names : List Name) (q : Oid) → leads s root names ≡ Some q → leads more_state root names ≡ Some q
   leads_more = leads_kept s more_state kept_entry root
@@ -300,7 +306,7 @@ module _ (s : State) (valid : IsValid s) (dir : Oid) (name : Name) (id : Oid) (d
             tree_object s s.objects (added s valid s.objects s.object_numbers dir name id dir_is free standing) s.object_numbers q x old old.drawn_already (λ _. subst (λ (z : Oid). link_count linked z ≤ MAX_LINKS) (sym same) more)
             (λ q_dir. absurd (no_dir_is o no_dir (ap (λ (z : Object). z.kind) (sym is_o) ∙ q_dir)))
         | false ↦ λ t.
-            let other : id ≡ q → ⊥ = λ same. let no : true ≡ false = ap is_eq (sym (tied_itself oid_cmp_total q)) ∙ ap (λ (z : Oid). eq_by_cmp oid_cmp q z) (sym same) ∙ t in cc in
+            let other : id ≡ q → ⊥ = λ same. never_same q id t (sym same) in
             let fewer = names_still s valid s.objects s.object_numbers dir name id dir_is free standing q other in
             tree_object s s.objects (added s valid s.objects s.object_numbers dir name id dir_is free standing) s.object_numbers q x old old.drawn_already (λ nd. omega (arith, fewer, old.few_names nd))
             (λ q_dir. reached_still s valid s.objects s.object_numbers dir name id dir_is free standing q x e q_dir other)
@@ -412,7 +418,7 @@ module _ (s : State) (valid : IsValid s) (p : Process) (dir : Oid) (name : Name)
       elim (eq_by_cmp oid_cmp q new) as (λ v. eq_by_cmp oid_cmp q new ≡ v → a ≡ b) [
         | true ↦ λ t. let same = same_key oid_cmp_exact q new t in at_new a q e same ∙ sym (at_new b q g same)
         | false ↦ λ t.
-            let other : q ≡ new → ⊥ = λ same. let no : true ≡ false = ap is_eq (sym (tied_itself oid_cmp_total q)) ∙ ap (λ (z : Oid). eq_by_cmp oid_cmp q z) same ∙ t in cc in
+            let other : q ≡ new → ⊥ = never_same q new t in
             valid.one_entry a b q x (old_entry s valid more_objects more_numbers dir name new dir_is free standing a q e other) (old_entry s valid more_objects more_numbers dir name new dir_is free standing b q g other) (was_there q x q_is other) q_dir
       ] refl
 

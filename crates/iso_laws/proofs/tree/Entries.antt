@@ -1,9 +1,7 @@
 -- What a Low process asks of the entries of a Low directory, and of a Low object's names: the part answers the same.
-use Rattle.std.specs.Prelude.{◌≡◌, ℕ, ◌&&◌, not, Bool, true, false, List, [], ◌∷◌, Option, Some, None, refl, cond, length}
-use Rattle.std.proofs.Common.{sym, ◌∙◌, ap, subst, arith}
+use Rattle.std.specs.Prelude.{◌≡◌, ◌&&◌, not, true, false, [], ◌∷◌, Some, None, refl, cond, length}
+use Rattle.std.proofs.Common.{sym, ◌∙◌, ap, arith}
 use Rattle.std.specs.FinMap as map
-use Rattle.std.specs.FinMap.{FinMap}
-use Rattle.fs_path.specs.Name.{Name}
 use Rattle.lab_lattice.specs.Label.{Label}
 use Rattle.kern_model.specs.declared.numbers.Oid.{Oid}
 use Rattle.kern_model.specs.declared.objects.Kind.{Kind}
@@ -11,13 +9,13 @@ use Rattle.kern_model.specs.declared.objects.Kind.TheVariants as kind
 use Rattle.kern_model.specs.declared.objects.Object.{Object}
 use Rattle.kern_model.specs.Entries.{is_empty, entry_count, names_in, is_held, link_count, is_removed}
 use Rattle.kern_model.specs.Isolation.{low, Kept}
-use Rattle.kern_model.specs.Keys.{Spot, spot_cmp, same_oid}
+use Rattle.kern_model.specs.Keys.{Spot, same_oid}
 use Rattle.kern_model.specs.Maps.{where_key}
 use Rattle.kern_model.specs.Stat.{size_of, names_reported, stat_by, stat_of}
 use Rattle.kern_model.specs.State.{State, object_at, stub, root}
 use Rattle.kern_model.specs.Valid.{IsValid, IsThere}
 use Rattle.kern_model.proofs.KeyLaws.{oid_cmp_exact, spot_cmp_total, spot_cmp_exact}
-use Rattle.kern_model.proofs.MapLemmas.{same_key, some_same}
+use Rattle.kern_model.proofs.MapLemmas.{same_key}
 use Rattle.iso_laws.proofs.Part.{by_number, shown, low_spot}
 use Rattle.iso_laws.proofs.Selections.{test_after, list_after, any_entry-select, count_entries-select, flat_map-select}
 use Rattle.iso_laws.proofs.Sight.{low_below, not_true, object_low}
