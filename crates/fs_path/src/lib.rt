@@ -16,6 +16,7 @@ pub use split::{first_piece, next_line, split_once};
 pub use std::alloc::AllocError as NoMemory;
 pub use steps::Steps;
 pub use values::{
-    groups_of, is_mode, mode_of, number_of, numeral, put_groups, put_mode, put_number,
+    MAX_MODE, STICKY, groups_of, is_mode, mode_of, number_of, numeral, put_groups, put_mode,
+    put_number,
 };
 pub use words::{LineWord, is_blank, put_quoted, put_word, words_of};

@@ -10,11 +10,11 @@ use std::alloc::Global;
 
 const MAX_NUMBER: u64 = u32::MAX as u64;
 
-// The greatest number of four octal digits.
-const MAX_MODE: u16 = 0o7777;
+/// All bits that four octal digits have.
+pub const MAX_MODE: u16 = 0o7777;
 
-// The bit that no mode has.
-const STICKY: u16 = 0o1000;
+/// The bit of these that no mode has.
+pub const STICKY: u16 = 0o1000;
 
 const MAX_GROUPS: usize = 16;
 
