@@ -1,5 +1,5 @@
 -- What is written is read as the same, and can be part of a line.
-use Rattle.std.specs.Prelude.{◌≡◌, ℕ, suc, ◌+◌, ◌<◌, ◌==◌, ◌&&◌, not, nat_le, Bool, true, false, cond, List, [], ◌∷◌, ◌++◌, length, map, Option, None, Result, Ok, Err, codes, filter_map, fold, is_some, refl}
+use Rattle.std.specs.Prelude.{◌≡◌, ℕ, suc, ◌+◌, ◌<◌, ◌==◌, not, Bool, true, false, cond, List, [], ◌∷◌, ◌++◌, length, map, Option, None, Result, Ok, Err, codes, filter_map, fold, is_some, refl}
 use Rattle.std.proofs.Common.{ap, sym, ◌∙◌, arith, inl, inr}
 use Rattle.std.specs.List.{filter, join_with_byte, list_all, list_any}
 use Rattle.std.specs.Str.{str_eq_ignore_ascii_case}

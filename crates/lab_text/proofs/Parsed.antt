@@ -4,9 +4,9 @@ use Rattle.std.specs.FinSet as set
 use Rattle.std.specs.List.{list_all, list_any, slice_split, position_or_len, range_with_len, All}
 use Rattle.std.specs.Option.{option_map}
 use Rattle.std.proofs.Common.{ap, sym, ◌∙◌, arith, inl, inr}
-use Rattle.std.proofs.lemmas.Bool.{ltb-true, lt-ltb, leb-true, le-leb, and_parts, and_from, and_right, or_cases, or_from, eqb-true, ne_eqb, true≢false, true_from_ne_false, both_ways, cases_order}
+use Rattle.std.proofs.lemmas.Bool.{ltb-true, lt-ltb, leb-true, le-leb, and_parts, and_from, and_right, or_cases, or_from, eqb-true, ne_eqb, true≢false, true_from_ne_false, both_ways}
 use Rattle.std.proofs.lemmas.Bool.Decides.{nat_tests}
-use Rattle.std.proofs.lemmas.List.{append-nil, append_assoc, take-take, take-append-drop}
+use Rattle.std.proofs.lemmas.List.{append-nil}
 use Rattle.std.proofs.lemmas.List.Folds.{list_all_at}
 use Rattle.std.proofs.lemmas.List.Elements.{All-nil, All-cons}
 use Rattle.std.proofs.lemmas.List.Splits.{slice_split_none, slice_split_at}
@@ -18,7 +18,7 @@ use Rattle.lab_lattice.specs.Level.{level_covers}
 use Rattle.lab_lattice.specs.Laws.{pair_parts, covers_first, covers_second}
 use Rattle.lab_text.specs.Names.{Names, same_bytes, is_label_name, is_letter, is_name_part, are_distinct, place_of}
 use Rattle.lab_text.specs.Policy.{PolicyNames, MakePolicy, top_of, is_valid}
-use Rattle.lab_text.specs.Text.{is_colon, is_comma, LabelWords, parts_of, label_words, is_label_text, places_of, label_of, parse_label, Breaks, first_unknown, unknown_in, SaysNone, names_in, past_mark, label_text}
+use Rattle.lab_text.specs.Text.{is_colon, is_comma, LabelWords, parts_of, label_words, is_label_text, places_of, label_of, parse_label, first_unknown, unknown_in, SaysNone, names_in, past_mark, label_text}
 use Rattle.fs_path.proofs.SplitLemmas.{position_found}
 use Rattle.lab_text.proofs.PolicyFacts.{policy_facts, unlisted_unplaced, place_of_own}
 use Rattle.lab_text.specs.declared.text.LabelError.{LabelError}

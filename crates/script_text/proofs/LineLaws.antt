@@ -1,11 +1,10 @@
 -- What is read of a line may be played: its labels lie below top, and its numbers, modes and flags are in their ranges.
-use Rattle.std.specs.Prelude.{◌≡◌, ℕ, ◌/◌, ◌%◌, ◌==◌, ◌||◌, nat_le, nat_lt, Bool, true, false, not, cond, List, [], ◌∷◌, length, drop, codes, Option, None, Some, Ok, Err, ℤ, pos, neg_ℤ, unsigned_abs, refl, is_none}
+use Rattle.std.specs.Prelude.{◌≡◌, ℕ, ◌==◌, ◌||◌, nat_le, nat_lt, Bool, true, false, not, cond, List, [], ◌∷◌, length, drop, codes, Option, None, Some, Ok, Err, ℤ, pos, neg_ℤ, unsigned_abs, refl, is_none}
 use Rattle.std.proofs.Common.{sym, ◌∙◌, ap, subst, arith}
 use Rattle.std.specs.Bool.{beq}
 use Rattle.std.specs.List.{starts_with}
 use Rattle.std.specs.Option.{ok_or, option_and_then, option_map}
 use Rattle.std.proofs.lemmas.Bool.{and_parts, and_from, le-leb}
-use Rattle.std.proofs.lemmas.Bool.Decides.{nat_tests}
 use Rattle.std.proofs.lemmas.Int.{ints}
 use Rattle.fs_path.proofs.PathLaws.{path_form}
 use Rattle.fs_path.proofs.ValueRanges.{mode_range, numeral_range}
@@ -14,7 +13,7 @@ use Rattle.fs_path.specs.PathText.{path_fault, parse_path}
 use Rattle.fs_path.specs.declared.path.PathError.{PathError}
 use Rattle.fs_path.specs.Split.{split_once}
 use Rattle.fs_path.specs.Options.{keep_if}
-use Rattle.fs_path.specs.Values.{mode_of, number_of, numeral, digits_value}
+use Rattle.fs_path.specs.Values.{mode_of, number_of, numeral}
 use Rattle.fs_path.specs.Words.{is_blank, words_of}
 use Rattle.fs_path.specs.declared.words.LineWord.{LineWord}
 use Rattle.kern_model.specs.Arguments.{are_flags, are_names, has_names, is_call, is_number}

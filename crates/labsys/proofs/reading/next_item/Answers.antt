@@ -23,7 +23,7 @@ pub returns-else-not-built : goal.returns-else-not-built
 returns-else-not-built c =
     plays_line c.args.over c.args.policy.now c.args.number c.args.text.now c.in-Some.line.now c.in-Some.rest.now c.in-Some.ensures.line c.in-Ok-One.who c.in-Ok-One.call
     (subst (λ (l : Line). parse_line c.args.policy.now c.in-Some.line.now ≡ Ok l) c.in-Ok-One.field-0-is c.in-Ok-One.ensures.parsed) (sym c.built.ensures ∙ c.if-not-built.false)
-    (subst (MayBePlayed (top_of c.args.policy.now)) c.in-Ok-One.field-0-is c.in-Ok-One.ensures.item).1.0 (omega (arith, c.in-Some.ensures.shorter))
+    (subst (MayBePlayed (top_of c.args.policy.now)) c.in-Ok-One.field-0-is c.in-Ok-One.ensures.item).1 (omega (arith, c.in-Some.ensures.shorter))
 
 pub returns-in_ok-refusal_of-in-Err : goal.returns-in_ok-refusal_of-in-Err
 returns-in_ok-refusal_of-in-Err c =
