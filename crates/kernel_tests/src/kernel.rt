@@ -1,17 +1,13 @@
 // What no clause says: that calls succeed with ample memory, and what they answer in a small world.
-ghost use Rattle.std.specs.Prelude.{◌≡◌, ◌∷◌, [], true, codes, length, IfOk};
-ghost use Rattle.cap_bits.specs.CapSet.{no_caps};
-ghost use Rattle.fs_path.specs.Name.{is_name};
-ghost use Rattle.kern_model.specs.declared.objects.Body.TheVariants as body;
+ghost use Rattle.std.specs.Prelude.{IfOk};
 ghost use Rattle.kern_model.specs.World.{IsWorld};
-ghost use Rattle.lab_lattice.specs.Label.{bottom};
 
 use cap_bits::{Cap, CapSet, CapState};
 use kern_core::{Kernel, built};
 use kern_model::{
     Answer, Attr, Body, ByteList, Call, CheckName, Errno, GroupList, Ids, Mode, Name, ObjectList,
     Oid, Outcome, Path, Pid, Place, ProcList, Rec, RecList, Reply, Thing, World, WorldObject,
-    WorldProc,
+    WorldProc, world_valid,
 };
 use lab_lattice::{Cats, Label, Level, Pair, bottom};
 use std::alloc::Global;
@@ -19,18 +15,14 @@ use std::test::Fail;
 
 const OWNER: u32 = 7;
 
-fn name_of(alloc: Global, bytes: &[u8]) -> Result<Name, Fail>
-    ensures { IfOk result (λ name. name ≡ bytes.now) }
-{
+fn name_of(alloc: Global, bytes: &[u8]) -> Result<Name, Fail> {
     match Name::read(alloc, bytes)? {
         Some(name) => Ok(name),
         None => Err(Fail::new("no name")),
     }
 }
 
-fn attr(mode: Mode) -> Attr
-    ensures { result ≡ record { owner = 7; group = 7; mode = mode; caps = record { e = no_caps; i = no_caps; p = no_caps } } }
-{
+fn attr(mode: Mode) -> Attr {
     Attr {
         owner: OWNER,
         group: OWNER,
@@ -39,9 +31,7 @@ fn attr(mode: Mode) -> Attr
     }
 }
 
-fn root(alloc: Global) -> WorldObject
-    ensures { result ≡ record { path = record { absolute = true; names = [] }; label = bottom; attr = record { owner = 7; group = 7; mode = 493; caps = record { e = no_caps; i = no_caps; p = no_caps } }; body = body.Dir } }
-{
+fn root(alloc: Global) -> WorldObject {
     WorldObject {
         path: Path::root(alloc),
         label: bottom(),
@@ -50,9 +40,7 @@ fn root(alloc: Global) -> WorldObject
     }
 }
 
-fn file(alloc: Global, bytes: &[u8], label: Label) -> Result<WorldObject, Fail>
-    ensures { IfOk result (λ o. o ≡ record { path = record { absolute = true; names = bytes.now ∷ [] }; label = label; attr = record { owner = 7; group = 7; mode = 420; caps = record { e = no_caps; i = no_caps; p = no_caps } }; body = body.File [] }) }
-{
+fn file(alloc: Global, bytes: &[u8], label: Label) -> Result<WorldObject, Fail> {
     Ok(WorldObject {
         path: Path::in_root(alloc, name_of(alloc, bytes)?)?,
         label,
@@ -61,9 +49,7 @@ fn file(alloc: Global, bytes: &[u8], label: Label) -> Result<WorldObject, Fail>
     })
 }
 
-fn process(alloc: Global, label: Label, caps: CapSet) -> WorldProc
-    ensures { result ≡ record { label = label; ids = record { ruid = 7; euid = 7; suid = 7; rgid = 7; egid = 7; sgid = 7; groups = [] }; caps = record { e = caps; i = no_caps; p = caps } } }
-{
+fn process(alloc: Global, label: Label, caps: CapSet) -> WorldProc {
     WorldProc {
         label,
         ids: Ids {
@@ -96,12 +82,17 @@ fn world(alloc: Global, top: Label, caps: CapSet) -> Result<World, Fail>
     procs.push(process(alloc, top, CapSet::none()))?;
     procs.push(process(alloc, bottom(), CapSet::none()))?;
     procs.push(process(alloc, bottom(), caps))?;
-    Ok(World {
+    let bound = CapSet::none();
+    let world = World {
         top,
-        bound: CapSet::none(),
+        bound,
         objects,
         procs,
-    })
+    };
+    if !world_valid(&world) {
+        return Err(Fail::new("the world may not be played"));
+    }
+    Ok(world)
 }
 
 fn booted(alloc: Global) -> Result<(Kernel, RecList), Fail> {
@@ -123,11 +114,9 @@ fn low(n: u16) -> Pid {
 }
 
 // Asks for the label of a file in the root directory.
-#[tactic(auto, using(std::proofs::lemmas::Bool::Decides::nat_tests), unfolding(kern_model::specs::Arguments::is_call))]
+#[tactic(auto, unfolding(kern_model::specs::Arguments::is_call))]
 fn ask(alloc: Global, kernel: &mut Kernel, who: &Pid, bytes: &[u8]) -> Result<Outcome, Fail> {
-    let name = name_of(alloc, bytes)?;
-    let _short = name.bytes();
-    let call = Call::MacGetFile(Path::in_root(alloc, name)?);
+    let call = Call::MacGetFile(Path::in_root(alloc, name_of(alloc, bytes)?)?);
     Ok(kernel.call(who, &call)?)
 }
 

@@ -1,4 +1,3 @@
-use Rattle.std.specs.Prelude.{List, ℕ, [], Some}
 use Rattle.std.proofs.Common.{ap, refl, sym, ◌∙◌}
 use Rattle.kern_model.specs.declared.objects.Object.{Object}
 use Rattle.kern_model.specs.declared.objects.Body.TheVariants as body
