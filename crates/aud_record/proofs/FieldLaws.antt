@@ -1,4 +1,4 @@
--- What a word of a record stands for has that word, and each value stands for itself in its word.
+-- A word that denotes a value is the word of that value, and the word of a value that fits denotes it.
 use Rattle.std.specs.Prelude.{◌≡◌, ℕ, ◌+◌, ◌%◌, ◌^◌, ◌≤◌, ◌<◌, ◌==◌, ◌&&◌, not, nat_lt, nat_le, Bool, true, false, cond, List, [], ◌∷◌, ◌++◌, Option, None, Some, codes, refl}
 use Rattle.std.proofs.Common.{ap, sym, subst, ◌∙◌, inl, inr, arith}
 use Rattle.std.specs.Fmt.{decimal}
@@ -77,7 +77,7 @@ field_text p Bytes bytes = quoted_text bytes
 field_text p About thing = thing_text p thing
 field_text p Where place = place_text place
 
--- whether the word of a value stands for it: its labels are valid and its numbers fit
+-- whether the word of a value denotes it: its labels are valid and its numbers fit
 abbrev pub field_fits : PolicyNames → (f : Field) → Of f → Bool
 field_fits p (Number bound) n = nat_lt n bound
 field_fits p Process pid = pid_fits p pid
@@ -89,7 +89,7 @@ field_fits p About thing = thing_fits p thing
 field_fits p Where place = place_fits place
 field_fits p _ value = true
 
--- a word is that of a value that fits
+-- a word is the text of a value, and the value fits
 pub record Spells (word text : List ℕ) (fits : Bool) : Type 0 where
   pub text_is : word ≡ text
   pub fit : fits ≡ true
@@ -110,7 +110,7 @@ label_round_trip p label h valid =
     ap (option_and_then (λ l. keep_if (is_valid p l && same_bytes (label_text p l) (label_text p label)) l)) (parse_text p label h valid)
     ∙ ap (λ t. keep_if t label) (and_from (is_valid p label) (same_bytes (label_text p label) (label_text p label)) valid (same_itself (label_text p label)))
 
--- `-` is no label
+-- `-` denotes no label
 parse_dash : (p : PolicyNames) → parse_label p (codes "-") ≡ None
 unfolding parse_label label_words
 parse_dash p = refl
@@ -139,7 +139,7 @@ new_label_round_trip p (new.Given label) h fits =
 
 -- ---- numbers at labels
 
--- digits have no byte from 58 on
+-- the digits of a number have no byte from 58 on
 digits_lack : (at n : ℕ) → 58 ≤ at → n < 2 ^ 64 → lacks at (decimal n) ≡ true
 digits_lack at n high = decimal_by_steps (λ n ds. lacks at ds ≡ true) (λ n small. and_from (not (48 + n == at)) true (digit n small) refl)
     (λ n ds some h. let small : n % 10 < 10 = omega arith in lacks-append at ds ((48 + n % 10) ∷ []) h (and_from (not (48 + n % 10 == at)) true (digit (n % 10) small) refl)) n
@@ -355,7 +355,7 @@ choice_round_trip TermOrKill false = refl
 listed_is : {X : Type 0} (word_of : X → List ℕ) (values : List X) (word : List ℕ) (x : X) → named word_of values word ≡ Some x → Spells word (word_of x) true
 listed_is word_of values word x h = record { text_is = named_is word_of values word x h; fit = refl }
 
--- what a word stands for has that word, and fits
+-- a word that denotes a value is its word, and the value fits
 pub canonical_is : (p : PolicyNames) (f : Field) (word : List ℕ) (v : Of f) → canonical p f word ≡ Some v → Spells word (field_text p f v) (field_fits p f v)
 canonical_is p (Number bound) word n h = let is = number_is bound n word h in record { text_is = is.text; fit = lt-ltb n bound is.small }
 canonical_is p (Either choice) word b h = choice_is word (first_of choice) (other_of choice) b h
@@ -373,12 +373,12 @@ canonical_is p Bytes word bytes h = bytes_is word bytes h
 canonical_is p About word thing h = thing_is p word thing h
 canonical_is p Where word place h = place_is word place h
 
--- a bound that digits keep within 64 bits
+-- whether the bound of a number is within 64 bits
 abbrev pub is_wide : Field → Bool
 is_wide (Number bound) = nat_le bound (2 ^ 64)
 is_wide _ = true
 
--- the word of a value that fits stands for it
+-- the word of a value that fits denotes it
 pub canonical_round_trip : (p : PolicyNames) (f : Field) (v : Of f) → MakePolicy p → is_wide f ≡ true → field_fits p f v ≡ true → canonical p f (field_text p f v) ≡ Some v
 canonical_round_trip p (Number bound) n h wide fits = let small = ltb-true n bound fits in let le = leb-true bound (2 ^ 64) wide in number_round_trip bound n small (omega arith)
 canonical_round_trip p (Either choice) b h wide fits = choice_round_trip choice b
@@ -446,7 +446,7 @@ choice_bare ExitOrKill false = refl
 choice_bare TermOrKill true = refl
 choice_bare TermOrKill false = refl
 
--- each value that fits has a word
+-- the text of a value that fits is one word
 pub field_word : (p : PolicyNames) (f : Field) (v : Of f) → MakePolicy p → is_wide f ≡ true → field_fits p f v ≡ true → IsWord (field_text p f v)
 field_word p (Number bound) n h wide fits = let small = ltb-true n bound fits in let le = leb-true bound (2 ^ 64) wide in inl (decimal_bare n (omega arith))
 field_word p (Either choice) b h wide fits = inl (choice_bare choice b)

@@ -1,4 +1,4 @@
--- A record with valid labels whose numbers and bytes are in range fits, and a record that fits has valid labels.
+-- A record fits where its labels are valid and its numbers and bytes are in range; one that fits has valid labels.
 use Rattle.std.specs.Prelude.{◌≡◌, ℕ, ◌^◌, ◌<◌, ◌&&◌, Bool, true, List, [], ◌∷◌, Option, None, Some, refl}
 use Rattle.std.specs.List.{list_all}
 use Rattle.std.proofs.lemmas.Bool.{and_parts, and_from, lt-ltb}
@@ -80,7 +80,7 @@ new_label_valid : (p : PolicyNames) (o : Option Label) → new_label_fits p o �
 new_label_valid p None fits = refl
 new_label_valid p (Some label) fits = and_from _ _ fits refl
 
--- the first of some tests
+-- the first of some tests, where all of them hold
 first_holds : (p : PolicyNames) (n : ℕ) (label : Label) (more : List Bool) → all_hold (numbered_fits p n label ∷ more) ≡ true → is_valid p label ≡ true
 first_holds p n label more fits = numbered_valid p n label (and_parts (numbered_fits p n label) (all_hold more) fits).0
 

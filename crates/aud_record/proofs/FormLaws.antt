@@ -1,4 +1,4 @@
--- A form reads the words of its values, and no others.
+-- A form reads the words of its values and no others.
 use Rattle.std.specs.Prelude.{◌≡◌, ℕ, ◌&&◌, Bool, true, false, cond, List, [], ◌∷◌, ◌++◌, Option, None, Some, Result, Ok, Err, length, refl}
 use Rattle.std.proofs.Common.{ap, sym, ◌∙◌}
 use Rattle.std.proofs.lemmas.Bool.{and_parts, and_from, eqb-true}
@@ -15,12 +15,12 @@ use Rattle.aud_record.specs.declared.fault.Fault.TheVariants as fault
 
 -- ---- one word
 
--- what a step gives that did not fail
+-- where two steps, one after the other, have a result, each of them has one
 pub bound_is : {A B : Type 0} (r : Result A Fault) (f : A → Result B Fault) (y : B) → (r >>= f) ≡ Ok y → (x : A) × (r ≡ Ok x) × (f x ≡ Ok y)
 bound_is (Ok x) f y h = (x, refl, h)
 bound_is (Err e) f y h = absurd (cc)
 
--- the word of a value is read, and what stands after it is left
+-- the word of a value is read as that value, and what comes after it is left
 pub word_round_trip : {X : Type 0} (listed : Bool) (parsed : List ℕ → Option X) (word rest : List ℕ) (x : X) → IsWord word → is_apart rest ≡ true → parsed word ≡ Some x → parse_word listed parsed (word ++ rest) ≡ Ok (x, rest)
 unfolding parse_word
 word_round_trip listed parsed word rest x is ends h =
@@ -30,7 +30,7 @@ pub field_round_trip : {X : Type 0} (listed : Bool) (parsed : List ℕ → Optio
 unfolding parse_field after_space
 field_round_trip listed parsed word rest x is ends h = word_round_trip listed parsed word rest x is ends h
 
--- a word that was read stands before what is left
+-- a text begins with a word that denotes a value, and the rest is left
 pub record Reads {X : Type 0} (parsed : List ℕ → Option X) (text rest : List ℕ) (x : X) : Type 0 where
   pub word : List ℕ
   pub says : parsed word ≡ Some x
@@ -59,7 +59,7 @@ field_is listed parsed left rest x h =
     let due = bound_is (after_space left) (parse_word listed parsed) (x, rest) h in
     (due.0, space_is left due.0 due.1, word_is listed parsed due.0 rest x due.2)
 
--- a word after a space, and what stands after it
+-- a word after a space, and what comes after it
 pub after_text_is : {left text word rest parsed tail : List ℕ} → left ≡ 32 ∷ text → text ≡ word ++ rest → word ≡ parsed → rest ≡ tail → left ≡ 32 ∷ parsed ++ tail
 after_text_is space parts is after = space ∙ ap (λ t. 32 ∷ t) parts ∙ (λ i. 32 ∷ is i ++ after i)
 
@@ -75,6 +75,7 @@ abbrev pub made : (form : Form) → Values form → Rec
 made (Done r) vs = r
 made (Next f more) vs = made (more vs.0) vs.1
 
+-- the words of a form's values
 abbrev pub words_in : PolicyNames → (form : Form) → Values form → List (List ℕ)
 words_in p (Done r) vs = []
 words_in p (Next f more) vs = field_text p f vs.0 ∷ words_in p (more vs.0) vs.1
@@ -83,7 +84,7 @@ abbrev pub values_fit : PolicyNames → (form : Form) → Values form → Bool
 values_fit p (Done r) vs = true
 values_fit p (Next f more) vs = field_fits p f vs.0 && values_fit p (more vs.0) vs.1
 
--- the bounds of its numbers are within 64 bits
+-- the bounds of a form's numbers are within 64 bits
 abbrev pub IsWide : Form → Type 0
 IsWide (Done r) = Unit {0}
 IsWide (Next f more) = (is_wide f ≡ true) × ((v : Of f) → IsWide (more v))
@@ -103,14 +104,14 @@ form_round_trip p (Next f more) vs h wide fit =
     (field_round_trip (is_listed f) (canonical p f) (field_text p f vs.0) rest vs.0 (field_word p f vs.0 h wide.0 parts.0) (spaces_apart (words_in p (more vs.0) vs.1)) (canonical_round_trip p f vs.0 h wide.0 parts.0))
     ∙ form_round_trip p (more vs.0) vs.1 h (wide.1 vs.0) parts.1
 
--- words without a line feed
+-- the words of values that fit have no line feed
 pub words_lack : (p : PolicyNames) (form : Form) (vs : Values form) → MakePolicy p → IsWide form → values_fit p form vs ≡ true → lacks 10 (after_spaces (words_in p form vs)) ≡ true
 words_lack p (Done r) vs h wide fit = refl
 words_lack p (Next f more) vs h wide fit =
     let parts = and_parts (field_fits p f vs.0) (values_fit p (more vs.0) vs.1) fit in
     lacks-append 10 (32 ∷ field_text p f vs.0) (after_spaces (words_in p (more vs.0) vs.1)) (word_lacks (field_text p f vs.0) (field_word p f vs.0 h wide.0 parts.0)) (words_lack p (more vs.0) vs.1 h (wide.1 vs.0) parts.1)
 
--- what is left of a line is the words of values that fit, and they make the record
+-- what is left of a line is made of the words of values that fit, and they make the record
 pub record IsFormed (p : PolicyNames) (form : Form) (left : List ℕ) (r : Rec) : Type 0 where
   pub values : Values form
   pub fit : values_fit p form values ≡ true

@@ -33,7 +33,7 @@ form_wide event.Deny who = (refl, λ call. (refl, λ errno. (refl, λ check. (re
 form_wide event.Switch who = (refl, λ on. tt)
 form_wide event.Note who = (refl, λ bytes. tt)
 
--- a record that a form makes is of its kind and about its process, has the words of its values after that, and fits where they do
+-- the record that a form makes is of its kind and about its process, has the words of its values, and fits where they do
 pub record IsOfKind (p : PolicyNames) (e : Event) (who : Pid) (vs : Values (form_of e who)) : Type 0 where
   pub kind : event_of (made (form_of e who) vs) ≡ e
   pub about : who_of (made (form_of e who) vs) ≡ who
@@ -56,7 +56,7 @@ of_kind p event.Deny who vs = record { kind = refl; about = refl; text = refl; f
 of_kind p event.Switch who vs = record { kind = refl; about = refl; text = refl; fit = refl }
 of_kind p event.Note who vs = record { kind = refl; about = refl; text = refl; fit = refl }
 
--- the values of a record
+-- a record is made from values of its form
 pub record IsMade (r : Rec) : Type 0 where
   pub values : Values (form_of (event_of r) (who_of r))
   pub makes : made (form_of (event_of r) (who_of r)) values ≡ r

@@ -1,4 +1,4 @@
--- What number a word spells.
+-- The number of which a word is the canonical form.
 use Rattle.std.specs.Prelude.{◌≡◌, ℕ, ◌^◌, ◌<◌, ◌≤◌, Bool, true, false, ◌&&◌, nat_lt, List, Option, None, Some, refl}
 use Rattle.std.specs.Fmt.{decimal}
 use Rattle.std.specs.Cmp.Lexicographic.{same_text}
@@ -14,18 +14,18 @@ use Rattle.aud_record.specs.Canonical.{canonical_number}
 
 -- ---- tests
 
--- equal bytes pass the test
+-- a text has the same bytes as itself
 pub same_itself : (word : List ℕ) → same_bytes word word ≡ true
 same_itself = nat_list_eq_equiv.refl
 
 pub same_is : (a b : List ℕ) → same_bytes a b ≡ true → a ≡ b
 same_is a b e = same_text a b (sym e)
 
--- what was kept passed the test
+-- a value that was kept passed the test
 pub kept_is : {X : Type 0} (b : Bool) (x y : X) → keep_if b x ≡ Some y → (b ≡ true) × (x ≡ y)
 kept_is = cond_some
 
--- what holds of each value that an option may have
+-- an option that can have no value has none
 pub none_from : {X : Type 0} (o : Option X) → ((x : X) → o ≡ Some x → ⊥) → o ≡ None
 none_from None against = refl
 none_from (Some x) against = absurd (against x refl)
@@ -50,16 +50,16 @@ number_round_trip bound n small fits =
     let value = (decimal_is_IsNumeral n fits).1 in
     ap (λ v. keep_if (nat_lt v bound && same_bytes (decimal v) (decimal n)) v) value ∙ ap (λ t. keep_if t n) (and_from (nat_lt n bound) (same_bytes (decimal n) (decimal n)) (lt-ltb n bound small) (same_itself (decimal n)))
 
--- no number is spelled by what is no number's digits
+-- a word that is the digits of no number below the bound has no canonical number
 pub no_number : (bound : ℕ) (word : List ℕ) → ((n : ℕ) → n < bound → word ≡ decimal n → ⊥) → canonical_number bound word ≡ None
 no_number bound word against = none_from (canonical_number bound word) (λ n h. let is = number_is bound n word h in against n is.small is.text)
 
--- a number that is below a bound
+-- a number, where it is below a bound
 abbrev pub below : ℕ → Option ℕ → Option ℕ
 below bound None = None
 below bound (Some n) = keep_if (nat_lt n bound) n
 
--- a number below a bound, read as one below a higher bound
+-- the canonical number below a bound, from that below a higher bound
 pub number_below : (low high : ℕ) (word : List ℕ) (parsed : Option ℕ) → low ≤ high → high ≤ 2 ^ 64 → parsed ≡ canonical_number high word → canonical_number low word ≡ below low parsed
 number_below low high word None le fits h =
     no_number low word (λ n small text. let round_trip : canonical_number high word ≡ Some n = ap (canonical_number high) text ∙ number_round_trip high n (omega arith) (omega arith) in cc)

@@ -1,4 +1,4 @@
--- What quoted words stand for.
+-- The bytes that quoted words denote.
 use Rattle.std.specs.Prelude.{◌≡◌, ℕ, zero, suc, ◌+◌, ◌-◌, ◌*◌, ◌<◌, ◌==◌, ◌&&◌, ◌||◌, not, nat_le, nat_lt, true, false, cond, List, [], ◌∷◌, length, drop, Option, None, Some, refl}
 use Rattle.std.proofs.Common.{ap, sym, subst, ◌∙◌, inl, inr, arith}
 use Rattle.std.specs.List.{prefix_len, take_while}
@@ -14,7 +14,7 @@ use Rattle.line_text.specs.Ranges.{are_bytes}
 use Rattle.aud_record.proofs.Numbers.{kept_is}
 use Rattle.aud_record.specs.Canonical.{only_quoted, unquoted}
 
--- ---- what is read is bytes
+-- ---- bytes that are read
 
 abbrev IsDigit : Option ℕ → Type 0
 IsDigit None = Unit {0}
@@ -29,7 +29,7 @@ hex_small b = cond_both (nat_le 48 b && nat_le b 57) (Some (b - 48)) (cond (nat_
     (λ is. let le = leb-true b 70 (and_parts (nat_le 65 b) (nat_le b 70) is).1 in omega arith)
     (λ _. tt)))
 
--- an item stands for a byte
+-- an item denotes a byte
 abbrev IsByte : Option (ℕ × List ℕ) → Type 0
 IsByte None = Unit {0}
 IsByte (Some p) = p.0 < 256
@@ -50,7 +50,7 @@ escape_byte (b ∷ bs) = cond_both (b == 34 || b == 92) (Some (b, bs)) (cond (b 
     (λ mark. elim (or_cases (b == 34) (b == 92) mark) [ inl quote ↦ let is = eqb-true b 34 quote in omega arith | inr slash ↦ let is = eqb-true b 92 slash in omega arith ])
     (λ _. cond_both (b == 120) (hex_pair bs) None IsByte (λ _. pair_byte bs) (λ _. tt))
 
--- a byte that stands for itself is one
+-- a byte that stands for itself is below 256
 pub plain_small : (b : ℕ) → is_plain b ≡ true → b < 256
 plain_small b plain =
     let range = (and_parts (nat_le 32 b && nat_le b 126) (not (b == 34)) (and_parts (nat_le 32 b && nat_le b 126 && not (b == 34)) (not (b == 92)) plain).0).0 in
@@ -62,7 +62,7 @@ item_byte [] = tt
 item_byte (b ∷ bs) = cond_both (b == 92) (escaped bs) (cond (is_plain b) (Some (b, bs)) None) IsByte (λ _. escape_byte bs)
     (λ _. cond_both (is_plain b) (Some (b, bs)) None IsByte (λ plain. plain_small b plain) (λ _. tt))
 
--- items stand for bytes
+-- items denote bytes
 abbrev AreBytes : Option (List ℕ × List ℕ) → Type 0
 AreBytes None = Unit {0}
 AreBytes (Some p) = are_bytes p.0 ≡ true
@@ -81,7 +81,7 @@ items_bytes (suc n) (b ∷ bs) = cond_both (b == 34) (Some ([], bs)) (option_and
     by_item None small more = tt
     by_item (Some p) small more = onto_bytes p.0 (items_within n p.1) small (more p.1)
 
--- a quoted word stands for bytes
+-- a quoted word denotes bytes
 abbrev WordBytes : LineWord → Type 0
 WordBytes w = w.quoted ≡ true → are_bytes w.bytes ≡ true
 
@@ -108,7 +108,7 @@ first_bytes text = by_word (leading_word text) (begun_bytes text)
     by_word None all = tt
     by_word (Some p) all = cond_both (is_apart p.1) (Some p) None FirstBytes (λ _. all) (λ _. tt)
 
--- the only word stands for bytes, where it is quoted
+-- the first word denotes bytes, where it is quoted
 abbrev OnlyBytes : Option (List LineWord) → Type 0
 OnlyBytes None = Unit {0}
 OnlyBytes (Some []) = Unit {0}
@@ -136,7 +136,7 @@ unquoted_bytes word bytes h = by_words (words_of word) (subst OnlyBytes (sym (wo
     by_words (Some (w ∷ [])) all h = let kept = kept_is w.quoted w.bytes bytes h in ap are_bytes (sym kept.1) ∙ all kept.0
     by_words (Some (w ∷ v ∷ ws)) all h = absurd (cc)
 
--- ---- what is written is read again
+-- ---- the round trip of a quoted text
 
 pub quoted_unquoted : (bytes : List ℕ) → are_bytes bytes ≡ true → unquoted (quoted_text bytes) ≡ Some bytes
 unfolding unquoted

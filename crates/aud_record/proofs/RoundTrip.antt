@@ -1,4 +1,4 @@
--- What is written of a record is read again, and what is read is written so.
+-- The round trip of a record, and that a line that is read is the line of its record.
 use Rattle.std.specs.Prelude.{◌≡◌, ℕ, ◌+◌, ◌^◌, ◌<◌, true, false, List, [], ◌∷◌, ◌++◌, length, take, drop, Option, None, Some, Result, Ok, Err, refl}
 use Rattle.std.proofs.Common.{ap, sym, subst, ◌∙◌, inl, append_assoc}
 use Rattle.std.specs.Fmt.{decimal}
@@ -40,9 +40,9 @@ from_kind p call x = parse_field false (canonical_pid p) x.1 >>= from_who p call
 abbrev from_call : PolicyNames → ℕ × List ℕ → Result (ℕ × Rec) Fault
 from_call p x = parse_field true (named event_word all_events) x.1 >>= from_kind p x.0
 
--- ---- what is written is read again
+-- ---- the round trip of a record
 
--- the words after the number of the process
+-- the words after the process are read as the record
 rest_round_trip : (p : PolicyNames) (r : Rec) → MakePolicy p → all_hold (rest_tests p r) ≡ true → parse_form p (form_of (event_of r) (who_of r)) (after_spaces (rest_words p r)) ≡ Ok r
 rest_round_trip p r h fits =
     let form = form_of (event_of r) (who_of r) in
@@ -86,7 +86,7 @@ line_lacks p call r h small fits =
     (lacks-append 10 (event_word (event_of r)) (after_spaces (pid_text p (who_of r) ∷ rest_words p r)) (word_lacks (event_word (event_of r)) (field_word p Kind (event_of r) h refl refl))
     (lacks-append 10 (pid_text p (who_of r)) (after_spaces (rest_words p r)) (word_lacks (pid_text p (who_of r)) (field_word p Process (who_of r) h refl parts.0)) (rest_lacks p r h parts.1)))
 
--- a text that begins with the line of a record that fits says that record
+-- a text that begins with the line of a record that fits is read as that record
 pub rec_round_trip : (p : PolicyNames) (call : ℕ) (r : Rec) (rest : List ℕ) → MakePolicy p → call < 2 ^ 64 → rec_fits p r ≡ true
     → parse_rec p (rec_text p call r ++ rest) ≡ Ok (record { call = call; rec = r; used = length (rec_text p call r) })
 unfolding parse_rec rec_text line_of
@@ -95,20 +95,20 @@ rec_round_trip p call r rest h small fits =
     ap (λ t. read_by p (split_once 10 t)) (append_assoc line (10 ∷ []) rest) ∙ ap (read_by p) (split_round_trip 10 line rest (line_lacks p call r h small fits)) ∙ ap (line_read (length line)) (line_round_trip p call r h small fits)
     ∙ ap (λ (n : ℕ). Ok (record { call = call; rec = r; used = n })) (sym (length-append line (10 ∷ [])))
 
--- ---- what is read is written so
+-- ---- the line of the record that is read
 
--- a line is that of a record that fits
+-- a line is the line of a record that fits
 record IsLine (p : PolicyNames) (line : List ℕ) (call : ℕ) (r : Rec) : Type 0 where
   small : call < 2 ^ 64
   fit : rec_fits p r ≡ true
   text : line ≡ line_text_of p call r
 
--- a line by its words
+-- a line from its words
 parts_are : {line number left kind_text kind after_kind who_text who rest digits kind_parsed parse_who tail : List ℕ} → line ≡ number ++ left → number ≡ digits → left ≡ 32 ∷ kind_text → kind_text ≡ kind ++ after_kind → kind ≡ kind_parsed
     → after_kind ≡ 32 ∷ who_text → who_text ≡ who ++ rest → who ≡ parse_who → rest ≡ tail → line ≡ digits ++ (32 ∷ kind_parsed ++ (32 ∷ parse_who ++ tail))
 parts_are parts number space kind_parts kind second_space who_parts who rest = parts ∙ (λ i. number i ++ after_text_is space kind_parts kind (after_text_is second_space who_parts who rest) i)
 
--- the words of a line make its record
+-- a line whose words are read is the line of the record that they make
 line_made : (p : PolicyNames) (line left after_kind rest : List ℕ) (call : ℕ) (e : Event) (who : Pid) (r : Rec) → Reads (canonical_number (2 ^ 64)) line left call
     → (text : List ℕ) × (left ≡ 32 ∷ text) × Reads (named event_word all_events) text after_kind e → (text : List ℕ) × (after_kind ≡ 32 ∷ text) × Reads (canonical_pid p) text rest who → IsFormed p (form_of e who) rest r → IsLine p line call r
 unfolding rec_fits
@@ -136,7 +136,7 @@ line_is p line call r h =
     (line_made p line first.0.1 second.0.1 third.0.1 first.0.0 second.0.0 third.0.0 last.0 (word_is false (canonical_number (2 ^ 64)) line first.0.1 first.0.0 first.1)
     (field_is true (named event_word all_events) first.0.1 second.0.1 second.0.0 second.1) (field_is false (canonical_pid p) second.0.1 third.0.1 third.0.0 third.1) (form_is p (form_of second.0.0 third.0.0) third.0.1 last.0 last.1))
 
--- what was read of a text: its prefix is the line of the record, which fits
+-- the prefix of a text that is read is the line of the record, which fits
 pub record IsRead (p : PolicyNames) (text : List ℕ) (read : ReadRec) : Type 0 where
   pub small : read.call < 2 ^ 64
   pub fit : rec_fits p read.rec ≡ true
@@ -159,15 +159,15 @@ rec_is p text read h = by_split (split_once 10 text) refl h
     by_split None parted h = absurd (cc)
     by_split (Some (line, rest)) parted h = by_line line rest (parse_line p line) parted refl h
 
--- ---- no line begins another
+-- ---- no line is a prefix of another
 
--- what two texts that begin with lines of records have in common
+-- two records with their numbers, and what comes after their lines, are equal
 pub record AreOne (m n : ℕ) (a b : Rec) (x y : List ℕ) : Type 0 where
   pub call : m ≡ n
   pub rec : a ≡ b
   pub rest : x ≡ y
 
--- a text begins with the line of one record only
+-- a text begins with the line of at most one record
 pub one_record : (p : PolicyNames) (m n : ℕ) (a b : Rec) (x y : List ℕ) → MakePolicy p → m < 2 ^ 64 → n < 2 ^ 64 → rec_fits p a ≡ true → rec_fits p b ≡ true → rec_text p m a ++ x ≡ rec_text p n b ++ y → AreOne m n a b x y
 one_record p m n a b x y h first second fits others same =
     let read : record { call = m; rec = a; used = length (rec_text p m a) } ≡ record { call = n; rec = b; used = length (rec_text p n b) } =

@@ -10,16 +10,16 @@ use Rattle.fs_path.specs.Split.{onto_piece, split_once}
 use Rattle.fs_path.specs.Words.{is_space, is_plain, is_bare, is_bare_text, is_apart, hex_digit, item_text, quoted_text}
 use Rattle.aud_record.specs.Words.{quoted_len, word_len, first_word, after_word}
 
--- ---- cuts
+-- ---- a text split at a byte
 
--- whether a byte stands nowhere in a text
+-- whether a text does not have a byte
 abbrev pub lacks : ℕ → List ℕ → Bool
 lacks at text = list_all (λ b. not (b == at)) text
 
 pub lacks-append : (at : ℕ) (a b : List ℕ) → lacks at a ≡ true → lacks at b ≡ true → lacks at (a ++ b) ≡ true
 lacks-append at a b first second = list_all-append (λ b. not (b == at)) a b ∙ and_from (lacks at a) (lacks at b) first second
 
--- a text is split at the first such byte
+-- a text is split at the first occurrence of the byte
 pub split_round_trip : (at : ℕ) (prefix rest : List ℕ) → lacks at prefix ≡ true → split_once at (prefix ++ at ∷ rest) ≡ Some (prefix, rest)
 unfolding split_once
 split_round_trip at [] rest none = ap (λ v. cond v (Some ([], rest)) (onto_piece at (split_once at rest))) (same at)
@@ -30,7 +30,7 @@ split_round_trip at (b ∷ bs) rest none =
     let parts = and_parts (not (b == at)) (lacks at bs) none in
     ap (λ v. cond v (Some ([], bs ++ at ∷ rest)) (onto_piece b (split_once at (bs ++ at ∷ rest)))) (not-true (b == at) parts.0) ∙ ap (onto_piece b) (split_round_trip at bs rest parts.1)
 
--- the parts of a text that was split
+-- a text that was split is its parts with the byte between them
 pub split_is : (at : ℕ) (text prefix rest : List ℕ) → split_once at text ≡ Some (prefix, rest) → text ≡ prefix ++ at ∷ rest
 unfolding split_once
 split_is at [] prefix rest h = absurd (cc)
@@ -63,7 +63,7 @@ hex_is n = cond_both (nat_le n 9) (48 + n) (87 + n) IsHex
     (λ low. let le = leb-true n 9 low in record { quote = ne_eqb (48 + n) 34 (λ e. omega arith); slash = ne_eqb (48 + n) 92 (λ e. omega arith); feed = not_from_false (48 + n == 10) (ne_eqb (48 + n) 10 (λ e. omega arith)) })
     (λ high. let lt = leb-false n 9 high in record { quote = ne_eqb (87 + n) 34 (λ e. omega arith); slash = ne_eqb (87 + n) 92 (λ e. omega arith); feed = not_from_false (87 + n == 10) (ne_eqb (87 + n) 10 (λ e. omega arith)) })
 
--- no item closes a quoted word
+-- the text of an item does not close a quoted word
 item_open : (b : ℕ) (t : List ℕ) → quoted_len false (item_text b ++ t) ≡ length (item_text b) + quoted_len false t
 item_open b t = by_mark (b == 34 || b == 92) refl
   where
@@ -132,7 +132,7 @@ bare_cut (b ∷ bs) rest bare ends =
 
 -- ---- words
 
--- a word as it is written: bare or quoted
+-- the text of a word, bare or quoted
 abbrev pub IsWord : List ℕ → Type 0
 IsWord w = (is_bare_text w ≡ true) ⊎ ((bytes : List ℕ) × (w ≡ quoted_text bytes))
 

@@ -1,4 +1,4 @@
--- Which capabilities are in a set that was built.
+-- Which capabilities a set has, for each operation that makes one.
 use Rattle.std.specs.Prelude.{◌≡◌, false, not, ◌&&◌, ◌||◌, ◌==◌}
 use Rattle.std.specs.FinSet as set
 use Rattle.std.specs.Bool.{Decides}

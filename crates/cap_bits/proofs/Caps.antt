@@ -5,6 +5,7 @@ use Rattle.cap_bits.specs.declared.cap.Cap.{Cap}
 use Rattle.cap_bits.specs.declared.cap.Cap.TheVariants.{Chown, DacExecute, DacReadSearch, DacWrite, Fowner, Fsetid, Kill, LinkDir, Setfcap, Setgid, Setuid, MacDowngrade, MacRead, MacRelabelSubj, MacUpgrade, MacWrite, AuditControl, AuditWrite}
 use Rattle.cap_bits.specs.Cap.{cap_number}
 
+-- there are 18 capabilities, numbered from 0
 pub few_caps : (cap : Cap) → cap_number cap < 18
 few_caps Chown = lit< tt
 few_caps DacExecute = lit< tt

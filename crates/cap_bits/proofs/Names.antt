@@ -9,6 +9,7 @@ use Rattle.cap_bits.specs.declared.cap.Cap.TheVariants.{Chown, DacExecute, DacRe
 use Rattle.cap_bits.specs.Cap.{cap_name, is_name_of, all_caps, cap_named}
 use Rattle.std.specs.List.{find}
 
+-- each name is in lower case
 pub lower_name : (cap : Cap) → str_to_ascii_lowercase (cap_name cap) ≡ cap_name cap
 lower_name Chown = refl
 lower_name DacExecute = refl
@@ -29,6 +30,7 @@ lower_name MacWrite = refl
 lower_name AuditControl = refl
 lower_name AuditWrite = refl
 
+-- a comparison of names without regard to case is the test `is_name_of`
 pub named : (r : Bool) (cap : Cap) (own word : List ℕ) → own ≡ cap_name cap → (IsTrue r ↔ (str_to_ascii_lowercase own ≡ str_to_ascii_lowercase word)) → r ≡ is_name_of word cap
 unfolding is_name_of
 named r cap own word e test =

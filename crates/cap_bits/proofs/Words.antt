@@ -91,6 +91,7 @@ word_without a k cap e = caps_by_bits (bit_and a (2 ^ 32 - 1 - 1 * 2 ^ k % 2 ^ 3
     ∙ ap (λ n. not (cap_number q == n) && in_word a q) e
     ∙ sym (has-without_cap _ cap q ∙ (λ i. not (same_cap-number q cap i) && has-caps_of_word a q i)))
 
+-- setting one of its first 18 bits keeps a number below 2 ^ 18
 pub with_short : (a k : ℕ) → a < 2 ^ 18 → k < 18 → bit_or a (1 * 2 ^ k % 2 ^ 32) < 2 ^ 18
 with_short a k h l =
     let bit : 1 * 2 ^ k % 2 ^ 32 ≡ 2 ^ k = one_shl k 32 (omega arith) in

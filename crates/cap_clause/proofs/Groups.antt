@@ -1,4 +1,4 @@
--- Capabilities with equal flags: what assigning flags to each group makes.
+-- Groups of capabilities with equal flags: assigning its flags to each group makes the state.
 use Rattle.std.specs.Prelude.{◌≡◌, ℕ, zero, suc, ◌<◌, Bool, true, false, cond, not, ◌&&◌, ◌||◌, nat_lt, List, [], ◌∷◌, fold, refl}
 use Rattle.std.proofs.Common.{ap, sym, ◌∙◌, arith}
 use Rattle.std.specs.Bool.{beq}
@@ -72,7 +72,7 @@ with_or_without caps set false q = has-minus_of set caps q ∙ but (has set q) (
     but false true = refl
     but false false = refl
 
--- whether two flags are one
+-- whether two flags are the same
 abbrev same_flag : Flag → Flag → Bool
 same_flag Effective Effective = true
 same_flag Inheritable Inheritable = true
@@ -124,7 +124,7 @@ assigned_after caps flags s q f =
 
 -- ---- groups
 
--- a state in which the flags of a group are assigned as another state has them
+-- the state t after the group of a capability was assigned the flags that it has in s
 abbrev pub assigned : CapState → CapState → Cap → CapState
 assigned s t cap = after_operator (group_of s cap) Assign (filter (has_flag s cap) all_flags) t
 
@@ -165,13 +165,13 @@ groups_after s t (cap ∷ caps) q f =
 
 -- ---- the first of each group
 
--- what follows from what passes a test
+-- where some element passes a test, what each one that passes implies holds
 any_gives : (p : Cap → Bool) (P : Type 0) (caps : List Cap) → list_any p caps ≡ true → ((cap : Cap) → p cap ≡ true → P) → P
 any_gives p P [] some gives = absurd (cc)
 any_gives p P (cap ∷ caps) some gives = elim (p cap) as (λ v. p cap ≡ v → (v || list_any p caps) ≡ true → P)
     [ true ↦ λ here _. gives cap here | false ↦ λ _ later. any_gives p P caps later gives ] refl some
 
--- each capability is among the 18
+-- each capability is in the list of all
 pub every_cap : (cap : Cap) → list_any (same_cap cap) all_caps ≡ true
 unfolding all_of_caps
 every_cap cap = sym (set.contains-from_list cap_cmp_total all_caps cap) ∙ has-all_of_caps cap
@@ -208,7 +208,7 @@ same_any p r [] gives some = some
 same_any p r (cap ∷ caps) gives some = elim (p cap) as (λ v. p cap ≡ v → (v || list_any p caps) ≡ true → (r cap || list_any r caps) ≡ true)
     [ true ↦ λ here _. or_left (r cap) (list_any r caps) (gives cap here) | false ↦ λ _ later. or_right (r cap) (list_any r caps) (same_any p r caps gives later) ] refl some
 
--- a capability with a flag has a first one with equal flags
+-- where a capability has a flag, the first one with equal flags is among the firsts of their groups
 first_below : (n : ℕ) (s : CapState) (q : Cap) (f : Flag) → cap_number q < n → has_flag s q f ≡ true → list_any (λ cap. same_flags s cap q) (filter (is_first s) all_caps) ≡ true
 first_below zero s q f below flagged = absurd (omega arith)
 first_below (suc n) s q f below flagged = by_earlier (list_any (earlier s q) all_caps) refl (λ other lower flagged. first_below n s other f lower flagged)
@@ -240,7 +240,7 @@ no_flag q Effective = has-no_caps q
 no_flag q Inheritable = has-no_caps q
 no_flag q Permitted = has-no_caps q
 
--- no flags, assigned to no flags, make none
+-- assigning no flags in a state without flags changes nothing
 pub assigned_none : (caps : CapSet) → after_operator caps Assign [] no_flags ≡ no_flags
 assigned_none caps = same_states _ no_flags (λ q f. assigned_after caps [] no_flags q f ∙ ap (λ v. cond (has caps q) false v) (no_flag q f) ∙ none (has caps q) ∙ sym (no_flag q f))
   where
@@ -248,7 +248,7 @@ assigned_none caps = same_states _ no_flags (λ q f. assigned_after caps [] no_f
     none true = refl
     none false = refl
 
--- the flags of each group, assigned to no flags, make the state
+-- assigning its flags to each group, from a state without flags, makes the state
 pub groups_round_trip : (s : CapState) → fold (assigned s) no_flags (firsts_of s) ≡ s
 unfolding firsts_of
 groups_round_trip s = same_states _ s (λ q f.

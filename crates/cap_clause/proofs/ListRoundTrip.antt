@@ -1,4 +1,4 @@
--- The bytes of written lists, and that a written list is read again.
+-- The bytes of a written list, and its round trip.
 use Rattle.std.specs.Prelude.{◌≡◌, ℕ, ◌+◌, ◌≤◌, ◌==◌, ◌&&◌, ◌||◌, not, nat_le, Bool, true, false, cond, List, [], ◌∷◌, ◌++◌, length, drop, map, Option, None, Some, Ok, codes, fold, is_some, unwrap_or, refl}
 use Rattle.std.proofs.Common.{ap, sym, ◌∙◌, ◌⊎◌, arith, inl, inr}
 use Rattle.std.specs.List.{join_with_byte, list_all, list_any, slice_split}
@@ -42,7 +42,7 @@ name_byte_range b is = elim (or_cases (nat_le 97 b && nat_le b 122) (b == 95) is
   | inr line ↦ let same = eqb-true b 95 line in (omega arith, omega arith)
 ]
 
--- a name has such bytes alone, and begins with `c`
+-- each byte of a capability's name is a name byte, and the first is `c`
 pub name_is : (cap : Cap) → (list_all is_name_byte (cap_name cap) ≡ true) × (cap_name cap ≡ 99 ∷ drop 1 (cap_name cap))
 name_is Chown = (refl, refl)
 name_is DacExecute = (refl, refl)
@@ -65,7 +65,7 @@ name_is AuditWrite = (refl, refl)
 
 -- ---- joined pieces
 
--- what each byte of pieces passes, and the byte between them too, each byte of the whole passes
+-- where each byte of some pieces and the byte between them pass a test, each byte of the joined text does
 pub joined_all : (p : ℕ → Bool) (c : ℕ) (pieces : List (List ℕ)) → p c ≡ true → list_all (list_all p) pieces ≡ true → list_all p (join_with_byte c pieces) ≡ true
 joined_all p c [] mark all = refl
 joined_all p c (x ∷ []) mark all = (and_parts (list_all p x) true all).0
@@ -74,7 +74,7 @@ joined_all p c (x ∷ y ∷ ys) mark all =
     list_all-append p x (c ∷ join_with_byte c (y ∷ ys))
     ∙ and_from (list_all p x) _ parts.0 (and_from (p c) _ mark (joined_all p c (y ∷ ys) mark parts.1))
 
--- joined pieces are split where they were joined
+-- joined pieces are split into the same pieces, where no byte of a piece passes the test of the split
 pub split_joined : (p : ℕ → Bool) (c : ℕ) (x : List ℕ) (xs : List (List ℕ)) → p c ≡ true → list_all (list_all (λ b. not (p b))) (x ∷ xs) ≡ true → slice_split p (join_with_byte c (x ∷ xs)) ≡ x ∷ xs
 split_joined p c x [] mark none = slice_split_none p x (without p x (and_parts (list_all (λ b. not (p b)) x) true none).0)
 split_joined p c x (y ∷ ys) mark none =
@@ -85,7 +85,7 @@ names_all : (p : ℕ → Bool) (caps : List Cap) → ((b : ℕ) → is_name_byte
 names_all p [] weaker = refl
 names_all p (cap ∷ caps) weaker = and_from (list_all p (cap_name cap)) _ (all_weaker is_name_byte p (cap_name cap) weaker (name_is cap).0) (names_all p caps weaker)
 
--- the bytes of a written list
+-- each byte of a written list is a list byte
 pub list_bytes : (caps : CapSet) → list_all is_list_byte (list_text caps) ≡ true
 unfolding list_text
 list_bytes caps = elim (same_sets caps all_of_caps) as (λ v. list_all is_list_byte (cond v (codes "all") (join_with_byte 44 (map cap_name (caps_of caps)))) ≡ true)
@@ -93,14 +93,14 @@ list_bytes caps = elim (same_sets caps all_of_caps) as (λ v. list_all is_list_b
 
 -- ---- members
 
--- a capability is listed where it is in the set
+-- a capability is listed exactly where it is in the set
 pub among_caps : (caps : CapSet) (q : Cap) → list_any (same_cap q) (caps_of caps) ≡ has caps q
 unfolding caps_of
 among_caps caps q =
     any-filter_same (same_cap q) (has caps) (has caps q) (λ k same. ap (has caps) (sym ((same_cap-decides q k).0 same))) all_caps
     ∙ ap (λ v. has caps q && v) (every_cap q) ∙ and-true (has caps q)
 
--- a set with a capability lists one
+-- the list of a set's capabilities is not empty
 pub record ListsSome (caps : CapSet) : Type 0 where
   pub first : Cap
   pub more : List Cap
@@ -115,7 +115,7 @@ lists_some caps q there = by_list (caps_of caps) refl
 
 -- ---- names
 
--- a capability's name names it
+-- a capability's name denotes the set of it alone
 name_round_trip : (cap : Cap) → caps_named (cap_name cap) ≡ Some (with_cap no_caps cap)
 unfolding caps_named
 name_round_trip cap =
@@ -167,7 +167,7 @@ parse_named at caps some =
         ∙ split_joined is_comma 44 (cap_name some.first) (map cap_name some.more) refl (names_all (λ b. not (is_comma b)) (some.first ∷ some.more) no_comma)
         ∙ ap (map cap_name) (sym some.lists)
 
--- a written list is read again
+-- a written list denotes the set that was written
 pub list_round_trip : (at : ℕ) (caps : CapSet) → ListsSome caps → parse_list at (list_text caps) ≡ Ok caps
 unfolding list_text
 list_round_trip at caps some = elim (same_sets caps all_of_caps) as (λ v. same_sets caps all_of_caps ≡ v → parse_list at (cond v (codes "all") (join_with_byte 44 (map cap_name (caps_of caps)))) ≡ Ok caps)

@@ -1,4 +1,4 @@
--- The prefixes at which a text is split.
+-- What a capability text denotes, by the prefixes at which it is split.
 use Rattle.std.proofs.Common.{◌≡◌, ℕ, ◌+◌, ◌-◌, ◌≤◌, Bool, true, false, cond, List, [], ◌∷◌, ◌++◌, length, take, drop, refl, sym, ◌∙◌, ap, subst, arith, Option, Some, None, Ok, Err}
 use Rattle.std.specs.Prelude.{◌==◌, ◌&&◌, not, filter_map, fold, is_some}
 use Rattle.std.specs.List.{list_all, position_or_len, prefix_len}
@@ -19,12 +19,13 @@ use Rattle.cap_clause.specs.declared.action.Operator.TheVariants.{Assign, Raise,
 use Rattle.cap_clause.specs.declared.error.CapTextError.{CapTextError}
 use Rattle.cap_clause.specs.declared.error.CapTextError.TheVariants as error
 
--- bytes are the longest prefix that passes a test, and a rest
+-- bytes, their longest prefix that passes a test, and the rest
 pub record IsPrefix (p : ℕ → Bool) (bytes prefix rest : List ℕ) : Type 0 where
   pub whole : bytes ≡ prefix ++ rest
   pub passes : list_all p prefix ≡ true
   pub stops : Stops p rest
 
+-- a split at the length of the longest prefix gives that prefix and the rest
 pub prefix_of : (p : ℕ → Bool) (n : ℕ) (bytes prefix rest : List ℕ) → n ≡ prefix_len p bytes → prefix ≡ take n bytes → rest ≡ drop n bytes → IsPrefix p bytes prefix rest
 prefix_of p n bytes prefix rest count before after = record {
   whole = sym (take-append-drop n bytes) ∙ (λ i. sym before i ++ sym after i);
@@ -32,11 +33,12 @@ prefix_of p n bytes prefix rest count before after = record {
   stops = subst (Stops p) (sym (after ∙ ap (λ k. drop k bytes) count)) (after_stops p bytes);
 }
 
--- a text that begins with an operator and flags
+-- a text begins with an operator and flags
 pub record IsAction (text : List ℕ) (operator : Operator) (flags rest : List ℕ) : Type 0 where
   pub first : first_operator text ≡ Some operator
   pub flags_are : IsPrefix is_flag (drop 1 text) flags rest
 
+-- an action without a flag that it needs is refused
 pub no_flag : (at : ℕ) (caps : CapSet) (text flags rest : List ℕ) (s : CapState) (operator : Operator) → IsAction text operator flags rest
     → (needs_flag operator && length flags == 0) ≡ true → parse_actions at caps text s ≡ Err (error.NoFlag (at + 1))
 no_flag at caps [] flags rest s operator is missing = absurd (cc is.first)
@@ -51,12 +53,14 @@ next_of at caps (b ∷ bs) flags rest s operator is enough =
     ap (λ (after : List ℕ). parse_actions at caps (b ∷ after) s) is.flags_are.whole
     ∙ parsed_next at b caps operator flags rest s is.first is.flags_are.passes is.flags_are.stops enough
 
+-- an action with nothing after it is the last
 pub last_action : (at : ℕ) (caps : CapSet) (text flags rest : List ℕ) (s : CapState) (operator : Operator) → IsAction text operator flags rest
     → (needs_flag operator && length flags == 0) ≡ false → (length rest == 0) ≡ true → parse_actions at caps text s ≡ Ok (after_operator caps operator (filter_map flag_of flags) s)
 last_action at caps text flags rest s operator is enough none =
     next_of at caps text flags rest s operator is enough
     ∙ ap (λ (r : List ℕ). parsed_rest (at + 1 + length flags) caps r (after_operator caps operator (filter_map flag_of flags) s)) (nil_from_length rest (eqb-true (length rest) 0 none))
 
+-- after an action the next ones follow
 pub more_actions : (at : ℕ) (caps : CapSet) (text flags rest : List ℕ) (s : CapState) (operator : Operator) → IsAction text operator flags rest
     → (needs_flag operator && length flags == 0) ≡ false → (length rest == 0) ≡ false → parse_actions at caps text s ≡ parse_actions (at + (length flags + 1)) caps rest (after_operator caps operator (filter_map flag_of flags) s)
 more_actions at caps text flags [] s operator is enough some = absurd (cc)
@@ -68,7 +72,7 @@ more_actions at caps text flags (r ∷ rs) s operator is enough some =
 
 -- ---- clauses
 
--- a list before the first operator of a clause, and the actions from there on
+-- a clause, the list before its first operator, and its actions from there on
 abbrev pub IsClause : List ℕ → List ℕ → List ℕ → Type 0
 IsClause bytes list actions = IsPrefix (λ b. not (is_operator b)) bytes list actions
 
@@ -98,7 +102,7 @@ clause_of_all at bytes (b ∷ bs) actions s is first =
     let no : false ≡ true = sym (ap (λ (o : Option Operator). not (is_some o)) begun) ∙ passes in
     absurd (cc)
 
--- a clause with a fault before its actions
+-- a clause whose list has a fault is refused with that fault
 pub clause_wrong : (at : ℕ) (bytes list actions : List ℕ) (s : CapState) (e : CapTextError) → IsClause bytes list actions → parse_prefix at list (first_operator bytes) ≡ Err e
     → parse_clause s (record { at = at; bytes = bytes }) ≡ Err e
 clause_wrong at bytes list actions s e is = by_first (first_operator bytes) refl
@@ -109,7 +113,7 @@ clause_wrong at bytes list actions s e is = by_first (first_operator bytes) refl
     by_first (Some Raise) first wrong = let same : error.NoNames at ≡ e = cc in clause_unnamed at bytes s Raise first refl ∙ ap Err same
     by_first (Some Lower) first wrong = let same : error.NoNames at ≡ e = cc in clause_unnamed at bytes s Lower first refl ∙ ap Err same
 
--- a clause without one
+-- a clause whose list has no fault goes on with its actions
 pub clause_about : (at : ℕ) (bytes list actions : List ℕ) (s : CapState) (caps : CapSet) → IsClause bytes list actions → parse_prefix at list (first_operator bytes) ≡ Ok caps
     → parse_clause s (record { at = at; bytes = bytes }) ≡ parse_actions (at + length list) caps actions s
 clause_about at bytes list actions s caps is = by_first (first_operator bytes) refl
@@ -124,7 +128,7 @@ clause_about at bytes list actions s caps is = by_first (first_operator bytes) r
 
 -- ---- texts
 
--- blanks before a clause
+-- blanks before a clause are skipped
 past : (at : ℕ) (text : List ℕ) → clauses_of at text ≡ clauses_of (at + prefix_len is_blank text) (drop (prefix_len is_blank text) text)
 past at [] = ap (λ n. clauses_of n []) (sym (add-zero at))
 past at (b ∷ bs) = elim (is_blank b) as (λ v. is_blank b ≡ v → clauses_of at (b ∷ bs) ≡ clauses_of (at + cond v (1 + prefix_len is_blank bs) 0) (drop (cond v (1 + prefix_len is_blank bs) 0) (b ∷ bs))) [
@@ -142,7 +146,7 @@ past_to at place text left is places =
     let same : at + prefix_len is_blank text ≡ place = omega arith in
     past at text ∙ (λ i. clauses_of (same i) (sym is i))
 
--- a clause up to the next blank
+-- a clause ends at the next blank
 cut_clause : (at : ℕ) (left clause rest : List ℕ) → IsPrefix (λ b. not (is_blank b)) left clause rest → (length left == 0) ≡ false → Stops is_blank left
     → clauses_of at left ≡ record { at = at; bytes = clause } ∷ clauses_of (at + length clause) rest
 cut_clause at left (c ∷ cs) rest is some stops = ap (clauses_of at) is.whole ∙ clauses_next at c cs rest is.passes is.stops
@@ -152,6 +156,7 @@ cut_clause at (b ∷ bs) [] rest is some stops =
     let no : true ≡ false = sym (ap not stops) ∙ clear in
     absurd (cc)
 
+-- after a clause the next one follows, past blanks
 pub next_clause : (total : ℕ) (left clause rest next : List ℕ) → IsPrefix (λ b. not (is_blank b)) left clause rest → (length left == 0) ≡ false → Stops is_blank left
     → next ≡ drop (prefix_len is_blank rest) rest → length left ≤ total
     → clauses_of (total - length left) left ≡ record { at = total - length left; bytes = clause } ∷ clauses_of (total - length next) next
@@ -161,6 +166,7 @@ next_clause total left clause rest next is some stops after within =
     cut_clause (total - length left) left clause rest is some stops
     ∙ ap (λ cs. record { at = total - length left; bytes = clause } ∷ cs) (past_to (total - length left + length clause) (total - length next) rest next after (omega arith))
 
+-- a text of blanks alone is refused
 pub no_clause : (text left : List ℕ) → left ≡ drop (prefix_len is_blank text) text → (length left == 0) ≡ true → parse_caps text ≡ Err error.Empty
 unfolding parse_caps caps_fault caps_meant clauses_of
 no_clause text left is none =
@@ -168,6 +174,7 @@ no_clause text left is none =
     let clauses : clauses_of 0 text ≡ [] = past_to 0 (length text) text left is (omega (arith, ap length empty)) ∙ ap (clauses_of (length text)) empty in
     ap (λ cs. unless_fault (first_fault_or error.Empty clause_fault cs) (fold with_clause no_flags cs)) clauses
 
+-- a text with other bytes than blanks has a first clause
 pub first_clause : (text left : List ℕ) → left ≡ drop (prefix_len is_blank text) text → (length left == 0) ≡ false
     → parse_caps text ≡ unless_fault (first_fault clause_fault (clauses_of (length text - length left) left)) (fold with_clause no_flags (clauses_of (length text - length left) left))
 unfolding parse_caps caps_fault caps_meant

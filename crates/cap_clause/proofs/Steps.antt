@@ -21,19 +21,19 @@ use Rattle.cap_clause.specs.declared.error.CapTextError.TheVariants as error
 
 -- ---- items one after another
 
--- an item without a fault
+-- where the first item has no fault, its step is made
 pub item_fine : {X V : Type 0} (fault : X → Option CapTextError) (step : V → X → V) (v : V) (x : X) (xs : List X) → fault x ≡ None
     → unless_fault (first_fault fault (x ∷ xs)) (fold step v (x ∷ xs)) ≡ unless_fault (first_fault fault xs) (fold step (step v x) xs)
 item_fine fault step v x xs fine = ap (λ (o : Option CapTextError). unless_fault (option_or o (first_fault fault xs)) (fold step (step v x) xs)) fine
 
--- an item with a fault
+-- where the first item has a fault, that is the result
 pub item_fault : {X V : Type 0} (fault : X → Option CapTextError) (step : V → X → V) (v : V) (x : X) (xs : List X) (e : CapTextError) → fault x ≡ Some e
     → unless_fault (first_fault fault (x ∷ xs)) (fold step v (x ∷ xs)) ≡ Err e
 item_fault fault step v x xs e wrong = ap (λ (o : Option CapTextError). unless_fault (option_or o (first_fault fault xs)) (fold step (step v x) xs)) wrong
 
 -- ---- prefixes of bytes
 
--- bytes are none, or begin with one that fails a test
+-- bytes that are empty, or begin with one that fails a test
 abbrev pub Stops : (ℕ → Bool) → List ℕ → Type 0
 Stops p [] = Unit {0}
 Stops p (b ∷ bs) = p b ≡ false
@@ -56,7 +56,7 @@ len_of_prefix p (b ∷ bs) rest all stops =
     let parts = and_parts (p b) (list_all p bs) all in
     cond-true (p b) _ _ parts.0 ∙ ap (λ n. 1 + n) (len_of_prefix p bs rest parts.1 stops) ∙ one-add (length bs)
 
--- no element passes a test
+-- bytes that all fail a test, in terms of `All`
 pub without : (p : ℕ → Bool) (bs : List ℕ) → list_all (λ b. not (p b)) bs ≡ true → All (λ b. p b ≡ false) bs
 without p [] all = All-nil (λ b. p b ≡ false)
 without p (b ∷ bs) all =
@@ -65,12 +65,12 @@ without p (b ∷ bs) all =
 
 -- ---- clauses
 
--- a blank that begins a text
+-- a blank at the start of a text is skipped
 pub clauses_blank : (at b : ℕ) (bs : List ℕ) → is_blank b ≡ true → clauses_of at (b ∷ bs) ≡ clauses_of (at + 1) bs
 unfolding clauses_of
 clauses_blank at b bs blank = ap (λ (ps : List (List ℕ)). filter has_bytes (placed at ps)) (cond-true (is_blank b) _ _ blank) ∙ ap (λ n. filter has_bytes (placed (n + 1) (slice_split is_blank bs))) (add-zero at)
 
--- a clause that begins a text
+-- the bytes before the first blank are a clause
 pub clauses_next : (at b : ℕ) (bs rest : List ℕ) → list_all (λ c. not (is_blank c)) (b ∷ bs) ≡ true → Stops (λ c. not (is_blank c)) rest
     → clauses_of at ((b ∷ bs) ++ rest) ≡ record { at = at; bytes = b ∷ bs } ∷ clauses_of (at + length (b ∷ bs)) rest
 unfolding clauses_of
@@ -115,7 +115,7 @@ none_there (Some x) e = cc
 
 -- ---- actions
 
--- the actions from a byte on, by the operator that it is
+-- the actions that begin at a byte, by the operator that it is, if any
 abbrev actions_by : ℕ → List ℕ → Option Operator → List Action
 actions_by at bs o = cons_option (option_map (λ operator. record { at = at; operator = operator; rest = before_first is_operator bs }) o) (actions_in (at + 1) bs)
 
@@ -144,10 +144,11 @@ before_stops p q (b ∷ bs) stops = elim (not (p b)) as (λ v. Stops q (take (co
 flags_apart : (flags : List ℕ) → list_all is_flag flags ≡ true → list_all (λ b. not (is_operator b)) flags ≡ true
 flags_apart flags all = all_weaker is_flag (λ b. not (is_operator b)) flags flag_apart all
 
--- an operator and flags, whatever comes after them
+-- an action of an operator and flags, with the bytes up to the next operator
 abbrev first_action : ℕ → Operator → List ℕ → List ℕ → Action
 first_action at operator flags rest = record { at = at; operator = operator; rest = flags ++ before_first is_operator rest }
 
+-- an operator and flags after it begin an action
 pub actions_next : (at b : ℕ) (operator : Operator) (flags rest : List ℕ) → operator_of b ≡ Some operator → list_all is_flag flags ≡ true
     → actions_in at (b ∷ flags ++ rest) ≡ first_action at operator flags rest ∷ actions_in (at + 1 + length flags) rest
 actions_next at b operator flags rest is all =
@@ -177,12 +178,12 @@ begins at b caps operator flags rest s is all =
     parsed_some at caps b (flags ++ rest) s operator is
     ∙ ap (λ more. unless_fault (first_fault action_fault more) (fold (with_action caps) s more)) (actions_next at b operator flags rest is all)
 
--- no operator begins the bytes
+-- bytes that do not begin with an operator are refused
 pub parsed_none : (at : ℕ) (caps : CapSet) (actions : List ℕ) (s : CapState) → first_operator actions ≡ None → parse_actions at caps actions s ≡ Err (error.NoOperator at)
 unfolding parse_actions
 parsed_none at caps actions s none = cond-false _ _ _ (ap (λ (o : Option Operator). is_some o) none)
 
--- a flag is missing
+-- an operator without a flag that it needs is refused
 pub parsed_no_flag : (at b : ℕ) (caps : CapSet) (operator : Operator) (flags rest : List ℕ) (s : CapState) → operator_of b ≡ Some operator → list_all is_flag flags ≡ true → Stops is_flag rest
     → (needs_flag operator && length flags == 0) ≡ true → parse_actions at caps (b ∷ flags ++ rest) s ≡ Err (error.NoFlag (at + 1))
 parsed_no_flag at b caps operator flags rest s is all stops missing =
@@ -190,7 +191,7 @@ parsed_no_flag at b caps operator flags rest s is all stops missing =
     ∙ item_fault action_fault (with_action caps) s (first_action at operator flags rest) (actions_in (at + 1 + length flags) rest) (error.NoFlag (at + 1))
     (fault_is at operator flags rest all stops ∙ cond-true _ _ _ missing)
 
--- what is left after an action: nothing, or more, at a place
+-- the state after the bytes that follow an action: none, or further actions from a place on
 abbrev pub parsed_rest : ℕ → CapSet → List ℕ → CapState → Result CapState CapTextError
 parsed_rest at caps [] s = Ok s
 parsed_rest at caps (r ∷ rs) s = parse_actions at caps (r ∷ rs) s
@@ -201,7 +202,7 @@ fine_after at count operator enough = cond-false (needs_flag operator && count =
 wrong_after : (at count more : ℕ) (operator : Operator) → (needs_flag operator && count == 0) ≡ false → fault_after at operator count (count + suc more) ≡ Some (error.NoOperator (at + 1 + count))
 wrong_after at count more operator enough = cond-false (needs_flag operator && count == 0) _ _ enough ∙ cond-true (nat_lt count (count + suc more)) _ _ (lt-ltb count (count + suc more) (omega arith))
 
--- an action with its flags, and then what is left
+-- an action changes the state, and the rest follows
 pub parsed_next : (at b : ℕ) (caps : CapSet) (operator : Operator) (flags rest : List ℕ) (s : CapState) → operator_of b ≡ Some operator → list_all is_flag flags ≡ true → Stops is_flag rest
     → (needs_flag operator && length flags == 0) ≡ false
     → parse_actions at caps (b ∷ flags ++ rest) s ≡ parsed_rest (at + 1 + length flags) caps rest (after_operator caps operator (filter_map flag_of flags) s)
@@ -232,14 +233,14 @@ parsed_next at b caps operator flags (r ∷ rs) s is all stops enough = by_rest 
 
 -- ---- a clause
 
--- there is an action where an operator begins the bytes
+-- bytes that begin with an operator have an action
 one_at_least : (missing : CapTextError) (at b : ℕ) (bs : List ℕ) (operator : Operator) → operator_of b ≡ Some operator
     → first_fault_or missing action_fault (actions_in at (b ∷ bs)) ≡ first_fault action_fault (actions_in at (b ∷ bs))
 one_at_least missing at b bs operator is =
     ap (λ (o : Option Operator). first_fault_or missing action_fault (actions_by at bs o)) is
     ∙ sym (ap (λ (o : Option Operator). first_fault action_fault (actions_by at bs o)) is)
 
--- a clause's actions, of which there must be one
+-- the state after a clause's actions, of which there must be one
 abbrev actions_meant : Piece → CapSet → CapState → Result CapState CapTextError
 actions_meant clause caps s = unless_fault (actions_fault clause) (fold (with_action caps) s (actions_in clause.at clause.bytes))
 
@@ -268,7 +269,7 @@ list_is : (list actions : List ℕ) → list_all (λ b. not (is_operator b)) lis
 list_is list [] none stops = before_more is_operator list [] none ∙ append-nil list
 list_is list (b ∷ bs) none stops = before_more is_operator list (b ∷ bs) none ∙ ap (λ (l : List ℕ). list ++ l) (before_none b bs stops) ∙ append-nil list
 
--- a clause that begins with `+` or `-`
+-- a clause that begins with `+` or `-` is refused
 pub clause_unnamed : (at : ℕ) (bytes : List ℕ) (s : CapState) (operator : Operator) → first_operator bytes ≡ Some operator → needs_flag operator ≡ true
     → parse_clause s (record { at = at; bytes = bytes }) ≡ Err (error.NoNames at)
 unfolding parse_clause clause_fault
@@ -276,7 +277,7 @@ clause_unnamed at bytes s Assign is needs = absurd (cc)
 clause_unnamed at bytes s Raise is needs = ap (λ (o : Option Operator). unless_fault (clause_fault_by o (record { at = at; bytes = bytes })) (with_clause s (record { at = at; bytes = bytes }))) is
 clause_unnamed at bytes s Lower is needs = ap (λ (o : Option Operator). unless_fault (clause_fault_by o (record { at = at; bytes = bytes })) (with_clause s (record { at = at; bytes = bytes }))) is
 
--- a clause that begins with `=`
+-- a clause that begins with `=` does its actions on all capabilities
 pub clause_for_all : (at : ℕ) (actions : List ℕ) (s : CapState) → first_operator actions ≡ Some Assign
     → parse_clause s (record { at = at; bytes = actions }) ≡ parse_actions at all_of_caps actions s
 unfolding parse_clause clause_fault with_clause
@@ -294,7 +295,7 @@ listed_by at list actions s none stops first =
     ap (λ (o : Option Operator). unless_fault (clause_fault_by o (record { at = at; bytes = list ++ actions })) (fold (with_action (cond (is_some o) all_of_caps (caps_listed (list_in (record { at = at; bytes = list ++ actions }))))) s (actions_in at (list ++ actions)))) first
     ∙ ap (λ (l : List ℕ). unless_fault (option_or (first_fault piece_fault (pieces_of at l)) (actions_fault (record { at = at; bytes = list ++ actions }))) (fold (with_action (caps_listed (pieces_of at l))) s (actions_in at (list ++ actions)))) (list_is list actions none stops)
 
--- a clause with an unknown name
+-- a clause with an unknown name is refused
 pub clause_unknown : (at : ℕ) (list actions : List ℕ) (s : CapState) (e : CapTextError) → list_all (λ b. not (is_operator b)) list ≡ true → Stops (λ b. not (is_operator b)) actions
     → first_operator (list ++ actions) ≡ None → first_fault piece_fault (pieces_of at list) ≡ Some e
     → parse_clause s (record { at = at; bytes = list ++ actions }) ≡ Err e
@@ -302,7 +303,7 @@ clause_unknown at list actions s e none stops first unknown =
     listed_by at list actions s none stops first
     ∙ ap (λ (f : Option CapTextError). unless_fault (option_or f (actions_fault (record { at = at; bytes = list ++ actions }))) (fold (with_action (caps_listed (pieces_of at list))) s (actions_in at (list ++ actions)))) unknown
 
--- a clause with a list of names
+-- a clause with a list of names does its actions on these
 pub clause_listed : (at : ℕ) (list actions : List ℕ) (s : CapState) → list_all (λ b. not (is_operator b)) list ≡ true → Stops (λ b. not (is_operator b)) actions
     → first_operator (list ++ actions) ≡ None → first_fault piece_fault (pieces_of at list) ≡ None
     → parse_clause s (record { at = at; bytes = list ++ actions }) ≡ parse_actions (at + length list) (caps_listed (pieces_of at list)) actions s
@@ -313,6 +314,7 @@ clause_listed at list actions s none stops first known =
 
 -- ---- clauses one after another
 
+-- where a value is returned, there is no fault
 pub no_fault_in : {V : Type 0} (f : Option CapTextError) (v w : V) → unless_fault f v ≡ Ok w → (f ≡ None) × (v ≡ w)
 no_fault_in None v w e = (refl, cc)
 no_fault_in (Some e) v w is = absurd (cc)
@@ -321,7 +323,7 @@ pub fault_in : {V : Type 0} (f : Option CapTextError) (v : V) (e : CapTextError)
 fault_in None v e is = absurd (cc)
 fault_in (Some f) v e is = cc
 
--- what a clause and the next ones make of a state
+-- the state after clauses, one after another
 abbrev pub parse_clauses : List Piece → CapState → Result CapState CapTextError
 parse_clauses clauses s = unless_fault (first_fault clause_fault clauses) (fold with_clause s clauses)
 

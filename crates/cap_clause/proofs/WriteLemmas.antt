@@ -1,4 +1,4 @@
--- What is written piece by piece.
+-- Texts that are written piece by piece.
 use Rattle.std.proofs.Common.{◌≡◌, ℕ, ◌+◌, ◌<◌, Bool, true, false, cond, List, [], ◌∷◌, ◌++◌, length, take, drop, map, refl, sym, ◌∙◌, ap, arith}
 use Rattle.std.specs.Prelude.{not, ◌&&◌, ◌||◌, ◌==◌, nat_lt}
 use Rattle.std.specs.Bool.{beq}
@@ -33,7 +33,7 @@ after_nothing c [] = refl
 after_nothing c (x ∷ []) = append-nil x
 after_nothing c (x ∷ y ∷ ys) = ap (λ (t : List ℕ). x ++ c ∷ t) (after_nothing c (y ∷ ys))
 
--- a mark and a piece are written, and a rest is left
+-- after a mark and a piece were written, the rest makes the whole
 piece_written : (old marked new mark piece rest prefix whole : List ℕ) → marked ≡ old ++ mark → new ≡ marked ++ piece → prefix ≡ mark ++ piece ++ rest → old ++ prefix ≡ whole → new ++ rest ≡ whole
 piece_written old marked new mark piece rest prefix whole mark_is new_is next all =
     ap (λ (t : List ℕ). t ++ rest) (new_is ∙ ap (λ (t : List ℕ). t ++ piece) mark_is) ∙ append_assoc (old ++ mark) piece rest ∙ append_assoc old mark (piece ++ rest)
@@ -73,11 +73,13 @@ names_end : (mark : List ℕ) (caps : CapSet) (n : ℕ) → 17 < n → names_fro
 unfolding names_from
 names_end mark caps n past = ap (λ (cs : List Cap). after mark 44 (map cap_name (filter (has caps) cs))) (no_more_caps n past)
 
+-- the name of a capability in the set is written, and then the names after it
 pub name_written : (old marked new mark name whole : List ℕ) (caps : CapSet) (cap : Cap) (n : ℕ) → cap_number cap ≡ n → has caps cap ≡ true → name ≡ cap_name cap → marked ≡ old ++ mark → new ≡ marked ++ name
     → old ++ names_from mark caps n ≡ whole → new ++ names_from (44 ∷ []) caps (n + 1) ≡ whole
 name_written old marked new mark name whole caps cap n is there name_is mark_is new_is so_far =
     piece_written old marked new mark (cap_name cap) (names_from (44 ∷ []) caps (n + 1)) (names_from mark caps n) whole mark_is (new_is ∙ ap (λ (t : List ℕ). marked ++ t) name_is) (names_there mark caps cap n is there) so_far
 
+-- a capability that is not in the set is passed over
 pub name_passed : (old mark whole : List ℕ) (caps : CapSet) (cap : Cap) (n : ℕ) → cap_number cap ≡ n → has caps cap ≡ false
     → old ++ names_from mark caps n ≡ whole → old ++ names_from mark caps (n + 1) ≡ whole
 name_passed old mark whole caps cap n is absent so_far = ap (λ (t : List ℕ). old ++ t) (sym (names_absent mark caps cap n is absent)) ∙ so_far
@@ -118,6 +120,7 @@ first_is_left : (s : CapState) (cap : Cap) (n : ℕ) → cap_number cap ≡ n �
 unfolding is_first is_left
 first_is_left s cap n is = ap (λ v. list_any (has_flag s cap) all_flags && not v) (lower_caps (same_flags s cap) cap ∙ ap (λ k. list_any (same_flags s cap) (take k all_caps)) is)
 
+-- at first, each capability with some flag is left
 pub left_at_first : (s : CapState) (q : Cap) → has (union_of (union_of s.e s.i) s.p) q ≡ is_left s 0 q
 unfolding is_left
 left_at_first s q =
@@ -129,7 +132,7 @@ left_at_first s q =
     regroup false false true = refl
     regroup false false false = refl
 
--- equal flags, either way round
+-- equality of flags is symmetric
 same_around : (s : CapState) (a b : Cap) → same_flags s a b ≡ same_flags s b a
 unfolding same_flags
 same_around s a b = λ i. around (has s.e a) (has s.e b) i && (around (has s.i a) (has s.i b) i && (around (has s.p a) (has s.p b) i && true))
@@ -161,7 +164,7 @@ left_more s cap q n is =
     regroup true false c = refl
     regroup false b c = refl
 
--- where one is not left, none with its flags is
+-- where a capability is not left, none with equal flags is
 left_same : (s : CapState) (cap q : Cap) (n : ℕ) → is_left s n cap ≡ false → (is_left s n q && not (same_flags s cap q)) ≡ is_left s n q
 unfolding is_left
 left_same s cap q n none = by_flags (same_flags s cap q) refl
@@ -199,11 +202,13 @@ groups_end : (mark : List ℕ) (s : CapState) (n : ℕ) → 17 < n → groups_fr
 unfolding groups_from
 groups_end mark s n past = ap (λ (cs : List Cap). after mark 32 (map (group_text s) (filter (is_first s) cs))) (no_more_caps n past)
 
+-- the clause of a group that is left is written, and then the clauses after it
 pub group_written : (old marked new mark whole : List ℕ) (s : CapState) (cap : Cap) (n : ℕ) → cap_number cap ≡ n → is_left s n cap ≡ true → marked ≡ old ++ mark → new ≡ marked ++ group_text s cap
     → old ++ groups_from mark s n ≡ whole → new ++ groups_from (32 ∷ []) s (n + 1) ≡ whole
 group_written old marked new mark whole s cap n is first mark_is new_is so_far =
     piece_written old marked new mark (group_text s cap) (groups_from (32 ∷ []) s (n + 1)) (groups_from mark s n) whole mark_is new_is (groups_there mark s cap n is first) so_far
 
+-- a capability whose group is not left is passed over
 pub group_passed : (old mark whole : List ℕ) (s : CapState) (cap : Cap) (n : ℕ) → cap_number cap ≡ n → is_left s n cap ≡ false
     → old ++ groups_from mark s n ≡ whole → old ++ groups_from mark s (n + 1) ≡ whole
 group_passed old mark whole s cap n is later so_far = ap (λ (t : List ℕ). old ++ t) (sym (groups_absent mark s cap n is later)) ∙ so_far
@@ -229,7 +234,7 @@ some_joined c [] xs some none = cc
 some_joined c (b ∷ bs) [] some none = cc
 some_joined c (b ∷ bs) (y ∷ ys) some none = cc
 
--- no clauses are written as `=`
+-- a state without flags is written as `=`
 pub none_written : (s : CapState) (text : List ℕ) → text ≡ join_with_byte 32 (map (group_text s) (firsts_of s)) → (length text == 0) ≡ true → text ++ 61 ∷ [] ≡ caps_text s
 unfolding caps_text
 none_written s text is none = by_firsts (firsts_of s) (sym is ∙ empty)

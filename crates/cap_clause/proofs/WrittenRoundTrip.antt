@@ -1,4 +1,4 @@
--- What is written is read as the same, and can be part of a line.
+-- Round trips of capability texts, and their bytes as words of a line.
 use Rattle.std.specs.Prelude.{◌≡◌, ℕ, suc, ◌+◌, ◌<◌, ◌==◌, not, Bool, true, false, cond, List, [], ◌∷◌, ◌++◌, length, map, Option, None, Result, Ok, Err, codes, filter_map, fold, is_some, refl}
 use Rattle.std.proofs.Common.{ap, sym, ◌∙◌, arith, inl, inr}
 use Rattle.std.specs.List.{filter, join_with_byte, list_all, list_any}
@@ -33,7 +33,7 @@ use Rattle.cap_clause.specs.declared.error.CapTextError.TheVariants as error
 list_byte_cases : (p : ℕ → Bool) (b : ℕ) → ((n : ℕ) → is_name_byte n ≡ true → p n ≡ true) → p 44 ≡ true → is_list_byte b ≡ true → p b ≡ true
 list_byte_cases p b names comma is = elim (or_cases (is_name_byte b) (b == 44) is) [ inl name ↦ names b name | inr mark ↦ ap p (eqb-true b 44 mark) ∙ comma ]
 
--- a test that each byte of a written list passes
+-- each byte of a written list passes a test that name bytes and the comma pass
 list_passes : (p : ℕ → Bool) (caps : CapSet) → ((n : ℕ) → is_name_byte n ≡ true → p n ≡ true) → p 44 ≡ true → list_all p (list_text caps) ≡ true
 list_passes p caps names comma = all_weaker is_list_byte p (list_text caps) (λ b is. list_byte_cases p b names comma is) (list_bytes caps)
 
@@ -43,7 +43,7 @@ flag_bytes p (Effective ∷ flags) e i q = and_from (p 101) _ e (flag_bytes p fl
 flag_bytes p (Inheritable ∷ flags) e i q = and_from (p 105) _ i (flag_bytes p flags e i q)
 flag_bytes p (Permitted ∷ flags) e i q = and_from (p 112) _ q (flag_bytes p flags e i q)
 
--- a test that each byte of a written clause passes
+-- each byte of a written clause passes a test that name bytes and the other bytes of clauses pass
 clause_passes : (p : ℕ → Bool) (s : CapState) (cap : Cap) → ((n : ℕ) → is_name_byte n ≡ true → p n ≡ true) → p 44 ≡ true → p 61 ≡ true → p 101 ≡ true → p 105 ≡ true → p 112 ≡ true → list_all p (group_text s cap) ≡ true
 unfolding group_text
 clause_passes p s cap names comma operator e i q =
@@ -61,7 +61,7 @@ no_operator b is =
 no_blank : (b : ℕ) → is_name_byte b ≡ true → not (is_blank b) ≡ true
 no_blank b is = let range = name_byte_range b is in not_from_false (is_blank b) (or_from (b == 32) (b == 9) (ne_eqb b 32 (λ same. omega arith)) (ne_eqb b 9 (λ same. omega arith)))
 
--- ---- a clause read again
+-- ---- the round trip of a clause
 
 flags_round_trip : (flags : List Flag) → filter_map flag_of (map flag_byte flags) ≡ flags
 flags_round_trip [] = refl
@@ -146,7 +146,7 @@ caps_round_trip s = by_first (firsts_of s) (groups_round_trip s)
 one_ok : {V : Type 0} (a b : V) (parsed : Result V CapTextError) → parsed ≡ Ok a → parsed ≡ Ok b → a ≡ b
 one_ok a b parsed is_a is_b = cc
 
--- two states with one text are one
+-- states with equal texts are equal
 pub caps_text_exact : (a b : CapState) → caps_text a ≡ caps_text b → a ≡ b
 caps_text_exact a b same = one_ok a b (parse_caps (caps_text a)) (caps_round_trip a) (ap parse_caps same ∙ caps_round_trip b)
 
@@ -197,7 +197,7 @@ plain_clauses : (s : CapState) (caps : List Cap) → list_all (list_all is_plain
 plain_clauses s [] = refl
 plain_clauses s (cap ∷ caps) = and_from _ _ (clause_passes is_plain s cap plain_name refl refl refl refl refl) (plain_clauses s caps)
 
--- a state's text has bytes alone that stand for themselves between quotes
+-- each byte of a state's text stands for itself between quotes
 pub caps_text_plain : (s : CapState) → list_all is_plain (caps_text s) ≡ true
 unfolding caps_text
 caps_text_plain s = by_first (firsts_of s)
@@ -206,7 +206,7 @@ caps_text_plain s = by_first (firsts_of s)
     by_first [] = refl
     by_first (cap ∷ caps) = joined_all is_plain 32 (map (group_text s) (cap ∷ caps)) refl (plain_clauses s (cap ∷ caps))
 
--- a set's text has bytes alone that a bare word may have
+-- each byte of a set's text may be in a bare word
 pub set_text_bare : (caps : CapSet) → list_all is_bare (set_text caps) ≡ true
 unfolding set_text
 set_text_bare caps = elim (same_sets caps no_caps) as (λ v. list_all is_bare (cond v (codes "none") (list_text caps)) ≡ true) [ true ↦ refl | false ↦ list_passes is_bare caps bare_name refl ]

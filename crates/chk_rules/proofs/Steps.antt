@@ -9,12 +9,12 @@ use Rattle.chk_rules.specs.CheckLog.{CheckLog, judge_from}
 use Rattle.chk_rules.specs.Ends.{EndsBy, GoesOn}
 use Rattle.chk_rules.specs.declared.stop.Stop.{Stop}
 
--- what ends an equal row ends the row
+-- a row ends as an equal row does
 pub ends_over : {i j : CheckOutcome} (after : CheckLog) (how : Stop) → i ≡ j → EndsBy j after how → EndsBy i after how
 ends_over after how e h = subst (λ k. EndsBy k after how) (sym e) h
 
 module _ {X Y : Type 0} {a b : CheckLog} {part : (X → Row) → Row} where
-  -- a step goes on, and then another is made
+  -- where a step goes on, the next step is made after it
   pub then_goes : {c : CheckLog} {x : X} {next : X → (Y → Row) → Row} {r : Result Y Stop} → GoesOn a part (Ok x) b → GoesOn b (next x) r c → GoesOn a (λ rest. part (λ y. next y rest)) r c
   then_goes {c = c} {x = x} {next = next} {r = Ok y} first second = record {
     continues = λ rest. first.continues (λ z. next z rest) ∙ second.continues rest;
@@ -27,7 +27,7 @@ module _ {X Y : Type 0} {a b : CheckLog} {part : (X → Row) → Row} where
     subject = second.subject ∙ first.subject;
   }
 
-  -- a step stops, and with it the body
+  -- where a step stops, the body stops
   pub stops_there : {next : X → (Y → Row) → Row} {how : Stop} (r : Result Y Stop) → IsErrAnd r (λ e. e ≡ how) → GoesOn a part (Err how) b → GoesOn a (λ rest. part (λ y. next y rest)) r b
   stops_there {next = next} (Ok y) is step = absurd is
   stops_there {next = next} {how = how} (Err e) is step = record {
@@ -36,17 +36,17 @@ module _ {X Y : Type 0} {a b : CheckLog} {part : (X → Row) → Row} where
     subject = step.subject;
   }
 
--- nothing is judged, and the value is known
+-- a step that judges nothing returns its value
 pub gives : {X : Type 0} {a : CheckLog} {x y : X} → x ≡ y → GoesOn a (λ (rest : X → Row). rest y) (Ok x) a
 gives {a = a} is = record { continues = λ rest. ap (λ z. judge_from a (rest z)) (sym is); stops = tt; subject = refl }
 
 -- An item of a row, as `Need check` or `Refuse errno holds`, is a step that gives no value.
 module _ {Y : Type 0} {a b : CheckLog} (item : Row → Row) where
-  -- the item lets the row go on, and then another step is made
+  -- where the item lets the row go on, the next step is made after it
   pub item_goes : {c : CheckLog} {x : ⊤} {part : (Y → Row) → Row} {r : Result Y Stop} → GoesOn a (λ (rest : ⊤ → Row). item (rest tt)) (Ok x) b → GoesOn b part r c → GoesOn a (λ rest. item (part rest)) r c
   item_goes {part = part} first second = then_goes {next = λ _ rest. part rest} first second
 
-  -- the item stops the row
+  -- where the item stops the row, the body stops
   pub item_stops : {part : (Y → Row) → Row} {how : Stop} (r : Result Y Stop) → IsErrAnd r (λ e. e ≡ how) → GoesOn a (λ (rest : ⊤ → Row). item (rest tt)) (Err how) b → GoesOn a (λ rest. item (part rest)) r b
   item_stops {part = part} r is step = stops_there {next = λ _ rest. part rest} r is step
 
@@ -65,10 +65,10 @@ module _ {Y : Type 0} {a b : CheckLog} {errno : Errno} {holds : Bool} where
   refuse_stops r is step = item_stops (Refuse errno holds) r is step
 
 module _ {a b : CheckLog} {r : Result ⊤ Stop} where
-  -- the same refusal, by an equal condition
+  -- a refusal under an equal condition is the same step
   pub equal_refusal : {e : Errno} {h h' : Bool} → h ≡ h' → GoesOn a (λ (rest : ⊤ → Row). Refuse e h (rest tt)) r b → GoesOn a (λ (rest : ⊤ → Row). Refuse e h' (rest tt)) r b
   equal_refusal {e = e} same step = subst (λ x. GoesOn a (λ (rest : ⊤ → Row). Refuse e x (rest tt)) r b) same step
 
-  -- an equal check
+  -- an equal check is the same step
   pub equal_check : {c c' : Check} → c ≡ c' → GoesOn a (λ (rest : ⊤ → Row). Need c (rest tt)) r b → GoesOn a (λ (rest : ⊤ → Row). Need c' (rest tt)) r b
   equal_check same step = subst (λ x. GoesOn a (λ (rest : ⊤ → Row). Need x (rest tt)) r b) same step

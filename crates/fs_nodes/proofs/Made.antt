@@ -1,4 +1,4 @@
--- A new object gets a place of its own.
+-- A new object, at a place of its own in the slab.
 use Rattle.std.specs.Prelude.{◌≡◌, ◌≢◌, ℕ, ◌+◌, ◌≤◌, true, false, Some, None, IsSome, Result, Ok, Err, OnErr, refl, cond, is_some}
 use Rattle.std.specs.FinMap as map
 use Rattle.std.specs.FinMap.{FinMap, get-insert, same_map, len-insert}
@@ -16,7 +16,7 @@ use Rattle.kern_model.proofs.TableLemmas.{each_set_at}
 use Rattle.fs_nodes.specs.Nodes.{IsPlaced, objects_in}
 use Rattle.fs_nodes.proofs.Places.{at_key, at_no_key, some_is, there_is}
 
--- room for more values changes nothing
+-- reserving room in the slab changes no object
 pub same_objects : (slots : Slab Object) (capacity : ℕ) (keys : FinMap oid_cmp ℕ) → objects_in (record slots { capacity = capacity }) keys ≡ objects_in slots keys
 unfolding objects_in
 same_objects slots capacity keys = refl
@@ -30,7 +30,7 @@ placed_reserved slots capacity keys numbers placed = record {
 }
 
 module _ {slots : Slab Object} {keys : FinMap oid_cmp ℕ} {numbers : FinMap label_cmp ℕ} (placed : IsPlaced slots keys numbers) (id : Oid) (next : id.n ≡ drawn numbers id.label + 1) where
-  -- a number that is drawn next is no object's
+  -- no object has the number that is drawn next
   pub fresh : map.get keys id ≡ None
   fresh = elim (map.get keys id) as (λ w. map.get keys id ≡ w → w ≡ None) [
     | None ↦ λ _. refl
@@ -38,7 +38,7 @@ module _ {slots : Slab Object} {keys : FinMap oid_cmp ℕ} {numbers : FinMap lab
   ] refl
 
   module _ (key : ℕ) (o : Object) (slots' : Slab Object) (vacant : get slots key ≡ None) (updates : Updates slots slots' key (Some o)) where
-    -- the key that is given is nobody's
+    -- no object has the key that the slab gave
     other_slot : (q : Oid) (k : ℕ) → map.get keys q ≡ Some k → k ≢ key
     other_slot q k e same = there_is (get slots k) (placed.there q k e) (ap (get slots) same ∙ vacant)
 
@@ -51,7 +51,7 @@ module _ {slots : Slab Object} {keys : FinMap oid_cmp ℕ} {numbers : FinMap lab
     at_old : (q : Oid) → same_oid q id ≡ false → map.get (map.insert keys id key) q ≡ map.get keys q
     at_old q f = get_made q ∙ ap (λ b. cond b (Some key) (map.get keys q)) f
 
-    -- the objects are as they were, and this one
+    -- the objects are those before and the new one
     pub objects_made : objects_in slots' (map.insert keys id key) ≡ map.insert (objects_in slots keys) id o
     objects_made = same_map oid_cmp_total oid_cmp_exact _ _ (λ q.
         elim (same_oid q id) as (λ b. same_oid q id ≡ b → map.get (objects_in slots' (map.insert keys id key)) q ≡ cond b (Some o) (map.get (objects_in slots keys) q)) [
@@ -81,7 +81,7 @@ module _ {slots : Slab Object} {keys : FinMap oid_cmp ℕ} {numbers : FinMap lab
       ] refl
     ] refl
 
-    -- numbers drawn never fall
+    -- the last number drawn of a label never gets smaller
     rises : (l : Label) → drawn numbers l ≤ drawn (map.insert numbers id.label id.n) l
     rises = each_set_at label_cmp_total label_cmp_exact (λ l n. drawn numbers l ≤ n) 0 numbers id.label id.n (omega (arith, next)) (λ l. omega arith)
 
@@ -97,7 +97,7 @@ module _ {slots : Slab Object} {keys : FinMap oid_cmp ℕ} {numbers : FinMap lab
           omega (arith, low, more)
     ] refl
 
-    -- and each object has its place
+    -- each object has a place of its own
     pub placed_made : slab_len slots' ≡ slab_len slots + 1 → IsPlaced slots' (map.insert keys id key) (map.insert numbers id.label id.n)
     placed_made len = record {
       there = there_made;
@@ -108,7 +108,7 @@ module _ {slots : Slab Object} {keys : FinMap oid_cmp ℕ} {numbers : FinMap lab
       drawn_already = drawn_made;
     }
 
--- what holds where it failed
+-- what holds in any case holds where a call fails
 pub on_err : {X E P : Type 0} (r : Result X E) → P → OnErr r P
 on_err (Ok x) p = tt
 on_err (Err e) p = p

@@ -18,7 +18,7 @@ use Rattle.kern_model.specs.Valid.{IsThere}
 use Rattle.kern_model.proofs.MapLemmas.{get-select, same_key, some_same, never_some}
 use Rattle.fs_nodes.specs.Nodes.{NodeTable, NodeSlots, IsPlaced, objects_in, with_object}
 
--- a table that stands in a slab
+-- a table, with the slab and the keys in which it is kept
 abbrev pub at_slots : Slab Object → FinMap oid_cmp ℕ → FinMap label_cmp ℕ → NodeSlots
 at_slots slots keys numbers = record { table = record { objects = objects_in slots keys; numbers = numbers }; slots = slots; keys = keys }
 
@@ -28,7 +28,7 @@ some_is o x e = ap is_some e
 pub there_is : {X : Type 0} (o : Option X) → IsSome o → o ≡ None → ⊥
 there_is o h e = true≢false (sym h ∙ ap is_some e)
 
--- two numbers that are told apart by no test are one
+-- numbers that compare unequal are different
 number_apart : (m n : ℕ) → (m == n) ≡ false → m ≢ n
 number_apart m n e f = grind (arith, nat_tests)
 
@@ -36,7 +36,7 @@ one_number : (m n : ℕ) → (m == n) ≡ true → m ≡ n
 one_number m n e = grind (arith, nat_tests)
 
 module _ (slots : Slab Object) (keys : FinMap oid_cmp ℕ) where
-  -- what is found goes by the key
+  -- an object is looked up by its key
   pub found : (id : Oid) → map.get (objects_in slots keys) id ≡ option_and_then (λ key. get slots key) (map.get keys id)
   unfolding objects_in
   found id = get-select oid_cmp_exact (λ (id : Oid) (key : ℕ). get slots key) oid_cmp_total keys id
@@ -54,7 +54,7 @@ module _ (slots : Slab Object) (keys : FinMap oid_cmp ℕ) where
     | Some key ↦ λ e. record { value = key; is = e }
   ] refl
 
--- a slot that holds something stands within the slab
+-- the key of a slot that holds something is within the slab
 within : (slots : Slab Object) (key : ℕ) → IsSome (get slots key) → key < length slots.slots
 within slots key there = elim (cases_lt key (length slots.slots)) [
   | inl h ↦ h
@@ -64,7 +64,7 @@ within slots key there = elim (cases_lt key (length slots.slots)) [
 one_of : (b : Bool) → b ≡ true → ◌≡◌ {A = ℕ} (cond b 1 0) 1
 one_of b e = ap (λ b. cond {A = ℕ} b 1 0) e
 
--- a slab with another value in a slot that holds one
+-- a slab with another value in an occupied slot
 module _ (slots : Slab Object) (key : ℕ) (there : IsSome (get slots key)) (o : Object) where
   pub get_there : get (with_value slots key o) key ≡ Some o
   get_there = get_or-set_same slots.slots key (Some o) None (within slots key there)
@@ -78,20 +78,20 @@ module _ (slots : Slab Object) (key : ℕ) (there : IsSome (get slots key)) (o :
       let one = one_of (is_some (get slots key)) there in
       omega (arith, counted, one)
 
--- a slab with the value that a slot has already
+-- setting a slot to the value that it has changes nothing
 pub same_value : (slots : Slab Object) (key : ℕ) (o : Object) → get slots key ≡ Some o → with_value slots key o ≡ slots
 same_value slots key o is = ap (λ w. record slots { slots = slice_set slots.slots key w }) (sym is) ∙ ap (λ l. record slots { slots = l }) (set-get_or slots.slots key None)
 
--- the key of an object is its own
+-- no two objects have the same key
 pub one_key : {slots : Slab Object} {keys : FinMap oid_cmp ℕ} {numbers : FinMap label_cmp ℕ} → IsPlaced slots keys numbers → (a b : Oid) (key : ℕ) → map.get keys a ≡ Some key → map.get keys b ≡ Some key → a ≡ b
 one_key placed a b key e f = same_key oid_cmp_exact a b (placed.apart a b key e f)
 
--- an object that is changed where it stands
+-- an object that is changed at its place
 module _ {slots : Slab Object} {keys : FinMap oid_cmp ℕ} {numbers : FinMap label_cmp ℕ} (placed : IsPlaced slots keys numbers) (id : Oid) (key : ℕ) (is : map.get keys id ≡ Some key) (o : Object) where
   there : IsSome (get slots key)
   there = placed.there id key is
 
-  -- the objects are as they were but for this one
+  -- the objects are those before, but for the one that is changed
   pub object_set : objects_in (with_value slots key o) keys ≡ map.insert (objects_in slots keys) id o
   object_set = same_map oid_cmp_total oid_cmp_exact _ _ (λ q.
       elim (map.get keys q) as (λ w. map.get keys q ≡ w → map.get (objects_in (with_value slots key o) keys) q ≡ map.get (map.insert (objects_in slots keys) id o) q) [
@@ -111,7 +111,7 @@ module _ {slots : Slab Object} {keys : FinMap oid_cmp ℕ} {numbers : FinMap lab
             ] refl)
       ] refl)
 
-  -- and each stands where it stood
+  -- each object is still at its place
   pub still_placed : IsPlaced (with_value slots key o) keys numbers
   still_placed = record {
     there = λ q k e. elim (k == key) as (λ b. (k == key) ≡ b → IsSome (get (with_value slots key o) k)) [
@@ -126,12 +126,12 @@ module _ {slots : Slab Object} {keys : FinMap oid_cmp ℕ} {numbers : FinMap lab
       same_size : objects_in (with_value slots key o) keys ≡ map.insert (objects_in slots keys) id o → map.len (objects_in (with_value slots key o) keys) ≡ map.len (objects_in slots keys)
       same_size e = ap map.len e ∙ len-insert oid_cmp_total (objects_in slots keys) id o ∙ ap (λ b. cond b (map.len (objects_in slots keys)) (map.len (objects_in slots keys) + 1)) (ap is_some (at_key slots keys id key is) ∙ there)
 
--- what stands at its key is the object of the table
+-- the object that is found by its key is that of the table
 pub same_there : {slots : Slab Object} {keys : FinMap oid_cmp ℕ} {numbers : FinMap label_cmp ℕ} (id : Oid) (key : ℕ) → map.get keys id ≡ Some key → (x old : Object) → get slots key ≡ Some x
     → (t : NodeSlots) → at_slots slots keys numbers ≡ t → map.get t.table.objects id ≡ Some old → x ≡ old
 same_there {slots = slots} {keys = keys} id key is x old e t view h = some_same x old (sym e ∙ sym (at_key slots keys id key is) ∙ ap (λ (n : NodeSlots). map.get n.table.objects id) view ∙ h)
 
--- the table has the object that was changed
+-- the table is the one before with the changed object
 pub table_set : {slots : Slab Object} {keys : FinMap oid_cmp ℕ} {numbers : FinMap label_cmp ℕ} → IsPlaced slots keys numbers → (id : Oid) (key : ℕ) → map.get keys id ≡ Some key → (f : Object → Object) (x old : Object) → get slots key ≡ Some x
     → (t : NodeSlots) → at_slots slots keys numbers ≡ t → map.get t.table.objects id ≡ Some old → ◌≡◌ {A = NodeTable} (record { objects = objects_in (with_value slots key (f x)) keys; numbers = numbers }) (with_object t.table id (f old))
 table_set {slots = slots} {keys = keys} {numbers = numbers} placed id key is f x old e t view h =
@@ -146,7 +146,7 @@ absent_key {slots = slots} {keys = keys} placed id none = elim (map.get keys id)
   | Some key ↦ λ e. absurd (there_is (get slots key) (placed.there id key e) (sym (at_key slots keys id key e) ∙ none))
 ] refl
 
--- no object in an empty slab
+-- without keys there is no object
 pub none_there : (slots : Slab Object) → objects_in slots map.empty ≡ map.empty
 none_there slots = same_map oid_cmp_total oid_cmp_exact _ _ (λ q. at_no_key slots map.empty q (get-empty oid_cmp q) ∙ sym (get-empty oid_cmp q))
 
@@ -158,12 +158,12 @@ none_placed slots numbers none = record {
   drawn_already = λ id key e. absurd (never_some (map.get map.empty id) key (get-empty oid_cmp id) e);
 }
 
--- what holds where it succeeded, and what follows from it
+-- what holds where a call succeeds may be weakened
 pub on_ok : {X E P Q : Type 0} (r : Result X E) → (P → Q) → OnOk r P → OnOk r Q
 on_ok (Ok x) f p = f p
 on_ok (Err e) f p = tt
 
--- and the same where it failed
+-- what holds where a call fails may be weakened
 pub on_err : {X E P Q : Type 0} (r : Result X E) → (P → Q) → OnErr r P → OnErr r Q
 on_err (Ok x) f p = tt
 on_err (Err e) f p = f p

@@ -18,13 +18,13 @@ pub record NodeTable : Type 0 where
   pub objects : FinMap oid_cmp Object
   pub numbers : FinMap label_cmp ℕ
 
--- a table, and where it stands: the slab that holds its objects, and the key of each
+-- a table, and where it is kept: the slab that holds its objects, and the key of each
 pub record NodeSlots : Type 0 where
   pub table : NodeTable
   pub slots : Slab Object
   pub keys : FinMap oid_cmp ℕ
 
--- how a table with its places is stored
+-- how a table is stored, with the slab and the keys
 abbrev pub slots_code : Coded Oid → Coded Object → Coded Label → Coded NodeSlots
 slots_code oid object label =
     code_by ((FinMap oid_cmp Object × FinMap label_cmp ℕ) × (Slab Object × FinMap oid_cmp ℕ))
@@ -33,7 +33,7 @@ slots_code oid object label =
     (λ p. record { table = record { objects = p.0.0; numbers = p.0.1 }; slots = p.1.0; keys = p.1.1 })
     (λ _. refl)
 
--- the table of no object
+-- a table without objects, with no number drawn
 abbrev pub no_nodes : NodeTable
 no_nodes = record { objects = map.empty; numbers = map.empty }
 
@@ -61,7 +61,7 @@ pub record IsStream (objects : FinMap oid_cmp Object) (id : Oid) : Type 0 where
   pub is : map.get objects id ≡ Some object
   pub stream : is_stream object.kind ≡ true
 
--- the objects that stand in a slab under these keys
+-- the objects that a slab holds under these keys
 unfoldable pub objects_in : Slab Object → FinMap oid_cmp ℕ → FinMap oid_cmp Object
 objects_in slots keys = select (λ (id : Oid) (key : ℕ). get slots key) keys
 

@@ -1,4 +1,4 @@
-// The bytes that wait in pipes and FIFOs.
+// The bytes in pipes and FIFOs.
 ghost use Rattle.std.specs.Prelude.{◌≡◌, ◌≤◌, ◌+◌, ◌++◌, [], OnErr, OnOk, drop, length, min, option_copied, take};
 ghost use Rattle.std.specs.FinMap as map;
 ghost use Rattle.std.specs.FinMap.{FinMap};
@@ -10,19 +10,19 @@ ghost use Rattle.fs_nodes.specs.Nodes.{IsStream};
 use crate::NoMemory;
 use kern_model::{Object, Oid};
 
-/// Objects, among them pipes and FIFOs with the bytes that wait in them.
+/// Objects, among them pipes and FIFOs with bytes to be read.
 pub trait Buffers {
     /// The objects by their numbers.
     ghost objects: { Self → FinMap oid_cmp Value };
 
-    /// Whether all but the objects is the same in two values.
+    /// Whether two values differ in their objects alone.
     ghost rest_same: { Self → Self → Type 0 };
 
     /// The object with a number, if there is one.
     fn object(&self, id: &Oid) -> Option<&Object>
         ensures { option_copied result ≡ map.get (objects self.now) id.now };
 
-    /// Appends bytes to those that wait.
+    /// Appends bytes to a pipe or FIFO.
     fn put_bytes(&mut self, id: &Oid, bytes: &[u8]) -> Result<(), NoMemory>
         requires stream { IsStream (objects self.old) id.now }
         requires room { (o : Value) → map.get (objects self.old) id.now ≡ Some o → length o.bytes + length bytes.now ≤ MAX_PIPE_BYTES }
@@ -30,8 +30,8 @@ pub trait Buffers {
         ensures err { OnErr result (objects self.new ≡ objects self.old) }
         ensures rest { rest_same self.old self.new };
 
-    /// Moves the first bytes that wait to a buffer, as many as are there and fit, and returns their number.
-    /// It takes no memory.
+    /// Moves the first bytes of a pipe or FIFO to a buffer, as many as are there and fit, and returns their number.
+    /// It does not allocate.
     fn take_bytes(&mut self, id: &Oid, buf: &mut [u8]) -> usize
         requires stream { IsStream (objects self.old) id.now }
         ensures count { (o : Value) → map.get (objects self.old) id.now ≡ Some o → result ≡ min (length o.bytes) (length buf.old) }
@@ -39,7 +39,7 @@ pub trait Buffers {
         ensures left { (o : Value) → map.get (objects self.old) id.now ≡ Some o → objects self.new ≡ map.insert (objects self.old) id.now (record o { bytes = drop result o.bytes }) }
         ensures rest { rest_same self.old self.new };
 
-    /// Removes all bytes that wait. It takes no memory.
+    /// Removes all bytes from a pipe or FIFO. It does not allocate.
     fn drop_bytes(&mut self, id: &Oid)
         requires stream { IsStream (objects self.old) id.now }
         ensures dropped { (o : Value) → map.get (objects self.old) id.now ≡ Some o → objects self.new ≡ map.insert (objects self.old) id.now (record o { bytes = [] }) }

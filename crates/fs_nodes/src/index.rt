@@ -1,4 +1,4 @@
-// Where objects stand, and which numbers are drawn.
+// Where objects are in the slab, and which numbers are drawn.
 ghost use Rattle.std.specs.Prelude.{◌≡◌, ◌+◌, ◌<◌, ◌≤◌, Some, None, MatchOption, OnErr, OnOk};
 ghost use Rattle.kern_model.specs.State.{drawn};
 ghost use Rattle.kern_model.specs.declared.limits.TheConstants.{MAX_OBJECTS};
@@ -20,7 +20,7 @@ pub struct Index {
 }
 
 impl Index {
-    /// The index of no object.
+    /// An index without objects.
     pub fn new(alloc: Global) -> Self
         ensures keys { result.keys ≡ map.empty }
         ensures numbers { result.numbers ≡ map.empty }

@@ -1,4 +1,4 @@
-// Where objects stand in the slab.
+// Where objects are in the slab.
 ghost use Rattle.std.specs.Prelude.{◌≡◌, OnErr, OnOk};
 ghost use Rattle.std.specs.FinMap as map;
 
@@ -29,7 +29,7 @@ impl Model for Keys {
 }
 
 impl Keys {
-    /// The empty table.
+    /// A table without objects.
     pub fn new(alloc: Global) -> Self
         ensures { result ≡ map.empty }
     {
@@ -45,7 +45,7 @@ impl Keys {
         self.kept.get(id).copied()
     }
 
-    /// Puts a key in place of what was there.
+    /// Sets the key of an object, in place of one that it has.
     pub fn set(&mut self, id: Oid, key: usize) -> Result<(), NoMemory>
         ensures ok { OnOk result (self.new ≡ map.insert self.old id key) }
         ensures err { OnErr result (self.new ≡ self.old) }

@@ -36,7 +36,7 @@ pub enum NodeError {
 /// Why bytes are not written.
 #[derive(Clone, Copy, Debug, PartialEq, Eq)]
 pub enum WriteError {
-    /// The place lies past the end of the file.
+    /// The offset is past the end of the file.
     PastEnd,
     /// The file would have more bytes than a file may have.
     TooBig,
@@ -90,7 +90,7 @@ impl Model for Nodes {
 }
 
 impl Nodes {
-    /// No object, and no number drawn.
+    /// A table without objects, with no number drawn.
     pub fn new(alloc: Global) -> Result<Nodes, NoMemory>
         ensures { IfOk result (λ nodes. nodes.table ≡ no_nodes) }
     {
@@ -150,7 +150,7 @@ impl Nodes {
         Ok(id)
     }
 
-    /// Gives an object other attributes. It takes no memory.
+    /// Gives an object other attributes. It does not allocate.
     pub fn set_attr(&mut self, id: &Oid, attr: Attr)
         requires { IsThere self.old.table.objects id.now }
         ensures { (o : Value) → map.get self.old.table.objects id.now ≡ Some o → self.new.table ≡ with_object self.old.table id.now (record o { attr = attr }) }
@@ -159,7 +159,7 @@ impl Nodes {
         object.attr = attr;
     }
 
-    /// Gives an object another label. It takes no memory.
+    /// Gives an object another label. It does not allocate.
     pub fn set_label(&mut self, id: &Oid, label: Label)
         requires { IsThere self.old.table.objects id.now }
         ensures { (o : Value) → map.get self.old.table.objects id.now ≡ Some o → self.new.table ≡ with_object self.old.table id.now (record o { label = label }) }
@@ -168,7 +168,7 @@ impl Nodes {
         object.label = label;
     }
 
-    /// Empties a file. It takes no memory.
+    /// Empties a file. It does not allocate.
     pub fn truncate(&mut self, id: &Oid)
         requires { IsFile self.old.table.objects id.now }
         ensures { (o : Value) → map.get self.old.table.objects id.now ≡ Some o → self.new.table ≡ with_object self.old.table id.now (record o { bytes = [] }) }
@@ -177,7 +177,7 @@ impl Nodes {
         object.bytes = ByteList::new(self.alloc);
     }
 
-    /// Writes bytes into a file from a place on.
+    /// Writes bytes into a file from an offset on.
     pub fn write_at(&mut self, id: &Oid, at: u32, bytes: &[u8]) -> Result<(), WriteError>
         requires { IsFile self.old.table.objects id.now }
         ensures written { (o : Value) → map.get self.old.table.objects id.now ≡ Some o → OnOk result (self.new.table ≡ with_object self.old.table id.now (record o { bytes = written_over o.bytes at bytes.now })) }
@@ -189,7 +189,7 @@ impl Nodes {
         write_over(&mut object.bytes, at, bytes)
     }
 
-    /// The bytes of a file from a place on: `n` of them, or all that are left where fewer are.
+    /// The bytes of a file from an offset on: `n` of them, or all that are left where fewer are.
     pub fn read_at(&self, id: &Oid, at: u32, n: u32) -> Result<ByteList, NoMemory>
         requires { IsFile self.now.table.objects id.now }
         ensures { (o : Value) → map.get self.now.table.objects id.now ≡ Some o → IfOk result (λ bytes. bytes ≡ take n (drop at o.bytes)) }
@@ -216,7 +216,7 @@ fn object_at(slots: &mut Slab<Object>, key: usize) -> &mut Object
     }
 }
 
-// Writes bytes over those of a file from a place on.
+// Writes bytes over those of a file from an offset on.
 fn write_over(old: &mut ByteList, at: u32, bytes: &[u8]) -> Result<(), WriteError>
     ensures written { OnOk result (old.new ≡ written_over old.old at bytes.now) }
     ensures past_end { (result ≡ Err WriteError.PastEnd) ↔ (length old.old < at) }

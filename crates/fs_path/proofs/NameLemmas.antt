@@ -1,4 +1,4 @@
--- What bytes have that are a name.
+-- The length of a name.
 use Rattle.std.specs.Prelude.{◌≡◌, ℕ, ◌≤◌, List, length, true}
 use Rattle.std.proofs.lemmas.Bool.{and_parts, leb-true}
 use Rattle.fs_path.specs.Name.{is_name}

@@ -49,7 +49,7 @@ written_pieces (x ∷ xs) = by_head (is_slash x) (written_pieces xs)
     by_head true h = let more = sum_by-cons (λ (name : Name). length name + 1) [] (pieces 47 xs) in omega arith
     by_head false h = let more = written_onto x (length xs) (pieces 47 xs) h in omega arith
 
--- those that count take no more
+-- the pieces that count, each with a slash before it, take no more than all pieces do
 written_kept : (at : ℕ) (ps : List (List ℕ)) → written_len (names_of (filter counts (placed at ps))) ≤ written_len ps
 written_kept at [] = omega arith
 written_kept at (p ∷ ps) = by_head (counts (record { at = at; bytes = p })) (written_kept (at + length p + 1) ps)
@@ -166,7 +166,7 @@ fine text h =
     let short = cond_none _ _ _ some.1 in
     record { short = ltb-false _ _ short.0; none = short.1 }
 
--- each name of the path is one
+-- each name of the path of a text without a fault is a name
 path_names : (text : List ℕ) → path_fault text ≡ None → list_all is_name (parse_path text).names ≡ true
 unfolding parse_path components_of
 path_names text h = all_names 0 0 (pieces 47 text) (no_slash_in_pieces text) (fine text h).none
@@ -174,7 +174,7 @@ path_names text h = all_names 0 0 (pieces 47 text) (no_slash_in_pieces text) (fi
 same_slash : (x : ℕ) → (x == 47) ≡ false → (47 == x && true) ≡ false
 same_slash x e = let other : (47 == x) ≡ false = grind (arith, nat_tests) in ap (λ v. v && true) other
 
--- a slash that begins a text is before no name
+-- the names, each with a slash before it, take at most the bytes of the text, and one more where it begins with no slash
 written_text : (text : List ℕ) → written_len (names_of (components_of text)) ≤ length text + cond (starts_with ◌==◌ text (47 ∷ [])) 0 1
 unfolding components_of
 written_text [] = omega arith
@@ -193,7 +193,7 @@ written_text (x ∷ xs) = by_head (x == 47) refl
         let all = written_pieces (x ∷ xs) in
         omega arith
 
--- it has the form of a path
+-- the path of a text without a fault has the form of a path
 pub path_form : (text : List ℕ) → path_fault text ≡ None → HasForm (parse_path text).absolute (parse_path text).names
 unfolding parse_path
 path_form text h =

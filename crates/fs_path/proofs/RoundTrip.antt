@@ -1,4 +1,4 @@
--- What is written is read again.
+-- Round trips of words, numbers, modes, groups and lines.
 use Rattle.std.specs.Prelude.{◌≡◌, ℕ, suc, ◌+◌, ◌*◌, ◌-◌, ◌/◌, ◌%◌, ◌≤◌, ◌<◌, ◌^◌, ◌==◌, ◌&&◌, ◌||◌, not, nat_le, nat_lt, Bool, true, false, cond, List, [], ◌∷◌, ◌++◌, length, drop, map, Option, None, Some, All, refl}
 use Rattle.std.proofs.Common.{sym, ◌∙◌, ap, subst, arith, append_assoc, take, get_or, inl, inr}
 use Rattle.std.specs.Cmp.Lexicographic.{pointwise}
@@ -43,7 +43,7 @@ digit_round_trip n small = elim (cases_Bool (nat_le n 9)) [ inl e ↦ low e | in
         let under : nat_le (87 + n) 102 ≡ true = le-leb (87 + n) 102 (omega arith) in
         rw (e, above, no_digit, over, under, is)
 
--- a text that denotes a byte where more follows, and begins with no quote
+-- before further text, `text` denotes the byte b, and it begins with no quote
 abbrev Begins : ℕ → List ℕ → List ℕ → Type 0
 Begins b more text = (first_item (text ++ more) ≡ Some (b, more)) × (get_or (text ++ more) 0 0 ≡ 34 → ⊥)
 
@@ -82,7 +82,7 @@ items_round_trip (b ∷ bs) rest small =
 
 -- ---- words
 
--- a quoted text is read as what was quoted
+-- a quoted text is read as the bytes that were quoted
 pub quoted_round_trip : (bytes rest : List ℕ) → list_all (λ b. nat_lt b 256) bytes ≡ true → is_apart rest ≡ true → first_word (quoted_text bytes ++ rest) ≡ Some (record { quoted = true; bytes = bytes }, rest)
 unfolding quoted_text
 quoted_round_trip bytes rest small ends =
@@ -104,7 +104,7 @@ no_quote b bare = ne_eqb b 34 (λ is. let no : false ≡ true = subst (λ n. is_
 no_space : (b : ℕ) → is_bare b ≡ true → is_space b ≡ false
 no_space b bare = ne_eqb b 32 (λ is. let no : false ≡ true = subst (λ n. is_bare n ≡ true) is bare in cc)
 
--- the text of a bare word is read as that word
+-- a bare word is read as that word
 pub bare_round_trip : (bytes rest : List ℕ) → is_bare_text bytes ≡ true → is_apart rest ≡ true → first_word (bytes ++ rest) ≡ Some (record { quoted = false; bytes = bytes }, rest)
 bare_round_trip [] rest bare ends = absurd (cc)
 bare_round_trip (b ∷ bs) rest bare ends =
@@ -151,7 +151,7 @@ decimal_spells = decimal_by_steps Spells (λ n small. (and_from (is_digit 10 (48
           value_push 10 0 (48 + n % 10) ds ∙ omega (arith, h.1),
         )
 
--- a number is read again
+-- a written number is read as that number
 pub number_round_trip : (n : ℕ) → n ≤ 4294967295 → number_of (decimal n) ≡ Some n
 number_round_trip n small =
     let spells = decimal_spells n (omega arith) in
@@ -161,7 +161,7 @@ value_four : (a b c d : ℕ) → digits_value 8 0 ((48 + a) ∷ (48 + b) ∷ (48
 unfolding digits_value
 value_four a b c d = omega arith
 
--- a mode is read again
+-- a written mode is read as that mode
 pub mode_round_trip : (m : ℕ) → is_mode m ≡ true → mode_of (mode_text m) ≡ Some m
 unfolding mode_text
 mode_round_trip m is =
@@ -212,7 +212,7 @@ numbers_round_trip (g ∷ gs) small =
     ap (λ (o : Option ℕ). option_and_then (λ n. option_map (λ ns. n ∷ ns) (numbers_of (map decimal gs))) o) (number_round_trip g (leb-true g 4294967295 parts.0))
     ∙ ap (option_map (λ ns. g ∷ ns)) (numbers_round_trip gs parts.1)
 
--- groups are read again
+-- written groups are read as these groups
 pub groups_round_trip : (gs : List ℕ) → list_all (λ g. nat_le g 4294967295) gs ≡ true → length gs ≤ 16 → groups_of (groups_text gs) ≡ Some gs
 unfolding groups_of groups_text
 groups_round_trip [] small few = refl
@@ -273,7 +273,7 @@ word_spelling bytes small =
 
 -- ---- lines
 
--- a word is read again
+-- a written word is read as that word
 word_round_trip : (w : LineWord) (rest : List ℕ) → has_spelling w ≡ true → is_apart rest ≡ true → first_word (spelling w ++ rest) ≡ Some (w, rest)
 word_round_trip w rest can ends = elim w.quoted as (λ v. cond v (list_all (λ b. nat_lt b 256) w.bytes) (is_bare_text w.bytes) ≡ true → first_word (cond v (quoted_text w.bytes) w.bytes ++ rest) ≡ Some (record { quoted = v; bytes = w.bytes }, rest))
     [ true ↦ λ can. quoted_round_trip w.bytes rest can ends | false ↦ λ can. bare_round_trip w.bytes rest can ends ] can
@@ -313,7 +313,7 @@ after_round_trip (w ∷ ws) can =
     let text = spelling w ++ after_spaces (map spelling ws) in
     words_are (32 ∷ text) ∙ ap (words_by words_of) (past_one text) ∙ one_round_trip w ws parts.0 (after_round_trip ws parts.1)
 
--- words with one space between them are read again
+-- written words, with a space between each two, are read as these words
 pub line_round_trip : (words : List LineWord) → list_all has_spelling words ≡ true → words_of (line_text (map spelling words)) ≡ Some words
 line_round_trip [] can = words_are []
 line_round_trip (w ∷ ws) can =

@@ -1,4 +1,4 @@
--- The text before and after the first of a byte, and the pieces of a text.
+-- The parts of a text before and after the first occurrence of a byte, and the pieces between all its occurrences.
 use Rattle.std.proofs.Common.{◌≡◌, ℕ, ◌+◌, ◌-◌, ◌≤◌, ◌<◌, Bool, true, false, ◌==◌, ◌||◌, cond, not, nat_lt, List, [], ◌∷◌, length, take, drop, suc, refl, sym, ◌∙◌, ap, arith, Option, Some, None}
 use Rattle.std.specs.Prelude.{position}
 use Rattle.std.specs.List.{after_first, before_first, join_with_byte, list_any, onto_first, position_or_len}
@@ -8,7 +8,7 @@ use Rattle.std.proofs.lemmas.List.{take_all, take_rest}
 use Rattle.std.proofs.lemmas.List.Splits.{join_with_byte-slice_split, slice_split_first}
 use Rattle.fs_path.specs.Split.{onto_piece, split_once, pieces, pieces_of_rest, after_first_of}
 
--- ---- the parts by the place
+-- ---- the parts by the position of the byte
 
 abbrev parts_at : ℕ → List ℕ → Option (List ℕ × List ℕ)
 parts_at n t = cond (nat_lt n (length t)) (Some (take n t, drop (suc n) t)) None
@@ -37,9 +37,9 @@ split_is b (x ∷ xs) =
     elim (x == b) as (λ v. cond v (Some ([], xs)) (onto_piece x (split_once b xs)) ≡ parts_at (cond (not v) (1 + position_or_len (λ y. y == b) xs) 0) (x ∷ xs))
     [ true ↦ sym (ap (λ v. cond v (Some ([], xs)) None) (some_long xs)) | false ↦ ap (onto_piece x) (split_is b xs) ∙ sym (parts_more x (position_or_len (λ y. y == b) xs) xs) ]
 
--- ---- the place of a byte
+-- ---- the first position at which a test passes
 
--- an item passes a test where the first place is within the list
+-- an item passes a test exactly where the first position is within the list
 pub any_before_end : {X : Type 0} (p : X → Bool) (xs : List X) → list_any p xs ≡ nat_lt (position_or_len p xs) (length xs)
 any_before_end p [] = refl
 any_before_end p (x ∷ xs) = elim (p x) as (λ v. (v || list_any p xs) ≡ nat_lt (cond (not v) (1 + position_or_len p xs) 0) (suc (length xs))) [
@@ -53,7 +53,7 @@ any_before_end p (x ∷ xs) = elim (p x) as (λ v. (v || list_any p xs) ≡ nat_
     later : (k n : ℕ) → nat_lt k n ≡ nat_lt (1 + k) (suc n)
     later k n = grind (arith, nat_tests)
 
--- where there is a place, it is within the list, and an item passes
+-- a position that is found is within the list, and an item passes the test
 pub position_found : {X : Type 0} (p : X → Bool) (xs : List X) (i : ℕ) → position p xs ≡ Some i → (i < length xs) × (position_or_len p xs ≡ i) × (list_any p xs ≡ true)
 position_found p xs i h = by_place (nat_lt (position_or_len p xs) (length xs)) refl h
   where
@@ -64,7 +64,7 @@ position_found p xs i h = by_place (nat_lt (position_or_len p xs) (length xs)) r
         (omega arith, same, any_before_end p xs ∙ lt)
     by_place false lt h = absurd (cc)
 
--- where there is no place, no item passes
+-- where no position is found, no item passes the test
 pub position_missing : {X : Type 0} (p : X → Bool) (xs : List X) → position p xs ≡ None → (length xs ≤ position_or_len p xs) × (list_any p xs ≡ false)
 position_missing p xs h = by_place (nat_lt (position_or_len p xs) (length xs)) refl h
   where
@@ -96,7 +96,7 @@ onto_split : (b x : ℕ) (t : List ℕ) (o : Option (List ℕ × List ℕ)) → 
 onto_split b x t None = refl
 onto_split b x t (Some p) = refl
 
--- the first piece ends at the first such byte
+-- the first piece ends at the first occurrence of the byte
 pub pieces_split : (b : ℕ) (t : List ℕ) → pieces b t ≡ from_split b t (split_once b t)
 unfolding split_once
 pieces_split b [] = refl
@@ -125,7 +125,7 @@ pieces_missing b t e = pieces_none b t (split_missing b t e)
 
 -- ---- the first piece
 
--- the first piece, and those of the rest, in std's words
+-- the first piece, and the pieces of the rest, by definitions of std
 pieces_by_first : (b : ℕ) (t : List ℕ) → pieces b t ≡ before_first (λ x. x == b) t ∷ pieces_of_rest b (after_first_of b t)
 pieces_by_first b t = by_any (list_any (λ x. x == b) t) refl
   where
@@ -136,10 +136,11 @@ pieces_by_first b t = by_any (list_any (λ x. x == b) t) refl
         pieces_none b t none
         ∙ ap (λ l. l ∷ []) (sym (take_all (position_or_len (λ x. x == b) t) t (ltb-false (position_or_len (λ x. x == b) t) (length t) (sym (any_before_end (λ x. x == b) t) ∙ h))))
 
+-- the first piece is the text before the first occurrence of the byte
 pub before_is : (b : ℕ) (t l : List ℕ) (r : Option (List ℕ)) → pieces b t ≡ l ∷ pieces_of_rest b r → l ≡ before_first (λ x. x == b) t
 before_is b t l r h = let same : l ∷ pieces_of_rest b r ≡ before_first (λ x. x == b) t ∷ pieces_of_rest b (after_first_of b t) = sym h ∙ pieces_by_first b t in cc
 
--- a rest has the pieces of no other
+-- rests with the same pieces are equal
 rest_is : (b : ℕ) (r o : Option (List ℕ)) → pieces_of_rest b r ≡ pieces_of_rest b o → r ≡ o
 rest_is b None None h = refl
 rest_is b None (Some u) h = let first = pieces_first b u in let some : [] ≡ first.0 ∷ first.1 = h ∙ first.2 in absurd (cc)
@@ -149,5 +150,6 @@ rest_is b (Some t) (Some u) h = ap Some (sym (join_with_byte-slice_split b t) �
 tails_same : (x y : List ℕ) (xs ys : List (List ℕ)) → x ∷ xs ≡ y ∷ ys → xs ≡ ys
 tails_same x y xs ys h = cc
 
+-- the rest is the text after the first occurrence of the byte
 pub after_is : (b : ℕ) (t l : List ℕ) (r : Option (List ℕ)) → pieces b t ≡ l ∷ pieces_of_rest b r → r ≡ after_first_of b t
 after_is b t l r h = rest_is b r (after_first_of b t) (tails_same l (before_first (λ x. x == b) t) _ _ (sym h ∙ pieces_by_first b t))

@@ -7,11 +7,11 @@ use Rattle.std.proofs.Math.Nat.{mul-le-mul_right}
 use Rattle.fs_path.specs.Options.{keep_if}
 use Rattle.fs_path.specs.Values.{is_digit, digits_value}
 
--- the value of digits after digits of a value, where they are digits and it is at most `high`
+-- the value of digits after digits of the value v, where all are digits and it is at most `high`
 abbrev pub value_within : ℕ → ℕ → ℕ → List ℕ → Option ℕ
 value_within base high v ds = keep_if (list_all (is_digit base) ds && nat_le (digits_value base v ds) high) (digits_value base v ds)
 
--- a value never falls
+-- further digits never make a value smaller
 value_from : (base v : ℕ) (ds : List ℕ) → 1 ≤ base → v ≤ digits_value base v ds
 unfolding digits_value
 value_from base v [] h = omega arith
@@ -28,6 +28,7 @@ within_more : (base high v d : ℕ) (ds : List ℕ) → is_digit base d ≡ true
 unfolding digits_value
 within_more base high v d ds e = ap (λ t. keep_if (t && list_all (is_digit base) ds && nat_le (digits_value base (base * v + (d - 48)) ds) high) (digits_value base (base * v + (d - 48)) ds)) e
 
+-- a value above `high` stays above it
 pub within_over : (base high v : ℕ) (ds : List ℕ) → 1 ≤ base → high < v → value_within base high v ds ≡ None
 within_over base high v ds h over =
     let up = value_from base v ds h in
@@ -37,7 +38,7 @@ within_over base high v ds h over =
 digit_at : (base d : ℕ) → 48 ≤ d → d < 48 + base → is_digit base d ≡ true
 digit_at base d low high = and_from (nat_le 48 d) (nat_lt d (48 + base)) (le-leb 48 d low) (lt-ltb d (48 + base) high)
 
--- one digit on
+-- the next digit is read
 pub within_step : (base high v i d : ℕ) (word : List ℕ) → i < length word → d ≡ get_or word i 0 → 48 ≤ d → d < 48 + base
     → value_within base high v (drop i word) ≡ value_within base high (base * v + (d - 48)) (drop (i + 1) word)
 within_step base high v i d word h is low up =

@@ -19,13 +19,13 @@ numeral_range base most low high word n is =
     let first = and_parts _ _ last.0 in
     (subst (λ m. low ≤ m) kept.1 (leb-true _ _ first.1), subst (λ m. m ≤ high) kept.1 (leb-true _ _ last.1))
 
--- what is read as a mode is one
+-- what is read as a mode is a mode
 pub mode_range : (word : List ℕ) (mode : ℕ) → mode_of word ≡ Some mode → is_mode mode ≡ true
 mode_range word mode is = option_and_then_some _ (numeral 8 4 0 MAX_MODE word) mode is (λ n n_is last.
     let kept = cond_some _ _ _ last in
     subst (λ m. is_mode m ≡ true) kept.1 kept.0)
 
--- each word denotes one number
+-- there are as many numbers as words
 pub as_many : (words : List (List ℕ)) (numbers : List ℕ) → numbers_of words ≡ Some numbers → length numbers ≡ length words
 as_many [] numbers is = ap (λ (ns : List ℕ). length ns) (sym (same_Some _ _ is))
 as_many (w ∷ ws) numbers is = option_and_then_some _ (number_of w) numbers is (λ n n_is last. by_rest (λ ns e. as_many ws ns e) n (numbers_of ws) refl last)

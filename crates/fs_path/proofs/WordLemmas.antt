@@ -6,7 +6,7 @@ use Rattle.fs_path.specs.Split.{onto_piece}
 use Rattle.fs_path.specs.Words.{first_item, items_of, first_word, trim_spaces, words_by, words_of}
 use Rattle.fs_path.proofs.WordSteps.{items_next, words_are, words_first}
 
--- the bytes that were read, before those of the rest
+-- the bytes that were read, followed by those of the rest
 abbrev pub after_bytes : List ℕ → Option (List ℕ × List ℕ) → Option (List ℕ × List ℕ)
 after_bytes bytes None = None
 after_bytes bytes (Some p) = Some (bytes ++ p.0, p.1)
@@ -18,7 +18,7 @@ one_more bytes x (Some p) = ap (λ (r : List ℕ). Some (r, p.1)) (sym (append_a
 pub items_step : (left more bytes new : List ℕ) (x : ℕ) → (get_or left 0 0 ≡ 34 → ⊥) → first_item left ≡ Some (x, more) → new ≡ bytes ++ x ∷ [] → after_bytes bytes (items_of left) ≡ after_bytes new (items_of more)
 items_step left more bytes new x no_quote first is = ap (after_bytes bytes) (items_next left more x no_quote first) ∙ one_more bytes x (items_of more) ∙ ap (λ r. after_bytes r (items_of more)) (sym is)
 
--- the words that were read, before those of the rest
+-- the words that were read, followed by those of the rest
 abbrev pub after_words : List LineWord → Option (List LineWord) → Option (List LineWord)
 after_words words o = option_map (λ ws. words ++ ws) o
 

@@ -11,7 +11,7 @@ use Rattle.fs_path.specs.Words.{is_space, is_plain, is_bare, hex_value, hex_pair
 
 -- ---- items between quotes
 
--- at most n bytes come after what was read
+-- at most n bytes are left after what was read
 abbrev pub AtMost : ℕ → Option (ℕ × List ℕ) → Type 0
 AtMost n None = Unit {0}
 AtMost n (Some p) = length p.1 ≤ n
@@ -37,13 +37,14 @@ escape_shorter (b ∷ bs) =
     weaker None h = tt
     weaker (Some p) h = omega arith
 
+-- an item has at least one byte
 pub item_shorter : (b : ℕ) (bs : List ℕ) → AtMost (length bs) (first_item (b ∷ bs))
 item_shorter b bs =
     let same : length bs ≤ length bs = omega arith in
     cond_both (b == 92) (escaped bs) (cond (is_plain b) (Some (b, bs)) None) (AtMost (length bs)) (λ _. escape_shorter bs)
     (λ _. cond_both (is_plain b) (Some (b, bs)) None (AtMost (length bs)) (λ _. same) (λ _. tt))
 
--- no more items are read where more may be
+-- a limit on the number of items has no effect where it is at least the length of the text
 items_same : (n m : ℕ) (text : List ℕ) → length text ≤ n → length text ≤ m → items_within n text ≡ items_within m text
 items_same zero zero text h k = refl
 items_same zero (suc m) [] h k = refl
@@ -58,7 +59,7 @@ items_same (suc n) (suc m) (b ∷ bs) h k = ap (cond (b == 34) (Some ([], bs))) 
     by_item same None short = refl
     by_item same (Some p) short = ap (onto_piece p.0) (same p.1 (omega arith) (omega arith))
 
--- an item that is no quote, and then the items after it
+-- the items of a text are its first, which is no quote, and those after it
 items_cons : (b x : ℕ) (bs more : List ℕ) → (b == 34) ≡ false → first_item (b ∷ bs) ≡ Some (x, more) → items_of (b ∷ bs) ≡ onto_piece x (items_of more)
 items_cons b x bs more no_quote first =
     let short : length more ≤ length bs = subst (AtMost (length bs)) first (item_shorter b bs) in
@@ -72,7 +73,7 @@ items_next (b ∷ bs) more x no_quote first = items_cons b x bs more (ne_eqb b 3
 
 -- ---- words
 
--- what was read between quotes and the text after it have fewer than n bytes together
+-- the bytes that were read between quotes, and the text after them, have fewer than n bytes together
 abbrev ItemsFit : ℕ → Option (List ℕ × List ℕ) → Type 0
 ItemsFit n None = Unit {0}
 ItemsFit n (Some p) = length p.0 + length p.1 < n
@@ -123,6 +124,7 @@ first_fits text = by_word (leading_word text) (leading_fits text)
     by_word None fits = tt
     by_word (Some p) fits = cond_both (is_apart p.1) (Some p) None (WordFits (length text)) (λ _. fits) (λ _. tt)
 
+-- a word has at least one byte
 pub word_shorter : (text rest : List ℕ) (w : LineWord) → first_word text ≡ Some (w, rest) → length rest < length text
 word_shorter text rest w is = (subst (WordFits (length text)) is (first_fits text)).1
 
@@ -138,7 +140,7 @@ by_same f g (b ∷ bs) same = by_word (first_word (b ∷ bs)) (first_fits (b ∷
     by_word None fits = refl
     by_word (Some p) fits = ap (option_map (λ ws. p.0 ∷ ws)) (same p.1 fits.1)
 
--- no more words are read where more may be
+-- a limit on the number of words has no effect where it is at least the length of the text
 words_same : (n m : ℕ) (text : List ℕ) → length text ≤ n → length text ≤ m → words_within n text ≡ words_within m text
 words_same zero zero text h k = refl
 words_same zero (suc m) [] h k = refl
@@ -149,7 +151,7 @@ words_same (suc n) (suc m) text h k =
     let past = past_shorter text in
     by_same (words_within n) (words_within m) (trim_spaces text) (λ rest short. words_same n m rest (omega arith) (omega arith))
 
--- the words of a line are its first word, after spaces, and those of the text after that word
+-- the words of a line are its first word after spaces, and the words of the text after that
 pub words_are : (text : List ℕ) → words_of text ≡ words_by words_of (trim_spaces text)
 unfolding words_of
 words_are [] = refl

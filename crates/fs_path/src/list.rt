@@ -1,4 +1,4 @@
-// Lists that grow at their end.
+// Lists over a vector.
 ghost use Rattle.std.specs.Prelude.{◌≡◌, ◌≤◌, ◌+◌, [], ◌∷◌, ◌++◌, OnOk, OnErr, IfOk, drop, length, min, take};
 ghost use Rattle.std.specs.Cmp.{on_equiv, on_per, on_po, on_total};
 ghost use Rattle.std.specs.Cmp.Lexicographic.{slice_cmp, slice_partial_cmp, pointwise, lists_agrees, lists_equiv, lists_per, lists_po, lists_ties, lists_total};
@@ -12,7 +12,7 @@ use std::marker::Model;
 /// Bytes.
 pub type ByteList = List<u8>;
 
-/// Items in order, seen as the list of them.
+/// A list that grows at its end, seen as its items in order.
 #[derive(Debug, Drop)]
 pub struct List<T> {
     kept: Vec<T>,
@@ -27,7 +27,7 @@ impl<T> Model for List<T> {
 }
 
 impl<T: Drop> List<T> {
-    /// The empty list, which takes no memory until it grows.
+    /// An empty list. It does not allocate until it grows.
     pub fn new(alloc: Global) -> Self
         ensures { result ≡ [] }
     {
@@ -36,7 +36,7 @@ impl<T: Drop> List<T> {
         }
     }
 
-    /// Puts an item at the end.
+    /// Appends an item.
     pub fn push(&mut self, item: T) -> Result<(), NoMemory>
         ensures ok { OnOk result (self.new ≡ self.old ++ item ∷ []) }
         ensures err { OnErr result (self.new ≡ self.old) }
@@ -69,7 +69,7 @@ impl<T: Copy + Drop> List<T> {
         Ok(List { kept })
     }
 
-    /// Puts items at the end.
+    /// Appends items.
     pub fn extend_from_slice(&mut self, items: &[T]) -> Result<(), NoMemory>
         ensures ok { OnOk result (self.new ≡ self.old ++ items.now) }
         ensures err { OnErr result (self.new ≡ self.old) }
@@ -78,7 +78,7 @@ impl<T: Copy + Drop> List<T> {
         Ok(())
     }
 
-    /// Writes items over those from the place `at` on, and past the end where they reach beyond it.
+    /// Writes items over those from the index `at` on, and appends those that reach past the end.
     pub fn write_at(&mut self, at: usize, items: &[T]) -> Result<(), NoMemory>
         requires { at ≤ length self.old }
         ensures ok { OnOk result (self.new ≡ take at self.old ++ (items.now ++ drop (at + length items.now) self.old)) }

@@ -5,13 +5,14 @@ use Rattle.std.specs.declared.option.Option.{Option}
 use Rattle.std.specs.Io.KnownBytes.{Appends, Consumes}
 use Rattle.std.proofs.KnownBytes.{Appends-trans}
 
--- the rest of the piece is still to be written
+-- a piece was written but for the rest, and no fault was counted
 pub record Underway (piece rest : List ℕ) (old new : Option (List ℕ)) (before now : ℕ) : Type 0 where
   pub part : List ℕ
   pub piece_is : piece ≡ part ++ rest
   pub wrote : Appends old new part
   pub still : now ≡ before
 
+-- one more write, of at most n bytes of the rest
 pub underway_more : (piece rest : List ℕ) (a b c : Option (List ℕ)) (f f' f'' n : ℕ)
     → Underway piece rest a b f f' → Appends b c (take n rest) → f'' ≡ f' → Underway piece (take (length rest - n) (drop n rest)) a c f f''
 underway_more piece rest a b c f f' f'' n u w l = record {
@@ -22,7 +23,7 @@ underway_more piece rest a b c f f' f'' n u w l = record {
   still = l ∙ u.still;
 }
 
--- the bytes that are held are those that were taken
+-- the bytes that were read are those taken from the source, at most `most` of them, and no fault was counted
 pub record Reading (bytes : List ℕ) (most : ℕ) (old new : Option (List ℕ)) (before now : ℕ) : Type 0 where
   pub took : Consumes old new bytes
   pub small : length bytes ≤ most

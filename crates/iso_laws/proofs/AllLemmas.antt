@@ -1,4 +1,4 @@
--- What holds of each element of a list that is put together.
+-- What holds of each element of a list that is made of parts.
 use Rattle.std.specs.Prelude.{Bool, true, false, List, [], ◌∷◌, ◌++◌, cond}
 use Rattle.std.specs.List.{AllByRecursion, flat_map}
 

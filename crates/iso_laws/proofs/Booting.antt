@@ -24,7 +24,7 @@ use Rattle.iso_laws.proofs.Changes.{kept_beside, kept_object, kept_process}
 
 -- ---- numbers and labels stay on one side
 module _ (l : Label) where
-  -- no description is open yet
+  -- a kept state without descriptions
   record IsUnopened (s : State) : Type 0 where
     kept : Kept l s
     none : (did : Did) (d : Description) → map.get s.descriptions did ≡ Some d → ⊥
@@ -76,7 +76,7 @@ module _ (l : Label) where
 pub kept_boot : KeptBoot
 kept_boot l w = kept_processes l w.procs (furnished w) (unopened_objects l w.objects (nothing w.bound w.top) (unopened_nothing l w.bound w.top)).kept
 
--- ---- what no change changes
+-- ---- what no change alters
 module _ {X : Type 0} (of : State → X) (fixed : (s : State) (c : Change) → of (changed s c) ≡ of s) where
   fixed_objects : (os : List WorldObject) (s : State) → of (boot_objects s os) ≡ of s
   unfolding boot_object

@@ -1,4 +1,4 @@
--- Rows and the capability sets that records give: what rows share that leave each process its sets.
+-- What rows share that leave each process its capability sets, both by their changes and by their own record.
 use Rattle.std.specs.Prelude.{◌≡◌, ℕ, List, [], Option, Some, None, refl}
 use Rattle.std.specs.List.{AllByRecursion}
 use Rattle.std.specs.Option.{option_to_list}
@@ -37,7 +37,7 @@ IsCalm s f r = Gives (Calm s f) r
 pub calm_reports : (s : State) (f : Pid → CapState) → HaveCaps s f → (r : Row) → IsCalm s f r → Gives (MatchesRecord s f) r
 calm_reports s f has r h = gives_weaker (Calm s f) (MatchesRecord s f) (λ cs own h. have_same (changed_by s cs) f (caps_after s.bound f (option_to_list own)) (λ q. sym (h.1 q)) (have_quiet cs s f has h.0)) r h
 
--- nothing changes, and no record is left
+-- changing nothing and leaving no record leaves each process its sets
 pub nothing_calm : (s : State) (f : Pid → CapState) → Calm s f [] None
 nothing_calm s f = (tt, λ q. refl)
 

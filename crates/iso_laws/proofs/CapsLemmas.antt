@@ -21,21 +21,21 @@ use Rattle.kern_model.specs.Boot.{object_of, process_of, entry_for, boot_object,
 use Rattle.kern_model.specs.Lineage.{caps_after_one, caps_after, caps_of}
 use Rattle.kern_model.proofs.MapLemmas.{each-insert, each-remove, same_key, some_same, never_some}
 
--- each living process has the sets that the function says
+-- each living process has the sets that the function gives
 abbrev pub HaveCaps : State → (Pid → CapState) → Type 0
 HaveCaps s f = (who : Pid) (p : Process) → map.get s.procs who ≡ Some p → p.caps ≡ f who
 
--- records after others go on from what those give
+-- the sets after two lists of records are those after the second, from those after the first
 pub caps_after-append : (bound : CapSet) (f : Pid → CapState) (xs ys : List Rec) (q : Pid) → caps_after bound f (xs ++ ys) q ≡ caps_after bound (caps_after bound f xs) ys q
 caps_after-append bound f [] ys q = refl
 caps_after-append bound f (x ∷ xs) ys q = caps_after-append bound (caps_after_one bound f x) xs ys q
 
--- functions that give the same sets
+-- a function that gives the same sets gives those of each living process too
 pub have_same : (s : State) (f g : Pid → CapState) → ((q : Pid) → f q ≡ g q) → HaveCaps s f → HaveCaps s g
 have_same s f g same has who p e = has who p e ∙ same who
 
 -- ---- changes
--- a process that is set has sets of its own, and each other has those that it had
+-- a process that is set has its new sets, and each other one keeps those that it had
 pub have_set : (s : State) (f g : Pid → CapState) → HaveCaps s f → (who : Pid) (new : Process) → new.caps ≡ g who → HaveCaps (changed s (SetProcess who new)) (λ q. cond (same_pid q who) (g q) (f q))
 have_set s f g has who new own q p e =
     elim (same_pid q who) as (λ b. same_pid q who ≡ b → cond b (Some new) (map.get s.procs q) ≡ Some p → p.caps ≡ cond b (g q) (f q)) [
@@ -88,6 +88,6 @@ have_processes bound [] s f has = has
 have_processes bound (w ∷ ws) s f has =
     have_processes bound ws (boot_process s w) _ (have_set (changed s (DrawProcess w.label (drawn s.process_numbers w.label + 1))) f (λ q. w.caps) has (next_process s w.label) (process_of w) refl)
 
--- the records of a start give the sets of its processes
+-- the records of the first state give the sets of its processes
 pub have_booted : (w : World) → HaveCaps (boot w) (caps_of w.bound (boot_recs w))
 have_booted w = have_processes w.bound w.procs (furnished w) (λ q. no_flags) (have_furnished (λ q. no_flags) w)

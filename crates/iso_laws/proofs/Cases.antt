@@ -1,4 +1,4 @@
--- What the changes of a row meet. A law of changes holds of a row where it holds of each kind of effect.
+-- Properties of the changes of a row: one holds of each row where it holds of each kind of effect.
 use Rattle.std.specs.Prelude.{◌≡◌, ℕ, ◌+◌, ◌≤◌, length, Bool, true, false, not, List, [], ◌∷◌, Option, None, Some, refl}
 use Rattle.std.proofs.Common.{sym, ◌∙◌, ap, subst}
 use Rattle.std.specs.FinMap as map
@@ -34,39 +34,39 @@ use Rattle.iso_laws.proofs.Changes.{KeptProcess, kept_of, kept_process, kept_obj
 use Rattle.iso_laws.proofs.tree.Changes.{IsFresh, next_absent, not_true_false, valid_drop, valid_link, valid_made}
 use Rattle.iso_laws.proofs.tree.Moves.{IsMove, valid_move}
 
--- a law of changes holds of each kind of effect; where the arguments fit, what the effect sets is in its range
+-- a property holds of each kind of effect; where the arguments are in their ranges, so is what the effect sets
 pub record Cases (bad : Rec → Bool) (s : State) (who : Pid) (p : Process) (fit : Type 0) (P : List Change → Type 0) : Type 0 where
   pub none : P []
-  -- other users, capability sets, umask or audit switch
+  -- the caller gets other ids, capability sets, umask or audit switch
   pub self : (ids : Ids) (caps : CapState) (umask : ℕ) (audited : Bool) → ids.groups ≡ p.ids.groups → is_within caps.e caps.p ≡ true → (fit → is_permission umask ≡ true)
       → P (SetProcess who (record p { ids = ids; caps = caps; umask = umask; audited = audited }) ∷ [])
-  -- another label, which the caller was let have
+  -- the caller gets another label, which a check allowed
   pub label : (new : Label) → (not (same_label new p.label) ≡ true → Passes bad (subject who p) (mac_subject who p new)) → (fit → dominates s.top new ≡ true) → P (SetProcess who (record p { label = new }) ∷ [])
-  -- another current directory, which the caller read
+  -- the caller gets another current directory, whose mac_read passed
   pub cwd : (id : Oid) (place : Place) → Passes bad (subject who p) (mac_read s p id place) → IsDir s.objects id → P (SetProcess who (record p { cwd = id }) ∷ [])
-  -- an entry goes, of something without entries, and the caller wrote its directory
+  -- an entry is removed from a directory whose mac_write passed; what it leads to has no entries
   pub leave : (dir : Oid) (name : Name) (id : Oid) (place : Place) → Passes bad (subject who p) (mac_write s p dir place) → IsDir s.objects dir → look s dir name ≡ Some id → is_empty s id ≡ true → P (DropEntry (dir, name) ∷ [])
-  -- an entry of a file is set where none was, in a directory that is not removed and that the caller wrote
+  -- an entry of a file is added, where none was, to a directory whose mac_write passed and that is not removed
   pub enter : (dir : Oid) (name : Name) (id : Oid) (place : Place) → Passes bad (subject who p) (mac_write s p dir place) → (is_dir : IsDir s.objects dir) → look s dir name ≡ None → is_removed s dir ≡ false
       → (named : IsNamed s id) → not (dir_kind named.object.kind) ≡ true → link_count s id + 1 ≤ MAX_LINKS → dominates named.object.label is_dir.object.label ≡ true → (fit → is_name name ≡ true) → P (SetEntry (dir, name) id ∷ [])
-  -- an entry moves to a spot of a directory, and the caller wrote both directories
+  -- an entry moves to a spot of a directory, and the mac_write of both directories passed
   pub move : (dir : Oid) (name : Name) (id into : Oid) (new : Name) (place there_place : Place) → Passes bad (subject who p) (mac_write s p dir place) → IsDir s.objects dir → Passes bad (subject who p) (mac_write s p into there_place)
       → IsMove s dir name id into new → (fit → is_name new ≡ true) → P (DropEntry (dir, name) ∷ SetEntry (into, new) id ∷ [])
-  -- an object is made where none was, in a directory that is not removed and that the caller wrote
+  -- an object is made, where none was, in a directory whose mac_write passed and that is not removed
   pub make : (dir : Oid) (name : Name) (o : Object) (place : Place) → Passes bad (subject who p) (mac_write s p dir place) → (is_dir : IsDir s.objects dir) → look s dir name ≡ None → is_removed s dir ≡ false
       → IsFresh p o → has_object_number s p ≡ true → dominates p.label is_dir.object.label ≡ true → (fit → is_name name ≡ true) → P (made s p dir name o)
 
 -- ---- what the rows of every process share
--- a law of changes, whatever the own record is
+-- a property of changes, whatever the own record is
 abbrev pub OfChanges : (List Change → Type 0) → List Change → Option Rec → Type 0
 OfChanges P cs own = P cs
 
--- the changes of the row meet a law, unless an exercise is bad
+-- the changes of the row satisfy a property, unless an exercise is bad
 abbrev pub Meets : (Rec → Bool) → Pid → Process → (List Change → Type 0) → Row → Type 0
 Meets bad who p P r = Ends bad (subject who p) P r
 
 module _ (bad : Rec → Bool) (s : State) (valid : IsValid s) (who : Pid) (p : Process) (is : map.get s.procs who ≡ Some p) (fit : Type 0) (P : List Change → Type 0) (cases : Cases bad s who p fit P) where
-  -- a row of which the checks do not matter
+  -- a row whose checks do not matter
   pub meets_given : (r : Row) → Gives (OfChanges P) r → Meets bad who p P r
   meets_given r h = ends_given bad (subject who p) P cases.none r h
 
@@ -74,7 +74,7 @@ module _ (bad : Rec → Bool) (s : State) (valid : IsValid s) (who : Pid) (p : P
   pub meets_path : (path : PathValue) (k : Oid → Place → Row) → ((id : Oid) (place : Place) → Meets bad who p P (k id place)) → Meets bad who p P (on_path s p path k)
   meets_path path k h = ends_reach bad s valid who p P cases.none is (λ n. First n) path _ (λ id _. h id (last_place (λ n. First n) path))
 
-  -- where it is read, and its label does not matter
+  -- the row of a call that reads the object that a path leads to, whose label does not matter
   pub meets_read : (path : PathValue) (k : Oid → Place → Object → Row) → ((id : Oid) (place : Place) → Gives (OfChanges P) (k id place (object_at s id))) → Meets bad who p P (on_path s p path (λ id place. read_object s p id place (k id place)))
   meets_read path k gives = meets_path path (λ id place. read_object s p id place (k id place)) (λ id place. meets_given _ (gives id place))
 
@@ -97,7 +97,7 @@ hidden_cases l s kept who p fit is high =
       make = λ dir name o place written is_dir free standing fresh left order fits. part_of_high l s.top (made s p dir name o) (mine, (mine, (wrote dir place written is_dir, tt)));
     }
 
--- a label that the caller was let have is on the side of its own
+-- a label that a check allowed the caller is on the same side as its own
 given_side : (l : Label) (who : Pid) (p : Process) (new : Label) → (not (same_label new p.label) ≡ true → Passes (crosses l) (subject who p) (mac_subject who p new)) → low l p.label ≡ low l new
 given_side l who p new passes =
     elim (same_label new p.label) as (λ b. same_label new p.label ≡ b → low l p.label ≡ low l new) [
@@ -105,7 +105,7 @@ given_side l who p new passes =
       | false ↦ λ other. new_side l (subject who p) (mac_subject who p new) cap.MacRelabelSubj new refl refl refl refl (passes (ap not other))
     ] refl
 
--- what is kept stays kept
+-- a kept state stays kept
 pub kept_cases : (l : Label) (s : State) → Kept l s → IsValid s → (who : Pid) (p : Process) (fit : Type 0) → map.get s.procs who ≡ Some p → Cases (crosses l) s who p fit (λ cs. Kept l (changed_by s cs))
 kept_cases l s kept valid who p fit is =
     let own : KeptProcess l who p = kept_of l s kept who p is in

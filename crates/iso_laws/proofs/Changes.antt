@@ -1,4 +1,4 @@
--- What each kind of single change keeps.
+-- What stays true over a single change.
 use Rattle.std.specs.Prelude.{◌≡◌, ℕ, true, false, List, [], ◌∷◌, Some, refl, cond}
 use Rattle.std.specs.List.{AllByRecursion}
 use Rattle.std.specs.Option.{option_and_then}
@@ -24,7 +24,7 @@ use Rattle.kern_model.specs.Valid.{IsValid, IsThere, IsReached, IsHeld, IsValidO
 use Rattle.kern_model.proofs.MapLemmas.{each-insert, same_key}
 
 -- ---- numbers and labels stay on one side
--- what is kept of one process
+-- what `Kept` says of one process
 pub record KeptProcess (l : Label) (who : Pid) (p : Process) : Type 0 where
   pub label : low l who.label ≡ low l p.label
   pub parent : (q : Pid) → p.parent ≡ Some q → low l q.label ≡ low l who.label
@@ -42,7 +42,7 @@ module _ (l : Label) (s : State) (kept : Kept l s) where
     cwd = kept.cwd who p is;
   }
 
-  -- a process that is set
+  -- a state stays kept where a process is set, if what `Kept` says holds of it
   pub kept_process : (who : Pid) (p : Process) → KeptProcess l who p → Kept l (changed s (SetProcess who p))
   kept_process who p new =
       let each : (q : Pid) (x : Process) → map.get (map.insert s.procs who p) q ≡ Some x → KeptProcess l q x = each-insert pid_cmp_total pid_cmp_exact (KeptProcess l) s.procs kept_of who p new in
@@ -57,7 +57,7 @@ module _ (l : Label) (s : State) (kept : Kept l s) where
         streams = kept.streams;
       }
 
-  -- an object that is set, with its descriptions on its side where it is a pipe or FIFO
+  -- a state stays kept where an object is set, if the descriptions of a pipe or FIFO are on its side
   pub kept_object : (id : Oid) (o : Object) → low l id.label ≡ low l o.label
       → ((did : Did) (d : Description) → map.get s.descriptions did ≡ Some d → d.object ≡ id → is_stream o.kind ≡ true → low l did.label ≡ low l d.object.label) → Kept l (changed s (SetObject id o))
   kept_object id o side streams = record {
@@ -74,7 +74,7 @@ module _ (l : Label) (s : State) (kept : Kept l s) where
         id o (λ same stream. streams did d is same stream) d.object x at refl stream;
   }
 
-  -- nothing is asked of entries and of drawn numbers
+  -- whether a state is kept depends neither on entries nor on drawn numbers
   pub kept_beside : (entries : FinMap spot_cmp Oid) (object_numbers process_numbers description_numbers : FinMap label_cmp ℕ)
       → Kept l (record s { entries = entries; object_numbers = object_numbers; process_numbers = process_numbers; description_numbers = description_numbers })
   kept_beside entries object_numbers process_numbers description_numbers = record {
@@ -178,7 +178,7 @@ module _ (s : State) (valid : IsValid s) (who : Pid) (q : Process) (fds : (p : P
   still_described : (did : Did) (d : Description) → IsValidDescription s did d → IsValidDescription (with_procs s next_procs) did d
   still_described did d valid = record { drawn_already = valid.drawn_already; object = valid.object; object_is = valid.object_is; no_dir = valid.no_dir; held = still_held did valid.held }
 
-  -- a process that is set, with the descriptors that it had if it was there
+  -- a state stays valid where a process is set that has the descriptors that it had, if it was there
   pub valid_process : IsValidProcess s who q → IsValid (changed s (SetProcess who q))
   valid_process new =
       let still : (r : Pid) → IsThere s.procs r → IsThere next_procs r = there_still pid_cmp_total s.procs who q in

@@ -13,7 +13,7 @@ use Rattle.kern_model.proofs.KeyLaws.{pid_cmp_total, pid_cmp_exact, did_cmp_tota
 use Rattle.kern_model.proofs.MapLemmas.{each-entries}
 use Rattle.iso_laws.proofs.AllLemmas.{all-append, all_each, all_if}
 
--- where it holds of each description that goes, and of the object of each description as it is emptied
+-- a property holds of each change of closing where it holds of dropping each description and of emptying each object
 module _ (s : State) (P : Change → Type 0) (drop : (did : Did) → P (DropDescription did)) (empty : (did : Did) (d : Description) → map.get s.descriptions did ≡ Some d → P (emptied s d.object)) where
   each_let_go : (goes : Descriptor → Bool) (e : Did × Description) → P (emptied s e.1.object) → AllByRecursion P (let_go s goes e)
   each_let_go goes e empties =
@@ -26,7 +26,7 @@ module _ (s : State) (P : Change → Type 0) (drop : (did : Did) → P (DropDesc
       all_each (λ (e : Did × Description). P (emptied s e.1.object)) P (let_go s goes) (each_let_go goes) (map.entries s.descriptions)
       (each-entries did_cmp_total did_cmp_exact (λ (k : Did) (d : Description). P (emptied s d.object)) s.descriptions empty)
 
-  -- and of the process that goes, and of each other one as it is left
+  -- it holds of each change of an end where it also holds of dropping the process and of setting each one that it leaves
   pub each_ending : (who : Pid) (p : Process) (how : Ending) → P (DropProcess who) → ((q : Pid) (x : Process) → map.get s.procs q ≡ Some x → P (SetProcess q (left_by who p how q x))) → AllByRecursion P (ending_of s who p how)
   unfolding ending_of
   each_ending who p how gone left =

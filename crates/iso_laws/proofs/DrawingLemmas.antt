@@ -21,21 +21,21 @@ use Rattle.kern_model.proofs.TableLemmas.{each_set_at}
 use Rattle.iso_laws.proofs.Changes.{there_still}
 
 -- ---- what leads to objects
--- what leads to an object leads to one of these: entries, current directories and descriptions
+-- entries, current directories and descriptions lead to objects of a set
 pub record LeadsTo (There : Oid → Type 0) (s : State) : Type 0 where
   pub root_there : There root
   pub entries : (spot : Spot) (id : Oid) → map.get s.entries spot ≡ Some id → There id
   pub procs : (who : Pid) (p : Process) → map.get s.procs who ≡ Some p → There p.cwd
   pub descriptions : (did : Did) (d : Description) → map.get s.descriptions did ≡ Some d → There d.object
 
--- any object will do
+-- the set of all objects
 abbrev pub Anything : Oid → Type 0
 Anything id = ⊤
 
 pub lead_anywhere : (s : State) → LeadsTo Anything s
 lead_anywhere s = record { root_there = tt; entries = λ spot id e. tt; procs = λ who p e. tt; descriptions = λ did d e. tt }
 
--- what leads to an object leads to one that is there
+-- entries, current directories and descriptions lead to objects that are there
 abbrev pub IsClosed : State → Type 0
 IsClosed s = LeadsTo (IsThere s.objects) s
 
@@ -47,11 +47,11 @@ closed_valid s valid = record {
   descriptions = λ did d e. let own = valid.descriptions did d e in record { value = own.object; is = own.object_is };
 }
 
--- a number that is drawn next is at least the last one
+-- drawing a number that is at least the last one lets no count fall
 pub falls_nowhere : (old m : FinMap label_cmp ℕ) (l : Label) (n : ℕ) → NeverFalls old m → drawn m l ≤ n → NeverFalls old (map.insert m l n)
 falls_nowhere old m l n stay up = each_set_at label_cmp_total label_cmp_exact (λ q x. drawn old q ≤ x) 0 m l n (omega (arith, stay l)) stay
 
--- ---- changes that fit: from a state on, where these objects are there and these processes are born
+-- ---- changes that fit, from a state on, with a set of objects that are there and a set of processes that are born
 module _ (There : Oid → Type 0) (Born : Pid → Type 0) (s : State) where
   -- an object that was there, or is by now
   abbrev pub Known : State → Oid → Type 0
@@ -61,7 +61,7 @@ module _ (There : Oid → Type 0) (Born : Pid → Type 0) (s : State) where
   abbrev pub Lives : State → Pid → Type 0
   Lives t who = IsThere s.procs who ⊎ IsDrawnBetween s.process_numbers t.process_numbers who.label who.n × Born who
 
-  -- a change at a later state: what is set was there or has a number drawn since, and leads to an object that is known
+  -- a change in a later state: what is set was there or has a number drawn since, and leads to an object that is known
   abbrev pub Fits : State → Change → Type 0
   Fits t (SetObject id o) = There id ⊎ IsDrawnBetween s.object_numbers t.object_numbers id.label id.n
   Fits t (SetEntry spot id) = Known t id
@@ -72,7 +72,7 @@ module _ (There : Oid → Type 0) (Born : Pid → Type 0) (s : State) where
   Fits t (DrawDescription l n) = drawn t.description_numbers l ≤ n
   Fits t _ = ⊤
 
-  -- each of these, after those before it
+  -- each of these changes fits in the state after those before it
   abbrev pub AllFit : State → List Change → Type 0
   AllFit t [] = ⊤
   AllFit t (c ∷ cs) = Fits t c × AllFit (changed t c) cs
@@ -81,7 +81,7 @@ module _ (There : Oid → Type 0) (Born : Pid → Type 0) (s : State) where
   fit-append [] ds t h g = g
   fit-append (c ∷ cs) ds t h g = (h.0, fit-append cs ds (changed t c) h.1 g)
 
-  -- a change that fits at whichever state it is made
+  -- a change that fits in each later state
   abbrev pub FitsAnywhere : Change → Type 0
   FitsAnywhere c = (t : State) → Fits t c
 
@@ -103,7 +103,7 @@ module _ (There : Oid → Type 0) (Born : Pid → Type 0) (s : State) where
 pub stay_itself : (s : State) → StayDrawn s s
 stay_itself s = record { objects = λ l. omega arith; procs = λ l. omega arith; descriptions = λ l. omega arith }
 
--- a number that is drawn is drawn since
+-- a number above the last one of an earlier table was drawn since
 pub drawn_since : (old m : FinMap label_cmp ℕ) (l : Label) (n last : ℕ) → drawn old l < n → n ≤ last → IsDrawnBetween old (map.insert m l last) l n
 drawn_since old m l n last above few = let now : drawn (map.insert m l last) l ≡ last = get_or-found _ l 0 last (get-insert_same label_cmp_total m l last) in (above, omega (arith, now))
 
@@ -111,7 +111,7 @@ drawn_since old m l n last above few = let now : drawn (map.insert m l last) l �
 drawn_still : (old m n : FinMap label_cmp ℕ) (l : Label) (k : ℕ) → drawn m l ≤ drawn n l → IsDrawnBetween old m l k → IsDrawnBetween old n l k
 drawn_still old m n l k up h = (h.0, omega (arith, h.1))
 
--- what is there and was not has a number that was drawn in between, by the label and the count of each key
+-- by the label and the count of each key: one that is there and was not has a count that was drawn in between
 module _ {K X : Type 0} {R : K → K → Ordering} (total : IsTotalOrder R) (exact : IsAntisymmetric R) (label_of : K → Label) (count_of : K → ℕ) where
   abbrev pub AreNew : FinMap R X → FinMap label_cmp ℕ → FinMap R X → FinMap label_cmp ℕ → Type 0
   AreNew old before new after = (k : K) → map.get old k ≡ None → IsThere new k → IsDrawnBetween before after (label_of k) (count_of k)
@@ -138,14 +138,14 @@ module _ {K X : Type 0} {R : K → K → Ordering} (total : IsTotalOrder R) (exa
   by_middle mid k Q f g =
       elim (map.get mid k) as (λ o. map.get mid k ≡ o → Q) [ None ↦ f | Some x ↦ λ e. g (record { value = x; is = e }) ] refl
 
-  -- what is new over two spans
+  -- what is new over two spans, one after the other
   pub new_over : (old mid new : FinMap R X) (before between after : FinMap label_cmp ℕ) → NeverFalls before between → NeverFalls between after → AreNew old before mid between → AreNew mid between new after → AreNew old before new after
   new_over old mid new before between after up up' first second k none there =
       by_middle mid k (IsDrawnBetween before after (label_of k) (count_of k))
       (λ gone. let h = second k gone there in (omega (arith, up (label_of k), h.0), h.1))
       (λ was. drawn_still before between after (label_of k) (count_of k) (up' (label_of k)) (first k none was))
 
-  -- what is not there and was drawn is not there later
+  -- a key that is not there, and whose count was drawn, is not there later
   pub none_back : (old new : FinMap R X) (before after : FinMap label_cmp ℕ) → AreNew old before new after → (k : K) → count_of k ≤ drawn before (label_of k) → map.get old k ≡ None → map.get new k ≡ None
   none_back old new before after fresh k few none =
       elim (map.get new k) as (λ o. map.get new k ≡ o → o ≡ None) [
@@ -185,7 +185,7 @@ module _ (Born : Pid → Type 0) (s : State) where
   abbrev Fit : State → Change → Type 0
   Fit t c = Fits (IsThere s.objects) Born s t c
 
-  -- a number drawn at a label, in a table that grows
+  -- drawing a number that is at least the last one lets no count of the table fall
   up : (m : FinMap label_cmp ℕ) (l : Label) (n : ℕ) → drawn m l ≤ n → NeverFalls m (map.insert m l n)
   up m l n h = falls_nowhere m m l n (λ q. omega arith) h
 
@@ -193,7 +193,7 @@ module _ (Born : Pid → Type 0) (s : State) where
   was_or_drawn t who (inl was) = inl was
   was_or_drawn t who (inr born) = inr born.0
 
-  -- one more change
+  -- numbers go on over one more change that fits
   on_changed : (t : State) (c : Change) → Fit t c → NumbersGoOn s t → NumbersGoOn s (changed t c)
   on_changed t (SetObject id o) h on = record {
     stay_drawn = stay_changed (IsThere s.objects) Born s t (SetObject id o) h on.stay_drawn;
@@ -255,12 +255,12 @@ module _ (Born : Pid → Type 0) (s : State) where
   known_there t goes id (inl was) = goes.stay id was
   known_there t goes id (inr is) = is
 
-  -- an object stays, whatever is set
+  -- no change removes an object
   stay_changed_object : (t : State) (c : Change) (id : Oid) → IsThere t.objects id → IsThere (changed t c).objects id
   stay_changed_object t (SetObject at o) id there = there_still oid_cmp_total t.objects at o id there
   stay_changed_object t c id there = there
 
-  -- what leads to an object leads to one that is there
+  -- what leads to an object leads to one that is there after a further change that fits
   closed_changed : (t : State) (c : Change) → Fit t c → GoesOn s t → IsClosed (changed t c)
   closed_changed t (SetObject at o) h goes =
       let still : (id : Oid) → IsThere t.objects id → IsThere (map.insert t.objects at o) id = there_still oid_cmp_total t.objects at o in
@@ -308,7 +308,7 @@ module _ (Born : Pid → Type 0) (s : State) where
   }
   closed_changed t c h goes = record { root_there = goes.closed.root_there; entries = goes.closed.entries; procs = goes.closed.procs; descriptions = goes.closed.descriptions }
 
-  -- all of them
+  -- what goes on over each change goes on over a list of changes that fit
   pub goes_all : (cs : List Change) (t : State) → AllFit (IsThere s.objects) Born s t cs → GoesOn s t → GoesOn s (changed_by t cs)
   goes_all [] t h goes = goes
   goes_all (c ∷ cs) t h goes =
@@ -326,7 +326,7 @@ on_itself s = record {
 pub goes_itself : (s : State) → IsClosed s → GoesOn s s
 goes_itself s closed = record { on = on_itself s; stay = λ id there. there; closed = closed }
 
--- over two spans
+-- what never falls over each of two spans never falls over both
 never_falls_over : (a b c : FinMap label_cmp ℕ) → NeverFalls a b → NeverFalls b c → NeverFalls a c
 never_falls_over a b c first second l = omega (arith, first l, second l)
 
@@ -342,7 +342,7 @@ on_over s t u first second = record {
   descriptions = new_over did_cmp_total did_cmp_exact (λ (q : Did). q.label) (λ (q : Did). q.n) s.descriptions t.descriptions u.descriptions s.description_numbers t.description_numbers u.description_numbers first.stay_drawn.descriptions second.stay_drawn.descriptions first.descriptions second.descriptions;
 }
 
--- what is not there and was drawn stays away
+-- where numbers go on, nothing comes back
 pub nothing_back : (s t : State) → NumbersGoOn s t → NothingComesBack s t
 nothing_back s t on = record {
   objects = none_back oid_cmp_total oid_cmp_exact (λ (q : Oid). q.label) (λ (q : Oid). q.n) s.objects t.objects s.object_numbers t.object_numbers on.objects;

@@ -53,7 +53,7 @@ abbrev pub Drops : (Pid → CapState) → Rec → Type 0
 Drops f (rec.CapSetProc who caps) = is_within caps.p (f who).p ≡ true
 Drops f _ = ⊤
 
--- each of these records is such, by those before it
+-- each of these records satisfies `Drops`, from the sets that those before it give
 abbrev pub AllDrop : CapSet → (Pid → CapState) → List Rec → Type 0
 AllDrop bound f [] = ⊤
 AllDrop bound f (r ∷ rs) = Drops f r × AllDrop bound (caps_after_one bound f r) rs
@@ -67,7 +67,7 @@ module _ (bound : CapSet) where
   drop_between f [] r after h = h.0
   drop_between f (b ∷ before) r after h = drop_between (caps_after_one bound f b) before r after h.1
 
-  -- a record that leaves the sets as they are
+  -- a record that leaves the sets as they are satisfies `Drops`
   calm_drops : (f : Pid → CapState) (own : Option Rec) → ((q : Pid) → caps_after bound f (option_to_list own) q ≡ f q) → AllDrop bound f (option_to_list own)
   calm_drops f None same = tt
   calm_drops f (Some (rec.CapSetProc who caps)) same =
@@ -98,7 +98,7 @@ unfolding verdict_of
 granted_grow a who p caps h = only_passed (may_become p.caps caps) h
 
 module _ (s : State) (f : Pid → CapState) (has : HaveCaps s f) (who : Pid) (p : Process) (is : map.get s.procs who ≡ Some p) (a : Subject) where
-  -- what an end leaves after the exercises
+  -- the records that an end leaves after the exercises
   abbrev OwnDrops : CallName → End → Type 0
   OwnDrops name e = AllDrop s.bound f (own_of who p name e)
 
@@ -147,7 +147,7 @@ start_drops : (bound : CapSet) (ws : List WorldProc) (s : State) (f : Pid → Ca
 start_drops bound [] s f = tt
 start_drops bound (w ∷ ws) s f = (tt, start_drops bound ws (boot_process s w) _)
 
--- each record of a run is such
+-- each record of `cap_set_proc` in a run makes permitted only what was permitted
 pub all_drop : (w : World) (items : List ScriptItem) → AllDrop w.bound (λ _. no_flags) (all_recs w items)
 all_drop w items =
     drop-append w.bound (λ _. no_flags) (boot_recs w) _ (start_drops w.bound w.procs (furnished w) (λ _. no_flags))

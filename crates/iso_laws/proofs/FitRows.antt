@@ -1,4 +1,4 @@
--- Rows and numbers: what rows share whose changes fit, and whose own record is of the caller.
+-- What rows share whose changes fit, and whose own record is of the caller.
 use Rattle.std.specs.Prelude.{◌≡◌, ⊤, ℕ, ◌+◌, ◌≤◌, List, [], Option, Some, None}
 use Rattle.std.proofs.Common.{arith, inr}
 use Rattle.std.specs.FinMap as map
@@ -28,8 +28,7 @@ use Rattle.iso_laws.proofs.DrawingLemmas.{LeadsTo, AllFit, drawn_since}
 use Rattle.iso_laws.proofs.Rows.{Gives}
 use Rattle.iso_laws.proofs.WalkLemmas.{AreThere, RefersThere, gives_walk, gives_reach, gives_path, gives_descriptor, gives_open_object}
 
--- a record that a call of this process may leave as its own: none of a start, and of the process itself where it names
--- a child, a program or sets
+-- the own record of a call: none of a start, and of the caller where it is of fork, exec or `cap_set_proc`
 abbrev pub IsOwn : Pid → Rec → Type 0
 IsOwn who (rec.Boot q label caps) = ⊥
 IsOwn who (rec.Fork q child) = q ≡ who
@@ -37,6 +36,7 @@ IsOwn who (rec.Exec q id file new) = q ≡ who
 IsOwn who (rec.CapSetProc q caps) = q ≡ who
 IsOwn who _ = ⊤
 
+-- the own record of a call, if it leaves one
 abbrev pub ReportsOwn : Pid → Option Rec → Type 0
 ReportsOwn who None = ⊤
 ReportsOwn who (Some r) = IsOwn who r
@@ -45,7 +45,7 @@ ReportsOwn who (Some r) = IsOwn who r
 abbrev pub Child : Pid → Option Rec → Pid → Type 0
 Child who own q = own ≡ Some (rec.Fork who q)
 
--- the changes fit, where what leads to an object leads to one of these, and the own record is of the process
+-- the changes fit, from a state on in which the objects of a set are there, and the own record is of the process
 abbrev pub Fitting : (Oid → Type 0) → State → Pid → List Change → Option Rec → Type 0
 Fitting There s who cs own = AllFit There (Child who own) s s cs × ReportsOwn who own
 
@@ -65,11 +65,11 @@ module _ (There : Oid → Type 0) (s : State) (leads : LeadsTo There s) (who : P
   pub me : IsThere s.procs who
   me = record { value = p; is = is }
 
-  -- the caller stays where it is
+  -- the caller's current directory is in the set
   pub stays : There p.cwd
   stays = leads.procs who p is
 
-  -- nothing changes, and no record is left
+  -- changing nothing and leaving no record fits
   pub nothing_fits : Fitting There s who [] None
   nothing_fits = (tt, tt)
 

@@ -1,4 +1,4 @@
--- What every step keeps, of each call: refusals are named, and numbers go on.
+-- What each step keeps, for every call: refusals are named, and numbers go on.
 use Rattle.std.specs.Prelude.{◌≡◌, ⊤, true, false, List, [], ◌∷◌, ◌++◌, Some, refl, Option}
 use Rattle.std.proofs.Common.{sym, subst}
 use Rattle.std.specs.FinMap as map
@@ -28,7 +28,7 @@ use Rattle.iso_laws.proofs.FitRows.{Fitting}
 use Rattle.iso_laws.proofs.Numbers.{row_fits}
 
 -- ---- the end of a row
--- what a row gives holds of its end: a refusal is no denial, and where it is done its changes and its own record meet something
+-- a refusal at the end of a row is no denial, and changes and an own record at the end satisfy a property
 abbrev pub EndGives : (List Change → Option Rec → Type 0) → End → Type 0
 EndGives P (Stopped name place) = ⊤
 EndGives P (Refused e) = is_denial e ≡ false

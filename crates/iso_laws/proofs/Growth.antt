@@ -27,7 +27,7 @@ use Rattle.iso_laws.proofs.Drops.{Drops, AllDrop, all_drop}
 use Rattle.iso_laws.proofs.SinceStart.{all_started}
 use Rattle.iso_laws.proofs.StartLemmas.{NoStarts, AreStarts, IsAmong, among, none_here, after_start, start_once, started_once, run_no_start, start_gives, starts_origin, ancestor-append}
 
--- what one of two states permits, which is chosen by whether two numbers are one
+-- what follows where one of two states permits a capability, by the test that chooses the state
 by_one : (Q : Type 0) (q k : Pid) (cap : Cap) (new old : CapState) → (q ≡ k → has new.p cap ≡ true → Q) → (has old.p cap ≡ true → Q) → has (cond (same_pid q k) new old).p cap ≡ true → Q
 by_one Q q k cap new old f g =
     elim (same_pid q k) as (λ b. same_pid q k ≡ b → has (cond b new old).p cap ≡ true → Q) [
@@ -40,7 +40,7 @@ either_parent Q true f cap who q g = g
 either_parent Q false f cap who q g = g
 
 -- ---- where a capability is from
--- what follows where a capability is permitted after these records: it follows from each way in which one comes to be permitted
+-- what follows from each way in which a capability comes to be permitted follows where it is permitted after these records
 module _ (bound : CapSet) (cap : Cap) (Q : Type 0) where
   abbrev Had : CapState → Type 0
   Had caps = has caps.p cap ≡ true → Q
@@ -68,7 +68,7 @@ module _ (bound : CapSet) (cap : Cap) (Q : Type 0) where
       (λ first after label caps e. start (r ∷ first) after label caps (ap (λ xs. r ∷ xs) e))
       (λ first after id file new e. program (r ∷ first) after id file new (ap (λ xs. r ∷ xs) e))
 
--- what the exec formula permits, by its members
+-- the capabilities that the exec formula permits
 has-exec_permitted : (old file : CapState) (bound : CapSet) (cap : Cap) → has (exec_permitted old file bound) cap ≡ (has file.p cap && has bound cap || has file.i cap && has old.i cap)
 has-exec_permitted old file bound cap =
     has-union_of (meet_of file.p bound) (meet_of file.i old.i) cap ∙ (λ i. has-meet_of file.p bound cap i || has-meet_of file.i old.i cap i)
@@ -85,7 +85,7 @@ module _ (bound : CapSet) (first others : List Rec) (starts : AreStarts first) (
   abbrev at_start : Pid → CapState
   at_start q = caps_of bound first q
 
-  -- what the exec formula gives by a record after the starts
+  -- a capability that the exec formula gives at a record after the starts is from a program
   given_later : (q : Pid) (cap : Cap) (before after : List Rec) (id : Oid) (file new : CapState) → others ≡ before ++ rec.Exec (ancestor after q) id file new ∷ after
       → has (exec_caps (caps_after bound at_start before (ancestor after q)) file bound).p cap ≡ true → FromExec bound Recs q cap
   given_later q cap before after id file new e h =
@@ -101,7 +101,7 @@ module _ (bound : CapSet) (first others : List Rec) (starts : AreStarts first) (
             ∙ sym (has-exec_permitted (caps_after bound at_start before (ancestor after q)) file bound cap) ∙ h;
       }
 
-  -- what a process, or the one that it descends from, started with is what the starts give of it
+  -- the starts give the ancestor of a process the sets that it started with
   started_with : (q : Pid) (caps : CapState) → StartedWith Recs q caps → at_start (ancestor others q) ≡ caps
   started_with q caps with =
       let who : Pid = ancestor with.after q in
@@ -111,7 +111,7 @@ module _ (bound : CapSet) (first others : List Rec) (starts : AreStarts first) (
       ap (λ xs. ancestor xs q) is.after_is ∙ ancestor-append is.rest others q ∙ starts_origin who (ancestor others q) is.rest (after_start with.before (rec.Boot who with.label caps) is.rest starts') in
       ap at_start (sym who_is) ∙ ap (λ xs. caps_of bound xs who) is.first_is ∙ start_gives bound (λ _. no_flags) with.before who with.label caps is.rest starts'
 
-  -- a capability that a process has, and the one that it descends from was not permitted at its start, is from a program
+  -- a permitted capability that the ancestor of a process did not start with is from a program
   grown_since : (q : Pid) (cap : Cap) (caps : CapState) → has (caps_of bound Recs q).p cap ≡ true → StartedWith Recs q caps → has caps.p cap ≡ false → FromExec bound Recs q cap
   grown_since q cap caps h with without =
       after_all bound cap (FromExec bound Recs q cap) at_start others q (drops_after bound (λ _. no_flags) first others drops)

@@ -1,4 +1,4 @@
--- The row of each call with laws, for a Low process in the state and in its part, and what its changes meet.
+-- The row of each call with laws, for a Low process in the state and in its part, and what its changes satisfy.
 use Rattle.std.specs.Prelude.{◌≡◌, Bool, true, List, Some}
 use Rattle.std.proofs.Common.{sym}
 use Rattle.std.proofs.lemmas.Bool.{true≢false}
@@ -22,7 +22,7 @@ use Rattle.iso_laws.proofs.attributes.Isolation as attributes
 use Rattle.iso_laws.proofs.processes.Isolation as processes
 use Rattle.iso_laws.proofs.audit.Isolation as audit
 
--- each row of a Low process ends in the part as it ends in the state
+-- each row of a Low process ends in the part as in the state
 module _ (l : Label) (s : State) (kept : Kept l s) (valid : IsValid s) (who : Pid) (p : Process) (is : map.get s.procs who ≡ Some p) (is_low : low l p.label ≡ true) where
   pub low_row : (c : Call) → has_laws c ≡ true → Same l s who p (row s who p c) (row (by_number l s) who p c)
   low_row (call.Mkfifo path mode) _ = tree.mkfifo_low l s kept valid who p is is_low path mode
@@ -53,7 +53,7 @@ module _ (l : Label) (s : State) (kept : Kept l s) (valid : IsValid s) (who : Pi
   low_row (call.AudSwitch on) _ = audit.aud_switch_low l s kept valid who p is is_low on
   low_row c none = absurd (true≢false (sym none))
 
--- the changes of each row meet what those of each kind of effect meet
+-- the changes of each row satisfy what those of each kind of effect satisfy
 module _ (bad : Rec → Bool) (s : State) (valid : IsValid s) (who : Pid) (p : Process) (is : map.get s.procs who ≡ Some p) (fit : Type 0) (P : List Change → Type 0) (cases : Cases bad s who p fit P) where
   pub row_meets : (c : Call) → (fit → is_call s.top c ≡ true) → (fit → has_names c ≡ true) → has_laws c ≡ true → Meets bad who p P (row s who p c)
   unfolding is_call has_names

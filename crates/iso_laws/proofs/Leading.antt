@@ -1,4 +1,4 @@
--- Where names lead by the entries, and what was given with them.
+-- Where names lead by the entries of a state, and which object of a world was given with them.
 use Rattle.std.specs.Prelude.{◌≡◌, true, false, List, [], ◌∷◌, ◌++◌, Option, Some, None, refl, cond, unwrap_or}
 use Rattle.std.specs.Option.{option_and_then, option_or}
 use Rattle.std.specs.Cmp.{unsigned_Decides}
@@ -20,7 +20,7 @@ use Rattle.kern_model.proofs.MapLemmas.{never_some, some_same}
 pub leads_step : (s : State) (dir : Oid) (name : Name) (names : List Name) (next : Oid) → look s dir name ≡ Some next → leads s dir (name ∷ names) ≡ leads s next names
 leads_step s dir name names next e = ap (option_and_then (λ (next : Oid). leads s next names)) e
 
--- a state that has the entries of another leads where that does
+-- names lead to the same object in a state that has the entries of another
 pub leads_kept : (s t : State) → ((spot : Spot) (id : Oid) → map.get s.entries spot ≡ Some id → map.get t.entries spot ≡ Some id) → (dir : Oid) (names : List Name) (id : Oid) → leads s dir names ≡ Some id → leads t dir names ≡ Some id
 leads_kept s t keeps dir [] id h = h
 leads_kept s t keeps dir (name ∷ names) id h =
@@ -29,7 +29,7 @@ leads_kept s t keeps dir (name ∷ names) id h =
       | Some next ↦ λ e g. leads_step t dir name names next (keeps (dir, name) next e) ∙ leads_kept s t keeps next names id g
     ] refl h
 
--- names after names
+-- where names lead to a directory, further names lead on from there
 pub leads_append : (s : State) (dir : Oid) (names : List Name) (mid : Oid) (more : List Name) (id : Oid) → leads s dir names ≡ Some mid → leads s mid more ≡ Some id → leads s dir (names ++ more) ≡ Some id
 leads_append s dir [] mid more id h e = ap (λ (d : Oid). leads s d more) (some_same dir mid h) ∙ e
 leads_append s dir (name ∷ names) mid more id h e =
@@ -38,11 +38,11 @@ leads_append s dir (name ∷ names) mid more id h e =
       | Some at ↦ λ f g. leads_step s dir name (names ++ more) at f ∙ leads_append s at names mid more id g e
     ] refl h
 
--- one name more
+-- where names lead to a directory, a further name leads to what its entry has
 pub leads_on : (s : State) (dir : Oid) (names : List Name) (mid : Oid) (name : Name) (id : Oid) → leads s dir names ≡ Some mid → look s mid name ≡ Some id → leads s dir (names ++ name ∷ []) ≡ Some id
 leads_on s dir names mid name id h e = leads_append s dir names mid (name ∷ []) id h (leads_step s mid name [] id e)
 
--- names have a last one, which stands in the directory that the others lead to
+-- names have a last one, and its entry is in the directory that the others lead to
 pub record IsEnd (names : List Name) : Type 0 where
   pub name : Name
   pub whole : names ≡ parent_names names ++ name ∷ []
@@ -76,11 +76,11 @@ or_none : (x y : Option WorldObject) → option_or x y ≡ None → x ≡ None
 or_none None y e = refl
 or_none (Some o) y e = e
 
--- what is not given after others was not given before
+-- names that two lists of objects do not give are not given by the first
 pub not_before : (os ps : List WorldObject) (names : List Name) → given (os ++ ps) names ≡ None → given os names ≡ None
 not_before os ps names e = or_none (given os names) (given ps names) (sym (given-append os ps names) ∙ e)
 
--- what is given is one of those before, or the last one with its own names
+-- what holds of each object given before, and of the last one with its own names, holds of each object given
 pub given_after : (P : List Name → WorldObject → Type 0) (os : List WorldObject) (o : WorldObject) → ((names : List Name) (x : WorldObject) → given os names ≡ Some x → P names x) → P o.path.names o
     → (names : List Name) (x : WorldObject) → given (os ++ o ∷ []) names ≡ Some x → P names x
 given_after P os o before last names x e =

@@ -39,18 +39,18 @@ exercise_leaves : (a : Subject) (bound : CapSet) (f : Pid → CapState) (q : Pid
 exercise_leaves a bound f q c None = refl
 exercise_leaves a bound f q c (Some cap) = refl
 
--- exercises say nothing of capability sets
+-- exercises leave the capability sets that records give
 pub used_leave : (a : Subject) (bound : CapSet) (f : Pid → CapState) (q : Pid) (r : Row) → caps_after bound f (judge a [] r).used q ≡ f q
 used_leave a bound f q r =
     used_is (λ used. caps_after bound f used q ≡ f q) a
     (λ c used h. caps_after-append bound f used (exercise_with a c (cap_of c.name)) q ∙ exercise_leaves a bound (caps_after bound f used) q c (cap_of c.name) ∙ h) [] r refl
 
--- nor does a deny record
+-- a deny record leaves the capability sets that records give
 pub denial_leaves : (bound : CapSet) (f : Pid → CapState) (b : Bool) (who : Pid) (name : CallName) (check : CheckName) (place : Place) (q : Pid) → caps_after bound f (cond b (rec.Deny who name (denial_of check) check place ∷ []) []) q ≡ f q
 denial_leaves bound f true who name check place q = refl
 denial_leaves bound f false who name check place q = refl
 
--- what an end leaves after the exercises gives the sets in the state after it
+-- the records that an end leaves after the exercises give the sets in the state after it
 end_reports : (s : State) (who : Pid) (p : Process) (name : CallName) (f : Pid → CapState) → HaveCaps s f → (a : Subject) (r : Row) → Gives (MatchesRecord s f) r
     → HaveCaps (state_after s (judge a [] r).end) (caps_after s.bound f (own_of who p name (judge a [] r).end))
 end_reports s who p name f has a r h =

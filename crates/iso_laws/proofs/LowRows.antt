@@ -37,19 +37,19 @@ module _ (l : Label) (s : State) (kept : Kept l s) (valid : IsValid s) (who : Pi
   abbrev part_s : State
   part_s = by_number l s
 
-  -- its part sees that the caller is set
+  -- the part sees a change of the caller as it is
   pub seen_self : (q : Process) → part_changes l s.top (SetProcess who q ∷ []) ≡ SetProcess who q ∷ []
   seen_self q = part_of_low l s.top (SetProcess who q ∷ []) (kept.procs who p is ∙ is_low, tt)
 
-  -- a row that asks for nothing but the caller, which it reports or sets
+  -- a row that depends on the caller alone
   pub low_itself : (r : Row) → Gives (AreSeen l s) r → Same l s who p r r
   low_itself r h = alike_itself (crosses l) l s.top (subject who p) r h
 
-  -- a row that goes by a Low object alone
+  -- a row that depends on a Low object alone
   pub low_by : (id : Oid) → low l id.label ≡ true → (r : Object → Row) → Gives (AreSeen l s) (r (object_at s id)) → Same l s who p (r (object_at s id)) (r (object_at part_s id))
   low_by id h r gives = subst (λ o. Same l s who p (r (object_at s id)) (r o)) (sym (object_low l s id h)) (low_itself (r (object_at s id)) gives)
 
-  -- the row of a call on what a path leads to, which reads it
+  -- the row of a call that reads what a path leads to
   pub low_read : (path : PathValue) (r r' : Oid → Place → Object → Row) → ((id : Oid) (place : Place) → low l id.label ≡ true → Same l s who p (r id place (object_at s id)) (r' id place (object_at part_s id)))
       → Same l s who p (on_path s p path (λ id place. read_object s p id place (r id place))) (on_path part_s p path (λ id place. read_object part_s p id place (r' id place)))
   low_read path r r' h =
@@ -57,12 +57,12 @@ module _ (l : Label) (s : State) (kept : Kept l s) (valid : IsValid s) (who : Pi
       alike_reach l s kept valid who p is_low is (λ n. First n) path _ _
       (λ id there. alike_mac_read l s kept valid who p is_low id there place (r id place (object_at s id)) (λ d. r' d place (object_at part_s d)) (h id place))
 
-  -- where it goes by the object that was read
+  -- the row of a call that reads what a path leads to, and depends on that alone
   pub low_read_by : (path : PathValue) (r : Oid → Place → Object → Row) → ((id : Oid) (place : Place) (o : Object) → Gives (AreSeen l s) (r id place o))
       → Same l s who p (on_path s p path (λ id place. read_object s p id place (r id place))) (on_path part_s p path (λ id place. read_object part_s p id place (r id place)))
   low_read_by path r gives = low_read path r r (λ id place h. low_by id h (r id place) (gives id place (object_at s id)))
 
-  -- the row of a call on the object of a descriptor, where it goes by the object that was read
+  -- the row of a call that reads the object of a descriptor, and depends on that alone
   pub low_open_object_by : (fd : ℕ) (r : Object → Row) → ((o : Object) → Gives (AreSeen l s) (r o))
       → Same l s who p (on_open_object s p fd (λ id place. read_object s p id place r)) (on_open_object part_s p fd (λ id place. read_object part_s p id place r))
   low_open_object_by fd r gives =

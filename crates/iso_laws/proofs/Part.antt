@@ -1,4 +1,4 @@
--- The part of a state by numbers alone. Where numbers and labels agree it is the part, and each change goes through it.
+-- The part of a state by numbers alone: it is the part where numbers and labels agree; what each change does to it.
 use Rattle.std.specs.Prelude.{◌≡◌, ℕ, Bool, true, false, List, [], ◌∷◌, ◌++◌, Some, None, refl, cond, map}
 use Rattle.std.specs.List.{AllByRecursion}
 use Rattle.std.specs.FinMap as map
@@ -35,6 +35,7 @@ low_pid l who = low l who.label
 abbrev pub low_did : Label → Did → Bool
 low_did l did = low l did.label
 
+-- the part by the labels of numbers alone
 unfoldable pub by_number : Label → State → State
 by_number l s = record {
   objects = select (where_key (low_oid l) (same {X = Object})) s.objects;
@@ -84,7 +85,7 @@ pub part_of_high : (l top : Label) (cs : List Change) → AllByRecursion (λ c. 
 part_of_high l top [] h = refl
 part_of_high l top (c ∷ cs) h = ap (λ b. cond b (shown_change l top c ∷ []) [] ++ part_changes l top cs) h.0 ∙ part_of_high l top cs h.1
 
--- what a change does to the part
+-- what a change does to the part by numbers
 pub by_number-changed : (l : Label) (s : State) (c : Change) → by_number l (changed s c) ≡ changed_by (by_number l s) (part_change l s.top c)
 unfolding by_number
 by_number-changed l s (SetObject id o) =
@@ -138,7 +139,7 @@ by_number-changed l s (DrawDescription label n) =
       | false ↦ λ e. ap (λ m. record (by_number l s) { description_numbers = m }) (select-insert_dropped label_cmp_total label_cmp_exact (low l) same s.description_numbers label n e)
     ] refl
 
--- no change changes top
+-- no change alters top
 pub top-changed : (s : State) (c : Change) → (changed s c).top ≡ s.top
 top-changed s (SetObject id o) = refl
 top-changed s (SetEntry spot id) = refl
@@ -151,7 +152,7 @@ top-changed s (DrawObject label n) = refl
 top-changed s (DrawProcess label n) = refl
 top-changed s (DrawDescription label n) = refl
 
--- nor the bound
+-- no change alters the bound
 pub bound-changed : (s : State) (c : Change) → (changed s c).bound ≡ s.bound
 bound-changed s (SetObject id o) = refl
 bound-changed s (SetEntry spot id) = refl
@@ -164,7 +165,7 @@ bound-changed s (DrawObject label n) = refl
 bound-changed s (DrawProcess label n) = refl
 bound-changed s (DrawDescription label n) = refl
 
--- what no change changes stays over any changes
+-- what no change alters stays the same over a list of changes
 pub fixed_by : {X : Type 0} (of : State → X) → ((s : State) (c : Change) → of (changed s c) ≡ of s) → (s : State) (cs : List Change) → of (changed_by s cs) ≡ of s
 fixed_by of fixed s [] = refl
 fixed_by of fixed s (c ∷ cs) = fixed_by of fixed (changed s c) cs ∙ fixed s c
@@ -173,7 +174,7 @@ changed_by-append : (s : State) (cs ds : List Change) → changed_by s (cs ++ ds
 changed_by-append s [] ds = refl
 changed_by-append s (c ∷ cs) ds = changed_by-append (changed s c) cs ds
 
--- what a list of changes does to the part
+-- what a list of changes does to the part by numbers
 pub by_number-changed_by : (l : Label) (s : State) (cs : List Change) → by_number l (changed_by s cs) ≡ changed_by (by_number l s) (part_changes l s.top cs)
 by_number-changed_by l s [] = refl
 by_number-changed_by l s (c ∷ cs) =
@@ -189,7 +190,7 @@ shows_low l s kept id =
       | Some o ↦ λ e. sym (kept.objects id o e)
     ] refl
 
--- where numbers and labels agree, the part goes by numbers
+-- in a kept state, the part is the part by numbers
 pub part_by_number : (l : Label) (s : State) → Kept l s → part l s ≡ by_number l s
 unfolding part by_number
 part_by_number l s kept =

@@ -32,16 +32,17 @@ false_or : (a b : Bool) → a ≡ false → b ≡ false → (a || b) ≡ false
 false_or true b p q = p
 false_or false b p q = q
 
+-- what holds in each case of a test holds of the choice by that test
 pub when : (P : CheckOutcome → Type 0) (b : Bool) (x y : CheckOutcome) → (b ≡ true → P x) → (b ≡ false → P y) → P (cond b x y)
 when P true x y f g = f refl
 when P false x y f g = g refl
 
--- two choices by one test
+-- what relates two pairs, in each case of a test, relates the choices by that test
 both : (P : CheckOutcome → CheckOutcome → Type 0) (b : Bool) (x y x' y' : CheckOutcome) → (b ≡ true → P x x') → (b ≡ false → P y y') → P (cond b x y) (cond b x' y')
 both P true x y x' y' f g = f refl
 both P false x y x' y' f g = g refl
 
--- the test that no record fails
+-- the test by which no record is bad
 abbrev pub never : Rec → Bool
 never r = false
 
@@ -54,6 +55,7 @@ pub record Passes (bad : Rec → Bool) (a : Subject) (c : Check) : Type 0 where
   pub granted : is_denied (verdict_of a c) ≡ false
   pub inside : list_any bad (noted a c (verdict_of a c) []) ≡ false
 
+-- the end of a row, with the part of its changes
 abbrev pub part_end : Label → Label → End → End
 part_end l top (Stopped name place) = Stopped name place
 part_end l top (Refused e) = Refused e
@@ -66,7 +68,7 @@ part_judged l top j = check_outcome j.used (part_end l top j.end)
 pub record Alike (bad : Rec → Bool) (l top : Label) (a : Subject) (r r' : Row) : Type 0 where
   pub ends : (used : List Rec) → list_any bad (judge a used r).used ≡ false → judge a used r' ≡ part_judged l top (judge a used r)
 
--- what the changes of a row meet, unless something is bad
+-- the changes of a row satisfy a property, unless something is bad
 pub record Ends (bad : Rec → Bool) (a : Subject) (P : List Change → Type 0) (r : Row) : Type 0 where
   pub ends : (used : List Rec) → list_any bad (judge a used r).used ≡ false → P (changes_of (judge a used r).end)
 
@@ -76,7 +78,7 @@ module _ (bad : Rec → Bool) where
   bad_prefix [] ys h = refl
   bad_prefix (x ∷ xs) ys h = let h' = or_false (bad x) (list_any bad (xs ++ ys)) h in false_or _ _ h'.0 (bad_prefix xs ys h'.1)
 
-  -- and none of the second
+  -- where no record of two lists is bad, none of the second list is
   pub bad_suffix : (xs ys : List Rec) → list_any bad (xs ++ ys) ≡ false → list_any bad ys ≡ false
   bad_suffix [] ys h = h
   bad_suffix (x ∷ xs) ys h = let h' = or_false (bad x) (list_any bad (xs ++ ys)) h in bad_suffix xs ys h'.1
@@ -104,7 +106,7 @@ module _ (bad : Rec → Bool) (a : Subject) where
   used_before used (Fail e) = λ h. h
   used_before used (Commit cs answer own) = λ h. h
 
-  -- what is known where a row goes on after a check
+  -- a check after which a row goes on passes, where no exercise at the end is bad
   passed : (c : Check) (used : List Rec) (r : Row) → is_denied (verdict_of a c) ≡ false → list_any bad (judge a (noted a c (verdict_of a c) used) r).used ≡ false → Passes bad a c
   passed c used r granted h = record { granted = granted; inside = noted_suffix c _ used (used_before _ r h) }
 
@@ -138,11 +140,11 @@ module _ (bad : Rec → Bool) (l top : Label) (a : Subject) where
         (λ f h. (rest (passed bad a c used r f h)).ends (noted a c (verdict_of a c) used) h) h;
   }
 
-  -- the same check
+  -- equal checks, where the rows after them end alike
   pub alike_same : (c c' : Check) (r r' : Row) → c' ≡ c → (Passes bad a c → Alike bad l top a r r') → Alike bad l top a (Need c r) (Need c' r')
   alike_same c c' r r' e rest = subst (λ d. Alike bad l top a (Need c r) (Need d r')) (sym e) (alike_need c r r' rest)
 
-  -- a soft check
+  -- equal soft checks, where the rows after them end alike
   pub alike_soft : (c : Check) (r w r' w' : Row) → (Passes bad a c → Alike bad l top a r r') → Alike bad l top a w w' → Alike bad l top a (Soft c r w) (Soft c r' w')
   unfolding judge
   alike_soft c r w r' w' granted weaker = record {
@@ -152,7 +154,7 @@ module _ (bad : Rec → Bool) (l top : Label) (a : Subject) where
         (λ f h. (granted (passed bad a c used r f h)).ends (noted a c (verdict_of a c) used) h) h;
   }
 
-  -- a check that only a bad exercise could pass, on both sides
+  -- checks that only a bad exercise passes, whatever the rows after them
   pub alike_hidden : (c c' : Check) (r r' : Row) → c'.name ≡ c.name → c'.place ≡ c.place → verdict_of a c' ≡ verdict_of a c → (Passes bad a c → ⊥) → Alike bad l top a (Need c r) (Need c' r')
   unfolding judge
   alike_hidden c c' r r' name place verdict hidden = record {
@@ -167,12 +169,12 @@ module _ (bad : Rec → Bool) (l top : Label) (a : Subject) where
   alike_missing None k k' g h = alike_fail errno.ENOENT
   alike_missing (Some id) k k' g h = h id refl
 
-  -- what a descriptor refers to, if that is open
+  -- rows that go on from an open descriptor, where they end alike for what it refers to
   pub alike_open : (o : Option Opened) (k k' : Opened → Row) → ((f : Opened) → o ≡ Some f → Alike bad l top a (k f) (k' f)) → Alike bad l top a (or_not_open o k) (or_not_open o k')
   alike_open None k k' h = alike_fail errno.EBADF
   alike_open (Some f) k k' h = h f refl
 
--- ---- what a row's changes meet
+-- ---- what a row's changes satisfy
 module _ (bad : Rec → Bool) (a : Subject) (P : List Change → Type 0) (none : P []) where
   pub ends_fail : (e : Errno) → Ends bad a P (Fail e)
   unfolding judge
@@ -219,8 +221,8 @@ module _ (bad : Rec → Bool) (a : Subject) (P : List Change → Type 0) (none :
   ends_missing None k h = ends_fail errno.ENOENT
   ends_missing (Some id) k h = h id refl
 
--- ---- rows of which the checks do not matter
--- what the row refuses by is no denial, and wherever it is done its changes and its own record meet something
+-- ---- rows whose checks do not matter
+-- each refusal of a row is no denial, and changes and own record at each of its ends satisfy a property
 abbrev pub Gives : (List Change → Option Rec → Type 0) → Row → Type 0
 Gives P (Need c rest) = Gives P rest
 Gives P (Soft c granted weaker) = Gives P granted × Gives P weaker
@@ -241,7 +243,7 @@ module _ (P : List Change → Option Rec → Type 0) where
   gives_open None k h = refl
   gives_open (Some f) k h = h f refl
 
-  -- what it gives meets something weaker
+  -- a row whose ends satisfy a property satisfies a weaker one
   pub gives_weaker : (Q : List Change → Option Rec → Type 0) → ((cs : List Change) (own : Option Rec) → P cs own → Q cs own) → (r : Row) → Gives P r → Gives Q r
   gives_weaker Q weaker (Need c r) h = gives_weaker Q weaker r h
   gives_weaker Q weaker (Soft c r w) h = (gives_weaker Q weaker r h.0, gives_weaker Q weaker w h.1)
@@ -249,13 +251,13 @@ module _ (P : List Change → Option Rec → Type 0) where
   gives_weaker Q weaker (Fail e) h = h
   gives_weaker Q weaker (Commit cs answer own) h = weaker cs own h
 
--- the exercises so far, and one more, meet what each exercise keeps
+-- a property of exercises that each exercise keeps holds after one more check
 noted_is : (P : List Rec → Type 0) (a : Subject) → ((c : Check) (used : List Rec) → P used → P (used ++ exercise_with a c (cap_of c.name))) → (c : Check) (v : Verdict) (used : List Rec) → P used → P (noted a c v used)
 noted_is P a keeps c Passed used h = h
 noted_is P a keeps c Exercised used h = keeps c used h
 noted_is P a keeps c Denied used h = h
 
--- the exercises of a row meet what each exercise keeps
+-- a property of exercises that each exercise keeps holds of all exercises of a row
 pub used_is : (P : List Rec → Type 0) (a : Subject) → ((c : Check) (used : List Rec) → P used → P (used ++ exercise_with a c (cap_of c.name))) → (used : List Rec) (r : Row) → P used → P (judge a used r).used
 unfolding judge
 used_is P a keeps used (Need c r) h = when (λ j. P j.used) (is_denied (verdict_of a c)) _ _ (λ _. h) (λ _. used_is P a keeps (noted a c (verdict_of a c) used) r (noted_is P a keeps c (verdict_of a c) used h))
@@ -264,7 +266,7 @@ used_is P a keeps used (Refuse e b r) h = when (λ j. P j.used) b _ _ (λ _. h) 
 used_is P a keeps used (Fail e) h = h
 used_is P a keeps used (Commit cs answer own) h = h
 
--- the end of a row meets what each stop meets, each refusal that is no denial, and each end where it is done
+-- a property of ends holds of a row's end where it holds of stops, of refusals that are no denials, and of what the row gives
 pub end_is : (P : End → Type 0) (Q : List Change → Option Rec → Type 0) → ((name : CheckName) (place : Place) → P (Stopped name place)) → ((e : Errno) → is_denial e ≡ false → P (Refused e))
     → ((cs : List Change) (answer : Answer) (own : Option Rec) → Q cs own → P (Done cs answer own)) → (a : Subject) (used : List Rec) (r : Row) → Gives Q r → P (judge a used r).end
 unfolding judge
@@ -274,7 +276,7 @@ end_is P Q stopped refused done a used (Refuse e b r) h = when (λ j. P j.end) b
 end_is P Q stopped refused done a used (Fail e) h = refused e h
 end_is P Q stopped refused done a used (Commit cs answer own) h = done cs answer own h
 
--- a row of which the part sees each change as it is ends in the part as in the state
+-- a row whose changes the part sees as they are ends in the part as in the state
 pub alike_itself : (bad : Rec → Bool) (l top : Label) (a : Subject) (r : Row) → Gives (λ cs own. part_changes l top cs ≡ cs) r → Alike bad l top a r r
 alike_itself bad l top a (Need c r) h = alike_need bad l top a c r r (λ _. alike_itself bad l top a r h)
 alike_itself bad l top a (Soft c r w) h = alike_soft bad l top a c r w r w (λ _. alike_itself bad l top a r h.0) (alike_itself bad l top a w h.1)
@@ -282,7 +284,7 @@ alike_itself bad l top a (Refuse e b r) h = alike_refuse bad l top a e b b r r r
 alike_itself bad l top a (Fail e) h = alike_fail bad l top a e
 alike_itself bad l top a (Commit cs answer own) h = alike_give bad l top a cs cs answer own (sym h)
 
--- what the changes of a row meet wherever it is done
+-- the changes of a row satisfy what they satisfy at each of its ends, whatever its checks are
 pub ends_given : (bad : Rec → Bool) (a : Subject) (P : List Change → Type 0) → P [] → (r : Row) → Gives (λ cs own. P cs) r → Ends bad a P r
 ends_given bad a P none (Need c r) h = ends_need bad a P none c r (λ _. ends_given bad a P none r h)
 ends_given bad a P none (Soft c r w) h = ends_soft bad a P none c r w (λ _. ends_given bad a P none r h.0) (ends_given bad a P none w h.1)

@@ -16,7 +16,7 @@ use Rattle.iso_laws.specs.LawCalls.{has_laws, have_laws}
 use Rattle.iso_laws.proofs.PrefixLemmas.{prefix_through}
 use Rattle.iso_laws.proofs.Steps.{low_step, other_step, kept_step, valid_step, top_step}
 
--- what a script of calls with laws asks of its first call and of the others
+-- what holds of the first call of a script of calls with laws, and of the others
 record First (s : State) (i : ScriptItem) (is : List ScriptItem) : Type 0 where
   laws : has_laws i.call ≡ true
   args : is_call s.top i.call ≡ true
@@ -45,17 +45,17 @@ module _ (l : Label) where
   answers-append [] qs = refl
   answers-append (p ∷ ps) qs = ap (λ xs. cond (low l p.who.label) (answered p ∷ xs) xs) (answers-append ps qs) ∙ put (low l p.who.label) (answered p) (answers l ps) (answers l qs)
 
-  -- what the first calls answer is a prefix of what all answer
+  -- the answers to the first calls are a prefix of the answers to all
   pub answers_of_first : (m : ℕ) (ps : List CallRecord) → IsPrefix (answers l (take m ps)) (answers l ps)
   answers_of_first m ps = record { rest = answers l (drop m ps); whole_is = ap (answers l) (sym (take-append-drop m ps)) ∙ answers-append (take m ps) (drop m ps) }
 
-  -- what was answered before something crossed is a prefix of all that is answered alone, and all of it where nothing crossed
+  -- the answers before something crossed are a prefix of those of the part alone, and all of them where nothing crossed
   pub record AnswersAlone (ps : List CallRecord) (whole : List Answered) : Type 0 where
     pub rest : List Answered
     pub whole_is : whole ≡ answers l (up_to l ps) ++ rest
     pub all : up_to l ps ≡ ps → rest ≡ []
 
-  -- what a step adds to both
+  -- a step that crosses nothing adds its answer to both
   alone_more : (p : CallRecord) (b : Bool) (ps : List CallRecord) (whole : List Answered) → low l p.who.label ≡ b → crossing l p.recs ≡ false → AnswersAlone ps whole → AnswersAlone (p ∷ ps) (cond b (answered p ∷ whole) whole)
   alone_more p b ps whole is inside alone = record {
     rest = alone.rest;
@@ -74,7 +74,7 @@ module _ (l : Label) where
     all = λ e. let no : [] ≡ p ∷ ps = ap (λ t. cond t [] (p ∷ up_to l ps)) (sym crosses) ∙ e in cc;
   }
 
-  -- what Low tags are answered from a state is what the part answers alone, until something crosses
+  -- until something crosses, the answers to Low tags from a state are those of its part alone
   pub answers_alone : (items : List ScriptItem) (s : State) → have_laws items ≡ true → is_script s.top items ≡ true → IsValid s → Kept l s → AnswersAlone (run s items) (all_answers (run (part l s) (part_script l items)))
   answers_alone [] s laws args valid kept = record { rest = []; whole_is = refl; all = λ _. refl }
   answers_alone (i ∷ is) s laws args valid kept =
@@ -95,13 +95,13 @@ module _ (l : Label) where
             ] refl
       ] refl
 
-  -- each prefix of what was answered before something crossed is a prefix of all that is answered alone
+  -- each prefix of the answers before something crossed is a prefix of those of the part alone
   pub prefix_alone : (items : List ScriptItem) (m : ℕ) (s : State) → have_laws items ≡ true → is_script s.top items ≡ true → IsValid s → Kept l s → IsPrefix (answers l (take m (up_to l (run s items)))) (all_answers (run (part l s) (part_script l items)))
   prefix_alone items m s laws args valid kept =
       let alone = answers_alone items s laws args valid kept in
       prefix_through _ _ _ (answers_of_first m (up_to l (run s items))) (record { rest = alone.rest; whole_is = alone.whole_is })
 
-  -- where nothing crosses, Low tags are answered just what the part answers alone
+  -- where nothing crosses, the answers to Low tags are those of the part alone
   pub whole_alone : (items : List ScriptItem) (s : State) → have_laws items ≡ true → is_script s.top items ≡ true → IsValid s → Kept l s → up_to l (run s items) ≡ run s items → answers l (run s items) ≡ all_answers (run (part l s) (part_script l items))
   whole_alone items s laws args valid kept e =
       let alone = answers_alone items s laws args valid kept in

@@ -1,4 +1,4 @@
--- What tests, counts and lists of a map's entries say of a selection of it, and of the map after a change.
+-- Tests, counts and lists of a map's entries, for a selection of the map and after a change of the map.
 use Rattle.std.specs.Prelude.{◌≡◌, ℕ, ◌+◌, ◌≤◌, Bool, true, false, not, ◌||◌, ◌&&◌, List, [], ◌∷◌, ◌++◌, Option, Some, None, refl, cond, count_by, length}
 use Rattle.std.specs.declared.cmp.Ordering.{Ordering}
 use Rattle.std.specs.Ordering.{eq_by_cmp, is_eq}
@@ -37,13 +37,13 @@ abbrev pub list_after : {K Y A : Type 0} → (K → Y → List A) → K → Opti
 list_after g k None = []
 list_after g k (Some y) = g k y
 
--- ---- the first item that meets a test
+-- ---- the first item that passes a test
 module _ {X Y : Type 0} (p : X → Bool) (f : X → Y) where
   pub find_none : (xs : List X) → list_any p xs ≡ false → option_map f (find_in p xs) ≡ None
   find_none [] none = refl
   find_none (x ∷ xs) none = let parts = or_parts (p x) (list_any p xs) none in ap (λ b. option_map f (cond b (Some x) (find_in p xs))) parts.0 ∙ find_none xs parts.1
 
-  -- where each item that meets it has one image
+  -- where all items that pass have the same image, the first one has it
   pub find_only : (y : Y) (xs : List X) → AllByRecursion (λ x. p x ≡ true → f x ≡ y) xs → list_any p xs ≡ true → option_map f (find_in p xs) ≡ Some y
   find_only y [] h some = absurd (true≢false (sym some))
   find_only y (x ∷ xs) h some =
@@ -73,7 +73,7 @@ module _ {K X Y : Type 0} {R : K → K → Ordering} (o : IsTotalOrder R) (exact
       let sorted : T (is_sorted R es) = sorted-selected (map.entries m) (entries_sorted m) in
       ap map.entries (same_map o exact (from_entries es) (from_sorted es) (λ q. get-from_entries o es q ∙ sym (get-from_sorted R es q sorted))) ∙ entries-from_sorted R es sorted
 
-  -- a test, which is met by what is selected of an entry where it was met by the entry
+  -- a test that what is selected of an entry passes exactly where the entry passes another test
   module _ (p : K → X → Bool) (p' : K → Y → Bool) where
     abbrev Agree : K × X → Type 0
     Agree e = test_after p' e.0 (f e.0 e.1) ≡ p e.0 e.1
@@ -124,11 +124,11 @@ module _ {K X Y : Type 0} {R : K → K → Ordering} (o : IsTotalOrder R) (exact
       unfolding count_entries
       count_entries-select = ap (count_by (λ (e : K × Y). p' e.0 e.1)) (entries-select m) ∙ count-selected (map.entries m) listed
 
-      -- the first entry that meets it has the same key
+      -- the first entry that passes has the same key
       pub find-select : {A : Type 0} (g : K → A) → option_map (λ (e : K × Y). g e.0) (find_in (λ (e : K × Y). p' e.0 e.1) (map.entries (select f m))) ≡ option_map (λ (e : K × X). g e.0) (find_in (λ (e : K × X). p e.0 e.1) (map.entries m))
       find-select g = ap (λ (es : List (K × Y)). option_map (λ (e : K × Y). g e.0) (find_in (λ (e : K × Y). p' e.0 e.1) es)) (entries-select m) ∙ find-selected g (map.entries m) listed
 
-  -- a list made of each entry, which is made of what is selected of it
+  -- a function that makes the same list of what is selected of an entry as another makes of the entry
   module _ {A : Type 0} (g : K → X → List A) (g' : K → Y → List A) where
     abbrev Lists : K × X → Type 0
     Lists e = list_after g' e.0 (f e.0 e.1) ≡ g e.0 e.1
@@ -159,7 +159,7 @@ module _ {K X : Type 0} {R : K → K → Ordering} (o : IsTotalOrder R) (exact :
         | false ↦ λ t g. none_of es parts.1 k x g
       ] refl f
 
-  -- where none does, no entry that is there does
+  -- where `any_entry` finds none, no entry of the map passes
   pub none_passes : (m : FinMap R X) → any_entry p m ≡ false → (k : K) (x : X) → map.get m k ≡ Some x → p k x ≡ false
   unfolding any_entry
   none_passes m h k x e = none_of (map.entries m) h k x (sym (get-entries m k) ∙ e)
@@ -168,12 +168,12 @@ module _ {K X : Type 0} {R : K → K → Ordering} (o : IsTotalOrder R) (exact :
   fails_all [] h = refl
   fails_all (e ∷ es) h = ap (λ b. b || list_any (λ (e : K × X). p e.0 e.1) es) h.0 ∙ fails_all es h.1
 
-  -- where no entry that is there does, none does
+  -- where no entry of the map passes, `any_entry` finds none
   pub none_pass : (m : FinMap R X) → ((k : K) (x : X) → map.get m k ≡ Some x → p k x ≡ false) → any_entry p m ≡ false
   unfolding any_entry
   none_pass m h = fails_all (map.entries m) (each-entries o exact (λ (k : K) (x : X). p k x ≡ false) m h)
 
-  -- ---- how many do
+  -- ---- how many entries pass a test
   one_first : (e : K × X) (es : List (K × X)) → passing (e ∷ es) ≡ cond (p e.0 e.1) 1 0 + passing es
   one_first e es = sum_by-cons (λ (e : K × X). cond (p e.0 e.1) 1 0) e es
 
@@ -216,11 +216,11 @@ module _ {K X : Type 0} {R : K → K → Ordering} (o : IsTotalOrder R) (m : Fin
   pub get-remove_other : (q : K) → eq_by_cmp R q k ≡ false → map.get (map.remove m k) q ≡ map.get m q
   get-remove_other q other = get-remove o m k q ∙ ap (λ b. cond b None (map.get m q)) other
 
-  -- nothing is at a key where nothing was
+  -- a key that was absent is absent after a removal
   pub get-remove_none : (q : K) → map.get m q ≡ None → map.get (map.remove m k) q ≡ None
   get-remove_none q none = get-remove o m k q ∙ elim (eq_by_cmp R q k) as (λ b. cond b None (map.get m q) ≡ None) [ true ↦ refl | false ↦ none ]
 
--- what is set at a key does not depend on what was there
+-- removing a key before it is set changes nothing
 pub insert-over_removed : {K X : Type 0} {R : K → K → Ordering} → IsTotalOrder R → IsAntisymmetric R → (m : FinMap R X) (k gone : K) (x : X)
     → map.insert (map.remove (map.remove m k) gone) k x ≡ map.insert (map.remove m gone) k x
 insert-over_removed {R = R} o exact m k gone x = same_map o exact _ _ (λ q.
@@ -231,7 +231,7 @@ insert-over_removed {R = R} o exact m k gone x = same_map o exact _ _ (λ q.
     ] refl
     ∙ sym (get-insert o (map.remove m gone) k x q))
 
--- ---- how many pass a test after a change at one key
+-- ---- how many entries pass a test after a change at one key
 module _ {K X : Type 0} {R : K → K → Ordering} (o : IsTotalOrder R) (exact : IsAntisymmetric R) (p : K → X → Bool) (k : K) where
   abbrev at_key : K → X → Bool
   at_key q y = eq_by_cmp R q k && p q y
@@ -283,7 +283,7 @@ module _ {K X : Type 0} {R : K → K → Ordering} (o : IsTotalOrder R) (exact :
       ∙ count_entries-select o exact keep_other elsewhere p m (λ q y _.
       elim (eq_by_cmp R q k) as (λ b. test_after p q (cond (not b) (Some y) None) ≡ (not b && p q y)) [ true ↦ refl | false ↦ refl ])
 
-  -- no more after the key went, and fewer where its entry passed
+  -- no more entries pass after a removal, and fewer where the removed one passed
   pub count_remove : (m : FinMap R X) → count_entries p (map.remove m k) ≤ count_entries p m
   count_remove m = omega (arith, counted_elsewhere m, split m)
 
@@ -292,7 +292,7 @@ module _ {K X : Type 0} {R : K → K → Ordering} (o : IsTotalOrder R) (exact :
       let passes : at_key k x ≡ true = ap (λ r. is_eq r && p k x) (tied_itself o k) ∙ t in
       omega (arith, counted_elsewhere m, split m, count_some o exact at_key m k x e passes)
 
-  -- at most one more after an entry was set where none was, and none where it does not pass
+  -- at most one more entry passes after an insertion where none was, and no more where the new one does not pass
   module _ (m : FinMap R X) (x : X) (absent : map.get m k ≡ None) where
     without : count_entries elsewhere (map.insert m k x) ≡ count_entries p m
     without = sym (counted_elsewhere (map.insert m k x)) ∙ ap (count_entries p) (remove-insert o exact m k x absent)

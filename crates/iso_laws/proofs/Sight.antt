@@ -39,6 +39,7 @@ use Rattle.kern_model.proofs.MapLemmas.{get-select_kept, get-select_dropped, get
 use Rattle.iso_laws.proofs.Part.{by_number, shown, low_oid, low_pid, low_did, low_spot, same}
 use Rattle.iso_laws.proofs.Rows.{Alike, Ends, Passes, alike_same, alike_hidden, alike_refuse, alike_missing, ends_need, ends_refuse, ends_missing}
 
+-- a check whose rule fails is exercised or denied
 pub failed_verdict : (a : Subject) (c : Check) → c.holds ≡ false → verdict_of a c ≡ cond (may a.effective (cap_of c.name)) Exercised Denied
 unfolding verdict_of
 failed_verdict a c h = ap (λ b. cond b Passed (cond (may a.effective (cap_of c.name)) Exercised Denied)) h
@@ -51,7 +52,7 @@ or_left : (a b : Bool) → a ≡ true → (a || b) ≡ true
 or_left true b p = refl
 or_left false b p = cc
 
--- a check of a label that failed and went on crosses, where the labels are on two sides
+-- a check whose rule fails passes only by crossing, where the two labels are on different sides
 pub crossed : (l : Label) (a : Subject) (c : Check) (with : Cap) → c.holds ≡ false → cap_of c.name ≡ Some with → is_mac with ≡ true → differ (low l a.label) (low l c.thing_label) ≡ true → Passes (crosses l) a c → ⊥
 crossed l a c with fails named mac apart passes =
     elim (may a.effective (cap_of c.name)) as (λ b. verdict_of a c ≡ cond b Exercised Denied → ⊥) [
@@ -64,7 +65,7 @@ crossed l a c with fails named mac apart passes =
     ] (failed_verdict a c fails)
 
 -- ---- labels
--- a test that can't hold does not
+-- a test that cannot hold is false
 pub not_true : (b : Bool) → (b ≡ true → ⊥) → b ≡ false
 not_true true h = absurd (h refl)
 not_true false h = refl
@@ -86,7 +87,7 @@ equal_bools true b f g = sym (f refl)
 equal_bools false true f g = g refl
 equal_bools false false f g = refl
 
--- equal labels are on one side
+-- equal labels are on the same side
 pub same_side : (l x y : Label) → same_label x y ≡ true → low l x ≡ low l y
 same_side l x y h =
     let parts = and_parts (dominates x y) (dominates y x) h in
@@ -104,7 +105,7 @@ inner true false true p e = cc
 inner true false false p e = refl
 inner false b d p e = cc
 
--- where a new label is never given without the capability, and giving it crosses, it is on the caller's side
+-- a new label that only a capability allows is on the caller's side, unless giving it crosses
 pub new_side : (l : Label) (a : Subject) (c : Check) (with : Cap) (new : Label) → cap_of c.name ≡ Some with → is_mac with ≡ true → c.new_label ≡ Some new → c.holds ≡ false → Passes (crosses l) a c → low l a.label ≡ low l new
 new_side l a c with new named mac is_new fails passes =
     elim (may a.effective (cap_of c.name)) as (λ b. verdict_of a c ≡ cond b Exercised Denied → low l a.label ≡ low l new) [
@@ -114,7 +115,7 @@ new_side l a c with new named mac is_new fails passes =
       | false ↦ λ v. let no : true ≡ false = ap is_denied (sym v) ∙ passes.granted in cc
     ] (failed_verdict a c fails)
 
--- a check that no capability overrides lets the call go on only where its rule holds
+-- a check that no capability overrides passes only where its rule holds
 pub met_rule : (bad : Rec → Bool) (a : Subject) (c : Check) → cap_of c.name ≡ None → Passes bad a c → c.holds ≡ true
 met_rule bad a c unnamed passes =
     elim c.holds as (λ b. c.holds ≡ b → b ≡ true) [
@@ -153,12 +154,12 @@ pub record IsNamed (s : State) (id : Oid) : Type 0 where
   pub is : map.get s.objects id ≡ Some object
   pub no_pipe : object.kind ≡ kind.Pipe → ⊥
 
--- what any walk found is there
+-- what a walk finds is there
 abbrev pub FoundIn : State → List Name → Found → Type 0
 FoundIn s names (Start id) = IsNamed s id
 FoundIn s names (Entry dir name object) = IsDir s.objects dir × (object ≡ look s dir name) × (list_all is_name names ≡ true → is_name name ≡ true)
 
--- what a walk of the names after the first one found
+-- what a walk of the names after the first one finds
 found_after : (s : State) (name : Name) (names : List Name) (found : Found) → FoundIn s names found → FoundIn s (name ∷ names) found
 found_after s name names (Start id) f = f
 found_after s name names (Entry dir last object) f = (f.0, f.1, λ h. f.2 (and_parts (is_name name) (list_all is_name names) h).1)
@@ -177,7 +178,7 @@ dir_named s id dir = record { object = dir.object; is = dir.is; no_pipe = λ pip
 pub root_there : (s : State) → IsValid s → IsThere s.objects root
 root_there s valid = record { value = valid.root_is.object; is = valid.root_is.is }
 
--- and where a path starts
+-- the directory where a path starts is there
 start_there : (s : State) → IsValid s → (who : Pid) (p : Process) (path : PathValue) → map.get s.procs who ≡ Some p → IsThere s.objects (start_of p path)
 start_there s valid who p path is =
     let cwd = (valid.procs who p is).cwd in
@@ -209,7 +210,7 @@ module _ (bad : Rec → Bool) (s : State) (valid : IsValid s) (who : Pid) (p : P
   ends_to_object k h names (Start id) there = h id there
   ends_to_object k h names (Entry dir name object) f = ends_missing bad (subject who p) P none object k (λ id e. h id (led_named s valid dir name id (sym f.1 ∙ e)))
 
-  -- a walk to an object that is there
+  -- a walk to an object, which is there
   pub ends_reach : map.get s.procs who ≡ Some p → (place : ℕ → Place) (path : PathValue) (k : Oid → Row) → ((id : Oid) → IsNamed s id → Meets (k id)) → Meets (reach s p place path k)
   ends_reach is place path k h = ends_walk is place path _ (ends_to_object k h path.names)
 
@@ -223,12 +224,12 @@ module _ (l : Label) (s : State) where
   unfolding by_number
   get_low id h = get-select_kept oid_cmp_total oid_cmp_exact (low_oid l) same s.objects id h ∙ same_map _
 
-  -- at a Low label the part has the same last number
+  -- the last number drawn at a Low label is the same in the part
   pub drawn_low : (label : Label) → low l label ≡ true → drawn (by_number l s).object_numbers label ≡ drawn s.object_numbers label
   unfolding by_number
   drawn_low label h = get_or-same _ _ label 0 (get-select_kept label_cmp_total label_cmp_exact (low l) same s.object_numbers label h ∙ same_map _)
 
-  -- a Low number's process is the same in the part
+  -- the process of a Low number is the same in the part
   pub get_process : (q : Pid) → low l q.label ≡ true → map.get (by_number l s).procs q ≡ map.get s.procs q
   unfolding by_number
   get_process q h = get-select_kept pid_cmp_total pid_cmp_exact (low_pid l) same s.procs q h ∙ same_map _
@@ -252,16 +253,16 @@ module _ (l : Label) (s : State) where
   object_stub : low l s.top ≡ false → object_at (by_number l s) (stub s.top) ≡ stub_object s.top
   object_stub h = ap (λ t. get_or (by_number l s).objects (stub s.top) (stub_object t)) top_is ∙ get_or-absent _ _ _ (get_stub h)
 
-  -- an entry of a Low directory leads in the part to what is shown of where it leads
+  -- an entry of a Low directory leads in the part to what the part shows of its object
   pub look_low : (dir : Oid) (name : Name) → low l dir.label ≡ true → look (by_number l s) dir name ≡ option_map (shown l s.top) (look s dir name)
   unfolding by_number
   look_low dir name h = get-select_kept spot_cmp_total spot_cmp_exact (low_spot l) (shown l s.top) s.entries (dir, name) h
 
-  -- what is Low is shown as it is
+  -- a Low object is shown as it is
   pub shown_low : (id : Oid) → low l id.label ≡ true → shown l s.top id ≡ id
   shown_low id h = ap (λ b. cond b id (stub s.top)) h
 
--- an object that is not Low can't be read by a Low process
+-- an object that is not Low cannot be read by a Low process
 module _ (l : Label) (s : State) (kept : Kept l s) (who : Pid) (p : Process) (is_low : low l p.label ≡ true) (id : Oid) (there : IsThere s.objects id) (high : low l id.label ≡ false) where
   label_at : (object_at s id).label ≡ there.value.label
   label_at = ap (λ o. o.label) (get_or-found _ _ _ _ there.is)
@@ -276,7 +277,7 @@ module _ (l : Label) (s : State) (kept : Kept l s) (who : Pid) (p : Process) (is
   read_crosses place = crossed l (subject who p) (mac_read s p id place) cap.MacRead read_fails refl refl
       (ap (λ b. differ b (low l (object_at s id).label)) is_low ∙ ap (λ x. not (low l x)) label_at ∙ ap not hidden_label)
 
-  -- nor written
+  -- an object that is not Low cannot be written by a Low process
   pub write_fails : same_label p.label (object_at s id).label ≡ false
   write_fails = not_true _ (λ same.
       let side : true ≡ false = sym is_low ∙ same_side l p.label (object_at s id).label same ∙ ap (low l) label_at ∙ hidden_label in
@@ -289,7 +290,7 @@ module _ (l : Label) (s : State) (kept : Kept l s) (who : Pid) (p : Process) (is
   pub top_high : IsValid s → low l s.top ≡ false
   top_high valid = top_hidden l s.top there.value.label (valid.objects id there.value there.is).below hidden_label
 
--- what a Low process read is Low
+-- what passes the mac_read of a Low process is Low
 pub read_low : (l : Label) (s : State) → Kept l s → (who : Pid) (p : Process) → low l p.label ≡ true → (id : Oid) → IsThere s.objects id → (place : Place) → Passes (crosses l) (subject who p) (mac_read s p id place) → low l id.label ≡ true
 read_low l s kept who p is_low id there place passes =
     elim (low l id.label) as (λ b. low l id.label ≡ b → b ≡ true) [
@@ -297,7 +298,7 @@ read_low l s kept who p is_low id there place passes =
       | false ↦ λ high. absurd (read_crosses l s kept who p is_low id there high place passes)
     ] refl
 
--- what a process wrote is on its side
+-- what passes the mac_write of a process is on its side
 pub write_side : (l : Label) (s : State) → Kept l s → (who : Pid) (p : Process) (id : Oid) → IsThere s.objects id → (place : Place) → Passes (crosses l) (subject who p) (mac_write s p id place) → low l p.label ≡ low l id.label
 write_side l s kept who p id there place passes =
     let label : Label = (object_at s id).label in
@@ -312,7 +313,7 @@ module _ (l : Label) (s : State) (kept : Kept l s) (valid : IsValid s) (who : Pi
   abbrev Same : Row → Row → Type 0
   Same r r' = Alike (crosses l) l s.top (subject who p) r r'
 
-  -- what passed a Low caller's mac_read is Low, and reads the same in the part
+  -- the mac_read of a Low process ends in the part as in the state, and what passes it is Low
   pub alike_mac_read : (id : Oid) → IsThere s.objects id → (place : Place) (r : Row) (r' : Oid → Row) → (low l id.label ≡ true → Same r (r' id)) → Same (Need (mac_read s p id place) r) (Need (mac_read (by_number l s) p (shown l s.top id) place) (r' (shown l s.top id)))
   alike_mac_read id there place r r' rest =
       elim (low l id.label) as (λ b. low l id.label ≡ b → Same (Need (mac_read s p id place) r) (Need (mac_read (by_number l s) p (cond b id (stub s.top)) place) (r' (cond b id (stub s.top))))) [
@@ -326,7 +327,7 @@ module _ (l : Label) (s : State) (kept : Kept l s) (valid : IsValid s) (who : Pi
             (read_crosses l s kept who p is_low id there h place)
       ] refl
 
-  -- and so is what passed its mac_write
+  -- the mac_write of a Low process ends in the part as in the state, and what passes it is Low
   pub alike_mac_write : (id : Oid) → IsThere s.objects id → (place : Place) (r : Row) (r' : Oid → Row) → (low l id.label ≡ true → Same r (r' id)) → Same (Need (mac_write s p id place) r) (Need (mac_write (by_number l s) p (shown l s.top id) place) (r' (shown l s.top id)))
   alike_mac_write id there place r r' rest =
       elim (low l id.label) as (λ b. low l id.label ≡ b → Same (Need (mac_write s p id place) r) (Need (mac_write (by_number l s) p (cond b id (stub s.top)) place) (r' (cond b id (stub s.top))))) [
@@ -387,12 +388,12 @@ module _ (l : Label) (s : State) (kept : Kept l s) (valid : IsValid s) (who : Pi
   alike_to_object k k' h (Start id) there = h id there
   alike_to_object k k' h (Entry dir name object) seen = alike_missing (crosses l) l s.top (subject who p) object k k' (shown l s.top) (λ id e. h id (led_there s valid dir name id (sym seen.2 ∙ e)))
 
-  -- a walk to an object that is there
+  -- a walk to an object, in the state and in its part
   pub alike_reach : map.get s.procs who ≡ Some p → (place : ℕ → Place) (path : PathValue) (k k' : Oid → Row) → ((id : Oid) → IsThere s.objects id → Same (k id) (k' (shown l s.top id))) → Same (reach s p place path k) (reach (by_number l s) p place path k')
   alike_reach is place path k k' h = alike_walk is place path _ _ (alike_to_object k k' h)
 
 -- ---- what a descriptor refers to
--- a descriptor of a process that is open
+-- an open descriptor of a process
 pub record IsOpen (s : State) (p : Process) (fd : ℕ) (f : Opened) : Type 0 where
   pub fd_is : map.get p.fds fd ≡ Some f.did
   pub is : map.get s.descriptions f.did ≡ Some f.description
@@ -423,6 +424,6 @@ module _ (l : Label) (s : State) (kept : Kept l s) (who : Pid) (p : Process) (is
         | Some did ↦ λ at. ap (option_map (λ (d : Description). record { did = did; description = d })) (get_description l s did (fd_low did at))
       ] refl
 
-  -- and it is Low
+  -- a descriptor of a Low process refers to a Low object
   pub open_object_low : (f : Opened) → opened s p fd ≡ Some f → low l f.description.object.label ≡ true
   open_object_low f e = let held = is_open s p fd f e in kept.descriptions f.did f.description held.is (fd_low f.did held.fd_is)

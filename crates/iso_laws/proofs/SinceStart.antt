@@ -52,7 +52,7 @@ use Rattle.iso_laws.proofs.GoingOn.{EndGives, row_ends}
 use Rattle.iso_laws.proofs.StartLemmas.{ancestor-append}
 
 -- ---- over further records
--- what a process descends from has started by the time of further records too
+-- where the ancestor of a process before further records has started, the process has started by these too
 started_before : (seen rs : List Rec) (q : Pid) → HasStarted seen (ancestor rs q) → HasStarted (seen ++ rs) q
 started_before seen rs q h =
     let s : StartedWith seen (ancestor rs q) h.caps = h.started in
@@ -69,7 +69,7 @@ started_before seen rs q h =
       };
     }
 
--- each living process has started, and each that is permitted something by the records
+-- each living process has started, and so has each process to which the records permit something
 pub record AllStarted (s : State) (f : Pid → CapState) (seen : List Rec) : Type 0 where
   pub living : (q : Pid) → IsThere s.procs q → HasStarted seen q
   pub permitted : (q : Pid) (cap : Cap) → has (f q).p cap ≡ true → HasStarted seen q
@@ -88,7 +88,7 @@ denied_origin : (b : Bool) (who : Pid) (name : CallName) (check : CheckName) (pl
 denied_origin true who name check place q = refl
 denied_origin false who name check place q = refl
 
--- by a test whether two numbers are one
+-- what holds in both cases of a test holds
 by_test : (Q : Bool → Type 0) (b : Bool) → (b ≡ true → Q true) → (b ≡ false → Q false) → Q b
 by_test Q true f g = f refl
 by_test Q false f g = g refl
@@ -178,7 +178,7 @@ run_started (i ∷ is) s bound f seen same all q cap h =
     (ap (λ (x : CapState). has x.p cap) (sym (caps_after-append bound f recs later q)) ∙ h))
 
 -- ---- the start
--- objects that are made make no process
+-- the entries of an object make no process
 entries_procs : (s t : State) (dir : Oid) (names : List Name) (id : Oid) → (changed_by t (entry_for s dir names id)).procs ≡ t.procs
 entries_procs s t dir [] id = refl
 entries_procs s t dir (name ∷ []) id = refl

@@ -41,7 +41,7 @@ use Rattle.iso_laws.proofs.FitRows.{IsOwn, ReportsOwn, Fitting}
 use Rattle.iso_laws.proofs.GoingOn.{EndGives, row_ends}
 
 -- ---- no call leaves a record of a start
--- a record that is none of a start
+-- a record that is not of a start
 abbrev pub IsNoStart : Rec → Type 0
 IsNoStart (rec.Boot who label caps) = ⊥
 IsNoStart _ = ⊤
@@ -87,7 +87,7 @@ abbrev pub StartsOther : Pid → Rec → Type 0
 StartsOther who (rec.Boot q label caps) = q ≡ who → ⊥
 StartsOther who _ = ⊥
 
--- records after a start are starts of others
+-- the records after a start are starts of other processes
 abbrev pub OthersAfter : Rec → List Rec → Type 0
 OthersAfter (rec.Boot who label caps) rs = AllByRecursion (StartsOther who) rs
 OthersAfter _ rs = ⊥
@@ -154,7 +154,7 @@ among (b ∷ first) others (x ∷ before) who label caps after none e =
     let tail : first ++ others ≡ before ++ rec.Boot who label caps ∷ after = cc in
     among_cons b first others before x (rec.Boot who label caps) after head (among first others before who label caps after none tail)
 
--- after a start, starts are of others
+-- the starts after a start are of other processes
 pub after_start : (before : List Rec) (r : Rec) (rest : List Rec) → AreStarts (before ++ r ∷ rest) → OthersAfter r rest
 after_start [] r rest h = h.0
 after_start (b ∷ before) r rest h = after_start before r rest h.1
@@ -181,7 +181,7 @@ module _ (bound : CapSet) where
   other_leaves f who (rec.Boot q label caps) other = ap (λ b. cond b caps (f who)) (other_pid who q other)
   other_leaves f who r other = absurd other
 
-  -- starts of others say nothing of a process
+  -- starts of other processes leave the sets of a process
   others_leave : (f : Pid → CapState) (who : Pid) (rs : List Rec) → AllByRecursion (StartsOther who) rs → caps_after bound f rs who ≡ f who
   others_leave f who [] h = refl
   others_leave f who (r ∷ rs) h = others_leave (caps_after_one bound f r) who rs h.1 ∙ other_leaves f who r h.0

@@ -35,7 +35,7 @@ module _ (s : State) (who : Pid) (c : Call) where
   by_process P f g =
       elim (map.get s.procs who) as (λ o. map.get s.procs who ≡ o → P (step_by s who c o)) [ None ↦ f | Some p ↦ g p ] refl
 
-  -- what no change changes stays over a step
+  -- what no change alters stays the same over a step
   pub fixed_after : {X : Type 0} (of : State → X) → ((s : State) (c : Change) → of (changed s c) ≡ of s) → of (step s who c).state ≡ of s
   fixed_after of fixed = by_process (λ o. of o.state ≡ of s) (λ _. refl) (λ p _. fixed_by of fixed s (changes_of (judged_row p).end))
 
@@ -46,7 +46,7 @@ valid_step s who c laws args names valid = by_process s who c (λ o. IsValid o.s
     (λ p is. (row_meets never s valid who p is (Unit {0}) (λ cs. IsValid (changed_by s cs)) (valid_cases never s valid who p is) c (λ _. args) (λ _. names) laws).ends [] (none_never (judged_row s who c p).used))
 
 module _ (l : Label) (s : State) (who : Pid) (c : Call) (laws : has_laws c ≡ true) where
-  -- what a row's changes meet, where the step does not cross
+  -- the changes of a row satisfy a property, where the step crosses nothing
   met : (P : List Change → Type 0) → IsValid s → (p : Process) → map.get s.procs who ≡ Some p → Cases (crosses l) s who p ((is_call s.top c ≡ true) × (has_names c ≡ true)) P
       → crossing l (settled s who p (name_of c) (judged_row s who c p)).recs ≡ false → P (changes_of (judged_row s who c p).end)
   met P valid p is cases h =
@@ -84,7 +84,7 @@ module _ (l : Label) (s : State) (who : Pid) (c : Call) where
   unfolding by_number
   absent e = get-select pid_cmp_exact (where_key (low_pid l) (same {X = Process})) pid_cmp_total s.procs who ∙ ap (option_and_then (where_key (low_pid l) same who)) e
 
-  -- a step of a Low process in the part
+  -- a step of a Low process in the part is the part of the step in the state
   pub low_step : IsLowStep l s who c → step (part l s) who c ≡ part_outcome (step s who c)
   unfolding step
   low_step low_step_is =

@@ -92,7 +92,7 @@ record IsMade (top : Label) (numbers : FinMap label_cmp ℕ) (id : Oid) (x : Obj
   world : IsWorldObject top line
   number : IsDrawn id.n (drawn numbers id.label)
 
--- an object stands at its names
+-- an object of a world is at these names
 record Stands (names_of : Oid → List Name) (objects : FinMap oid_cmp Object) (names : List Name) (o : WorldObject) : Type 0 where
   id : Oid
   named : names_of id ≡ names
@@ -110,7 +110,7 @@ record IsEntered (objects : FinMap oid_cmp Object) (before : List WorldObject) (
   object_is : map.get objects id ≡ Some object
   order : dominates object.label dir.label ≡ true
 
--- a state in which these objects stand, and nothing else
+-- a state that has these objects of a world and nothing else
 record IsBuilt (top : Label) (before : List WorldObject) (s : State) : Type 0 where
   top_is : s.top ≡ top
   root_is : IsRoot s.objects
@@ -147,7 +147,7 @@ module _ (bound : CapSet) (top : Label) (o : WorldObject) (is_dir : o.body ≡ b
   root_is_first : map.get first_state.objects root ≡ Some (object_of o)
   root_is_first = subst (λ (id : Oid). map.get first_state.objects id ≡ Some (object_of o)) first_is_root (get-insert_same oid_cmp_total map.empty first_id (object_of o))
 
-  -- what holds of the first object holds of all
+  -- what holds of the first object holds of each object
   only_first : (P : Oid → Object → Type 0) → P first_id (object_of o) → (id : Oid) (x : Object) → map.get first_state.objects id ≡ Some x → P id x
   only_first P h = each-insert oid_cmp_total oid_cmp_exact P map.empty (λ id x e. absurd (never_some _ x (get-empty oid_cmp id) e)) first_id (object_of o) h
 
@@ -173,7 +173,7 @@ module _ (bound : CapSet) (top : Label) (o : WorldObject) (is_dir : o.body ≡ b
         no_description_numbers = refl;
       })
 
--- one object more
+-- one more object
 module _ (top : Label) (before : List WorldObject) (s : State) (built : IsBuilt top before s) (o : WorldObject) (placed : IsPlaced before o) (world : IsWorldObject top o) where
   abbrev new : Oid
   new = next_object s o.label
@@ -188,7 +188,7 @@ module _ (top : Label) (before : List WorldObject) (s : State) (built : IsBuilt 
   abbrev next_objects : FinMap oid_cmp Object
   next_objects = (with_object s o).objects
 
-  -- what is there stays there, with another number than the new one
+  -- an object that is there stays there
   stays : (id : Oid) (x : Object) → map.get s.objects id ≡ Some x → map.get next_objects id ≡ Some x
   stays = get-insert_kept oid_cmp_total oid_cmp_exact s.objects new (object_of o) absent
 
@@ -200,7 +200,7 @@ module _ (top : Label) (before : List WorldObject) (s : State) (built : IsBuilt 
       (λ id x e. let made = built.made id x e in record { line = made.line; is = made.is; world = made.world; number = still_drawn s.object_numbers o.label id.label id.n made.number })
       new (object_of o) (record { line = o; is = refl; world = world; number = next_drawn s.object_numbers o.label })
 
-  -- the names with which it was given lead to it alone
+  -- the names with which each object was given, also the new one
   abbrev names_now : Oid → List Name
   names_now id = cond (eq_by_cmp oid_cmp id new) o.path.names (built.names_of id)
 
@@ -218,7 +218,7 @@ module _ (top : Label) (before : List WorldObject) (s : State) (built : IsBuilt 
   last_given e = never_some _ o e
       (given-append before (o ∷ []) o.path.names ∙ ap (λ w. option_or w (given (o ∷ []) o.path.names)) placed.new ∙ ap (λ b. cond b (Some o) None) (names_itself o.path.names))
 
-  -- its entry stands in the directory that was given for it, where none was
+  -- its entry is in the directory that was given for it, at a name that was free
   module _ (dir : Stands built.names_of s.objects (parent_names o.path.names) placed.parent) (end : IsEnd o.path.names) where
     abbrev spot : Spot
     spot = (dir.id, end.name)
@@ -325,7 +325,7 @@ built_objects top (o ∷ os) before s built placed worlds =
     subst (λ all. IsBuilt top all (boot_objects (boot_object s o) os)) (append_assoc before (o ∷ []) os)
     (built_objects top os (before ++ o ∷ []) (boot_object s o) (built_object top before s built o placed.0 worlds.0) placed.1 worlds.1)
 
--- the objects of a world stand as they were given
+-- after the objects of a world were made, the state has these objects and nothing else
 built_furnished : (w : World) → IsWorld w → IsBuilt w.top w.objects (furnished w)
 built_furnished w is =
     subst (λ os. AllByRecursion (IsWorldObject w.top) os → IsBuilt w.top os (boot_objects (nothing w.bound w.top) os)) (sym is.objects_are)
@@ -340,7 +340,7 @@ record IsStarted (top : Label) (numbers : FinMap label_cmp ℕ) (who : Pid) (p :
   world : IsWorldProc top line
   number : IsDrawn who.n (drawn numbers who.label)
 
--- processes of a world alone
+-- processes of a world alone, with no more numbers drawn than there are processes at each label
 record IsStaffed (top : Label) (before : List WorldProc) (procs : FinMap pid_cmp Process) (numbers : FinMap label_cmp ℕ) : Type 0 where
   started : (who : Pid) (p : Process) → map.get procs who ≡ Some p → IsStarted top numbers who p
   below : (l : Label) → 1 ≤ drawn numbers l → dominates top l ≡ true
@@ -371,7 +371,7 @@ staffed_processes top (w ∷ ws) before s worlds staffed =
     subst (λ all. IsStaffed top all t.procs t.process_numbers) (append_assoc before (w ∷ []) ws)
     (staffed_processes top ws (before ++ w ∷ []) (boot_process s w) worlds.1 (staffed_process top before s w worlds.0 staffed))
 
--- processes change nothing else
+-- a state with other processes and other numbers drawn of processes
 abbrev with_procs : State → FinMap pid_cmp Process → FinMap label_cmp ℕ → State
 with_procs s procs numbers = record s { procs = procs; process_numbers = numbers }
 

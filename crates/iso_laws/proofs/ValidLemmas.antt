@@ -45,7 +45,7 @@ module _ (numbers : FinMap label_cmp ℕ) (label : Label) where
       let more : drawn numbers l ≤ drawn drawn_next l = each_next (λ q x. drawn numbers q ≤ x) (omega arith) (λ q. omega arith) l in
       (h.0, omega (arith, h.1, more))
 
-  -- and the next one is
+  -- the next number is drawn now
   pub next_drawn : IsDrawn (drawn numbers label + 1) (drawn drawn_next label)
   next_drawn =
       let now : drawn drawn_next label ≡ drawn numbers label + 1 = get_or-found _ label 0 _ (get-insert_same label_cmp_total numbers label _) in

@@ -19,17 +19,17 @@ use Rattle.iso_laws.proofs.DrawingLemmas.{LeadsTo, Anything}
 use Rattle.iso_laws.proofs.Rows.{Gives, gives_open}
 use Rattle.iso_laws.proofs.Sight.{is_open}
 
--- a walk found one of these objects, or an entry that leads to one if it leads anywhere
+-- a walk found an object of a set, or an entry that leads to one if it leads anywhere
 abbrev pub AreThere : (Oid → Type 0) → Found → Type 0
 AreThere There (Start id) = There id
 AreThere There (Entry dir name object) = (id : Oid) → object ≡ Some id → There id
 
--- any object will do
+-- what a walk found is in the set of all objects
 pub there_anywhere : (found : Found) → AreThere Anything found
 there_anywhere (Start id) = tt
 there_anywhere (Entry dir name object) = λ id e. tt
 
--- what a descriptor refers to is there
+-- a descriptor refers to an object of a set
 pub record RefersThere (There : Oid → Type 0) (s : State) (f : Opened) : Type 0 where
   pub description : IsThere s.descriptions f.did
   pub object : There f.description.object
@@ -56,7 +56,7 @@ module _ (P : List Change → Option Rec → Type 0) where
   gives_entry_of_object There (Start id) k there h = refl
   gives_entry_of_object There (Entry dir name object) k there h = gives_missing object _ (λ id e. h dir name id (there id e))
 
--- in a state in which what leads to an object leads to one of these
+-- a state whose entries, current directories and descriptions lead to objects of a set
 module _ (There : Oid → Type 0) (s : State) (leads : LeadsTo There s) (who : Pid) (p : Process) (is : map.get s.procs who ≡ Some p) (P : List Change → Option Rec → Type 0) where
   gives_walk_from : (place : ℕ → Place) (at : ℕ) (dir : Oid) (names : List Name) (k : Found → Row) → There dir → ((found : Found) → AreThere There found → Gives P (k found)) → Gives P (walk_from s p place at dir names k)
   gives_walk_from place at dir [] k there h = h (Start dir) there

@@ -25,7 +25,7 @@ isolated_prefix l w items m is args laws = prefix_alone l items m (boot w) laws 
 pub isolated_whole : IsolatedWhole
 isolated_whole l w items is args laws none = whole_alone l items (boot w) laws (on_first w items args) (valid_boot w is) (kept_boot l w) none
 
--- equal parts answer the same
+-- worlds and scripts with equal parts have the same answers alone
 same_alone : (l : Label) (w v : World) (is js : List ScriptItem) → part l (boot w) ≡ part l (boot v) → part_script l is ≡ part_script l js → alone l w is ≡ alone l v js
 same_alone l w v is js same same_script = λ i. all_answers (run (same i) (same_script i))
 

@@ -1,4 +1,4 @@
--- A row and its list of items stop alike.
+-- A row and its list of items have the same exercises and the same stop.
 use Rattle.std.specs.Prelude.{◌≡◌, Bool, true, false, List, Some, refl, cond}
 use Rattle.std.proofs.Common.{sym, ◌∙◌, ap}
 use Rattle.kern_model.specs.declared.checks.Check.{Check}

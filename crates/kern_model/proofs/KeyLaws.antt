@@ -1,4 +1,4 @@
--- The orders of keys are total, and exact: keys that compare equal are one.
+-- The orders of keys are total, and exact: keys that compare equal are equal.
 use Rattle.std.specs.Prelude.{ℕ, List}
 use Rattle.std.specs.Ordering.{nat_cmp}
 use Rattle.std.specs.Cmp.{IsTotalOrder, nat_cmp_total}

@@ -1,4 +1,4 @@
--- What `select` and `get_or` answer, and how an entry that is set or goes meets them.
+-- Look-ups in maps and their selections, and how both change where an entry is inserted or removed.
 use Rattle.std.specs.Prelude.{◌≡◌, ℕ, ◌+◌, ◌≤◌, Bool, true, false, List, [], ◌∷◌, Option, Some, None, refl, cond, count_by, ◌&&◌}
 use Rattle.std.specs.declared.cmp.Ordering.{Ordering}
 use Rattle.std.specs.declared.cmp.Ordering.TheVariants.{Less, Equal, Greater}
@@ -32,7 +32,7 @@ module _ {K X : Type 0} (R : K → K → Ordering) where
         | Greater ↦ λ h. absurd h
       ] h
 
--- at the key itself
+-- keys that compare equal are equal
 pub same_key : {K : Type 0} {R : K → K → Ordering} → IsAntisymmetric R → (q k : K) → eq_by_cmp R q k ≡ true → q ≡ k
 same_key {R = R} exact q k =
     elim (R q k) as (λ r. R q k ≡ r → is_eq r ≡ true → q ≡ k) [
@@ -66,14 +66,14 @@ module _ {K X Y : Type 0} {R : K → K → Ordering} (exact : IsAntisymmetric R)
   unfolding select
   get-select o m q = get-from_entries o (selected f (map.entries m)) q ∙ find-selected q (map.entries m) (entries_sorted m) ∙ ap (option_and_then (f q)) (sym (get-entries m q))
 
--- a selection by the key alone, which keeps a key or not and changes what is there
+-- a selection by the key alone, which keeps an entry or not and maps its value
 module _ {K X Y : Type 0} {R : K → K → Ordering} (o : IsTotalOrder R) (exact : IsAntisymmetric R) (keep : K → Bool) (g : X → Y) where
   kept : (b : Bool) (w : Option X) → b ≡ true → option_and_then (λ x. cond b (Some (g x)) None) w ≡ option_map g w
   kept false w e = cc
   kept true None e = refl
   kept true (Some x) e = refl
 
-  -- what it has at a key that is kept
+  -- what the selection has at a key that it keeps
   pub get-select_kept : (m : FinMap R X) (k : K) → keep k ≡ true → map.get (select (where_key keep g) m) k ≡ option_map g (map.get m k)
   get-select_kept m k h = get-select exact (where_key keep g) o m k ∙ kept (keep k) (map.get m k) h
 
@@ -122,11 +122,12 @@ module _ {K X Y : Type 0} {R : K → K → Ordering} (o : IsTotalOrder R) (exact
       ∙ ap (λ w. cond (eq_by_cmp R q k) None w) (sym (get-select exact (where_key keep g) o m q))
       ∙ sym (get-remove o (select (where_key keep g) m) k q))
 
--- a look-up with a default
+-- a look-up with a default finds the value at the key
 pub get_or-found : {K X : Type 0} {R : K → K → Ordering} (m : FinMap R X) (k : K) (d x : X) → map.get m k ≡ Some x → get_or m k d ≡ x
 unfolding get_or
 get_or-found {X = X} m k d x e = ap (λ (o : Option X). elim o [ None ↦ d | Some y ↦ y ]) e
 
+-- a look-up with a default gives the default where nothing is at the key
 pub get_or-absent : {K X : Type 0} {R : K → K → Ordering} (m : FinMap R X) (k : K) (d : X) → map.get m k ≡ None → get_or m k d ≡ d
 unfolding get_or
 get_or-absent {X = X} m k d e = ap (λ (o : Option X). elim o [ None ↦ d | Some y ↦ y ]) e
@@ -139,23 +140,24 @@ agree : {K X Y : Type 0} (f g : K → X → Option Y) (k : K) (o : Option X) →
 agree f g k None h = refl
 agree f g k (Some x) h = h x refl
 
--- two selections that agree at what is there
+-- selections that agree at each entry of a map are equal
 pub select_agree : {K X Y : Type 0} {R : K → K → Ordering} → IsTotalOrder R → IsAntisymmetric R → (f g : K → X → Option Y) (m : FinMap R X) → ((k : K) (x : X) → map.get m k ≡ Some x → f k x ≡ g k x) → select f m ≡ select g m
 select_agree o exact f g m h = same_map o exact _ _ (λ q. get-select exact f o m q ∙ agree f g q (map.get m q) (h q) ∙ sym (get-select exact g o m q))
 
+-- `Some` is injective
 pub some_same : {X : Type 0} (x y : X) → Some x ≡ Some y → x ≡ y
 some_same x y e = cc
 
 pub never_some : {X : Type 0} (w : Option X) (x : X) → w ≡ None → w ≡ Some x → ⊥
 never_some w x none some = let no : None ≡ Some x = sym none ∙ some in cc
 
--- what an insertion puts at a key is there
+-- an insertion puts its value at the key
 pub get-insert_same : {K X : Type 0} {R : K → K → Ordering} → IsTotalOrder R → (m : FinMap R X) (k : K) (x : X) → map.get (map.insert m k x) k ≡ Some x
 get-insert_same o m k x = get-insert o m k x k ∙ ap (λ r. cond (is_eq r) (Some x) (map.get m k)) (tied_itself o k)
 
--- an insertion where nothing was
+-- an insertion at a key where nothing was
 module _ {K X : Type 0} {R : K → K → Ordering} (o : IsTotalOrder R) (exact : IsAntisymmetric R) (m : FinMap R X) (k : K) (x : X) (absent : map.get m k ≡ None) where
-  -- what is there has another key
+  -- each entry that was there has another key
   pub other_key : (q : K) (y : X) → map.get m q ≡ Some y → eq_by_cmp R q k ≡ false
   other_key q y e =
       elim (eq_by_cmp R q k) as (λ b. eq_by_cmp R q k ≡ b → b ≡ false) [
@@ -163,11 +165,11 @@ module _ {K X : Type 0} {R : K → K → Ordering} (o : IsTotalOrder R) (exact :
         | false ↦ λ _. refl
       ] refl
 
-  -- and stays
+  -- each entry that was there stays
   pub get-insert_kept : (q : K) (y : X) → map.get m q ≡ Some y → map.get (map.insert m k x) q ≡ Some y
   get-insert_kept q y e = get-insert o m k x q ∙ ap (λ b. cond b (Some x) (map.get m q)) (other_key q y e) ∙ e
 
-  -- and may be removed again
+  -- a removal undoes the insertion
   pub remove-insert : map.remove (map.insert m k x) k ≡ m
   remove-insert = same_map o exact _ _ (λ q. get-remove o (map.insert m k x) k q ∙ ap (cond (eq_by_cmp R q k) None) (get-insert o m k x q)
       ∙ elim (eq_by_cmp R q k) as (λ b. eq_by_cmp R q k ≡ b → cond b None (cond b (Some x) (map.get m q)) ≡ map.get m q) [
@@ -175,7 +177,7 @@ module _ {K X : Type 0} {R : K → K → Ordering} (o : IsTotalOrder R) (exact :
         | false ↦ λ _. refl
       ] refl)
 
--- what holds of each entry, after a change
+-- what holds of each entry of a map, after a change of the map
 module _ {K X : Type 0} {R : K → K → Ordering} (o : IsTotalOrder R) (exact : IsAntisymmetric R) (P : K → X → Type 0) (m : FinMap R X) (each : (k : K) (x : X) → map.get m k ≡ Some x → P k x) where
   pub each-insert : (k : K) (x : X) → P k x → (q : K) (y : X) → map.get (map.insert m k x) q ≡ Some y → P q y
   each-insert k x new q y e =
@@ -202,7 +204,7 @@ module _ {K X : Type 0} {R : K → K → Ordering} (o : IsTotalOrder R) (exact :
         ] refl)),
   )
 
-  -- each entry in the list of them is one that the map has
+  -- it holds of each entry in the map's list of entries
   pub each-entries : AllByRecursion (λ (e : K × X). P e.0 e.1) (map.entries m)
   each-entries = each_listed (map.entries m) (entries_sorted m) (λ q y f. each q y (get-entries m q ∙ f))
 
@@ -214,7 +216,7 @@ module _ {K X : Type 0} {R : K → K → Ordering} (o : IsTotalOrder R) (exact :
   passing-cons : (e : K × X) (es : List (K × X)) (b : Bool) → p e.0 e.1 ≡ b → passing (e ∷ es) ≡ cond b 1 0 + passing es
   passing-cons e es b t = sum_by-cons (λ (e : K × X). cond (p e.0 e.1) 1 0) e es ∙ ap (λ b. cond b 1 0 + passing es) t
 
-  -- the first entry is found, and so is each after it
+  -- the first entry of a list is found by its key
   found_first : (e : K × X) (es : List (K × X)) → find R e.0 (e ∷ es) ≡ Some e.1
   found_first e es = ap (λ r. cond (is_eq r) (Some e.1) (find R e.0 es)) (tied_itself o e.0)
 
@@ -255,7 +257,7 @@ module _ {K X : Type 0} {R : K → K → Ordering} (o : IsTotalOrder R) (exact :
             omega (arith, step, few)
       ] refl
 
-  -- where one key alone passes, there is at most one entry
+  -- where all entries that pass have one key, there is at most one
   pub count_entries-one : (m : FinMap R X) → ((a b : K) (x y : X) → map.get m a ≡ Some x → map.get m b ≡ Some y → p a x ≡ true → p b y ≡ true → a ≡ b) → count_entries p m ≤ 1
   unfolding count_entries
   count_entries-one m alone = one_passing (map.entries m) (entries_sorted m) (λ a b x y f g. alone a b x y (get-entries m a ∙ f) (get-entries m b ∙ g))

@@ -9,7 +9,7 @@ use Rattle.kern_model.specs.declared.records.Rec.{Rec}
 use Rattle.kern_model.specs.State.{Change}
 use Rattle.kern_model.specs.Row.{Row, Need, Fail, Commit, Subject, Stopped, Refused, Done, check_outcome, judge, verdict_of, is_denied, noted}
 
--- a check stops the row
+-- a denied check stops the row
 pub judge-stop : (a : Subject) (used : List Rec) (c : Check) (v : Verdict) (r : Row) → v ≡ verdict_of a c → is_denied v ≡ true → judge a used (Need c r) ≡ check_outcome used (Stopped c.name c.place)
 unfolding judge
 judge-stop a used c v r e stop =
@@ -21,7 +21,7 @@ pub judge-fail : (a : Subject) (used : List Rec) (e : Errno) → judge a used (F
 unfolding judge
 judge-fail a used e = refl
 
--- what is done ends the row
+-- a commit ends the row
 pub judge-give : (a : Subject) (used : List Rec) (changes : List Change) (answer : Answer) (own : Option Rec) → judge a used (Commit changes answer own) ≡ check_outcome used (Done changes answer own)
 unfolding judge
 judge-give a used changes answer own = refl

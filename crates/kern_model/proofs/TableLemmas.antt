@@ -22,19 +22,19 @@ module _ {K X : Type 0} {R : K → K → Ordering} (o : IsTotalOrder R) where
   pub get_at : (es : List (K × X)) (q : K) → get (from_entries {R = R} es) q ≡ lookup (is_at (R q)) es
   get_at es q = get-from_entries o es q ∙ find_at es q
 
-  -- entries that differ at one key alone make the map with that entry
+  -- a list of entries that differs from another at one key, by a value there, makes the map with that entry inserted
   pub one_set : IsAntisymmetric R → (es fs : List (K × X)) (k : K) (x : X) → ((q : K) → lookup (is_at (R q)) fs ≡ cond (is_at (R k) q) (Some x) (lookup (is_at (R q)) es)) → from_entries {R = R} fs ≡ insert (from_entries es) k x
   one_set exact es fs k x h = same_map o exact _ _ (λ q.
       get_at fs q ∙ h q ∙ ap (λ b. cond b (Some x) (lookup (is_at (R q)) es)) ((eq_by_cmp_equiv o).symm k q)
       ∙ sym (get-insert o (from_entries es) k x q ∙ ap (cond (is_at (R q) k) (Some x)) (get_at es q)))
 
-  -- entries that differ at one key alone, where there is none, make the map without it
+  -- a list of entries that differs from another at one key, by having none there, makes the map with that key removed
   pub one_removed : IsAntisymmetric R → (es fs : List (K × X)) (k : K) → ((q : K) → lookup (is_at (R q)) fs ≡ cond (is_at (R k) q) None (lookup (is_at (R q)) es)) → from_entries {R = R} fs ≡ remove (from_entries es) k
   one_removed exact es fs k h = same_map o exact _ _ (λ q.
       get_at fs q ∙ h q ∙ ap (λ b. cond b None (lookup (is_at (R q)) es)) ((eq_by_cmp_equiv o).symm k q)
       ∙ sym (get-remove o (from_entries es) k q ∙ ap (cond (is_at (R q) k) None) (get_at es q)))
 
--- ---- entries whose keys rise
+-- ---- entries sorted by their keys
 both : (a b : Bool) → T a → T b → T (a && b)
 both true b p q = q
 both false b p q = p
@@ -49,7 +49,7 @@ in_order R [] h = tt
 in_order R (e ∷ es) h = both _ _ (below R e.0 es h.0) (in_order R es h.1)
 
 module _ {K X : Type 0} {R : K → K → Ordering} (o : IsTotalOrder R) (exact : IsAntisymmetric R) where
-  -- they are those of the map that they make
+  -- sorted entries are those of the map that they make
   pub entries_view : (es : List (K × X)) → IsStrictlySortedBy R (keys_of es) → entries (from_entries {R = R} es) ≡ es
   entries_view es h =
       let sorted = in_order R es h in
@@ -75,7 +75,7 @@ module _ {K X : Type 0} {R : K → K → Ordering} (o : IsTotalOrder R) where
   there_at P d x q k true old same h g = subst (λ z. P z x) (sym (same refl)) h
   there_at P d x q k false old same h g = g
 
-  -- what holds of a key and its new value, and held of each key and its value, holds of each
+  -- what holds of the new value at a key, and held of the value at each key before, holds of each after the insertion
   pub each_set_at : IsAntisymmetric R → (P : K → X → Type 0) (d : X) (m : FinMap R X) (k : K) (x : X) → P k x → ((q : K) → P q (get_or m q d)) → (q : K) → P q (get_or (insert m k x) q d)
   each_set_at exact P d m k x h g q =
       subst (P q) (sym (is_default (insert m k x) q d)) (subst (λ v. P q (or_default d v)) (sym (get-insert o m k x q))

@@ -26,6 +26,7 @@ parents_of : (name : Name) (names : List Name) → parent_names (name ∷ names)
 parents_of name [] = refl
 parents_of name (next ∷ names) = ap (λ ns. name ∷ ns) (parents_of next names)
 
+-- the names of the parent are all but the last
 pub parents_are_taken : (names : List Name) → 1 ≤ length names → parent_names names ≡ take (length names - 1) names
 parents_are_taken [] some = absurd (omega arith)
 parents_are_taken (name ∷ names) some =
@@ -37,6 +38,7 @@ pub none_there : {X Y : Type 0} (f : X → Y) (w : Option X) → false ≡ is_so
 none_there f None e = refl
 none_there f (Some x) e = absurd (cc)
 
+-- a test of the parent decides whether an object may come after others
 pub Decides-placed : (before : List WorldObject) (o parent : WorldObject) (b : Bool) → given before o.path.names ≡ None → given before (parent_names o.path.names) ≡ Some parent
     → Decides b ((parent.body ≡ body.Dir) × (dominates o.label parent.label ≡ true)) → Decides b (IsPlaced before o)
 Decides-placed before o parent b new is test = (
@@ -77,18 +79,21 @@ module _ {X : Type 0} (label : X → Label) (most : ℕ) where
   Decides-few xs = (few_at_all xs, λ h. few_at_each (count_at xs) h xs)
 
 -- ---- the world
+-- no label has more objects than MAX_OBJECTS
 abbrev pub objects_numbered : List WorldObject → Bool
 objects_numbered os = list_all (λ (o : WorldObject). nat_le (objects_at o.label os) MAX_OBJECTS) os
 
+-- no label has more processes than MAX_PROCS
 abbrev pub procs_numbered : List WorldProc → Bool
 procs_numbered ps = list_all (λ (p : WorldProc). nat_le (procs_at p.label ps) MAX_PROCS) ps
 
+-- the tests of the counts decide whether a world has room
 pub Decides-room : (w : World) (a b : Bool) → a ≡ objects_numbered w.objects → b ≡ procs_numbered w.procs → Decides (a && b) (HasRoom w)
 Decides-room w a b p q =
     Decides-like _ (λ h. record { objects = h.0; procs = h.1 }) (λ h. (h.objects, h.procs))
     (Decides-and a b (Decides-at a _ p (Decides-few (λ (o : WorldObject). o.label) MAX_OBJECTS w.objects)) (Decides-at b _ q (Decides-few (λ (x : WorldProc). x.label) MAX_PROCS w.procs)))
 
--- what has to hold of the parts of a world of which an object is the first
+-- what has to hold of a world whose first object is `first`, part by part
 pub record Parts (w : World) (first : WorldObject) : Type 0 where
   pub no_names : first.path.names ≡ []
   pub root_body : first.body ≡ body.Dir

@@ -1,4 +1,4 @@
--- Which categories are in a set that was built.
+-- Which categories the empty set and a set of one category have.
 use Rattle.std.specs.Prelude.{◌≡◌, ℕ, ◌||◌, ◌==◌, false}
 use Rattle.std.specs.FinSet as set
 use Rattle.std.specs.Ordering.{nat_cmp}

@@ -1,4 +1,4 @@
--- The laws of labels that crates above may use.
+-- The laws of labels that the crates above use.
 use Rattle.std.specs.Prelude.{◌≡◌, ℕ, true}
 use Rattle.std.specs.Cmp.{IsTotalOrder, nat_cmp_total}
 use Rattle.std.specs.FinMap.{IsAntisymmetric, nat_cmp-IsAntisymmetric}
@@ -12,7 +12,7 @@ use Rattle.lab_lattice.specs.Laws.{level_reflexive, level_transitive, level_anti
 use Rattle.lab_lattice.proofs.CatSets.{has-no_cats}
 use Rattle.lab_lattice.proofs.Pairs.{pair_cmp_exact}
 
--- ---- dominance
+-- ---- dominance: reflexive, transitive and antisymmetric
 
 pub dominates_itself : (x : Label) → dominates x x ≡ true
 dominates_itself = pair_reflexive level_covers cats_cover level_reflexive cats_reflexive
@@ -26,6 +26,7 @@ dominates_both = pair_antisymmetric level_covers cats_cover level_antisymmetric 
 lowest_level : (n : ℕ) → level_covers n 0 ≡ true
 lowest_level n = grind (arith, nat_tests)
 
+-- `bottom` is the lowest label
 pub dominates_bottom : (x : Label) → dominates x bottom ≡ true
 unfolding bottom
 dominates_bottom x = pair_parts level_covers cats_cover x bottom (lowest_level x.first) (has-cover x.second no_cats (λ q h. absurd (true≢false (sym h ∙ has-no_cats q))))

@@ -1,4 +1,4 @@
--- What pairs have from their parts.
+-- Coverage and order of pairs, from coverage and order of their parts.
 use Rattle.std.specs.Prelude.{◌≡◌, Bool, true, false, ◌&&◌, refl}
 use Rattle.std.specs.declared.cmp.Ordering.{Ordering}
 use Rattle.std.specs.declared.cmp.Ordering.TheVariants.{Equal}
@@ -23,7 +23,7 @@ regroup true false true d = refl
 regroup true false false d = refl
 regroup false b c d = refl
 
--- a pair covers another both ways where each of its parts does
+-- two pairs cover each other exactly where both of their parts do
 pub pair_covers_both : {A B : Type 0} (f : A → A → Bool) (g : B → B → Bool) (x y : Pair A B) → ((f x.first y.first && f y.first x.first) && (g x.second y.second && g y.second x.second)) ≡ (pair_covers f g x y && pair_covers f g y x)
 pair_covers_both f g x y =
     regroup (f x.first y.first) (f y.first x.first) (g x.second y.second) (g y.second x.second)

@@ -40,7 +40,7 @@ pub word_meet : (a b : ℕ) → a < 2 ^ 64 → b < 2 ^ 64 → cats_of_word (bit_
 word_meet a b h k = cats_by_bits (bit_and a b) _ (omega (arith, and_le_l a b)) (λ q.
     in-and a b q ∙ sym (has-cats_meet _ _ q ∙ (λ i. has-short_word a q h i && has-short_word b q k i)))
 
--- of two sets of which the first covers the second, the second is what both have
+-- the meet of a set with one that it covers is the one that it covers
 met : (x y : CatSet) → cats_cover x y ≡ true → cats_meet x y ≡ y
 met x y e = cats_antisymmetric _ y (cats_meet_greatest x y y e (cats_reflexive y)) (cats_meet_second x y)
 
@@ -56,6 +56,7 @@ word_same a b h k = same_from_decides (nat_eq a b) (same_sets (cats_of_word a) (
     (λ e. ap cats_of_word ((Decides-eqb a b).0 e), λ e. (Decides-eqb a b).1 (sym (word_back a h) ∙ ap word_of_cats e ∙ word_back b k))
     (same_sets-decides _ _)
 
+-- sets are ordered as the numbers that denote them
 pub word_cmp : (a b : ℕ) → a < 2 ^ 64 → b < 2 ^ 64 → nat_cmp a b ≡ cats_cmp (cats_of_word a) (cats_of_word b)
 unfolding cats_cmp
 word_cmp a b h k = sym (λ i. nat_cmp (word_back a h i) (word_back b k i))
@@ -63,6 +64,7 @@ word_cmp a b h k = sym (λ i. nat_cmp (word_back a h i) (word_back b k i))
 pub word_has : (word i : ℕ) → word < 2 ^ 64 → nat_eq (bit_and (word / 2 ^ i) 1) 1 ≡ has_cat (cats_of_word word) i
 word_has word i h = ap (λ x. x == 1) (shr_and_one word i) ∙ sym (has-short_word word i h)
 
+-- no set has a category from 64 on
 pub word_lacks : (word i : ℕ) → 64 ≤ i → nat_lt i 64 ≡ has_cat (cats_of_word word) i
 word_lacks word i h =
     let no : nat_lt i 64 ≡ false = grind (arith, nat_tests) in

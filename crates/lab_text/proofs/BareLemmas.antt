@@ -1,4 +1,4 @@
--- Names and labels stand bare in a line.
+-- Names and labels can be written as bare words of a line.
 use Rattle.std.specs.Prelude.{◌≡◌, ℕ, ◌&&◌, nat_le, nat_lt, true, List, [], ◌∷◌, ◌++◌, length, refl}
 use Rattle.std.proofs.Common.{ap, ◌∙◌, arith}
 use Rattle.std.specs.List.{list_all}
@@ -15,18 +15,18 @@ use Rattle.lab_text.proofs.Parsed.{text_names}
 
 -- ---- words
 
--- the bytes of a word that stands bare
+-- each byte of a bare word may be in one
 pub all_bare : (w : List ℕ) → is_bare_text w ≡ true → list_all is_bare w ≡ true
 all_bare w bare = (and_parts (nat_lt 0 (length w)) (list_all is_bare w) bare).1
 
--- a word that stands bare, and bytes after it
+-- a bare word with further bytes that bare words may have is a bare word
 pub bare_with : (a b : List ℕ) → is_bare_text a ≡ true → list_all is_bare b ≡ true → is_bare_text (a ++ b) ≡ true
 bare_with a b first second =
     let some = ltb-true 0 (length a) (and_parts (nat_lt 0 (length a)) (list_all is_bare a) first).0 in
     let size = length-append a b in
     and_from (nat_lt 0 (length (a ++ b))) _ (lt-ltb 0 (length (a ++ b)) (omega arith)) (list_all-append is_bare a b ∙ and_from _ _ (all_bare a first) second)
 
--- a byte, and bytes after it
+-- a byte and further bytes that bare words may have are a bare word
 pub bare_begins : (b : ℕ) (w : List ℕ) → is_bare b ≡ true → list_all is_bare w ≡ true → is_bare_text (b ∷ w) ≡ true
 bare_begins b w first rest = and_from (nat_lt 0 (length (b ∷ w))) _ (lt-ltb 0 (length (b ∷ w)) (omega arith)) (and_from (is_bare b) (list_all is_bare w) first rest)
 
@@ -42,7 +42,7 @@ parts_bare : (n : List ℕ) → list_all is_name_part n ≡ true → list_all is
 parts_bare [] h = refl
 parts_bare (b ∷ bs) h = let parts = and_parts (is_name_part b) (list_all is_name_part bs) h in and_from (is_bare b) (list_all is_bare bs) (part_bare b parts.0) (parts_bare bs parts.1)
 
--- the name of a level or a category stands bare
+-- the name of a level or of a category is a bare word
 pub label_name_bare : (n : List ℕ) → is_label_name n ≡ true → is_bare_text n ≡ true
 label_name_bare [] h = absurd (cc)
 label_name_bare (b ∷ bs) h =
@@ -55,7 +55,7 @@ marked_bare mark (n ∷ ns) bare h =
     let parts = and_parts (is_label_name n) (list_all is_label_name ns) h in
     and_from (is_bare mark) (list_all is_bare (n ++ past_mark 44 ns)) bare (list_all-append is_bare n (past_mark 44 ns) ∙ and_from _ _ (all_bare n (label_name_bare n parts.0)) (marked_bare 44 ns refl parts.1))
 
--- the text of a valid label stands bare
+-- the text of a valid label is a bare word
 pub label_bare : (p : PolicyNames) (label : Label) → MakePolicy p → is_valid p label ≡ true → is_bare_text (label_text p label) ≡ true
 label_bare p label h valid =
     let names = text_names p label h valid in

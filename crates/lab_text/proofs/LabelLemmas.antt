@@ -1,4 +1,4 @@
--- What a text denotes once it is split at its colon, and how a label's text grows.
+-- What a text denotes that is split at its colon, and how a label's text grows.
 use Rattle.std.proofs.Common.{◌≡◌, ℕ, ◌+◌, ◌≤◌, Bool, true, false, cond, List, ◌++◌, length, drop, Option, Some, None, refl, ap, sym, ◌∙◌}
 use Rattle.std.specs.Prelude.{option_and_then}
 use Rattle.std.specs.FinSet as set
@@ -30,7 +30,7 @@ parts_split t = by_colon (list_any is_colon t) refl
     by_colon true h = refl
     by_colon false h = ap (λ l. words_read l None) (sym (take_all (position_or_len is_colon t) t (ltb-false (position_or_len is_colon t) (length t) (sym (any_before_end is_colon t) ∙ h))))
 
--- a text of a label's form, the name of its level and the text after its colon
+-- a text of a label's form is split into the name of its level and the text after its colon
 pub record IsRead (text level : List ℕ) (list : Option (List ℕ)) : Type 0 where
   pub form : is_label_text text ≡ true
   pub before : level ≡ before_first is_colon text
@@ -75,6 +75,6 @@ cat_unknown {text = text} {level = level} {list = list} h p first e place unknow
 
 -- ---- a label's text as it is written
 
--- past the last category the text is whole
+-- after the last category the text is complete
 pub all_written : (text all : List ℕ) (mark i : ℕ) (cats : CatSet) (names : Names) → text ++ past_mark mark (names_in cats i (drop i names)) ≡ all → length names ≤ i → text ≡ all
 all_written text all mark i cats names h past = sym (append-nil text) ∙ ap (λ ns. text ++ past_mark mark (names_in cats i ns)) (sym (drop_all i names past)) ∙ h

@@ -1,4 +1,4 @@
--- What the names in a text come to, one after another.
+-- The categories that the names in a text denote, one after another.
 use Rattle.std.proofs.Common.{◌≡◌, ℕ, ◌+◌, Bool, true, false, ◌==◌, ◌||◌, nat_eq, cond, List, [], ◌∷◌, length, Option, Some, None, refl, ap, sym, ◌∙◌, arith}
 use Rattle.std.specs.Prelude.{option_and_then}
 use Rattle.std.specs.FinSet as set
@@ -29,7 +29,7 @@ regroup false b c d e = ap (λ v. v || c) e
 turn : (q i : ℕ) → (q == i) ≡ nat_eq i q
 turn q i = grind (arith, nat_tests)
 
--- a set with one more category and then others, and with all of these at once
+-- adding a category and then others is adding all of these at once
 one_more : (cats : CatSet) (i : ℕ) (is : List ℕ) → cats_join (cats_join cats (one_cat i)) (set.from_list is) ≡ cats_join cats (set.from_list (i ∷ is))
 one_more cats i is = same_cats _ _ (λ q.
     has-cats_join (cats_join cats (one_cat i)) (set.from_list is) q
@@ -86,7 +86,7 @@ unknown_here known at w ws h = by_place (place_of known w) refl h
     by_place None e h = ap (λ v. cond v (first_unknown known (at + length w + 1) ws) (Some at)) (position_missing (same_bytes w) known e).1
     by_place (Some i) e h = absurd (cc)
 
--- the first name of a comma list, and the rest of the list
+-- the rest of a comma list is split into its first name and a further rest
 pub record IsSplit (rest : Option (List ℕ)) (word : List ℕ) (more : Option (List ℕ)) (text : List ℕ) : Type 0 where
   pub some : rest ≡ Some text
   pub first : pieces 44 text ≡ word ∷ pieces_of_rest 44 more
@@ -94,10 +94,12 @@ pub record IsSplit (rest : Option (List ℕ)) (word : List ℕ) (more : Option (
 names_left : {rest more : Option (List ℕ)} {word text : List ℕ} → IsSplit rest word more text → pieces_of_rest 44 rest ≡ word ∷ pieces_of_rest 44 more
 names_left h = ap (pieces_of_rest 44) h.some ∙ h.first
 
+-- the first name adds its category, and the names after it are gathered next
 pub gathered_more : {rest more : Option (List ℕ)} {word text : List ℕ} → IsSplit rest word more text → (known : Names) (cats cat new : CatSet) → option_map one_cat (place_of known word) ≡ Some cat → new ≡ cats_join cats cat
     → gathered known cats (pieces_of_rest 44 rest) ≡ gathered known new (pieces_of_rest 44 more)
 gathered_more {more = more} {word = word} split known cats cat new h is = ap (gathered known cats) (names_left split) ∙ gathered_step known cats cat new word (pieces_of_rest 44 more) h is
 
+-- a name that is known is not the first unknown one
 pub unknown_more : {rest more : Option (List ℕ)} {word text : List ℕ} → IsSplit rest word more text → (known : Names) (at : ℕ) (cat : CatSet) → option_map one_cat (place_of known word) ≡ Some cat
     → first_unknown known at (pieces_of_rest 44 rest) ≡ first_unknown known (at + (length word + 1)) (pieces_of_rest 44 more)
 unknown_more {more = more} {word = word} split known at cat h = ap (first_unknown known at) (names_left split) ∙ unknown_step known at cat word (pieces_of_rest 44 more) h
@@ -106,6 +108,7 @@ pub unknown_now : {rest more : Option (List ℕ)} {word text : List ℕ} → IsS
     → first_unknown known at (pieces_of_rest 44 rest) ≡ Some at
 unknown_now {more = more} {word = word} split known at h = ap (first_unknown known at) (names_left split) ∙ unknown_here known at word (pieces_of_rest 44 more) h
 
+-- where no names are left, the categories of all are gathered
 pub gathered_end : (known : Names) (cats : CatSet) (all rest : Option (List ℕ)) → gathered known no_cats (pieces_of_rest 44 all) ≡ gathered known cats (pieces_of_rest 44 rest) → rest ≡ None
     → option_map set.from_list (places_of known (pieces_of_rest 44 all)) ≡ Some cats
 gathered_end known cats all rest same none = gathered_all known (pieces_of_rest 44 all) ∙ same ∙ ap (λ o. gathered known cats (pieces_of_rest 44 o)) none

@@ -26,7 +26,7 @@ use Rattle.lab_text.specs.declared.text.LabelError.TheVariants as error
 
 -- ---- words
 
--- the names of a text of a label's form
+-- the words of a text that has a label's form
 pub words_of : (text : List ℕ) → is_label_text text ≡ true → label_words text ≡ Some (parts_of text)
 unfolding label_words
 words_of text h = by_form (is_label_name (parts_of text).level && list_all is_label_name (parts_of text).cats) h
@@ -79,7 +79,7 @@ none_parsed : (p : PolicyNames) (o : Option LabelWords) (e : LabelError) → opt
 none_parsed p None e h = refl
 none_parsed p (Some w) e h = not_parsed p w e h
 
--- a text that denotes no label for a cause denotes none
+-- a text that is refused denotes no label
 pub says_none : (p : PolicyNames) (text : List ℕ) (e : LabelError) → SaysNone p text e → parse_label p text ≡ None
 unfolding parse_label
 says_none p text (error.Syntax at) h = ap (option_and_then (label_of p)) (no_words text h.is_none)
@@ -92,7 +92,7 @@ listed_range : (a n q : ℕ) → list_any (λ y. nat_eq y q) (range_with_len a n
 listed_range a zero q = grind (arith, nat_tests)
 listed_range a (suc n) q = ap (λ b. nat_eq a q || b) (listed_range (a + 1) n q) ∙ grind (arith, nat_tests)
 
--- the set of the categories below a number
+-- a category is in the set of the first n exactly where it is below n
 pub has-first_cats : (n q : ℕ) → has_cat (set.from_list (range_with_len 0 n)) q ≡ nat_lt q n
 has-first_cats n q = set.contains-from_list_nat (range_with_len 0 n) q ∙ listed_range 0 n q ∙ from_zero n q
   where
@@ -160,7 +160,7 @@ parts_by some k t = cond some (record { level = take k t; cats = slice_split is_
 pub parts_colon : (b : ℕ) (bs : List ℕ) → is_colon b ≡ true → parts_of (b ∷ bs) ≡ record { level = []; cats = slice_split is_comma bs }
 parts_colon b bs e = ap (λ v. parts_by (v || list_any is_colon bs) (cond (not v) (1 + position_or_len is_colon bs) 0) (b ∷ bs)) e
 
--- another byte goes on with it
+-- a byte other than a colon continues the level's name
 pub parts_more : (b : ℕ) (bs : List ℕ) → is_colon b ≡ false → parts_of (b ∷ bs) ≡ record { level = b ∷ (parts_of bs).level; cats = (parts_of bs).cats }
 parts_more b bs e =
     ap (λ v. parts_by (v || list_any is_colon bs) (cond (not v) (1 + position_or_len is_colon bs) 0) (b ∷ bs)) e
@@ -191,7 +191,7 @@ without_commas (b ∷ bs) h =
     let both = and_parts (is_name_part b) (list_all is_name_part bs) h in
     All-cons (λ x. is_comma x ≡ false) b bs (no_comma b both.0) (without_commas bs both.1)
 
--- names after commas are the pieces between these
+-- a name, and further names each after a comma, are split into these names
 split_marked : (n : List ℕ) (ns : Names) → is_label_name n ≡ true → list_all is_label_name ns ≡ true → slice_split is_comma (n ++ past_mark 44 ns) ≡ n ∷ ns
 split_marked n [] h all = ap (slice_split is_comma) (append-nil n) ∙ slice_split_none is_comma n (without_commas n (name_parts n h))
 split_marked n (m ∷ ms) h all =
@@ -274,7 +274,7 @@ numbered cats i (n ∷ ns) q = by_first (has_cat cats i) refl (numbered cats (i 
     by_first true e rest = ap (λ b. nat_eq i q || b) rest ∙ with_first (has_cat cats q) i q (length ns) (λ s. ap (has_cat cats) (sym s) ∙ e)
     by_first false e rest = rest ∙ without (has_cat cats q) i q (length ns) (λ s. ap (has_cat cats) (sym s) ∙ e)
 
--- the numbers of the categories of a valid label make its set
+-- the numbers of the names that are in a set make that set, where no others are in it
 numbers_back : (cats : CatSet) (ns : Names) → ((q : ℕ) → has_cat cats q ≡ true → q < length ns) → set.from_list (numbers_in cats 0 ns) ≡ cats
 numbers_back cats ns within = same_cats _ cats (λ q. set.contains-from_list_nat (numbers_in cats 0 ns) q ∙ numbered cats 0 ns q ∙ all_there (has_cat cats q) q (length ns) (within q))
   where
@@ -282,7 +282,7 @@ numbers_back cats ns within = same_cats _ cats (λ q. set.contains-from_list_nat
     all_there true q k within = let below = within refl in grind (arith, nat_tests)
     all_there false q k within = refl
 
--- the names in a label's text
+-- a text is the name of a level, with names of categories after marks
 pub record AreWritten (text : List ℕ) : Type 0 where
   pub level : List ℕ
   pub cats : Names
@@ -290,7 +290,7 @@ pub record AreWritten (text : List ℕ) : Type 0 where
   pub level_name : is_label_name level ≡ true
   pub cat_names : list_all is_label_name cats ≡ true
 
--- the text of a valid label is one of names
+-- the text of a valid label is made of such names
 pub text_names : (p : PolicyNames) (label : Label) → MakePolicy p → is_valid p label ≡ true → AreWritten (label_text p label)
 unfolding label_text
 text_names p label h valid =

@@ -21,12 +21,12 @@ level_low p name i h e = let few = (policy_facts p h).few_levels in let found = 
 pub cat_low : (p : PolicyNames) (name : List ℕ) (i : ℕ) → MakePolicy p → place_of p.cats name ≡ Some i → i < 64
 cat_low p name i h e = let few = (policy_facts p h).few_cats in let found = position_found (same_bytes name) p.cats i e in omega arith
 
--- what a call returns that returns a value where its number is low enough
+-- a call that returns a value exactly where a condition holds returns it where it holds
 pub answered : {A : Type 0} (r : Option A) (x : A) (P : Type 0) → (IsSome r ↔ P) → IfSome r (λ y. y ≡ x) → P → r ≡ Some x
 answered None x P s i p = let some = s.1 p in absurd (cc)
 answered (Some y) x P s i p = ap Some i
 
--- the highest level with the categories below their count
+-- the top label of a policy has its last level, and the categories below their count
 pub is_top : (p : PolicyNames) (level : ℕ) (cats : CatSet) (n m : ℕ) → level ≡ n - 1 → n ≡ length p.levels → cats ≡ set.from_list (range_with_len 0 m) → m ≡ length p.cats → record { first = level; second = cats } ≡ top_of p
 unfolding top_of
 is_top p level cats n m e f g h = λ i. record { first = (e ∙ ap (λ k. k - 1) f) i; second = (g ∙ ap (λ k. set.from_list (range_with_len 0 k)) h) i }

@@ -20,18 +20,18 @@ abbrev holds_of : (Scan → Bool) → Option Scan → Bool
 holds_of f None = false
 holds_of f (Some s) = f s
 
--- whether a text ends in a name, read on from somewhere within
+-- whether a text, read on from a state of the scan, ends in a name
 abbrev pub goes_on : List ℕ → Scan → Bool
 goes_on [] s = not (s.len == 0)
 goes_on (b ∷ bs) s = holds_of (goes_on bs) (step s b)
 
 -- ---- one byte
 
--- whether a byte may go on a name of n bytes so far
+-- whether a byte may continue a name that has n bytes so far
 abbrev may_name : ℕ → ℕ → Bool
 may_name n b = cond (n == 0) (is_letter b) (nat_lt n 31 && is_name_part b)
 
--- whether bytes complete a name of n bytes so far
+-- whether bytes complete a name that has n bytes so far
 abbrev ends_name : ℕ → List ℕ → Bool
 ends_name n bs = cond (n == 0) (is_label_name bs) (nat_le (n + length bs) 31 && list_all is_name_part bs)
 
@@ -99,11 +99,11 @@ more_name n b bs = by_zero (n == 0) refl ∙ ap (λ v. may_name n b && v) (sym (
         ap (λ v. v && (is_name_part b && list_all is_name_part bs)) (within n (length bs))
         ∙ exchange (nat_lt n 31) (nat_le (n + 1 + length bs) 31) (is_name_part b) (list_all is_name_part bs)
 
--- where a name may end
+-- a name may end where it has a byte
 end_name : (n : ℕ) → n ≤ 31 → ends_name n [] ≡ not (n == 0)
 end_name n h = grind (arith, nat_tests)
 
--- a byte of a name is no mark
+-- a byte that may continue a name is no mark
 name_no_mark : (in_cats : Bool) (n b : ℕ) → may_name n b ≡ true → (b == mark_of in_cats) ≡ false
 name_no_mark true n b e = grind (arith, nat_tests)
 name_no_mark false n b e = grind (arith, nat_tests)
@@ -113,7 +113,7 @@ more_short n b e = grind (arith, nat_tests)
 
 -- ---- after the colon
 
--- whether the first of these bytes complete a name of n bytes so far, and the others are names
+-- whether the first of these complete a name that has n bytes so far, and the others are names
 abbrev ends_names : ℕ → Names → Bool
 ends_names n [] = ends_name n []
 ends_names n (w ∷ ws) = ends_name n w && list_all is_label_name ws
@@ -194,9 +194,9 @@ form_by_reading t = check_outcome (is_form 0 (parts_of t)) ∙ sym (text_form t 
     check_outcome true = refl
     check_outcome false = refl
 
--- ---- where no text goes on
+-- ---- where a text breaks
 
--- the bytes that make a label's text of what was read
+-- bytes that complete the text of a label, where its last name has `len` bytes so far
 abbrev completion : ℕ → List ℕ
 completion len = cond (len == 0) (97 ∷ []) []
 
@@ -207,7 +207,7 @@ completes s = by_zero (s.len == 0) refl
     by_zero true e = ap (λ z. holds_of (goes_on []) (cond z (Some (scan_at s.in_cats 1)) (cond (nat_lt s.len 31) (Some (scan_at s.in_cats (s.len + 1))) None))) e
     by_zero false e = ap not e
 
--- what a reading that came to `s` implies for the text so far
+-- reading a text up to `at` came to the state s of the scan
 abbrev pub ReadTo : List ℕ → ℕ → Scan → Type 0
 ReadTo text at s = (rest : List ℕ) → goes_on (take at text ++ rest) (scan_at false 0) ≡ goes_on rest s
 
@@ -220,6 +220,7 @@ can_go_on text at s read = record {
 refuses : (text : List ℕ) (at : ℕ) (s : Scan) (rest : List ℕ) → ReadTo text at s → step s (get_or text at 0) ≡ None → is_label_text (take at text ++ (get_or text at 0 ∷ rest)) ≡ false
 refuses text at s rest read none = form_by_reading (take at text ++ (get_or text at 0 ∷ rest)) ∙ read (get_or text at 0 ∷ rest) ∙ ap (holds_of (goes_on rest)) none
 
+-- a text breaks at the byte at which the scan has no next state
 pub breaks_at : (text : List ℕ) (at : ℕ) (s : Scan) → ReadTo text at s → at < length text → step s (get_or text at 0) ≡ None → Breaks text at
 breaks_at text at s read lt none =
     let here : take at text ++ (get_or text at 0 ∷ drop (at + 1) text) ≡ text = ap (λ r. take at text ++ r) (sym (drop_more text at 0 lt)) ∙ take-append-drop at text in
@@ -241,7 +242,7 @@ breaks_end text at s read past none = record {
   no_further = λ lt rest. absurd (omega arith);
 }
 
--- a text that was read to its end has a label's form where it ends in a name
+-- a text that was read to its end has a label's form where it ends in a name, and else breaks at its end
 pub end_judged : (text : List ℕ) (at : ℕ) (s : Scan) (r : Option ℕ) → ReadTo text at s → length text ≤ at → r ≡ then_some (s.len == 0) (length text) → MatchOption r (is_label_text text ≡ true) (Breaks text)
 end_judged text at s r read past is = subst (λ (o : Option ℕ). MatchOption o (is_label_text text ≡ true) (Breaks text)) (sym is) (by_zero (s.len == 0) refl)
   where

@@ -10,7 +10,7 @@ pub bytes_from : (xs : List ℕ) → ((i : ℕ) → get_or xs i 0 < 256) → are
 bytes_from [] small = refl
 bytes_from (x ∷ xs) small = and_from _ _ (lt-ltb x 256 (small 0)) (bytes_from xs (λ i. small (suc i)))
 
--- items that fit 32 bits
+-- items of at most 32 bits are numbers
 pub numbers_from : (xs : List ℕ) → ((i : ℕ) → get_or xs i 0 ≤ MAX_NUMBER) → are_numbers xs ≡ true
 numbers_from [] small = refl
 numbers_from (x ∷ xs) small = and_from _ _ (le-leb x MAX_NUMBER (small 0)) (numbers_from xs (λ i. small (suc i)))

@@ -1,4 +1,4 @@
--- Letters that a word has in their order.
+-- A word whose letters are in a given order.
 use Rattle.std.proofs.Common.{◌≡◌, ℕ, ◌+◌, ◌-◌, ◌<◌, ◌≤◌, ◌&&◌, Bool, true, false, cond, List, [], ◌∷◌, length, take, drop, get_or, sym, ◌∙◌, ap, arith}
 use Rattle.std.specs.Prelude.{◌==◌}
 use Rattle.std.specs.List.{filter}
@@ -20,7 +20,7 @@ module _ (p : ℕ → Bool) (letters : List ℕ) (i : ℕ) (within : i < length 
       ap (λ ls. same_bytes ls left) (at_drop_more (filter p) letters i 0 within)
       ∙ ap (λ b. same_bytes (cond b (get_or letters i 0 ∷ filter p (drop (i + 1) letters)) (filter p (drop (i + 1) letters))) left) (sym is)
 
-  -- a letter that stands in the word begins what is left of it
+  -- a letter that is in the word is the first of what is left of it
   pub letter_taken : (left rest : List ℕ) → true ≡ p (get_or letters i 0) → 1 ≤ length left → get_or left 0 0 ≡ get_or letters i 0 → rest ≡ take (length left - 1) (drop 1 left)
       → same_bytes (filter p (drop i letters)) left ≡ same_bytes (filter p (drop (i + 1) letters)) rest
   letter_taken [] rest stands some first is = absurd (omega arith)
@@ -29,6 +29,6 @@ module _ (p : ℕ → Bool) (letters : List ℕ) (i : ℕ) (within : i < length 
       ∙ ap (λ b. b && same_bytes (filter p (drop (i + 1) letters)) xs) (same_first (get_or letters i 0) x first)
       ∙ ap (same_bytes (filter p (drop (i + 1) letters))) (sym (is ∙ all_but_first x xs))
 
-  -- a letter that does not stand in it is passed
+  -- a letter that is not in the word is passed over
   pub letter_passed : (left rest : List ℕ) → false ≡ p (get_or letters i 0) → rest ≡ left → same_bytes (filter p (drop i letters)) left ≡ same_bytes (filter p (drop (i + 1) letters)) rest
   letter_passed left rest stands is = kept_next left false stands ∙ ap (same_bytes (filter p (drop (i + 1) letters))) (sym is)

@@ -1,4 +1,4 @@
--- What is read of a line may be played: its labels lie below top, and its numbers, modes and flags are in their ranges.
+-- A line that was parsed may be played: its labels are below top, and its numbers, modes and flags are in their ranges.
 use Rattle.std.specs.Prelude.{◌≡◌, ℕ, ◌==◌, ◌||◌, nat_le, nat_lt, Bool, true, false, not, cond, List, [], ◌∷◌, length, drop, codes, Option, None, Some, Ok, Err, ℤ, pos, neg_ℤ, unsigned_abs, refl, is_none}
 use Rattle.std.proofs.Common.{sym, ◌∙◌, ap, subst, arith}
 use Rattle.std.specs.Bool.{beq}
@@ -104,7 +104,7 @@ offset_fine w z h = by_sign (starts_with ◌==◌ w (codes "-")) (there (signed 
     by_sign true h = sized (λ n. neg_ℤ (pos n)) same_size (number_of (drop 1 w)) (small (drop 1 w)) h
     by_sign false h = sized (λ n. pos n) (λ n. refl) (number_of w) (small w) h
 
--- flags that go together, with `c` or without it
+-- flags that may be given together, with `c` or without it
 record AreFlags (creates : Bool) (f : OpenFlags) : Type 0 where
   fit : are_flags f ≡ true
   as_asked : beq f.c creates ≡ true
@@ -165,7 +165,7 @@ module _ (policy : PolicyNames) where
 
   -- ---- calls
 
-  -- a call that may be made
+  -- a call whose arguments may be given
   abbrev MayBeMade : Call → Type 0
   MayBeMade c = (is_call (top_of policy) c ≡ true) × (has_names c ≡ true)
 
@@ -267,7 +267,7 @@ module _ (policy : PolicyNames) where
       by_quotes true h = absurd (cc)
       by_quotes false h = by_name (call_named call.bytes) h
 
-  -- what a line says may be played
+  -- a parsed line may be played
   pub parsed_played : (text : List ℕ) (l : Line) → parse_line policy text ≡ Ok l → MayBePlayed (top_of policy) l
   unfolding parse_line
   parsed_played text l h = by_length (nat_lt MAX_LINE (length text)) h

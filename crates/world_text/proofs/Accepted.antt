@@ -1,4 +1,4 @@
--- Whatever a text is, if it is accepted then it is a world.
+-- An accepted text denotes a world.
 use Rattle.std.specs.Prelude.{◌≡◌, ℕ, ◌+◌, ◌≤◌, ◌==◌, ◌&&◌, ◌||◌, not, nat_le, nat_lt, Bool, true, false, cond, List, [], ◌∷◌, ◌++◌, length, map, Option, None, Some, is_some, is_none, count_by, refl}
 use Rattle.std.proofs.Common.{ap, sym, ◌∙◌, subst, append-nil, append_assoc, arith}
 use Rattle.std.specs.List.{AllByRecursion, list_all}
@@ -51,15 +51,15 @@ use Rattle.world_text.specs.Placing.{is_directory, is_above, directory_of, is_ro
 use Rattle.world_text.specs.Expecting.{world_of, unless, refuse_or, with_form, with_value, or_else, by_keyword, parse_format, parse_levels, parse_categories, parse_bound, set_of, caps_of, absolute_path, label_value, label_of, both, proc_caps, proc_caps_of, parse_object, object_of, parse_tree, ids_of, parse_process, parse_proc, object_fields_of, proc_fields_of, parse_plain, parse_file, parse_proc_line, parse_script, parse_tree_line, parse_words, parse_line}
 use Rattle.world_text.specs.Reading.{Reading, Accepted, after, reading, read_text}
 
--- ---- what holds of a reading as far as it has come
+-- ---- what holds of a reading at each line
 
--- an object is a root
+-- an object that may be the root
 record IsFirst (o : WorldObject) : Type 0 where
   no_names : o.path.names ≡ []
   is_dir : o.body ≡ body.Dir
   lowest : o.label ≡ bottom
 
--- the first object is a root, and each other one may come after those before it
+-- the first object may be the root, and each other one may come after those before it
 abbrev AreRooted : List WorldObject → Type 0
 AreRooted [] = Unit {0}
 AreRooted (first ∷ others) = IsFirst first × ArePlaced (first ∷ []) others
@@ -112,7 +112,7 @@ unless_sound : (b : Bool) (fault : WorldFault) (parsed : Parsed) → (b ≡ fals
 unless_sound true fault parsed h = refuses fault
 unless_sound false fault parsed h = h refl
 
--- a fault is reported, or what comes is sound
+-- a test for a fault, before what follows, keeps the result sound
 first_sound : (b : Bool) (fault : WorldFault) (rest : Option WorldFault) (parsed : Parsed) → (b ≡ false → SoundParsed (refuse_or rest parsed)) → SoundParsed (refuse_or (cond b (Some fault) rest) parsed)
 first_sound true fault rest parsed h = refuses fault
 first_sound false fault rest parsed h = h refl
@@ -199,7 +199,7 @@ all_more P (y ∷ ys) x all p = (all.0, all_more P ys x all.1 p)
 count_more : {X : Type 0} (p : X → Bool) (xs : List X) (x : X) → count_by p (xs ++ x ∷ []) ≡ count_by p xs + cond (p x) 1 0
 count_more p xs x = let both = sum_by-append (λ x. cond (p x) 1 0) xs (x ∷ []) in omega arith
 
--- where one more has a label of which there are fewer than may be, no label has too many
+-- an item more, at a label that has room, leaves no label with too many
 room_more : {X : Type 0} (label : X → Label) (xs : List X) (x : X) (most : ℕ) → ((l : Label) → count_by (λ y. same_label (label y) l) xs ≤ most)
     → nat_le most (count_by (λ y. same_label (label y) (label x)) xs) ≡ false → (l : Label) → count_by (λ y. same_label (label y) l) (xs ++ x ∷ []) ≤ most
 room_more label xs x most room fewer l = by_label (same_label (label x) l) refl
@@ -225,7 +225,7 @@ dir_body (body.File bytes) h = absurd (cc)
 dir_body body.Fifo h = absurd (cc)
 dir_body body.Pipe h = absurd (cc)
 
--- an object with these names that may come after no others is a root
+-- an object that may be given first may be the root
 first_is : (o : WorldObject) (names : List Name) → o.path.names ≡ names → not (is_root names || is_directory (directory_of [] names)) ≡ false
     → (is_root names && not (is_dir (kind_of o.body) && dominates bottom o.label)) ≡ false → IsFirst o
 first_is o [] e parent root =
@@ -233,7 +233,7 @@ first_is o [] e parent root =
     record { no_names = e; is_dir = dir_body o.body parts.0; lowest = dominates_both o.label bottom (dominates_bottom o.label) parts.1 }
 first_is o (n ∷ ns) e parent root = absurd (cc)
 
--- an object may come after others whose first is a root
+-- an object that passes the tests may come after others of which the first is the root
 placed_is : (first : WorldObject) (others : List WorldObject) (o : WorldObject) (names : List Name) → o.path.names ≡ names → first.path.names ≡ []
     → is_some (given (first ∷ others) names) ≡ false → not (is_root names || is_directory (directory_of (first ∷ others) names)) ≡ false
     → not (is_above o.label (directory_of (first ∷ others) names)) ≡ false → IsPlaced (first ∷ others) o
@@ -276,7 +276,7 @@ object_sound w o h s is =
       },
     ))))))
 
--- a label that a word says
+-- a label that a word denotes is below top
 label_below : (policy : PolicyNames) (text : List ℕ) (label : Label) → label_of policy text ≡ value.Known label → dominates (top_of policy) label ≡ true
 label_below policy text label h = by_form (is_label_text text) (parse_label policy text) (parsed_valid policy text) h
   where
@@ -285,7 +285,7 @@ label_below policy text label h = by_form (is_label_text text) (parse_label poli
     by_form true (Some l) below e = let same : l ≡ label = cc in subst (λ (l : Label). dominates (top_of policy) l ≡ true) same (below l refl)
     by_form false o below e = absurd (cc)
 
--- what the words of a tree line stand for is in its ranges
+-- the fields of a tree line are in their ranges
 record IsFormed (policy : PolicyNames) (f : ObjectFields) : Type 0 where
   absolute : f.path.absolute ≡ true
   path : HasForm f.path.absolute f.path.names
@@ -330,7 +330,7 @@ tree_sound w form caps b h s formed few no_pipe plain =
 
 -- ---- processes
 
--- what is effective in the state of a process's text is permitted
+-- the capability sets that a process's text denotes have nothing effective that is not permitted
 caps_within : (text : List ℕ) (c : CapState) → proc_caps_of text ≡ value.Known c → is_within c.e c.p ≡ true
 caps_within text c is = by_value (caps_of text) is
   where
@@ -358,7 +358,7 @@ process_sound w p h s is =
       },
     )))
 
--- what the words of a process line stand for is in its ranges
+-- the fields of a process line are in their ranges
 record IsProcFormed (policy : PolicyNames) (f : ProcFields) : Type 0 where
   few : length f.groups ≤ MAX_GROUPS
   below : (label : Label) → f.label ≡ value.Known label → dominates (top_of policy) label ≡ true
@@ -445,7 +445,7 @@ words_sound (at.Categories levels) ws h fit = keyword_sound _ ws _ _ fit (λ nam
 words_sound (at.Bound policy) ws h fit = keyword_sound _ ws _ _ fit (λ names _. bound_sound policy names h) (refuses Syntax)
 words_sound (at.Tree w) ws h fit = tree_line_sound w ws h.0 h.1 fit
 
--- the words of a line that is not too long
+-- no word of a line that is not too long is longer than a file may be
 line_fits : (line : List ℕ) (ws : List LineWord) → length line ≤ MAX_LINE → words_of line ≡ Some ws → AllFit ws
 line_fits line ws short is = wider ws (words_fit line ws is)
   where
@@ -483,10 +483,10 @@ reading_sound n expecting (line ∷ next ∷ ls) h =
 text_sound : (text : List ℕ) → SoundReading (read_text text)
 text_sound text = reading_sound 1 at.Format (pieces 10 text) tt
 
--- an accepted world is one
+-- an accepted text denotes a world
 pub accepted_world : (text : List ℕ) (w : WorldText) (n : ℕ) (script : List (List ℕ)) → read_text text ≡ Accepted w n script → IsWorld w.world
 accepted_world text w n script e = (text_sound text w n script e).world
 
--- its top is that of its names
+-- the top of an accepted world is the top of its policy
 pub accepted_top : (text : List ℕ) (w : WorldText) (n : ℕ) (script : List (List ℕ)) → read_text text ≡ Accepted w n script → w.world.top ≡ top_of w.policy
 accepted_top text w n script e = (text_sound text w n script e).top

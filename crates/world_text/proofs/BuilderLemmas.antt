@@ -1,4 +1,4 @@
--- One more object or process: what stands at paths, and counts at labels.
+-- The entries at paths and the counts at labels, after one more object or process.
 use Rattle.std.proofs.Common.{◌≡◌, ℕ, ◌+◌, ◌-◌, ◌<◌, Bool, true, false, cond, List, [], ◌∷◌, ◌++◌, length, take, suc, refl, sym, ◌∙◌, ap, arith, Option, Some, None}
 use Rattle.std.specs.Prelude.{unwrap_or, count_by, is_some}
 use Rattle.std.specs.Option.{option_map, option_or}
@@ -23,7 +23,7 @@ use Rattle.world_text.specs.PathEntry.{path_entry_of, names_cmp, count_in, is_di
 
 -- ---- counts
 
--- labels that compare equal are the same
+-- labels are the same exactly where they compare equal
 same_by_cmp : (a b : Label) → is_eq (label_cmp a b) ≡ same_label a b
 same_by_cmp a b = by_test (same_label a b) refl (label_cmp a b) refl
   where
@@ -38,6 +38,7 @@ same_by_cmp a b = by_test (same_label a b) refl (label_cmp a b) refl
     by_test false f Greater e = ap is_eq e ∙ sym f
     by_test false f Equal e = ap is_eq e ∙ sym itself ∙ ap (same_label a) (label_cmp_exact a b e)
 
+-- one more is counted at a label
 pub counted : (m n : BTreeMap Label ℕ) (k : Label) (v : ℕ) → ((q : Label) → get label_cmp n q ≡ cond (is_at (label_cmp k) q) (Some v) (get label_cmp m q)) → v ≡ count_in m k + 1
     → (l : Label) → count_in n l ≡ count_in m l + cond (same_label k l) 1 0
 counted m n k v e is l =
@@ -70,7 +71,7 @@ pub procs_counted : (old new : BTreeMap Label ℕ) (procs more : List WorldProc)
 procs_counted old new procs more w updates is before l =
     updates l ∙ ap (λ k. k + cond (same_label w.label l) 1 0) (before l) ∙ sym (ap (procs_at l) is ∙ count_more (λ (x : WorldProc). same_label x.label l) procs w)
 
--- ---- what stands at paths
+-- ---- entries at paths
 
 names_tie : (a b : List Name) → same_names a b ≡ is_eq (names_cmp a b)
 names_tie a b = lists_ties (slice_cmp nat_cmp) texts_ties a b
@@ -90,7 +91,7 @@ or_none : (x : Option WorldObject) → option_or x None ≡ x
 or_none None = refl
 or_none (Some o) = refl
 
--- one more object stands at its path, at which none stood
+-- one more object has the entry at its path, where there was none
 pub stands_more : (old new : BTreeMap (List Name) PathEntry) (objects more : List WorldObject) (o : WorldObject) (names : List Name) (s : PathEntry)
     → ((q : List Name) → get names_cmp new q ≡ cond (is_at (names_cmp names) q) (Some s) (get names_cmp old q)) → names ≡ o.path.names → s ≡ path_entry_of o → more ≡ objects ++ o ∷ []
     → given objects o.path.names ≡ None → ((q : List Name) → get names_cmp old q ≡ option_map path_entry_of (given objects q)) → (q : List Name) → get names_cmp new q ≡ option_map path_entry_of (given more q)
@@ -114,12 +115,14 @@ parent_taken : (n : Name) (ns : List Name) → parent_names (n ∷ ns) ≡ take 
 parent_taken n [] = refl
 parent_taken n (m ∷ ns) = ap (λ ps. n ∷ ps) (parent_taken m ns)
 
+-- the directory of names is what was given with all but the last
 pub directory_stands : (os : List WorldObject) (names : List Name) → 0 < length names → directory_of os names ≡ given os (take (length names - 1) names)
 directory_stands os [] some = absurd (omega arith)
 directory_stands os (n ∷ ns) some =
     let less : length ns ≡ suc (length ns) - 1 = omega arith in
     ap (given os) (parent_taken n ns ∙ ap (λ k. take k (n ∷ ns)) less)
 
+-- the entry of an object has its kind
 pub stands_as_dir : (o : Option WorldObject) → is_dir_entry (option_map path_entry_of o) ≡ is_directory o
 stands_as_dir None = refl
 stands_as_dir (Some o) = refl

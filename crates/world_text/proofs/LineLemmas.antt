@@ -1,4 +1,4 @@
--- What lines of names and labels say.
+-- What lines of names and of labels are parsed as.
 use Rattle.std.proofs.Common.{◌≡◌, ℕ, Bool, true, false, cond, not, ◌&&◌, ◌||◌, nat_lt, List, [], length, refl, sym, ◌∙◌, ap, Option, Some, None, Result, Ok, Err}
 use Rattle.std.specs.Prelude.{◌==◌, ◌∷◌, ◌++◌, option_and_then, is_some}
 use Rattle.std.specs.Option.{option_map}
@@ -74,7 +74,7 @@ made_policy : (levels cats : Names) (r : Result PolicyNames WorldFault) (p : Pol
 made_policy levels cats (Err f) p h e = absurd (cc)
 made_policy levels cats (Ok q) p h e = let same : p ≡ q = cc in (same ∙ h.0, h.1)
 
--- names of levels, as they are read and as they stand in their list
+-- names that were read from words, the items of their list, and that each may be a label's name
 pub record AreRead (names words items : Names) : Type 0 where
   pub read : names ≡ words
   pub lent : items ≡ names
@@ -103,7 +103,7 @@ categories_refused levels names words items r fault fine h makes is =
 
 -- ---- labels
 
--- a text that says a label has the form of one
+-- a text that denotes a label has a label's form
 parsed_form : (p : PolicyNames) (text : List ℕ) (label : Label) → parse_label p text ≡ Some label → is_label_text text ≡ true
 unfolding parse_label
 parsed_form p text label e = by_words (label_words text) e

@@ -1,4 +1,4 @@
--- The first fault of an object or a process, as it is looked for.
+-- The first fault of an object or a process, in the order of the tests.
 use Rattle.std.proofs.Common.{◌≡◌, ◌<◌, Bool, true, false, cond, not, ◌&&◌, ◌||◌, nat_le, length, refl, sym, ◌∙◌, ap, Option, Some, None}
 use Rattle.std.specs.Prelude.{is_some, ◌==◌}
 use Rattle.std.specs.Option.{option_map}
@@ -18,14 +18,16 @@ use Rattle.world_text.specs.PathEntry.{path_entry_of, is_dir_entry, is_above_ent
 use Rattle.world_text.specs.Placing.{is_directory, is_above, directory_of, is_root, object_fault, process_fault}
 use Rattle.world_text.proofs.BuilderLemmas.{stands_as_dir, stands_above}
 
+-- the first fault of an object, from the results of the tests
 abbrev pub first_fault : (repeated parent wrong above full : Bool) → Option WorldFault
 first_fault repeated parent wrong above full =
     cond repeated (Some Repeated) (cond (not parent) (Some NoParent) (cond wrong (Some RootLabel) (cond (not above) (Some LabelOrder) (cond full (Some TooMany) None))))
 
+-- an object at the root's path may not be the root
 abbrev pub wrong_root : WorldObject → Bool
 wrong_root o = is_root o.path.names && not (is_dir (kind_of o.body) && dominates bottom o.label)
 
--- the faults are found by what stands at the object's directory
+-- the first fault is found from the entry at the path of the object's directory
 pub fault_reported : (t : Tree) (o : WorldObject) (d : Option PathEntry) (repeated parent wrong above full : Bool)
     → d ≡ option_map path_entry_of (directory_of t.objects o.path.names)
     → is_some (given t.objects o.path.names) ≡ repeated → (is_root o.path.names || is_dir_entry d) ≡ parent → wrong_root o ≡ wrong → is_above_entry o.label d ≡ above → nat_le MAX_OBJECTS (objects_at o.label t.objects) ≡ full
@@ -43,7 +45,7 @@ pub record HasPlace (t : Tree) (o : WorldObject) : Type 0 where
   pub free : given t.objects o.path.names ≡ None
   pub room : objects_at o.label t.objects < MAX_OBJECTS
 
--- an object without a fault stands at a path where nothing was given, and there is room for it
+-- an object without a fault has a path at which nothing was given, and there is room for it
 pub without_fault : (t : Tree) (o : WorldObject) → object_fault t o ≡ None → HasPlace t o
 unfolding object_fault
 without_fault t o e = by_tests (given t.objects o.path.names) (is_root o.path.names || is_directory (directory_of t.objects o.path.names)) (wrong_root o) (is_above o.label (directory_of t.objects o.path.names)) (nat_le MAX_OBJECTS (objects_at o.label t.objects)) refl refl e

@@ -8,6 +8,6 @@ all_and_one : {X : Type 0} (P : X → Type 0) (xs : List X) (x : X) → AllByRec
 all_and_one P [] x all one = (one, tt)
 all_and_one P (y ∷ ys) x all one = (all.0, all_and_one P ys x all.1 one)
 
--- what holds of the first items and of the next one
+-- what holds of each of the first i items and of the next one holds of each of the first i + 1
 pub all_more : {X : Type 0} (P : X → Type 0) (xs : List X) (i : ℕ) (x : X) → i < length xs → x ≡ get_or xs i x → AllByRecursion P (take i xs) → P x → AllByRecursion P (take (i + 1) xs)
 all_more P xs i x within is all one = subst (AllByRecursion P) (sym (take_more xs i x within)) (all_and_one P (take i xs) (get_or xs i x) all (subst P is one))

@@ -1,4 +1,4 @@
--- Lines by how many words they have.
+-- How tree lines and process lines are parsed, by the number of their words.
 use Rattle.std.proofs.Common.{◌≡◌, List, [], ◌∷◌, length, get_or, refl, ap, ◌∙◌, arith}
 use Rattle.cap_bits.specs.declared.state.CapState.{CapState}
 use Rattle.cap_bits.specs.State.{no_flags}
@@ -22,6 +22,7 @@ plain_five so_far b (v1 ∷ v2 ∷ v3 ∷ v4 ∷ []) h = absurd (omega arith)
 plain_five so_far b (v1 ∷ v2 ∷ v3 ∷ v4 ∷ v5 ∷ []) h = refl
 plain_five so_far b (v1 ∷ v2 ∷ v3 ∷ v4 ∷ v5 ∷ v6 ∷ ws) h = absurd (omega arith)
 
+-- a line with another number of words is malformed
 pub plain_others : (so_far : PartialWorld) (b : Body) (ws : List LineWord) → (length ws ≡ 5 → ⊥) → Refuses Syntax ≡ parse_plain so_far b (bytes_in ws)
 plain_others so_far b [] h = refl
 plain_others so_far b (v1 ∷ []) h = refl
@@ -75,7 +76,7 @@ file_others so_far (a ∷ b ∷ c ∷ d ∷ f ∷ g ∷ []) e h = absurd (e refl
 file_others so_far (a ∷ b ∷ c ∷ d ∷ f ∷ g ∷ i ∷ []) e h = absurd (h refl)
 file_others so_far (a ∷ b ∷ c ∷ d ∷ f ∷ g ∷ i ∷ j ∷ ws) e h = refl
 
--- ---- with what is read of their words
+-- ---- from the values of their words
 
 pub plain_read : (so_far : PartialWorld) (b : Body) (ws : List LineWord) (caps : CapState) → length ws ≡ 5 → caps ≡ no_flags
     → parse_tree so_far (object_fields_in so_far.policy (bytes_in ws)) (value.Known caps) b ≡ parse_plain so_far b (bytes_in ws)

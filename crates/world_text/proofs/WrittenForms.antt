@@ -1,4 +1,4 @@
--- What the words of a line spell, from what holds of a world and of what is written.
+-- The values of a world that can be written in canonical form.
 use Rattle.std.specs.Prelude.{◌≡◌, ◌/◌, ◌%◌, ◌≤◌, true, false, List, [], ◌∷◌, length, refl}
 use Rattle.std.proofs.Common.{arith}
 use Rattle.std.specs.List.{AllByRecursion}
@@ -25,14 +25,14 @@ pub record IsCanonicalPath (path : PathValue) : Type 0 where
   pub form : HasForm path.absolute path.names
   pub bytes : are_bytes (path_text path.names) ≡ true
 
--- a directory, a file or a FIFO
+-- a directory, a file of bytes or a FIFO
 abbrev pub IsCanonicalBody : Body → Type 0
 IsCanonicalBody body.Dir = Unit {0}
 IsCanonicalBody (body.File bytes) = are_bytes bytes ≡ true
 IsCanonicalBody body.Fifo = Unit {0}
 IsCanonicalBody body.Pipe = ⊥
 
--- what the words of an object's line spell
+-- an object whose values can be written in the words of its line
 pub record IsCanonicalObject (o : WorldObject) : Type 0 where
   pub path : IsCanonicalPath o.path
   pub mode : is_mode o.attr.mode ≡ true
@@ -40,7 +40,7 @@ pub record IsCanonicalObject (o : WorldObject) : Type 0 where
   pub group : IsNumber o.attr.group
   pub body : IsCanonicalBody o.body
 
--- ids of one user and one group
+-- ids of one user and one group, and further groups
 pub record IsCanonicalIds (ids : Ids) : Type 0 where
   pub user : IsNumber ids.euid
   pub group : IsNumber ids.egid
@@ -78,7 +78,7 @@ canonical_ids top p is written = record {
   few = is.few;
 }
 
--- what follows for each from what holds of each
+-- what follows for an item from two properties follows for each item of a list
 each : {X : Type 0} (P Q R : X → Type 0) → ((x : X) → P x → Q x → R x) → (xs : List X) → AllByRecursion P xs → AllByRecursion Q xs → AllByRecursion R xs
 each P Q R f [] ps qs = tt
 each P Q R f (x ∷ xs) ps qs = (f x ps.0 qs.0, each P Q R f xs ps.1 qs.1)

@@ -1,4 +1,4 @@
--- What is written is read as the same world.
+-- The round trip of a world's text.
 use Rattle.std.specs.Prelude.{◌≡◌, ℕ, ◌+◌, ◌≤◌, ◌==◌, ◌||◌, not, nat_le, Bool, true, false, cond, List, [], ◌∷◌, ◌++◌, length, map, Option, Some, is_some, codes, count_by, refl}
 use Rattle.std.proofs.Common.{ap, sym, ◌∙◌, subst, append-nil, append_assoc, arith}
 use Rattle.std.specs.Fmt.{decimal}
@@ -60,7 +60,7 @@ use Rattle.world_text.proofs.WrittenValues.{path_round_trip, path_spelling, labe
 abbrev text_of : List LineWord → List ℕ
 text_of words = line_text (map spelling words)
 
--- the reading goes on after a line
+-- after a line the reading goes on with what is expected next
 step_on : (n : ℕ) (expecting next : Expecting) (words : List LineWord) (more : List (List LineWord)) → parse_line expecting (text_of words) ≡ GoesOn next
     → reading n expecting (written_pieces (words ∷ more)) ≡ reading (n + 1) next (written_pieces more)
 unfolding reading
@@ -73,7 +73,7 @@ step_last : (n : ℕ) (expecting : Expecting) (w : WorldText) (words : List Line
 unfolding reading
 step_last n expecting w words e = ap (λ (parsed : Parsed). after parsed n ([] ∷ []) (λ expecting. reading (n + 1) expecting ([] ∷ []))) e
 
--- the line of each item puts it after those before it
+-- the line of each item adds it after those before it
 abbrev EachAdds : {X : Type 0} → (X → List LineWord) → (List X → Expecting) → List X → List X → Type 0
 EachAdds words expecting done [] = Unit {0}
 EachAdds words expecting done (x ∷ xs) = (parse_line (expecting done) (text_of (words x)) ≡ GoesOn (expecting (done ++ x ∷ []))) × EachAdds words expecting (done ++ x ∷ []) xs
@@ -122,7 +122,7 @@ categories_line policy h short =
     line_is (at.Categories policy.levels) (codes "categories") (map bare policy.cats) refl (names_spelling policy.cats is.cat_names) short ∙ ap (parse_categories policy.levels) (canonical_names policy.cats)
     ∙ cond-false _ _ _ (ap not is.cat_names) ∙ cond-false _ _ _ (le-ltb 64 (length policy.cats) is.few_cats) ∙ cond-false _ _ _ (ap not is.cats_apart)
 
--- what stands in the tree so far
+-- a tree line is expected, after these objects and processes
 abbrev tree_at : PolicyNames → CapSet → List WorldObject → List WorldProc → Expecting
 tree_at policy bound objects procs = at.Tree (record { policy = policy; bound = bound; builder = record { objects = objects; procs = procs } })
 
@@ -133,7 +133,7 @@ bound_line policy bound short =
     line_is (at.Bound policy) (codes "bound") (bare (set_text bound) ∷ []) refl (and_from _ _ (bound_bare bound) refl) short
     ∙ ap (λ (v : WordValue CapSet). with_value v (λ bound. GoesOn (tree_at policy bound [] []))) (bound_known bound)
 
--- the reading comes to the tree
+-- after the head lines, a tree line is expected
 head_read : (policy : PolicyNames) (bound : CapSet) (more : List (List LineWord)) → MakePolicy policy → IsShort (names_words (codes "levels") policy.levels)
     → IsShort (names_words (codes "categories") policy.cats) → IsShort (names_words (codes "bound") (set_text bound ∷ []))
     → reading 1 at.Format (written_pieces (head_words policy bound ++ more)) ≡ reading 5 (tree_at policy bound [] []) (written_pieces more)
@@ -145,7 +145,7 @@ head_read policy bound more h levels cats bounded =
     ∙ step_on 3 (at.Categories policy.levels) (at.Bound policy) (names_words (codes "categories") policy.cats) after_cats (categories_line policy h cats)
     ∙ step_on 4 (at.Bound policy) (tree_at policy bound [] []) (names_words (codes "bound") (set_text bound ∷ [])) more (bound_line policy bound bounded)
 
--- ---- what is there
+-- ---- values that are there
 
 then_some : {A X : Type 0} (o : Option A) (x : A) (k : A → Option X) → o ≡ Some x → then o k ≡ k x
 then_some {A} o x k e = ap (λ (o : Option A). then o k) e
@@ -153,14 +153,14 @@ then_some {A} o x k e = ap (λ (o : Option A). then o k) e
 form_some : {X : Type 0} (o : Option X) (x : X) (k : X → Parsed) → o ≡ Some x → with_form o k ≡ k x
 form_some {X} o x k e = ap (λ (o : Option X). with_form o k) e
 
--- what comes of two values that are known
+-- two values that are known are passed on
 values_known : {A B : Type 0} (v : WordValue A) (u : WordValue B) (a : A) (b : B) (k : A × B → Parsed) → v ≡ value.Known a → u ≡ value.Known b → with_value (both v u) k ≡ k (a, b)
 values_known v u a b k e f = λ i. with_value (both (e i) (f i)) k
 
 number_spelling : (n : ℕ) → IsNumber n → has_spelling (bare (decimal n)) ≡ true
 number_spelling n small = decimal_bare n (omega arith)
 
--- one more at a label leaves fewer than all before it
+-- before an item there is room at its label, where there are not too many with the item
 room_left : {X : Type 0} (label : X → Label) (done : List X) (x : X) (more : List X) (most : ℕ) → ((l : Label) → count_by (λ y. same_label (label y) l) (done ++ x ∷ more) ≤ most)
     → nat_le most (count_by (λ y. same_label (label y) (label x)) done) ≡ false
 room_left {X} label done x more most room =
@@ -246,7 +246,7 @@ unfolding object_words
 object_line w o h valid is plain short =
     line_is (at.Tree w) (body_keyword o.body) _ (keyword_begins o.body) (object_spelling w.policy o h valid is) short ∙ object_says w o.path o.label o.attr o.body h valid is plain
 
--- the root goes first
+-- the root may be given first
 root_adds : (policy : PolicyNames) (bound : CapSet) (o : WorldObject) → o.path.names ≡ [] → o.body ≡ body.Dir → o.label ≡ bottom
     → parse_object (record { policy = policy; bound = bound; builder = record { objects = []; procs = [] } }) o ≡ GoesOn (tree_at policy bound (o ∷ []) [])
 unfolding object_fault
@@ -256,7 +256,7 @@ root_adds policy bound o no_names dir lowest =
     ∙ cond-false _ _ _ (and_right (is_root o.path.names) _ (ap not (and_from _ _ (ap (λ b. is_dir (kind_of b)) dir) (ap (dominates bottom) lowest ∙ dominates_itself bottom))))
     ∙ cond-false _ _ _ (ap (λ (ns : List Name). not (is_above o.label (directory_of [] ns))) no_names))
 
--- an object that is no root stands in the directory that was given
+-- an object after the root is in a directory that was given
 below_root : (first : WorldObject) (rest : List WorldObject) (o : WorldObject) (p : IsPlaced (first ∷ rest) o) (names : List Name) → first.path.names ≡ [] → o.path.names ≡ names
     → (is_root o.path.names ≡ false) × (directory_of (first ∷ rest) o.path.names ≡ Some p.parent)
 below_root first rest o p [] root e =
@@ -277,7 +277,7 @@ placed_adds policy bound first rest o root p room =
     cond-false _ _ _ (ap is_some p.new) ∙ cond-false _ _ _ (ap not (or_right (is_root o.path.names) _ dir)) ∙ cond-false _ _ _ (and_left _ _ below.0)
     ∙ cond-false _ _ _ (ap not (ap (is_above o.label) below.1 ∙ p.order)) ∙ cond-false _ _ _ room)
 
--- the lines of objects after the root
+-- the line of each object after the root adds it
 objects_add : (policy : PolicyNames) (bound : CapSet) (first : WorldObject) (rest os : List WorldObject) → MakePolicy policy → first.path.names ≡ [] → ArePlaced (first ∷ rest) os
     → AllByRecursion (λ (o : WorldObject). is_valid policy o.label ≡ true) os → AllByRecursion (λ (o : WorldObject). IsCanonicalObject o) os
     → AllByRecursion (λ (o : WorldObject). is_file (kind_of o.body) ≡ false → o.attr.caps ≡ no_flags) os → AllByRecursion IsShort (map (object_words policy) os)
@@ -290,7 +290,7 @@ objects_add policy bound first rest (o ∷ os) h root placed valid written plain
       objects_add policy bound first (rest ++ o ∷ []) os h root placed.1 valid.1 written.1 plain.1 short.1 more,
     )
 
--- the lines of the objects of a world
+-- the line of each object of a world adds it
 tree_adds : (policy : PolicyNames) (bound : CapSet) (os : List WorldObject) (first : WorldObject) (others : List WorldObject) → MakePolicy policy → os ≡ first ∷ others
     → first.path.names ≡ [] → first.body ≡ body.Dir → first.label ≡ bottom → ArePlaced (first ∷ []) others
     → AllByRecursion (λ (o : WorldObject). is_valid policy o.label ≡ true) os → AllByRecursion (λ (o : WorldObject). IsCanonicalObject o) os

@@ -1,4 +1,4 @@
--- Paths, labels and capabilities that are written are read again.
+-- Round trips of paths, labels and capability texts.
 use Rattle.std.specs.Prelude.{◌≡◌, ℕ, ◌+◌, ◌≤◌, ◌<◌, ◌==◌, ◌&&◌, not, nat_le, nat_lt, Bool, true, false, cond, List, [], ◌∷◌, ◌++◌, length, Option, None, Some, is_none, codes, position, map, refl}
 use Rattle.std.proofs.Common.{ap, sym, ◌∙◌, subst, append-nil, arith}
 use Rattle.std.specs.Cmp.{unsigned_Decides}
@@ -44,7 +44,7 @@ use Rattle.world_text.proofs.WrittenForms.{IsCanonicalPath}
 
 -- ---- names
 
--- what a name has
+-- what holds of the bytes of a name
 record NameParts (n : Name) : Type 0 where
   some : 1 ≤ length n
   short : length n ≤ 63
@@ -88,7 +88,7 @@ split_round_trip n (m ∷ ms) h =
     let parts = and_parts (is_name n) (list_all is_name (m ∷ ms)) h in
     slice_split_at is_slash n 47 (m ++ after_slashes ms) (no_slashes n (name_parts n parts.0).bytes) refl ∙ ap (λ (ns : List Name). n ∷ ns) (split_round_trip m ms parts.1)
 
--- each name counts
+-- each name counts as a component
 kept_all : (at : ℕ) (ns : List Name) → list_all is_name ns ≡ true → filter counts (placed at ns) ≡ placed at ns
 kept_all at [] h = refl
 kept_all at (n ∷ ns) h =
@@ -133,7 +133,7 @@ name_fine count at n h few =
     cond-false _ _ _ (le-ltb 63 (length n) parts.short) ∙ cond-false _ _ _ (starts_well n parts.some parts.bytes parts.no_dots) ∙ cond-false _ _ _ (lt-leb 32 count few)
     ∙ ap (option_map (λ i. error.BadByte (at + i))) place
 
--- names as components are without fault
+-- names that are not too many have no fault as components
 names_fine : (count at : ℕ) (ns : List Name) → list_all is_name ns ≡ true → count + length ns ≤ 32 → first_fault count (placed at ns) ≡ None
 names_fine count at [] h few = refl
 names_fine count at (n ∷ ns) h few =
@@ -172,7 +172,7 @@ path_is names h =
     let parsed = ap names_of (components_round_trip names h) ∙ names_placed 1 names in
     λ i. record { absolute = starts_absolute names i; names = parsed i }
 
--- a path's text says that path
+-- a path's text denotes that path
 pub path_round_trip : (p : PathValue) → IsCanonicalPath p → absolute_path (path_text p.names) ≡ Some p
 path_round_trip p h =
     let form : HasForm true p.names = subst (λ v. HasForm v p.names) h.absolute h.form in
@@ -180,23 +180,23 @@ path_round_trip p h =
     let parsed : path_of (path_text p.names) ≡ Some p = cond-true _ _ _ (ap is_none (path_fine p.names form h.form.named)) ∙ ap Some (path_is p.names h.form.named ∙ sym same) in
     ap (λ (o : Option PathValue). then o (λ path. keep_if path.absolute path)) parsed ∙ cond-true _ _ _ h.absolute
 
--- a path's text can be written
+-- a path's text can be written as a word
 pub path_spelling : (p : PathValue) → IsCanonicalPath p → has_spelling (with_quotes_if_needed (path_text p.names)) ≡ true
 path_spelling p h = word_spelling (path_text p.names) h.bytes
 
 -- ---- labels
 
--- the text of a valid label says that label
+-- the text of a valid label denotes that label
 pub label_round_trip : (p : PolicyNames) (label : Label) → MakePolicy p → is_valid p label ≡ true → label_of p (label_text p label) ≡ value.Known label
 label_round_trip p label h valid = sym (label_known p (label_text p label) label (parse_text p label h valid))
 
 -- ---- capabilities
 
--- the text of a state says that state
+-- the text of a state denotes that state
 pub caps_known : (caps : CapState) → caps_of (caps_text caps) ≡ value.Known caps
 caps_known caps = ap caps_value (caps_round_trip caps)
 
--- and it is one that a process may have, where what is effective is permitted
+-- the text of a state in which what is effective is permitted denotes it as the state of a process
 pub proc_caps_known : (caps : CapState) → is_within caps.e caps.p ≡ true → proc_caps_of (caps_text caps) ≡ value.Known caps
 proc_caps_known caps within = ap proc_caps (caps_known caps) ∙ cond-true _ _ _ within
 
@@ -223,10 +223,10 @@ plain_bytes (b ∷ bs) h = let parts = and_parts (is_plain b) (list_all is_plain
 pub caps_spelling : (caps : CapState) → has_spelling (quoted (caps_text caps)) ≡ true
 caps_spelling caps = plain_bytes (caps_text caps) (caps_text_plain caps)
 
--- the text of a bound says that bound
+-- the text of a bound denotes that bound
 pub bound_known : (bound : CapSet) → set_of (set_text bound) ≡ value.Known bound
 bound_known bound = ap caps_value (set_round_trip bound)
 
--- it stands bare
+-- the text of a bound is a bare word
 pub bound_bare : (bound : CapSet) → is_bare_text (set_text bound) ≡ true
 bound_bare bound = and_from _ _ (lt-ltb 0 (length (set_text bound)) (set_text_some bound)) (set_text_bare bound)

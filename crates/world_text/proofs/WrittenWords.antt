@@ -1,4 +1,4 @@
--- Lines that are written are read as their words.
+-- Written lines are read as their words.
 use Rattle.std.specs.Prelude.{◌≡◌, ℕ, ◌+◌, ◌/◌, ◌%◌, ◌≤◌, ◌==◌, ◌&&◌, ◌||◌, not, nat_le, nat_lt, Bool, true, false, cond, List, [], ◌∷◌, ◌++◌, length, drop, map, Option, refl}
 use Rattle.std.proofs.Common.{ap, ◌∙◌, append_assoc, arith}
 use Rattle.std.specs.List.{flat_map, list_all, onto_first, prefix_len}
@@ -16,7 +16,7 @@ use Rattle.world_text.specs.Written.{bare, line_of}
 
 -- ---- line feeds
 
--- a byte above those of line feeds
+-- a byte from 32 on, which is no line feed
 abbrev is_high : ℕ → Bool
 is_high b = nat_le 32 b
 
@@ -75,7 +75,7 @@ line_high (w ∷ ws) can =
 no_feed : (b : ℕ) → is_high b ≡ true → (b == 10) ≡ false
 no_feed b h = grind (arith, nat_tests)
 
--- a line feed ends the first piece
+-- the first line feed ends the first piece
 first_piece : (line rest : List ℕ) → list_all is_high line ≡ true → pieces 10 (line ++ 10 ∷ rest) ≡ line ∷ pieces 10 rest
 first_piece [] rest high = refl
 first_piece (b ∷ bs) rest high =
@@ -96,7 +96,7 @@ pieces_round_trip (words ∷ lines) can =
 
 -- ---- lines
 
--- a keyword, which begins no comment
+-- a keyword begins with no space and no `#`
 abbrev pub begins_line : List ℕ → Bool
 begins_line [] = false
 begins_line (b ∷ bs) = not (is_space b) && not (b == 35)
@@ -108,7 +108,7 @@ not_blank (b ∷ bs) rest begins =
     let parts = and_parts (not (is_space b)) (not (b == 35)) begins in
     ap (λ v. is_empty_or_comment (drop (cond v (1 + prefix_len is_space (bs ++ rest)) 0) (b ∷ (bs ++ rest)))) (not-true (is_space b) parts.0) ∙ not-true (b == 35) parts.1
 
--- a line that is written says what its words say
+-- a written line is parsed as its words are
 pub line_is : (expecting : Expecting) (key : List ℕ) (ws : List LineWord) → begins_line key ≡ true → list_all has_spelling (bare key ∷ ws) ≡ true
     → length (line_text (map spelling (bare key ∷ ws))) ≤ MAX_LINE → parse_line expecting (line_text (map spelling (bare key ∷ ws))) ≡ parse_words expecting (bare key ∷ ws)
 unfolding parse_line

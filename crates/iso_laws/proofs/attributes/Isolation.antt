@@ -1,4 +1,4 @@
--- The calls on attributes: a Low process in the state and in its part, and what the changes meet.
+-- The calls on attributes: a Low process in the state and in its part, and what the changes satisfy.
 use Rattle.std.specs.Prelude.{◌≡◌, ℕ, Bool, true, List, Some, refl}
 use Rattle.std.specs.FinMap as map
 use Rattle.fs_path.specs.Path.{PathValue}

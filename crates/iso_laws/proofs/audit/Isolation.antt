@@ -1,4 +1,4 @@
--- The calls on the audit trail: a Low process in the state and in its part, and what the changes meet.
+-- The calls on the audit trail: a Low process in the state and in its part, and what the changes satisfy.
 use Rattle.std.specs.Prelude.{◌≡◌, ℕ, Bool, true, List, Some, refl}
 use Rattle.std.specs.FinMap as map
 use Rattle.lab_lattice.specs.Label.{Label}

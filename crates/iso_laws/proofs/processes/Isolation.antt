@@ -1,4 +1,4 @@
--- The calls on processes: a Low process in the state and in its part, and what the changes meet.
+-- The calls on processes: a Low process in the state and in its part, and what the changes satisfy.
 use Rattle.std.specs.Prelude.{◌≡◌, ℕ, Bool, true, List, [], ◌∷◌, Some, refl}
 use Rattle.std.proofs.Common.{sym, ◌∙◌, subst}
 use Rattle.std.proofs.lemmas.Bool.{and_parts}
@@ -81,7 +81,7 @@ module _ (bad : Rec → Bool) (s : State) (valid : IsValid s) (who : Pid) (p : P
   own : IsValidProcess s who p
   own = valid.procs who p is
 
-  -- other users and groups
+  -- the caller gets other users and groups
   set_ids : (ids : Ids) → ids.groups ≡ p.ids.groups → P (SetProcess who (record p { ids = ids }) ∷ [])
   set_ids ids groups = cases.self ids p.caps p.umask p.audited groups own.within (λ _. own.umask)
 
@@ -112,7 +112,7 @@ module _ (bad : Rec → Bool) (s : State) (valid : IsValid s) (who : Pid) (p : P
   pub umask_meets : (mode : ℕ) → (fit → is_permission mode ≡ true) → Meets bad who p P (umask_row s who p mode)
   umask_meets mode args = given (cases.self p.ids p.caps mode p.audited refl own.within args)
 
-  -- what the caller may become has no effective capability that is not permitted
+  -- the capability sets that the caller may set have nothing effective that is not permitted
   pub cap_set_proc_meets : (caps : CapState) → Meets bad who p P (cap_set_proc_row s who p caps)
   cap_set_proc_meets caps =
       ends_need bad (subject who p) P cases.none _ _ (λ passes.

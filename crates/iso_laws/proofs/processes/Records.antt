@@ -1,5 +1,4 @@
--- The calls on processes: fork, exec and cap_set_proc leave a record that gives the sets after them, and each other call leaves each
--- process its capability sets.
+-- The calls on processes: fork, exec and cap_set_proc report the sets after them, and each other call leaves each process its sets.
 use Rattle.std.specs.Prelude.{◌≡◌, ℕ, ◌+◌, List, [], ◌∷◌, Option, Some, None, refl}
 use Rattle.std.specs.List.{AllByRecursion}
 use Rattle.std.proofs.Common.{ap}

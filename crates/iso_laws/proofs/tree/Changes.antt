@@ -38,15 +38,15 @@ pub not_true_false : (b : Bool) → not b ≡ true → b ≡ false
 not_true_false true h = sym h
 not_true_false false h = refl
 
--- what is not one compares so
+-- different numbers compare unequal
 pub distinct : (a b : Oid) → (a ≡ b → ⊥) → same_oid a b ≡ false
 distinct a b other = not_true _ (λ t. other (same_key oid_cmp_exact a b t))
 
--- and what compares so is not one
+-- numbers that compare unequal are different
 pub never_same : (a b : Oid) → same_oid a b ≡ false → a ≡ b → ⊥
 never_same a b other same = true≢false (ap is_eq (sym (tied_itself oid_cmp_total a)) ∙ ap (same_oid a) same ∙ other)
 
--- what is no directory has no entries
+-- an object that is no directory has no entries
 pub no_entries : (s : State) → IsValid s → (id : Oid) → is_dir (object_at s id).kind ≡ false → is_empty s id ≡ true
 no_entries s valid id no_dir = ap not (none_pass spot_cmp_total spot_cmp_exact (λ (spot : Spot) (at : Oid). same_oid spot.0 id) s.entries (λ spot at e.
     not_true (same_oid spot.0 id) (λ t.
@@ -55,7 +55,7 @@ no_entries s valid id no_dir = ap not (none_pass spot_cmp_total spot_cmp_exact (
     let no : true ≡ false = ap is_dir (sym entry.is_dir) ∙ ap (λ (o : Object). is_dir o.kind) (sym (get_or-found s.objects id (stub_object s.top) entry.dir is)) ∙ no_dir in
     cc)))
 
--- no name stands in an empty directory
+-- an empty directory has no name
 pub none_in : (s : State) (dir : Oid) (name : Name) → is_empty s dir ≡ true → look s dir name ≡ None
 none_in s dir name empty =
     elim (look s dir name) as (λ w. look s dir name ≡ w → w ≡ None) [
@@ -66,6 +66,7 @@ none_in s dir name empty =
 
 -- ---- other objects and entries
 module _ (s : State) (objects : FinMap oid_cmp Object) (entries : FinMap spot_cmp Oid) (object_numbers : FinMap label_cmp ℕ) where
+  -- a state with other objects, entries and numbers drawn of objects
   abbrev pub with_tree : State
   with_tree = record s { objects = objects; entries = entries; object_numbers = object_numbers }
 
@@ -73,7 +74,7 @@ module _ (s : State) (objects : FinMap oid_cmp Object) (entries : FinMap spot_cm
   tree_ended [] h = tt
   tree_ended (e ∷ es) h = (record { below = h.0.below; drawn_already = h.0.drawn_already }, tree_ended es h.1)
 
-  -- an object that may have other names
+  -- an object stays valid where it has room for its names and, as a directory, is reached or is removed and empty
   pub tree_object : (id : Oid) (o : Object) → IsValidObject s id o → IsDrawn id.n (drawn object_numbers id.label) → (is_dir o.kind ≡ false → link_count with_tree id ≤ MAX_LINKS)
       → (o.kind ≡ kind.Dir → IsReached with_tree id ⊎ ((is_removed with_tree id ≡ true) × (is_empty with_tree id ≡ true))) → IsValidObject with_tree id o
   tree_object id o valid drawn_already few_names reached = record {
@@ -89,7 +90,7 @@ module _ (s : State) (objects : FinMap oid_cmp Object) (entries : FinMap spot_cm
     reached = reached;
   }
 
-  -- what was there is there
+  -- each object that was there is still there
   module _ (still : (id : Oid) (o : Object) → map.get s.objects id ≡ Some o → map.get objects id ≡ Some o) where
     pub tree_entry : (spot : Spot) (id : Oid) → IsValidEntry s spot id → IsValidEntry with_tree spot id
     tree_entry spot id valid = record {
@@ -129,6 +130,7 @@ module _ (s : State) (objects : FinMap oid_cmp Object) (entries : FinMap spot_cm
       held = tree_held did valid.held;
     }
 
+    -- a state with other objects, entries and numbers is valid where each object and entry of it is
     pub valid_tree : IsValid s
         → ((id : Oid) (o : Object) → map.get objects id ≡ Some o → IsValidObject with_tree id o)
         → ((spot : Spot) (id : Oid) → map.get entries spot ≡ Some id → IsValidEntry with_tree spot id)
@@ -148,7 +150,7 @@ module _ (s : State) (objects : FinMap oid_cmp Object) (entries : FinMap spot_cm
           description_numbers = valid.description_numbers;
         }
 
--- ---- an entry that goes, of something that contains no entry
+-- ---- an entry is removed, and what it leads to contains no entry
 module _ (s : State) (valid : IsValid s) (spot : Spot) (id : Oid) (is : map.get s.entries spot ≡ Some id) (empty : is_empty s id ≡ true) where
   abbrev left : FinMap spot_cmp Oid
   left = map.remove s.entries spot
@@ -162,7 +164,7 @@ module _ (s : State) (valid : IsValid s) (spot : Spot) (id : Oid) (is : map.get 
   gone : map.get left spot ≡ None
   gone = get-remove_same spot_cmp_total s.entries spot
 
-  -- nothing is met by what is left that was met by none
+  -- a test that no entry passed is passed by none that is left
   still_none : (p : Spot → Oid → Bool) → any_entry p s.entries ≡ false → any_entry p left ≡ false
   still_none p h = none_pass spot_cmp_total spot_cmp_exact p left (λ at q e. none_passes spot_cmp_total spot_cmp_exact p s.entries h at q (was at q e))
 
@@ -172,7 +174,7 @@ module _ (s : State) (valid : IsValid s) (spot : Spot) (id : Oid) (is : map.get 
       let none : None ≡ Some q = sym (ap (option_and_then (λ (next : Oid). leads s next names)) (none_in s id name empty)) ∙ h in
       absurd (cc)
 
-  -- what is reached is reached still, but for what the entry led to
+  -- names lead where they led, unless they led to what the removed entry leads to
   leads_left : (names : List Name) (from q : Oid) → leads s from names ≡ Some q → (leads next_state from names ≡ Some q) ⊎ (q ≡ id)
   leads_left [] from q h = inl h
   leads_left (name ∷ names) from q h =
@@ -230,8 +232,8 @@ module _ (s : State) (valid : IsValid s) (spot : Spot) (id : Oid) (is : map.get 
       (λ a b q o e g. valid.one_entry a b q o (was a q e) (was b q g))
       valid.object_numbers
 
--- ---- an entry where none was, in a directory that is not removed
--- names lead to such a directory
+-- ---- an entry is added where none was, in a directory that is not removed
+-- names lead to a directory that is not removed
 pub standing_reached : (s : State) → IsValid s → (dir : Oid) → IsDir s.objects dir → is_removed s dir ≡ false → IsReached s dir
 standing_reached s valid dir dir_is standing = elim ((valid.objects dir dir_is.object dir_is.is).reached dir_is.dir) as (λ w. IsReached s dir) [
   | inl r ↦ r
@@ -248,7 +250,7 @@ module _ (s : State) (valid : IsValid s) (objects : FinMap oid_cmp Object) (obje
   kept_entry : (at : Spot) (q : Oid) → map.get s.entries at ≡ Some q → map.get added at ≡ Some q
   kept_entry = get-insert_kept spot_cmp_total spot_cmp_exact s.entries (dir, name) to free
 
-  -- an entry that leads elsewhere was there
+  -- an entry of something else was there before
   old_entry : (at : Spot) (q : Oid) → map.get added at ≡ Some q → (q ≡ to → ⊥) → map.get s.entries at ≡ Some q
   old_entry = each-insert spot_cmp_total spot_cmp_exact (λ (at : Spot) (q : Oid). (q ≡ to → ⊥) → map.get s.entries at ≡ Some q) s.entries (λ at q e _. e) (dir, name) to (λ other. absurd (other refl))
 
@@ -333,7 +335,7 @@ module _ (s : State) (valid : IsValid s) (dir : Oid) (name : Name) (id : Oid) (d
       valid.object_numbers
 
 -- ---- an object that is made
--- an object as its maker may have it
+-- an object as a process may make it
 pub record IsFresh (p : Process) (o : Object) : Type 0 where
   pub label : o.label ≡ p.label
   pub mode : is_mode o.attr.mode ≡ true
@@ -341,7 +343,7 @@ pub record IsFresh (p : Process) (o : Object) : Type 0 where
   pub bytes : o.bytes ≡ []
   pub no_pipe : o.kind ≡ kind.Pipe → ⊥
 
--- the next number has nothing
+-- no object has the next number
 pub next_absent : (s : State) → IsValid s → (l : Label) → map.get s.objects (next_object s l) ≡ None
 next_absent s valid l =
     elim (map.get s.objects (next_object s l)) as (λ w. map.get s.objects (next_object s l) ≡ w → w ≡ None) [
@@ -407,7 +409,7 @@ module _ (s : State) (valid : IsValid s) (p : Process) (dir : Oid) (name : Name)
     order = ap (λ (l : Label). dominates l dir_is.object.label) fresh.label ∙ order;
   })
 
-  -- what an entry leads to, where something was there before
+  -- only one entry leads to a directory
   one_made : (a b : Spot) (q : Oid) (x : Object) → map.get entries_now a ≡ Some q → map.get entries_now b ≡ Some q → map.get more_objects q ≡ Some x → x.kind ≡ kind.Dir → a ≡ b
   one_made a b q x e g q_is q_dir =
       let at_new : (at : Spot) (z : Oid) → map.get entries_now at ≡ Some z → z ≡ new → at ≡ (dir, name) =

@@ -1,4 +1,4 @@
--- What a Low process asks of the entries of a Low directory, and of a Low object's names: the part answers the same.
+-- Entries of a Low directory and names of a Low object: what rows depend on is the same in the part.
 use Rattle.std.specs.Prelude.{◌≡◌, ◌&&◌, not, true, false, [], ◌∷◌, Some, None, refl, cond, length}
 use Rattle.std.proofs.Common.{sym, ◌∙◌, ap, arith}
 use Rattle.std.specs.FinMap as map
@@ -23,12 +23,12 @@ use Rattle.iso_laws.proofs.Sight.{low_below, not_true, object_low}
 pub true_is_not_false : true ≡ false → ⊥
 true_is_not_false e = cc
 
--- in another directory than a Low one, or a Low one
+-- a directory that is not Low differs from one that is
 other_dir : (l : Label) (id : Oid) → low l id.label ≡ true → (dir : Oid) → low l dir.label ≡ false → same_oid dir id ≡ false
 other_dir l id is_low dir high = not_true (same_oid dir id) (λ t. true_is_not_false (sym is_low ∙ ap (λ (d : Oid). low l d.label) (sym (same_key oid_cmp_exact dir id t)) ∙ high))
 
 module _ (l : Label) (s : State) (id : Oid) (is_low : low l id.label ≡ true) where
-  -- a test of the entries of the directory
+  -- an entry is in a Low directory in the part exactly where it is in the state
   stands : (spot : Spot) (at : Oid) → test_after (λ (at_spot : Spot) (to : Oid). same_oid at_spot.0 id) spot (where_key (low_spot l) (shown l s.top) spot at) ≡ same_oid spot.0 id
   stands spot at =
       elim (low l spot.0.label) as (λ b. low l spot.0.label ≡ b → test_after (λ (at_spot : Spot) (to : Oid). same_oid at_spot.0 id) spot (cond b (Some (shown l s.top at)) None) ≡ same_oid spot.0 id) [
@@ -55,7 +55,7 @@ module _ (l : Label) (s : State) (id : Oid) (is_low : low l id.label ≡ true) w
   unfolding by_number
   entry_count_low = count_entries-select spot_cmp_total spot_cmp_exact (where_key (low_spot l) (shown l s.top)) (λ (spot : Spot) (to : Oid). same_oid spot.0 id) (λ (spot : Spot) (to : Oid). same_oid spot.0 id) s.entries (λ spot at _. stands spot at)
 
--- the names of a Low object stand in Low directories
+-- the names of a Low object are in Low directories
 module _ (l : Label) (s : State) (kept : Kept l s) (valid : IsValid s) (id : Oid) (there : IsThere s.objects id) (is_low : low l id.label ≡ true) where
   no_stub : same_oid (stub s.top) id ≡ false
   no_stub = not_true _ (λ t. let none : 0 ≡ id.n = ap (λ (q : Oid). q.n) (same_key oid_cmp_exact (stub s.top) id t) in absurd (omega (arith, none, (valid.objects id there.value there.is).drawn_already.0)))
@@ -72,6 +72,7 @@ module _ (l : Label) (s : State) (kept : Kept l s) (valid : IsValid s) (id : Oid
       let entry = valid.entries spot id e in
       kept.objects spot.0 entry.dir entry.dir_is ∙ low_below l entry.object.label entry.dir.label (sym (kept.objects id entry.object entry.object_is) ∙ is_low) entry.order
 
+  -- an entry leads to a Low object in the part exactly where it does in the state
   pub leads_to : (spot : Spot) (at : Oid) → map.get s.entries spot ≡ Some at → test_after (λ (at_spot : Spot) (to : Oid). same_oid to id) spot (where_key (low_spot l) (shown l s.top) spot at) ≡ same_oid at id
   leads_to spot at e =
       elim (low l spot.0.label) as (λ b. low l spot.0.label ≡ b → test_after (λ (at_spot : Spot) (to : Oid). same_oid to id) spot (cond b (Some (shown l s.top at)) None) ≡ same_oid at id) [
@@ -102,7 +103,7 @@ module _ (l : Label) (s : State) (kept : Kept l s) (valid : IsValid s) (id : Oid
   links_reported kind.Fifo = link_count_low
   links_reported kind.Pipe = refl
 
-  -- it is reported the same
+  -- the part reports the same of a Low object
   pub stat_of_low : stat_of (by_number l s) id ≡ stat_of s id
   unfolding stat_of
   stat_of_low =

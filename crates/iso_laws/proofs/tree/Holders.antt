@@ -35,7 +35,7 @@ module _ (s : State) where
   held_by : (spot : Spot) (id : Oid) → map.get s.entries spot ≡ Some id → is_held s id ≡ true
   held_by spot id is = true_from_ne_false _ (λ none. never_same id id (none_passes spot_cmp_total spot_cmp_exact (λ (at : Spot) (to : Oid). same_oid to id) s.entries none spot id is) refl)
 
-  -- what one entry alone leads to is held by its directory
+  -- an object to which one entry alone leads is held by the directory of that entry
   one_holder : (spot : Spot) (id : Oid) → map.get s.entries spot ≡ Some id → ((at : Spot) → map.get s.entries at ≡ Some id → at ≡ spot) → holder s id ≡ Some spot.0
   unfolding holder any_entry
   one_holder spot id is alone = find_only (λ (e : Spot × Oid). same_oid e.1 id) (λ (e : Spot × Oid). e.0.0) spot.0 (map.entries s.entries)
@@ -61,7 +61,7 @@ module _ (s : State) where
   under_itself zero id = same_itself id
   under_itself (suc n) id = or_left _ _ (same_itself id)
 
-  -- what is under a directory is under the one that holds that
+  -- what is under a directory is under the directory that holds it
   under_more : (n : ℕ) (id dir top : Oid) → holder s dir ≡ Some top → is_under_within s n id dir ≡ true → is_under_within s (suc n) id top ≡ true
   under_more zero id dir top is under =
       let here : id ≡ dir = same_key oid_cmp_exact id dir under in
@@ -83,7 +83,7 @@ record IsEntryTo (entries : FinMap spot_cmp Oid) (id : Oid) (Above : Oid → Typ
   pub is : map.get entries spot ≡ Some id
   pub above : Above spot.0
 
--- so many entries of a table lead down to an object from what no directory of the state holds
+-- n entries of a table lead down to an object from one that no directory of the state holds
 abbrev IsDeep : State → FinMap spot_cmp Oid → ℕ → Oid → Type 0
 IsDeep s entries zero id = is_held s id ≡ false
 IsDeep s entries (suc n) id = IsEntryTo entries id (IsDeep s entries n)
@@ -93,11 +93,11 @@ abbrev AreEntries : State → FinMap spot_cmp Oid → Type 0
 AreEntries s entries = (spot : Spot) (id : Oid) → map.get entries spot ≡ Some id → map.get s.entries spot ≡ Some id
 
 module _ (s : State) (valid : IsValid s) where
-  -- where an entry stands is a directory
+  -- an entry is in a directory
   dir_of : (spot : Spot) (id : Oid) → map.get s.entries spot ≡ Some id → IsDir s.objects spot.0
   dir_of spot id e = let entry = valid.entries spot id e in record { object = entry.dir; is = entry.dir_is; dir = entry.is_dir }
 
-  -- where names lead on to a directory is one
+  -- names that lead to a directory lead from a directory
   from_dir : (names : List Name) (from to : Oid) → leads s from names ≡ Some to → IsDir s.objects to → IsDir s.objects from
   from_dir [] from to lead to_dir = subst (IsDir s.objects) (sym (some_same from to lead)) to_dir
   from_dir (name ∷ names) from to lead to_dir =
@@ -109,7 +109,7 @@ module _ (s : State) (valid : IsValid s) where
   held_one : (spot : Spot) (id : Oid) → map.get s.entries spot ≡ Some id → IsDir s.objects id → holder s id ≡ Some spot.0
   held_one spot id e dir = one_holder s spot id e (λ at is. valid.one_entry at spot id dir.object is e dir.is dir.dir)
 
-  -- where names lead to is under where they lead from
+  -- a directory to which at most n names lead is under the directory that they lead from, within n steps
   under_from : (names : List Name) (n : ℕ) (from to : Oid) → length names ≤ n → leads s from names ≡ Some to → IsDir s.objects to → is_under_within s n to from ≡ true
   under_from [] n from to few lead to_dir = subst (λ (x : Oid). is_under_within s n x from ≡ true) (some_same from to lead) (under_itself s n from)
   under_from (name ∷ names) zero from to few lead to_dir = absurd (omega (arith, few))
@@ -119,7 +119,7 @@ module _ (s : State) (valid : IsValid s) where
         | Some at ↦ λ e rest. under_more s n to at from (held_one (from, name) at e (from_dir names at to rest to_dir)) (under_from names n at to (omega (arith, few)) rest to_dir)
       ] refl lead
 
-  -- names lead deeper
+  -- names lead as much deeper as there are names
   leads_deeper : (names : List Name) (from to : Oid) (n m : ℕ) → m ≡ length names + n → IsDeep s s.entries n from → leads s from names ≡ Some to → IsDeep s s.entries m to
   leads_deeper [] from to n m sum deep lead =
       let same : n ≡ m = omega (arith, sum) in
@@ -135,14 +135,14 @@ module _ (s : State) (valid : IsValid s) where
   root_free = none_pass spot_cmp_total spot_cmp_exact (λ (spot : Spot) (to : Oid). same_oid to root) s.entries (λ spot id e.
       not_true _ (λ t. (valid.entries spot id e).no_root (same_key oid_cmp_exact id root t)))
 
-  -- each directory is so deep
+  -- each directory has a depth
   depth_of : (id : Oid) → IsDir s.objects id → (n : ℕ) × IsDeep s s.entries n id
   depth_of id dir = elim ((valid.objects id dir.object dir.is).reached dir.dir) as (λ w. (n : ℕ) × IsDeep s s.entries n id) [
     | inl r ↦ (length r.names + 0, leads_deeper r.names root id 0 (length r.names + 0) refl root_free r.lead)
     | inr gone ↦ (0, not_true_false _ (and_parts _ _ gone.0).1)
   ]
 
-  -- and no deeper
+  -- a directory has at most one depth
   one_depth : (es : FinMap spot_cmp Oid) → AreEntries s es → (m n : ℕ) (id : Oid) → IsDir s.objects id → IsDeep s es m id → IsDeep s es n id → m ≡ n
   one_depth es from zero zero id dir a b = refl
   one_depth es from zero (suc n) id dir a b = absurd (true≢false (sym (held_by s b.spot id (from b.spot id b.is)) ∙ a))
@@ -152,7 +152,7 @@ module _ (s : State) (valid : IsValid s) where
       let same : b.spot ≡ a.spot = valid.one_entry b.spot a.spot id dir.object (from b.spot id b.is) a_is dir.is dir.dir in
       ap suc (one_depth es from m n a.spot.0 (dir_of a.spot id a_is) a.above (subst (λ (x : Spot). IsDeep s es n x.0) same b.above))
 
-  -- without the entry that leads to something, what is less deep is as deep as it was
+  -- without the entry that leads to an object, what is less deep than the object keeps its depth
   still_deep : (es : FinMap spot_cmp Oid) → AreEntries s es → (m : ℕ) (id : Oid) → IsDir s.objects id → (deep : IsDeep s es (suc m) id) → (n : ℕ) (x : Oid) → n ≤ m → IsDir s.objects x → IsDeep s es n x → IsDeep s (map.remove es deep.spot) n x
   still_deep es from m id dir deep zero x less x_dir is = is
   still_deep es from m id dir deep (suc n) x less x_dir is =
@@ -166,9 +166,9 @@ module _ (s : State) (valid : IsValid s) where
         above = still_deep es from m id dir deep n is.spot.0 (omega (arith, less)) (dir_of is.spot x there) is.above;
       }
 
-  -- directories that are held at spots which pass a test, and so are those above them
+  -- a set of directories: the spot at which each of them is held passes a test, and its directory is in the set
   module _ (keep : Spot → Bool) (In : Oid → Type 0) (dirs : (id : Oid) → In id → IsDir s.objects id) (up : (spot : Spot) (id : Oid) → map.get s.entries spot ≡ Some id → In id → (keep spot ≡ true) × In spot.0) where
-    -- none is deeper than there are such spots
+    -- none of them is deeper than there are entries at spots that pass the test
     deep_at_most : (es : FinMap spot_cmp Oid) → AreEntries s es → (n : ℕ) (id : Oid) → In id → IsDeep s es n id → n ≤ count_entries (λ (spot : Spot) (to : Oid). keep spot) es
     deep_at_most es from zero id within deep = omega arith
     deep_at_most es from (suc n) id within deep =
@@ -186,7 +186,7 @@ module _ (s : State) (valid : IsValid s) where
       let few = deep_at_most (λ spot. true) (IsDir s.objects) (λ q q_dir. q_dir) (λ spot q e _. (refl, dir_of spot q e)) s.entries (λ spot q e. e) n id dir deep in
       omega (arith, few, count_at_most (λ (spot : Spot) (to : Oid). true) s.entries)
 
-  -- a directory to which names lead from another is under that
+  -- a directory to which names lead is under the directory from which they lead
   led_under : (names : List Name) (from to : Oid) → leads s from names ≡ Some to → IsDir s.objects to → is_under s to from ≡ true
   unfolding is_under
   led_under names from to lead to_dir =
@@ -231,7 +231,7 @@ module _ (l : Label) (s : State) (kept : Kept l s) (valid : IsValid s) where
       elim (low_spot l spot) as (λ b. test_after (λ (at : Spot) (x : Oid). true) spot (cond b (Some (shown l s.top to)) None) ≡ b) [ true ↦ refl | false ↦ refl ]) in
       omega (arith, counted, count_at_most (λ (spot : Spot) (to : Oid). true) part_s.entries)
 
-  -- as far up as something holds a directory, both find the same ones
+  -- where it has enough steps, the search up from a Low directory finds the same in the part as in the state
   same_within : (top : Oid) (n : ℕ) (id : Oid) → IsLowDir id → IsDeep s s.entries n id → (j k : ℕ) → n ≤ j → n ≤ k → is_under_within part_s j id top ≡ is_under_within s k id top
   same_within top zero id low_dir deep j k _ _ =
       let none = no_holder s id deep in
@@ -244,7 +244,7 @@ module _ (l : Label) (s : State) (kept : Kept l s) (valid : IsValid s) where
       ∙ ap (λ b. same_oid id top || b) (same_within top n deep.spot.0 (low_above deep.spot id deep.is low_dir) deep.above j k (omega (arith, more_j)) (omega (arith, more_k)))
       ∙ sym (under_next s top k id deep.spot.0 is)
 
-  -- a Low directory is under another one in the part where it is in the state
+  -- a Low directory is under another one in the part exactly where it is in the state
   pub under_low : (id top : Oid) → IsDir s.objects id → low l id.label ≡ true → is_under part_s id top ≡ is_under s id top
   unfolding is_under
   under_low id top dir is_low =

@@ -1,4 +1,4 @@
--- The calls on entries: a Low process in the state and in its part, and what the changes meet.
+-- The calls on entries: a Low process in the state and in its part, and what the changes satisfy.
 use Rattle.std.specs.Prelude.{◌≡◌, ℕ, ◌+◌, ◌/◌, ◌%◌, ◌==◌, ◌≤◌, ◌&&◌, nat_le, nat_lt, Bool, true, false, not, List, [], ◌∷◌, Option, None, Some, refl, cond}
 use Rattle.std.proofs.Common.{sym, ◌∙◌, ap, subst, arith, inl, inr}
 use Rattle.std.proofs.lemmas.Bool.{and_from, and_cases, le-leb, leb-false}
@@ -51,7 +51,7 @@ use Rattle.iso_laws.proofs.tree.Changes.{no_entries, not_true_false}
 use Rattle.iso_laws.proofs.tree.Holders.{under_low, not_led}
 use Rattle.iso_laws.proofs.tree.Entries.{names_low, empty_low, link_count_low, removed_low, stat_of_low}
 
--- permission bits are a mode
+-- the permission bits of a new object are a mode
 masked_is_mode : (mode umask : ℕ) → is_mode (masked mode umask) ≡ true
 masked_is_mode mode umask =
     let m : ℕ = masked mode umask in
@@ -59,24 +59,24 @@ masked_is_mode mode umask =
     let none : m / STICKY ≡ 0 = omega (arith, small) in
     and_from (nat_le m MAX_MODE) ((m / STICKY) % 2 == 0) (le-leb m MAX_MODE (omega (arith, small))) (ap (λ n. n % 2 == 0) none)
 
--- one more than what is not too many
+-- one more than a number below the limit is within the limit
 below_limit : (n : ℕ) → nat_le MAX_LINKS n ≡ false → n + 1 ≤ MAX_LINKS
 below_limit n h = omega (arith, leb-false MAX_LINKS n h)
 
 -- ---- the row of `rename`, from its end
--- what follows where another object stands at the target
+-- the rest of the row where an object is at the target
 abbrev replacing : State → Oid → Oid → Row → Row
 replacing s id t rest =
     Refuse errno.ENOTDIR (is_dir (object_at s id).kind && not (is_dir (object_at s t).kind))
     (Refuse errno.EISDIR (is_dir (object_at s t).kind && not (is_dir (object_at s id).kind))
     (Refuse errno.ENOTEMPTY (is_dir (object_at s t).kind && not (is_empty s t)) rest))
 
--- what follows the walk of the second path
+-- the rest of the row after the walk of the second path
 abbrev placing : State → Process → PathValue → Oid → Name → Oid → Oid → Name → Option Oid → Row
 placing s p to dir name id into new object =
     write_directory s p into (dir_place (λ n. Second n) to) (held_order s id into (dir_place (λ n. Second n) to)) (give_way s p id object (last_place (λ n. Second n) to) (move_row s dir name id into new))
 
--- what follows the checks of the entry that moves
+-- the rest of the row after the checks of the entry that moves
 abbrev moving : State → Process → PathValue → Oid → Name → Oid → Row
 moving s p to dir name id = walk s p (λ n. Second n) to (λ target. to_entry target (placing s p to dir name id))
 
@@ -85,12 +85,12 @@ module _ (l : Label) (s : State) (kept : Kept l s) (valid : IsValid s) (who : Pi
   abbrev part_s : State
   part_s = by_number l s
 
-  -- a check of a Low object, which the part makes alike
+  -- a check of a Low object, which is the same in the part
   low_check : (id : Oid) → low l id.label ≡ true → (c : Object → Check) (r r' : Row) → (Passes (crosses l) (subject who p) (c (object_at s id)) → Same l s who p r r')
       → Same l s who p (Need (c (object_at s id)) r) (Need (c (object_at part_s id)) r')
   low_check id h c r r' rest = alike_same (crosses l) l s.top (subject who p) (c (object_at s id)) (c (object_at part_s id)) r r' (ap c (object_low l s id h)) rest
 
-  -- an answer that the part gives alike, where nothing changes
+  -- an answer that is the same in the part, where nothing changes
   low_answer : {X : Type 0} (a : X → Answer) (x x' : X) → x' ≡ x → Same l s who p (Commit [] (a x) None) (Commit [] (a x') None)
   low_answer a x x' e = subst (λ y. Same l s who p (Commit [] (a x) None) (Commit [] (a y) None)) (sym e) (alike_give (crosses l) l s.top (subject who p) [] [] (a x) None refl)
 
@@ -119,7 +119,7 @@ module _ (l : Label) (s : State) (kept : Kept l s) (valid : IsValid s) (who : Pi
   low_entry_of_object k k' h (Entry dir name object) seen =
       alike_missing (crosses l) l s.top (subject who p) object (k dir name) (k' dir name) (shown l s.top) (λ id e. h dir name id seen.0 seen.1 (sym seen.2 ∙ e))
 
-  -- an entry that may be taken away from a Low directory, of an object that is Low
+  -- an entry of an object may be removed from a Low directory, and the object is Low
   low_leave : (path : PathValue) (dir id : Oid) → low l dir.label ≡ true → IsThere s.objects id → (r : Row) (r' : Oid → Row) → (low l id.label ≡ true → Same l s who p r (r' id))
       → Same l s who p (leave_from s p path dir id r) (leave_from part_s p path dir (shown l s.top id) (r' (shown l s.top id)))
   low_leave path dir id h there r r' rest =
@@ -128,7 +128,7 @@ module _ (l : Label) (s : State) (kept : Kept l s) (valid : IsValid s) (who : Pi
       (λ _. low_check dir h (λ o. of_object check.DacWrite (mode_allows o.attr p.ids want.Write) None dir o place) _ _
       (λ _. alike_mac_write l s kept valid who p is_low id there (last_place (λ n. First n) path) r r' rest))
 
-  -- the part sees that an entry of a Low directory goes
+  -- the part sees the removal of an entry of a Low directory
   seen_drop : (dir : Oid) (name : Name) → low l dir.label ≡ true → Same l s who p (Commit (DropEntry (dir, name) ∷ []) answer.Nothing None) (Commit (DropEntry (dir, name) ∷ []) answer.Nothing None)
   seen_drop dir name h = alike_give (crosses l) l s.top (subject who p) _ _ answer.Nothing None (sym (part_of_low l s.top (DropEntry (dir, name) ∷ []) (h, tt)))
 
@@ -160,14 +160,14 @@ module _ (l : Label) (s : State) (kept : Kept l s) (valid : IsValid s) (who : Pi
   low_new_name k k' h (Entry dir name None) seen = h dir name seen.0 seen.1
   low_new_name k k' h (Entry dir name (Some id)) seen = alike_fail (crosses l) l s.top (subject who p) errno.EEXIST
 
-  -- a Low directory that is written, where the order of labels is asked alike
+  -- a Low directory may be written, and the check of the order of labels is the same in the part
   low_write_directory : (dir : Oid) → low l dir.label ≡ true → (place : Place) (c c' : Check) → c' ≡ c → (r r' : Row) → Same l s who p r r' → Same l s who p (write_directory s p dir place c r) (write_directory part_s p dir place c' r')
   low_write_directory dir h place c c' e r r' rest =
       low_check dir h (λ o. of_object check.MacWrite (same_label p.label o.label) None dir o place) _ _
       (λ _. low_check dir h (λ o. of_object check.DacWrite (mode_allows o.attr p.ids want.Write) None dir o place) _ _
       (λ _. alike_same (crosses l) l s.top (subject who p) c c' _ _ e (λ _. rest)))
 
-  -- and that gets an entry
+  -- a Low directory may get an entry
   low_enter_in : (dir : Oid) → low l dir.label ≡ true → IsDir s.objects dir → (place : Place) (c c' : Check) → c' ≡ c → (r r' : Row) → Same l s who p r r' → Same l s who p (enter_in s p dir place c r) (enter_in part_s p dir place c' r')
   low_enter_in dir h is_dir place c c' e r r' rest =
       low_write_directory dir h place c c' e _ _
@@ -234,7 +234,7 @@ module _ (l : Label) (s : State) (kept : Kept l s) (valid : IsValid s) (who : Pi
   low_entry k k' h (Start id) seen = alike_fail (crosses l) l s.top (subject who p) errno.EBUSY
   low_entry k k' h (Entry dir name object) seen = h dir name object seen.0 seen.1 seen.2
 
-  -- what stands at the target gives way alike to a Low object
+  -- what is at the target gives way to a Low object in the part as in the state
   low_give_way : (id : Oid) → low l id.label ≡ true → (object : Option Oid) → ((t : Oid) → object ≡ Some t → IsThere s.objects t) → (place : Place) (r r' : Row) → Same l s who p r r'
       → Same l s who p (give_way s p id object place r) (give_way part_s p id (option_map (shown l s.top) object) place r')
   low_give_way id h None there place r r' rest = rest
@@ -275,7 +275,7 @@ module _ (l : Label) (s : State) (kept : Kept l s) (valid : IsValid s) (who : Pi
       (λ id there. alike_enter l s kept valid who p is_low id there (last_place (λ n. First n) path) (stand_in who p id) (stand_in who p)
       (λ _ _. low_itself l s kept valid who p is is_low (stand_in who p id) (seen_self l s kept valid who p is is_low _)))
 
--- ---- what the changes of the rows meet
+-- ---- what the changes of the rows satisfy
 module _ (bad : Rec → Bool) (s : State) (valid : IsValid s) (who : Pid) (p : Process) (is : map.get s.procs who ≡ Some p) (fit : Type 0) (P : List Change → Type 0) (cases : Cases bad s who p fit P) where
   pub readdir_meets : (path : PathValue) → Meets bad who p P (readdir_row s who p path)
   readdir_meets path = meets_read bad s valid who p is fit P cases path (λ id place o. Refuse errno.ENOTDIR (not (is_dir o.kind)) (Need (dac_read s p id place) (Commit [] (answer.Names (names_in s id)) None))) (λ id place. (refl, cases.none))
@@ -289,7 +289,7 @@ module _ (bad : Rec → Bool) (s : State) (valid : IsValid s) (who : Pid) (p : P
   meets_entry_of_object k h names (Start id) there = ends_fail bad (subject who p) P cases.none errno.EBUSY
   meets_entry_of_object k h names (Entry dir name object) f = ends_missing bad (subject who p) P cases.none object (k dir name) (λ id e. h dir name id f.0 (sym f.1 ∙ e))
 
-  -- and an entry may be taken away
+  -- the row goes on where an entry may be removed
   meets_leave : (path : PathValue) (dir id : Oid) (r : Row) → (Passes bad (subject who p) (mac_write s p dir (dir_place (λ n. First n) path)) → Meets bad who p P r) → Meets bad who p P (leave_from s p path dir id r)
   meets_leave path dir id r h =
       ends_need bad (subject who p) P cases.none _ _ (λ written. ends_need bad (subject who p) P cases.none _ _ (λ _. ends_need bad (subject who p) P cases.none _ _ (λ _. h written)))
@@ -318,13 +318,13 @@ module _ (bad : Rec → Bool) (s : State) (valid : IsValid s) (who : Pid) (p : P
   meets_new_name names k h (Entry dir name None) f = h dir name f.0 (sym f.1) f.2
   meets_new_name names k h (Entry dir name (Some id)) f = ends_fail bad (subject who p) P cases.none errno.EEXIST
 
-  -- a directory is written, where the order of labels holds
+  -- the row goes on where a directory may be written and the order of labels holds
   meets_write_directory : (dir : Oid) (place : Place) (c : Check) (r : Row) → cap_of c.name ≡ None → (Passes bad (subject who p) (mac_write s p dir place) → c.holds ≡ true → Meets bad who p P r) → Meets bad who p P (write_directory s p dir place c r)
   meets_write_directory dir place c r unnamed h =
       ends_need bad (subject who p) P cases.none _ _ (λ written. ends_need bad (subject who p) P cases.none _ _ (λ _. ends_need bad (subject who p) P cases.none _ _ (λ ordered.
       h written (met_rule bad (subject who p) c unnamed ordered))))
 
-  -- and gets an entry
+  -- the row goes on where a directory may get an entry
   meets_enter_in : (dir : Oid) (place : Place) (c : Check) (r : Row) → cap_of c.name ≡ None → (Passes bad (subject who p) (mac_write s p dir place) → c.holds ≡ true → is_removed s dir ≡ false → Meets bad who p P r) → Meets bad who p P (enter_in s p dir place c r)
   meets_enter_in dir place c r unnamed h = meets_write_directory dir place c _ unnamed (λ written order. ends_refuse bad (subject who p) P cases.none _ _ _ (h written order))
 
@@ -369,11 +369,11 @@ module _ (bad : Rec → Bool) (s : State) (valid : IsValid s) (who : Pid) (p : P
   meets_entry names k h (Start id) there = ends_fail bad (subject who p) P cases.none errno.EBUSY
   meets_entry names k h (Entry dir name object) f = h dir name object f.0 f.1 f.2
 
-  -- a directory that may give way has no entries, and neither has what is none
+  -- what may give way has no entries, be it a directory or not
   has_no_entries : (t : Oid) → (is_dir (object_at s t).kind && not (is_empty s t)) ≡ false → is_empty s t ≡ true
   has_no_entries t h = elim (and_cases (is_dir (object_at s t).kind) (not (is_empty s t)) h) as (λ w. is_empty s t ≡ true) [ inl no_dir ↦ no_entries s valid t no_dir | inr empty ↦ not_false _ empty ]
 
-  -- what stands at the target gives way where it is something else, without entries
+  -- the row goes on where what is at the target may give way: it is something else, without entries
   meets_give_way : (id : Oid) (object : Option Oid) (place : Place) (r : Row) → (((t : Oid) → object ≡ Some t → (same_oid t id ≡ false) × (is_empty s t ≡ true)) → Meets bad who p P r) → Meets bad who p P (give_way s p id object place r)
   meets_give_way id None place r rest = rest (λ t e. absurd (never_some None t refl e))
   meets_give_way id (Some t) place r rest =

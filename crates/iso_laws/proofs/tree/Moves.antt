@@ -23,7 +23,7 @@ use Rattle.iso_laws.proofs.Sight.{not_true}
 use Rattle.iso_laws.proofs.Selections.{none_passes, none_pass, count_remove, count_removed, count_insert, count_insert_other, get-remove_same, get-remove_other, get-remove_none, insert-over_removed}
 use Rattle.iso_laws.proofs.tree.Changes.{with_tree, tree_object, tree_entry, valid_tree, valid_drop, standing_reached, distinct, never_same, none_in, not_true_false}
 
--- an entry may move to a spot of a directory that is not removed and to which no names lead from what moves; what stands there is something else, without entries
+-- an entry may move to a spot of a directory that is neither removed nor below what moves; what is there is another thing, without entries
 pub record IsMove (s : State) (dir : Oid) (name : Name) (id into : Oid) (new : Name) : Type 0 where
   pub at : look s dir name ≡ Some id
   pub into_is : IsDir s.objects into
@@ -38,7 +38,7 @@ record IsLed (s t : State) (from to : Oid) : Type 0 where
   pub before : leads s from names ≡ Some to
   pub after : leads t from names ≡ Some to
 
--- ---- to a spot where nothing stands
+-- ---- to a spot where nothing is
 module _ (s : State) (valid : IsValid s) (dir : Oid) (name : Name) (id into : Oid) (new : Name) (move : IsMove s dir name id into new) (free : look s into new ≡ None) where
   abbrev without : FinMap spot_cmp Oid
   without = map.remove s.entries (dir, name)
@@ -69,7 +69,7 @@ module _ (s : State) (valid : IsValid s) (dir : Oid) (name : Name) (id into : Oi
   stays : (at : Spot) (q : Oid) → eq_by_cmp spot_cmp at (dir, name) ≡ false → map.get s.entries at ≡ Some q → map.get moved at ≡ Some q
   stays at q other e = get-insert_kept spot_cmp_total spot_cmp_exact without (into, new) id free_still at q (get-remove_other spot_cmp_total s.entries (dir, name) at other ∙ e)
 
-  -- where names lead, they lead still, or names lead there from what moved
+  -- names lead where they led, or some names lead there from what moved
   leads_moved : (names : List Name) (from q : Oid) → leads s from names ≡ Some q → (leads moved_state from names ≡ Some q) ⊎ IsLed s moved_state id q
   leads_moved [] from q h = inl h
   leads_moved (next ∷ names) from q h =
@@ -108,7 +108,7 @@ module _ (s : State) (valid : IsValid s) (dir : Oid) (name : Name) (id into : Oi
     | inr led ↦ record { names = id_reached.names ++ led.names; lead = leads_append moved_state root id_reached.names id led.names q id_reached.lead led.after }
   ]
 
-  -- what is removed is neither what moves nor the directory that it moves to
+  -- what is removed stays removed, for it is not what moves
   still_removed : (q : Oid) → is_removed s q ≡ true → is_removed moved_state q ≡ true
   still_removed q gone =
       let parts = and_parts (not (same_oid q root)) (not (is_held s q)) gone in
@@ -146,7 +146,7 @@ module _ (s : State) (valid : IsValid s) (dir : Oid) (name : Name) (id into : Oi
         order = (λ i. dominates (sym id_at i).label (sym into_at i).label) ∙ move.order;
       })
 
-  -- what moved has no other entry, where it is a directory
+  -- a directory that moved has no other entry
   one_new : (o : Object) → map.get s.objects id ≡ Some o → o.kind ≡ kind.Dir → (at : Spot) (q : Oid) → map.get moved at ≡ Some q → q ≡ id → at ≡ (into, new)
   one_new o is is_dir = each-insert spot_cmp_total spot_cmp_exact (λ (at : Spot) (q : Oid). q ≡ id → at ≡ (into, new)) without
       (λ at q e same.
@@ -172,7 +172,7 @@ module _ (s : State) (valid : IsValid s) (dir : Oid) (name : Name) (id into : Oi
   valid_moved : is_name new ≡ true → IsValid moved_state
   valid_moved named = valid_tree s s.objects moved s.object_numbers (λ q o e. e) valid moved_object (moved_entry named) one_moved valid.object_numbers
 
--- ---- to any spot: what stands there goes first
+-- ---- to any spot: the entry that is there is removed first
 module _ (s : State) (valid : IsValid s) (dir : Oid) (name : Name) (id into : Oid) (new : Name) (move : IsMove s dir name id into new) (named : is_name new ≡ true) (t : Oid) (at : look s into new ≡ Some t) where
   abbrev cleared : FinMap spot_cmp Oid
   cleared = map.remove s.entries (into, new)
@@ -186,14 +186,14 @@ module _ (s : State) (valid : IsValid s) (dir : Oid) (name : Name) (id into : Oi
   valid_cleared : IsValid cleared_state
   valid_cleared = valid_drop s valid (into, new) t at (move.gives_way t at).1
 
-  -- an entry that leads elsewhere stays
+  -- the entry of something else stays
   elsewhere : (spot : Spot) (q : Oid) → (q ≡ t → ⊥) → map.get s.entries spot ≡ Some q → map.get cleared spot ≡ Some q
   elsewhere spot q other e =
       let apart : eq_by_cmp spot_cmp spot (into, new) ≡ false =
       not_true _ (λ same. other (some_same q t (sym e ∙ ap (map.get s.entries) (same_key spot_cmp_exact spot (into, new) same) ∙ at))) in
       get-remove_other spot_cmp_total s.entries (into, new) spot apart ∙ e
 
-  -- the directory is not what gives way, which has no entries
+  -- the directory that gets the entry is not what gives way, for that has no entries
   into_stands : is_removed cleared_state into ≡ false
   into_stands = not_true _ (λ gone.
       let parts = and_parts (not (same_oid into root)) (not (is_held cleared_state into)) gone in

@@ -5,7 +5,7 @@ use Rattle.kern_model.proofs.WorldLemmas.{Parts, parts_of_world, world_of_parts}
 use Rattle.kern_model.proofs.valid.world_valid.Goals as goal
 use Rattle.kern_model.proofs.valid.world_valid.Goals.{After-may_be_root}
 
--- what holds of the parts where the world is one
+-- the item that is tested is the first object of the world
 first_at : (c : After-may_be_root) → c.first-item.result ≡ get_or c.args.world.now.objects 0 c.first-item.result
 first_at c = c.first-item.is ∙ ap (λ (os : List WorldObject). get_or os 0 c.first-item.result) c.items-objects.ensures
 

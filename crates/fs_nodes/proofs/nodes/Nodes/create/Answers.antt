@@ -47,11 +47,11 @@ returns-in_err-enter-clause-err c = on_err c.from_residual-in_err-enter.result
     (ap (λ (x : Index). record { objects = objects_in c.reserve.new.self x.keys; numbers = x.numbers }) c.in_err-enter.ensures.err
     ∙ same_table c.self.inside.slots c.reserve.new.self c.self.inside.index.keys c.self.inside.index.numbers c.args.self.now c.reserve.ensures.rest_kept c.self.view_is)
 
--- what stands where there is something
+-- what holds of the value of an option that has one
 some_match : {X : Type 0} (P : Type 0) (Q : X → Type 0) (o : Option X) (x : X) → o ≡ Some x → MatchOption o P Q → Q x
 some_match P Q o x e h = subst (λ o. MatchOption o P Q) e h
 
--- a number that was drawn next
+-- the number that is drawn next
 drawn_next : (numbers : FinMap label_cmp ℕ) (label : Label) (id : Oid) → id ≡ record { label = label; n = drawn numbers label + 1 } → id.n ≡ drawn numbers id.label + 1
 drawn_next numbers label id is = subst (λ (i : Oid). i.n ≡ drawn numbers i.label + 1) (sym is) refl
 
