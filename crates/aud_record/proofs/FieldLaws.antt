@@ -7,7 +7,7 @@ use Rattle.std.specs.Option.{option_and_then, option_map, option_or}
 use Rattle.std.specs.Result.{result_ok}
 use Rattle.std.proofs.lemmas.Bool.{and_parts, and_from, cond-false, ltb-true, lt-ltb, eqb-true, ne_eqb, leb-true, not_from_false, false_from_ne_true, true≢false}
 use Rattle.std.proofs.lemmas.Fmt.{decimal_by_steps}
-use Rattle.std.proofs.lemmas.Option.{option_and_then_some, some_pair_parts, same_Some}
+use Rattle.std.proofs.lemmas.Option.{option_and_then_some, some_pair_parts, same_Some, cond_some}
 use Rattle.cap_bits.specs.Cap.{cap_name}
 use Rattle.cap_bits.specs.declared.cap.Cap.{Cap}
 use Rattle.cap_bits.specs.declared.cap.Cap.TheVariants as cap
@@ -48,7 +48,7 @@ use Rattle.aud_record.specs.Events.{event_word}
 use Rattle.aud_record.specs.Fits.{numbered_fits, pid_fits, oid_fits, thing_fits, new_label_fits, place_fits}
 use Rattle.aud_record.specs.Forms.{Choice, first_of, other_of, OnOrOff, ExitOrKill, TermOrKill, Field, Number, Either, Kind, Capability, Check, Error, Call, Process, Object, Mark, NewMark, Caps, Bytes, About, Where, Of, canonical}
 use Rattle.aud_record.proofs.ListedLaws.{event_round_trip, cap_round_trip}
-use Rattle.aud_record.proofs.Numbers.{same_itself, same_is, kept_is, number_is, number_round_trip}
+use Rattle.aud_record.proofs.Numbers.{same_itself, same_is, number_is, number_round_trip}
 use Rattle.aud_record.proofs.Quoted.{unquoted_bytes, quoted_unquoted, plain_small}
 use Rattle.aud_record.specs.Canonical.{canonical_number, canonical_label, canonical_numbered, canonical_pid, canonical_oid, after_prefix, canonical_thing, label_given, canonical_new_label, canonical_step, canonical_place, unquoted, canonical_bytes, canonical_caps}
 use Rattle.aud_record.proofs.WordLaws.{lacks, lacks-append, split_round_trip, split_is, IsWord}
@@ -100,7 +100,7 @@ label_is : (p : PolicyNames) (word : List ℕ) (label : Label) → canonical_lab
 unfolding canonical_label
 label_is p word label h =
     option_and_then_some (λ label. keep_if (is_valid p label && same_bytes (label_text p label) word) label) (parse_label p word) label h (λ l parsed kept.
-    let is = kept_is (is_valid p l && same_bytes (label_text p l) word) l label kept in
+    let is = cond_some (is_valid p l && same_bytes (label_text p l) word) l label kept in
     let parts = and_parts (is_valid p l) (same_bytes (label_text p l) word) is.0 in
     subst (λ x. Spells word (label_text p x) (is_valid p x)) is.1 (record { text_is = sym (same_is (label_text p l) word parts.1); fit = parts.0 }))
 
@@ -302,7 +302,7 @@ bytes_is : (word bytes : List ℕ) → canonical_bytes word ≡ Some bytes → S
 unfolding canonical_bytes
 bytes_is word bytes h =
     option_and_then_some (λ bytes. keep_if (same_bytes (quoted_text bytes) word) bytes) (unquoted word) bytes h (λ parsed some kept.
-    let is = kept_is (same_bytes (quoted_text parsed) word) parsed bytes kept in
+    let is = cond_some (same_bytes (quoted_text parsed) word) parsed bytes kept in
     subst (λ x. Spells word (quoted_text x) (are_bytes x)) is.1 (record { text_is = sym (same_is (quoted_text parsed) word is.0); fit = unquoted_bytes word parsed some }))
 
 bytes_round_trip : (bytes : List ℕ) → are_bytes bytes ≡ true → canonical_bytes (quoted_text bytes) ≡ Some bytes
@@ -314,7 +314,7 @@ caps_is : (word : List ℕ) (caps : CapState) → canonical_caps word ≡ Some c
 unfolding canonical_caps
 caps_is word caps h =
     option_and_then_some (λ caps. keep_if (same_bytes (caps_word caps) word) caps) (option_and_then (λ bytes. result_ok (parse_caps bytes)) (unquoted word)) caps h (λ parsed some kept.
-    let is = kept_is (same_bytes (caps_word parsed) word) parsed caps kept in
+    let is = cond_some (same_bytes (caps_word parsed) word) parsed caps kept in
     subst (λ x. Spells word (caps_word x) true) is.1 (record { text_is = sym (same_is (caps_word parsed) word is.0); fit = refl }))
 
 plain_bytes : (text : List ℕ) → list_all is_plain text ≡ true → are_bytes text ≡ true

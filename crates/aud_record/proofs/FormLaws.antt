@@ -12,6 +12,7 @@ use Rattle.aud_record.proofs.WordLaws.{lacks, lacks-append, IsWord, first_round_
 use Rattle.aud_record.specs.Words.{◌>>=◌, first_word, after_word, after_space, ended, worded, parse_word, parse_field}
 use Rattle.aud_record.specs.declared.fault.Fault.{Fault}
 use Rattle.aud_record.specs.declared.fault.Fault.TheVariants as fault
+use Rattle.fs_path.proofs.RoundTrip.{spaces_apart}
 
 -- ---- one word
 
@@ -88,10 +89,6 @@ values_fit p (Next f more) vs = field_fits p f vs.0 && values_fit p (more vs.0) 
 abbrev pub IsWide : Form → Type 0
 IsWide (Done r) = Unit {0}
 IsWide (Next f more) = (is_wide f ≡ true) × ((v : Of f) → IsWide (more v))
-
-spaces_apart : (ws : List (List ℕ)) → is_apart (after_spaces ws) ≡ true
-spaces_apart [] = refl
-spaces_apart (w ∷ ws) = refl
 
 -- the words of values that fit are read as the record that they make
 pub form_round_trip : (p : PolicyNames) (form : Form) (vs : Values form) → MakePolicy p → IsWide form → values_fit p form vs ≡ true → parse_form p form (after_spaces (words_in p form vs)) ≡ Ok (made form vs)

@@ -21,10 +21,6 @@ same_itself = nat_list_eq_equiv.refl
 pub same_is : (a b : List ℕ) → same_bytes a b ≡ true → a ≡ b
 same_is a b e = same_text a b (sym e)
 
--- a value that was kept passed the test
-pub kept_is : {X : Type 0} (b : Bool) (x y : X) → keep_if b x ≡ Some y → (b ≡ true) × (x ≡ y)
-kept_is = cond_some
-
 -- an option that can have no value has none
 pub none_from : {X : Type 0} (o : Option X) → ((x : X) → o ≡ Some x → ⊥) → o ≡ None
 none_from None against = refl
@@ -40,7 +36,7 @@ pub record IsNumber (bound : ℕ) (word : List ℕ) (n : ℕ) : Type 0 where
 pub number_is : (bound n : ℕ) (word : List ℕ) → canonical_number bound word ≡ Some n → IsNumber bound word n
 unfolding canonical_number
 number_is bound n word h =
-    let kept = kept_is _ (digits_value 10 word) n h in
+    let kept = cond_some _ (digits_value 10 word) n h in
     let parts = and_parts (nat_lt (digits_value 10 word) bound) (same_bytes (decimal (digits_value 10 word)) word) kept.0 in
     subst (IsNumber bound word) kept.1 (record { small = ltb-true (digits_value 10 word) bound parts.0; text = sym (same_is (decimal (digits_value 10 word)) word parts.1) })
 

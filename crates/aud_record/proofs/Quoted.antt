@@ -11,8 +11,8 @@ use Rattle.fs_path.specs.Words.{is_plain, is_bare, is_apart, hex_value, hex_pair
 use Rattle.fs_path.proofs.WordSteps.{words_are}
 use Rattle.fs_path.specs.declared.words.LineWord.{LineWord}
 use Rattle.line_text.specs.Ranges.{are_bytes}
-use Rattle.aud_record.proofs.Numbers.{kept_is}
 use Rattle.aud_record.specs.Canonical.{only_quoted, unquoted}
+use Rattle.std.proofs.lemmas.Option.{cond_some}
 
 -- ---- bytes that are read
 
@@ -133,7 +133,7 @@ unquoted_bytes word bytes h = by_words (words_of word) (subst OnlyBytes (sym (wo
     by_words : (o : Option (List LineWord)) → OnlyBytes o → option_and_then only_quoted o ≡ Some bytes → are_bytes bytes ≡ true
     by_words None all h = absurd (cc)
     by_words (Some []) all h = absurd (cc)
-    by_words (Some (w ∷ [])) all h = let kept = kept_is w.quoted w.bytes bytes h in ap are_bytes (sym kept.1) ∙ all kept.0
+    by_words (Some (w ∷ [])) all h = let kept = cond_some w.quoted w.bytes bytes h in ap are_bytes (sym kept.1) ∙ all kept.0
     by_words (Some (w ∷ v ∷ ws)) all h = absurd (cc)
 
 -- ---- the round trip of a quoted text

@@ -4,7 +4,7 @@ use Rattle.std.proofs.Common.{ap, sym, subst, ◌∙◌, inl, append_assoc}
 use Rattle.std.specs.Fmt.{decimal}
 use Rattle.std.proofs.lemmas.Bool.{and_parts, and_from}
 use Rattle.std.proofs.lemmas.List.{append-nil, length-append, take_at, drop_at}
-use Rattle.fs_path.proofs.RoundTrip.{decimal_bare}
+use Rattle.fs_path.proofs.RoundTrip.{decimal_bare, spaces_apart}
 use Rattle.fs_path.specs.Split.{split_once}
 use Rattle.fs_path.specs.Words.{is_apart, after_spaces, line_text}
 use Rattle.lab_text.specs.Policy.{PolicyNames, MakePolicy}
@@ -58,10 +58,6 @@ rest_lacks p r h fits =
     let kind = of_kind p (event_of r) (who_of r) by.values in
     let fit : values_fit p form by.values ≡ true = sym kind.fit ∙ ap (λ r. all_hold (rest_tests p r)) by.makes ∙ fits in
     ap (lacks 10) (sym (kind.text ∙ ap (λ r. after_spaces (rest_words p r)) by.makes)) ∙ words_lack p form by.values h (form_wide (event_of r) (who_of r)) fit
-
-spaces_apart : (ws : List (List ℕ)) → is_apart (after_spaces ws) ≡ true
-spaces_apart [] = refl
-spaces_apart (w ∷ ws) = refl
 
 -- the line of a record, without its line feed
 abbrev line_text_of : PolicyNames → ℕ → Rec → List ℕ

@@ -9,6 +9,7 @@ use Rattle.std.proofs.lemmas.List.Folds.{list_all-append}
 use Rattle.fs_path.specs.Split.{onto_piece, split_once}
 use Rattle.fs_path.specs.Words.{is_space, is_plain, is_bare, is_bare_text, is_apart, hex_digit, item_text, quoted_text}
 use Rattle.aud_record.specs.Words.{quoted_len, word_len, first_word, after_word}
+use Rattle.fs_path.proofs.RoundTrip.{no_quote}
 
 -- ---- a text split at a byte
 
@@ -118,17 +119,12 @@ bare_prefix (b ∷ bs) rest bare ends =
     let more = bare_prefix bs rest parts.1 ends in
     ap (λ v. cond v (1 + prefix_len (λ c. not (is_space c)) (bs ++ rest)) 0) (and_parts (is_plain b) (not (is_space b)) parts.0).1 ∙ omega (arith, more)
 
-bare_no_quote : (b : ℕ) → is_bare b ≡ true → (b == 34) ≡ false
-bare_no_quote b bare =
-    let plain = (and_parts (is_plain b) (not (is_space b)) bare).0 in
-    not-true (b == 34) (and_parts (nat_le 32 b && nat_le b 126) (not (b == 34)) (and_parts (nat_le 32 b && nat_le b 126 && not (b == 34)) (not (b == 92)) plain).0).1
-
 bare_cut : (w rest : List ℕ) → is_bare_text w ≡ true → is_apart rest ≡ true → word_len (w ++ rest) ≡ length w
 unfolding word_len
 bare_cut [] rest bare ends = absurd (cc)
 bare_cut (b ∷ bs) rest bare ends =
     let all = (and_parts (nat_lt 0 (length (b ∷ bs))) (list_all is_bare (b ∷ bs)) bare).1 in
-    cond-false (b == 34) (1 + quoted_len false (bs ++ rest)) (prefix_len (λ c. not (is_space c)) (b ∷ bs ++ rest)) (bare_no_quote b (and_parts (is_bare b) (list_all is_bare bs) all).0) ∙ bare_prefix (b ∷ bs) rest all ends
+    cond-false (b == 34) (1 + quoted_len false (bs ++ rest)) (prefix_len (λ c. not (is_space c)) (b ∷ bs ++ rest)) (no_quote b (and_parts (is_bare b) (list_all is_bare bs) all).0) ∙ bare_prefix (b ∷ bs) rest all ends
 
 -- ---- words
 

@@ -109,6 +109,6 @@ module _ {slots : Slab Object} {keys : FinMap oid_cmp ℕ} {numbers : FinMap lab
     }
 
 -- what holds in any case holds where a call fails
-pub on_err : {X E P : Type 0} (r : Result X E) → P → OnErr r P
-on_err (Ok x) p = tt
-on_err (Err e) p = p
+pub where_err : {X E P : Type 0} (r : Result X E) → P → OnErr r P
+where_err (Ok x) p = tt
+where_err (Err e) p = p

@@ -98,7 +98,7 @@ bare_len (b ∷ bs) rest bare ends =
     let first = cond-true (is_bare b) (1 + prefix_len is_bare (bs ++ rest)) 0 parts.0 in
     omega (arith, more, first)
 
-no_quote : (b : ℕ) → is_bare b ≡ true → (b == 34) ≡ false
+pub no_quote : (b : ℕ) → is_bare b ≡ true → (b == 34) ≡ false
 no_quote b bare = ne_eqb b 34 (λ is. let no : false ≡ true = subst (λ n. is_bare n ≡ true) is bare in cc)
 
 no_space : (b : ℕ) → is_bare b ≡ true → is_space b ≡ false
@@ -297,7 +297,7 @@ spelling_first w rest can = elim w.quoted as (λ v. cond v (list_all (λ b. nat_
     by_first [] can = absurd (cc)
     by_first (b ∷ bs) can = no_space_first b (bs ++ rest) (no_space b (and_parts (is_bare b) (list_all is_bare bs) (and_parts (nat_lt 0 (length (b ∷ bs))) (list_all is_bare (b ∷ bs)) can).1).0)
 
-spaces_apart : (ws : List (List ℕ)) → is_apart (after_spaces ws) ≡ true
+pub spaces_apart : (ws : List (List ℕ)) → is_apart (after_spaces ws) ≡ true
 spaces_apart [] = refl
 spaces_apart (w ∷ ws) = refl
 

@@ -15,6 +15,7 @@ use Rattle.kern_model.specs.Boot.{entry_for}
 use Rattle.kern_model.specs.Valid.{leads}
 use Rattle.kern_model.specs.World.{same_names, parent_names, given}
 use Rattle.kern_model.proofs.MapLemmas.{never_some, some_same}
+use Rattle.kern_model.proofs.WorldLemmas.{names_same}
 
 -- ---- walks
 pub leads_step : (s : State) (dir : Oid) (name : Name) (names : List Name) (next : Oid) → look s dir name ≡ Some next → leads s dir (name ∷ names) ≡ leads s next names
@@ -61,10 +62,6 @@ has_end name (next ∷ names) =
             | Some at ↦ λ g. rest.entry s at mid id g
           ] h;
     }
-
--- ---- what was given
-pub names_same : (a b : List Name) → same_names a b ≡ true → a ≡ b
-names_same a b = (pointwise_decides (pointwise_decides unsigned_Decides) a b).0
 
 pub names_itself : (a : List Name) → same_names a a ≡ true
 names_itself a = (pointwise_decides (pointwise_decides unsigned_Decides) a a).1 refl

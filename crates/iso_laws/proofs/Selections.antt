@@ -13,19 +13,8 @@ use Rattle.std.proofs.lemmas.Bool.{or_parts, true≢false}
 use Rattle.std.proofs.lemmas.List.Sums.{sum_by-cons, count_by-le-length}
 use Rattle.std.proofs.lemmas.Cmp.{tied_itself}
 use Rattle.kern_model.specs.Maps.{with_entry, selected, select, any_entry, count_entries}
-use Rattle.kern_model.proofs.MapLemmas.{each-entries, same_key, some_same, get-select, get-insert_same, remove-insert, count_entries-one}
-
-head_T : (a b : Bool) → T (a && b) → T a
-head_T true b p = tt
-head_T false b p = p
-
-tail_T : (a b : Bool) → T (a && b) → T b
-tail_T true b p = p
-tail_T false b p = absurd p
-
-both_T : (a b : Bool) → T a → T b → T (a && b)
-both_T true b p q = q
-both_T false b p q = p
+use Rattle.kern_model.proofs.MapLemmas.{each-entries, same_key, some_same, get-select, get-insert_same, remove-insert, count_entries-one, head_T, tail_T}
+use Rattle.kern_model.proofs.TableLemmas.{both_T}
 
 -- what a test says of the entry, if there is one
 abbrev pub test_after : {K Y : Type 0} → (K → Y → Bool) → K → Option Y → Bool

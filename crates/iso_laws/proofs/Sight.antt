@@ -3,7 +3,7 @@ use Rattle.std.specs.Prelude.{◌≡◌, ℕ, ◌+◌, Bool, true, false, not, �
 use Rattle.std.specs.Option.{option_map, option_and_then}
 use Rattle.std.specs.List.{list_all, list_any}
 use Rattle.std.proofs.Common.{sym, ◌∙◌, ap, subst}
-use Rattle.std.proofs.lemmas.Bool.{and_parts}
+use Rattle.std.proofs.lemmas.Bool.{and_parts, not-false}
 use Rattle.std.specs.FinMap as map
 use Rattle.cap_bits.specs.declared.cap.Cap.{Cap}
 use Rattle.cap_bits.specs.declared.cap.Cap.TheVariants as cap
@@ -144,10 +144,6 @@ dir_there s id h =
       | Some o ↦ λ e. record { object = o; is = e; dir = dir_kind o.kind (ap (λ (x : Object). is_dir x.kind) (sym (get_or-found s.objects id (stub_object s.top) o e)) ∙ h) }
     ] refl
 
-pub not_false : (b : Bool) → not b ≡ false → b ≡ true
-not_false true h = refl
-not_false false h = sym h
-
 -- an object that a path may lead to: it is there, and is no pipe
 pub record IsNamed (s : State) (id : Oid) : Type 0 where
   pub object : Object
@@ -195,7 +191,7 @@ module _ (bad : Rec → Bool) (s : State) (valid : IsValid s) (who : Pid) (p : P
   Meets r = Ends bad (subject who p) P r
 
   pub ends_enter : (dir : Oid) (place : Place) (r : Row) → (Passes bad (subject who p) (mac_read s p dir place) → IsDir s.objects dir → Meets r) → Meets (enter s p dir place r)
-  ends_enter dir place r h = ends_need bad (subject who p) P none _ _ (λ read. ends_refuse bad (subject who p) P none _ _ _ (λ is. ends_need bad (subject who p) P none _ _ (λ _. h read (dir_there s dir (not_false _ is)))))
+  ends_enter dir place r h = ends_need bad (subject who p) P none _ _ (λ read. ends_refuse bad (subject who p) P none _ _ _ (λ is. ends_need bad (subject who p) P none _ _ (λ _. h read (dir_there s dir (not-false _ is)))))
 
   pub ends_walk_from : (place : ℕ → Place) (at : ℕ) (dir : Oid) (names : List Name) (k : Found → Row) → IsNamed s dir → ((found : Found) → FoundIn s names found → Meets (k found)) → Meets (walk_from s p place at dir names k)
   ends_walk_from place at dir [] k there h = h (Start dir) there
@@ -349,7 +345,7 @@ module _ (l : Label) (s : State) (kept : Kept l s) (valid : IsValid s) (who : Pi
       (λ d. Refuse errno.ENOTDIR (not (is_dir (object_at (by_number l s) d).kind)) (Need (dac_search (by_number l s) p d place) (r' d)))
       (λ h. alike_refuse (crosses l) l s.top (subject who p) errno.ENOTDIR _ _ _ _ (ap (λ o. not (is_dir o.kind)) (object_low l s dir h))
       (λ is. alike_same (crosses l) l s.top (subject who p) (dac_search s p dir place) (dac_search (by_number l s) p dir place) r (r' dir)
-      (ap (λ o. of_object check.DacSearch (mode_allows o.attr p.ids want.Execute) None dir o place) (object_low l s dir h)) (λ _. rest h (dir_there s dir (not_false _ is)))))
+      (ap (λ o. of_object check.DacSearch (mode_allows o.attr p.ids want.Execute) None dir o place) (object_low l s dir h)) (λ _. rest h (dir_there s dir (not-false _ is)))))
 
   -- what a walk found, in the part
   abbrev pub part_found : Found → Found

@@ -14,13 +14,13 @@ use Rattle.std.proofs.lemmas.Cmp.{tied_itself}
 use Rattle.std.proofs.lemmas.List.Sums.{sum_by-cons}
 use Rattle.kern_model.specs.Maps.{with_entry, selected, select, get_or, where_key, count_entries}
 
-first : (a b : Bool) → T (a && b) → T a
-first true b p = tt
-first false b p = p
+pub head_T : (a b : Bool) → T (a && b) → T a
+head_T true b p = tt
+head_T false b p = p
 
-second : (a b : Bool) → T (a && b) → T b
-second true b p = p
-second false b p = absurd p
+pub tail_T : (a b : Bool) → T (a && b) → T b
+tail_T true b p = p
+tail_T false b p = absurd p
 
 module _ {K X : Type 0} (R : K → K → Ordering) where
   none_above : (q : K) (es : List (K × X)) → T (below_all R q es) → find R q es ≡ None
@@ -45,11 +45,11 @@ module _ {K X Y : Type 0} {R : K → K → Ordering} (exact : IsAntisymmetric R)
   find-selected : (q : K) (es : List (K × X)) → T (is_sorted R es) → find R q (selected f es) ≡ option_and_then (f q) (find R q es)
   find-selected q [] h = refl
   find-selected q (e ∷ es) h =
-      let rest = find-selected q es (second _ _ h) in
+      let rest = find-selected q es (tail_T _ _ h) in
       elim (eq_by_cmp R q e.0) as (λ b. eq_by_cmp R q e.0 ≡ b → find R q (with_entry e.0 (f e.0 e.1) (selected f es)) ≡ option_and_then (f q) (cond b (Some e.1) (find R q es))) [
         | true ↦ λ t.
             let same = same_key exact q e.0 t in
-            let gone : find R q es ≡ None = none_above R q es (subst (λ k. T (below_all R k es)) (sym same) (first _ _ h)) in
+            let gone : find R q es ≡ None = none_above R q es (subst (λ k. T (below_all R k es)) (sym same) (head_T _ _ h)) in
             elim (f e.0 e.1) as (λ o. f e.0 e.1 ≡ o → find R q (with_entry e.0 o (selected f es)) ≡ f q e.1) [
               | None ↦ λ w. rest ∙ ap (option_and_then (f q)) gone ∙ sym w ∙ ap (λ k. f k e.1) (sym same)
               | Some y ↦ λ w. ap (λ b. cond b (Some y) (find R q (selected f es))) t ∙ sym w ∙ ap (λ k. f k e.1) (sym same)
@@ -197,9 +197,9 @@ module _ {K X : Type 0} {R : K → K → Ordering} (o : IsTotalOrder R) (exact :
   each_listed [] h found = tt
   each_listed (e ∷ es) h found = (
     found e.0 e.1 (ap (λ r. cond (is_eq r) (Some e.1) (find R e.0 es)) (tied_itself o e.0)),
-    each_listed es (second (below_all R e.0 es) (is_sorted R es) h) (λ q y f. found q y
+    each_listed es (tail_T (below_all R e.0 es) (is_sorted R es) h) (λ q y f. found q y
         (elim (eq_by_cmp R q e.0) as (λ b. eq_by_cmp R q e.0 ≡ b → cond b (Some e.1) (find R q es) ≡ Some y) [
-          | true ↦ λ t. absurd (never_some (find R q es) y (none_above R q es (subst (λ k. T (below_all R k es)) (sym (same_key exact q e.0 t)) (first (below_all R e.0 es) (is_sorted R es) h))) f)
+          | true ↦ λ t. absurd (never_some (find R q es) y (none_above R q es (subst (λ k. T (below_all R k es)) (sym (same_key exact q e.0 t)) (head_T (below_all R e.0 es) (is_sorted R es) h))) f)
           | false ↦ λ t. f
         ] refl)),
   )
@@ -221,7 +221,7 @@ module _ {K X : Type 0} {R : K → K → Ordering} (o : IsTotalOrder R) (exact :
   found_first e es = ap (λ r. cond (is_eq r) (Some e.1) (find R e.0 es)) (tied_itself o e.0)
 
   not_after : (e : K × X) (es : List (K × X)) → T (is_sorted R (e ∷ es)) → (q : K) (y : X) → find R q es ≡ Some y → e.0 ≡ q → ⊥
-  not_after e es h q y f same = never_some (find R q es) y (none_above R q es (subst (λ k. T (below_all R k es)) same (first (below_all R e.0 es) (is_sorted R es) h))) f
+  not_after e es h q y f same = never_some (find R q es) y (none_above R q es (subst (λ k. T (below_all R k es)) same (head_T (below_all R e.0 es) (is_sorted R es) h))) f
 
   found_after : (e : K × X) (es : List (K × X)) → T (is_sorted R (e ∷ es)) → (q : K) (y : X) → find R q es ≡ Some y → find R q (e ∷ es) ≡ Some y
   found_after e es h q y f =
@@ -234,13 +234,13 @@ module _ {K X : Type 0} {R : K → K → Ordering} (o : IsTotalOrder R) (exact :
   none_passing [] h fails = refl
   none_passing (e ∷ es) h fails =
       let step : passing (e ∷ es) ≡ 0 + passing es = passing-cons e es false (fails e.0 e.1 (found_first e es)) in
-      let none : passing es ≡ 0 = none_passing es (second (below_all R e.0 es) (is_sorted R es) h) (λ q y f. fails q y (found_after e es h q y f)) in
+      let none : passing es ≡ 0 = none_passing es (tail_T (below_all R e.0 es) (is_sorted R es) h) (λ q y f. fails q y (found_after e es h q y f)) in
       omega (arith, step, none)
 
   one_passing : (es : List (K × X)) → T (is_sorted R es) → ((a b : K) (x y : X) → find R a es ≡ Some x → find R b es ≡ Some y → p a x ≡ true → p b y ≡ true → a ≡ b) → passing es ≤ 1
   one_passing [] h alone = omega arith
   one_passing (e ∷ es) h alone =
-      let rest = second (below_all R e.0 es) (is_sorted R es) h in
+      let rest = tail_T (below_all R e.0 es) (is_sorted R es) h in
       elim (p e.0 e.1) as (λ b. p e.0 e.1 ≡ b → passing (e ∷ es) ≤ 1) [
         | true ↦ λ t.
             let fails : (q : K) (y : X) → find R q es ≡ Some y → p q y ≡ false =

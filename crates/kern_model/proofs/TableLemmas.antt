@@ -35,18 +35,18 @@ module _ {K X : Type 0} {R : K → K → Ordering} (o : IsTotalOrder R) where
       ∙ sym (get-remove o (from_entries es) k q ∙ ap (cond (is_at (R q) k) None) (get_at es q)))
 
 -- ---- entries sorted by their keys
-both : (a b : Bool) → T a → T b → T (a && b)
-both true b p q = q
-both false b p q = p
+pub both_T : (a b : Bool) → T a → T b → T (a && b)
+both_T true b p q = q
+both_T false b p q = p
 
 below : {K X : Type 0} (R : K → K → Ordering) (k : K) (es : List (K × X)) → AllByRecursion (λ y. R k y ≡ Less) (keys_of es) → T (below_all R k es)
 below R k [] h = tt
-below R k (e ∷ es) h = both _ _ (subst (λ r. T (is_lt r)) (sym h.0) tt) (below R k es h.1)
+below R k (e ∷ es) h = both_T _ _ (subst (λ r. T (is_lt r)) (sym h.0) tt) (below R k es h.1)
 
 in_order : {K X : Type 0} (R : K → K → Ordering) (es : List (K × X)) → IsStrictlySortedBy R (keys_of es) → T (is_sorted R es)
 unfolding IsStrictlySortedBy
 in_order R [] h = tt
-in_order R (e ∷ es) h = both _ _ (below R e.0 es h.0) (in_order R es h.1)
+in_order R (e ∷ es) h = both_T _ _ (below R e.0 es h.0) (in_order R es h.1)
 
 module _ {K X : Type 0} {R : K → K → Ordering} (o : IsTotalOrder R) (exact : IsAntisymmetric R) where
   -- sorted entries are those of the map that they make

@@ -1,10 +1,12 @@
 -- What the tests of a world decide.
 use Rattle.std.specs.Prelude.{◌≡◌, ℕ, ◌-◌, ◌+◌, ◌≤◌, ◌&&◌, nat_le, Bool, true, false, List, [], ◌∷◌, Option, None, Some, cond, count_by, is_some, length, take, drop, refl}
 use Rattle.std.specs.Bool.{Decides}
+use Rattle.std.specs.Cmp.Lexicographic.{pointwise_decides}
 use Rattle.std.specs.List.{All, list_all}
 use Rattle.std.specs.Option.{option_map}
 use Rattle.std.proofs.Common.{◌⊎◌, inl, inr, sym, ◌∙◌, ap, subst, arith, get_or}
 use Rattle.std.proofs.lemmas.Bool.{cases_Bool, and_parts, and_from, leb-true, le-leb}
+use Rattle.std.specs.Cmp.{unsigned_Decides}
 use Rattle.std.proofs.lemmas.Bool.Decides.{Decides-at, Decides-and, Decides-like}
 use Rattle.std.proofs.lemmas.List.Sums.{sum_by-cons}
 use Rattle.std.proofs.lemmas.List.Elements.{All-from_recursion, recursion_from_All}
@@ -18,10 +20,13 @@ use Rattle.kern_model.specs.declared.world.World.{World}
 use Rattle.kern_model.specs.declared.world.WorldObject.{WorldObject}
 use Rattle.kern_model.specs.declared.world.WorldProc.{WorldProc}
 use Rattle.kern_model.specs.Rules.{same_label}
-use Rattle.kern_model.specs.World.{objects_at, procs_at, HasRoom, parent_names, given, IsPlaced, ArePlaced, IsWorldObject, IsWorldProc, IsWorld}
+use Rattle.kern_model.specs.World.{objects_at, procs_at, HasRoom, same_names, parent_names, given, IsPlaced, ArePlaced, IsWorldObject, IsWorldProc, IsWorld}
 use Rattle.kern_model.proofs.MapLemmas.{some_same}
 
 -- ---- names
+pub names_same : (a b : List Name) → same_names a b ≡ true → a ≡ b
+names_same a b = (pointwise_decides (pointwise_decides unsigned_Decides) a b).0
+
 parents_of : (name : Name) (names : List Name) → parent_names (name ∷ names) ≡ take (length names) (name ∷ names)
 parents_of name [] = refl
 parents_of name (next ∷ names) = ap (λ ns. name ∷ ns) (parents_of next names)

@@ -2,7 +2,7 @@
 use Rattle.std.specs.Prelude.{◌≡◌, ℕ, ◌≤◌, ◌<◌, Bool, true, false, not, ◌==◌, nat_lt, cond, List, [], ◌∷◌, length, get_or, None, Some, refl, zero, suc}
 use Rattle.std.specs.List.{list_all, list_any, position_or_len}
 use Rattle.std.proofs.Common.{ap, sym, ◌∙◌, arith}
-use Rattle.std.proofs.lemmas.Bool.{lt-ltb, ltb-false, or_parts, and_parts, not-true, both_ways, false_from_ne_true}
+use Rattle.std.proofs.lemmas.Bool.{lt-ltb, ltb-false, or_parts, and_parts, not-true, both_ways, false_from_ne_true, not-false}
 use Rattle.std.proofs.lemmas.Bool.Decides.{nat_tests}
 use Rattle.std.proofs.lemmas.Cmp.{nat_list_eq_equiv}
 use Rattle.std.proofs.lemmas.List.Folds.{list_any_at}
@@ -22,10 +22,6 @@ pub record HasPolicyFacts (p : PolicyNames) : Type 0 where
   pub levels_apart : are_distinct p.levels ≡ true
   pub cats_apart : are_distinct p.cats ≡ true
 
-not_false : (b : Bool) → not b ≡ false → b ≡ true
-not_false true h = refl
-not_false false h = cc
-
 at_least_one : (n : ℕ) → (n == 0) ≡ false → 1 ≤ n
 at_least_one n h = grind (arith, nat_tests)
 
@@ -37,8 +33,8 @@ policy_facts p h =
     let three = cond_none _ _ _ two.1 in
     let four = cond_none _ _ _ three.1 in
     let sizes = or_parts (nat_lt 16 (length p.levels)) (nat_lt 64 (length p.cats)) two.0 in
-    let names = and_parts (list_all is_label_name p.levels) (list_all is_label_name p.cats) (not_false _ three.0) in
-    let apart = and_parts (are_distinct p.levels) (are_distinct p.cats) (not_false _ four.0) in
+    let names = and_parts (list_all is_label_name p.levels) (list_all is_label_name p.cats) (not-false _ three.0) in
+    let apart = and_parts (are_distinct p.levels) (are_distinct p.cats) (not-false _ four.0) in
     record {
       some = at_least_one (length p.levels) one.0;
       few_levels = ltb-false 16 (length p.levels) sizes.0;

@@ -38,12 +38,9 @@ use Rattle.script_text.specs.declared.line.Line.{Line}
 use Rattle.script_text.specs.declared.line.Line.TheVariants as line
 use Rattle.script_text.specs.declared.fault.LineError.{LineError}
 use Rattle.script_text.specs.declared.fault.LineError.TheVariants as error
+use Rattle.std.proofs.lemmas.Option.{cond_some}
 
 -- ---- values that are there
-
-kept : {X : Type 0} (b : Bool) (x y : X) → keep_if b x ≡ Some y → (b ≡ true) × (x ≡ y)
-kept true x y h = (refl, cc)
-kept false x y h = absurd (cc)
 
 there : {X : Type 0} (o : Option X) (e : LineError) (x : X) → ok_or o e ≡ Ok x → o ≡ Some x
 there None e x h = absurd (cc)
@@ -112,7 +109,7 @@ record AreFlags (creates : Bool) (f : OpenFlags) : Type 0 where
 flags_fine : (creates : Bool) (w : List ℕ) (f : OpenFlags) → some_flags creates w ≡ Ok f → AreFlags creates f
 unfolding some_flags
 flags_fine creates w f h =
-    let is = kept _ (flags_in w) f (there _ _ f h) in
+    let is = cond_some _ (flags_in w) f (there _ _ f h) in
     let last = and_parts _ (beq (flags_in w).c creates) is.0 in
     let first = and_parts (is_in_order w) (are_flags (flags_in w)) last.0 in
     record { fit = ap are_flags (sym is.1) ∙ first.1; as_asked = ap (λ (g : OpenFlags). beq g.c creates) (sym is.1) ∙ last.1 }

@@ -50,6 +50,8 @@ use Rattle.world_text.specs.Tree.{Tree}
 use Rattle.world_text.specs.Placing.{is_directory, is_above, directory_of, is_root, object_fault, process_fault}
 use Rattle.world_text.specs.Expecting.{world_of, unless, refuse_or, with_form, with_value, or_else, by_keyword, parse_format, parse_levels, parse_categories, parse_bound, set_of, caps_of, absolute_path, label_value, label_of, both, proc_caps, proc_caps_of, parse_object, object_of, parse_tree, ids_of, parse_process, parse_proc, object_fields_of, proc_fields_of, parse_plain, parse_file, parse_proc_line, parse_script, parse_tree_line, parse_words, parse_line}
 use Rattle.world_text.specs.Reading.{Reading, Accepted, after, reading, read_text}
+use Rattle.world_text.proofs.BuilderLemmas.{count_more}
+use Rattle.world_text.proofs.RangeLemmas.{all_and_one}
 
 -- ---- what holds of a reading at each line
 
@@ -192,13 +194,6 @@ bound_sound policy _ h = refuses Syntax
 
 -- ---- the tree
 
-all_more : {X : Type 0} (P : X → Type 0) (xs : List X) (x : X) → AllByRecursion P xs → P x → AllByRecursion P (xs ++ x ∷ [])
-all_more P [] x all p = (p, tt)
-all_more P (y ∷ ys) x all p = (all.0, all_more P ys x all.1 p)
-
-count_more : {X : Type 0} (p : X → Bool) (xs : List X) (x : X) → count_by p (xs ++ x ∷ []) ≡ count_by p xs + cond (p x) 1 0
-count_more p xs x = let both = sum_by-append (λ x. cond (p x) 1 0) xs (x ∷ []) in omega arith
-
 -- an item more, at a label that has room, leaves no label with too many
 room_more : {X : Type 0} (label : X → Label) (xs : List X) (x : X) (most : ℕ) → ((l : Label) → count_by (λ y. same_label (label y) l) xs ≤ most)
     → nat_le most (count_by (λ y. same_label (label y) (label x)) xs) ≡ false → (l : Label) → count_by (λ y. same_label (label y) l) (xs ++ x ∷ []) ≤ most
@@ -269,7 +264,7 @@ object_sound w o h s is =
       h,
       record {
         rooted = rooted_more w.builder.objects o s.rooted new parent root order;
-        objects = all_more (λ (o : WorldObject). IsWorldObject (top_of w.policy) o) w.builder.objects o s.objects is;
+        objects = all_and_one (λ (o : WorldObject). IsWorldObject (top_of w.policy) o) w.builder.objects o s.objects is;
         procs = s.procs;
         objects_room = room_more (λ (o : WorldObject). o.label) w.builder.objects o MAX_OBJECTS s.objects_room fewer;
         procs_room = s.procs_room;
@@ -352,7 +347,7 @@ process_sound w p h s is =
       record {
         rooted = s.rooted;
         objects = s.objects;
-        procs = all_more (λ (p : WorldProc). IsWorldProc (top_of w.policy) p) w.builder.procs p s.procs is;
+        procs = all_and_one (λ (p : WorldProc). IsWorldProc (top_of w.policy) p) w.builder.procs p s.procs is;
         objects_room = s.objects_room;
         procs_room = room_more (λ (p : WorldProc). p.label) w.builder.procs p MAX_PROCS s.procs_room fewer;
       },

@@ -20,6 +20,7 @@ use Rattle.kern_model.specs.World.{same_names, parent_names, given, objects_at, 
 use Rattle.world_text.specs.declared.builder.PathEntry.{PathEntry}
 use Rattle.world_text.specs.Placing.{directory_of, is_directory, is_above}
 use Rattle.world_text.specs.PathEntry.{path_entry_of, names_cmp, count_in, is_dir_entry, is_above_entry}
+use Rattle.kern_model.proofs.WorldLemmas.{names_same}
 
 -- ---- counts
 
@@ -52,10 +53,8 @@ counted m n k v e is l =
         let zero : count_in m l ≡ count_in m l + 0 = omega arith in
         ap (λ t. unwrap_or (cond t (Some v) (get label_cmp m l)) 0) f ∙ zero ∙ sym (ap (λ t. count_in m l + cond t 1 0) f)
 
-count_more : {X : Type 0} (p : X → Bool) (xs : List X) (x : X) → count_by p (xs ++ x ∷ []) ≡ count_by p xs + cond (p x) 1 0
-count_more {X} p xs x =
-    let alone : (n : ℕ) → 0 + n ≡ n = λ n. omega arith in
-    sum_by-append (λ (y : X). cond (p y) 1 0) xs (x ∷ []) ∙ ap (λ k. count_by p xs + k) (alone (cond (p x) 1 0))
+pub count_more : {X : Type 0} (p : X → Bool) (xs : List X) (x : X) → count_by p (xs ++ x ∷ []) ≡ count_by p xs + cond (p x) 1 0
+count_more p xs x = let both = sum_by-append (λ x. cond (p x) 1 0) xs (x ∷ []) in omega arith
 
 -- one more object is counted at its label
 pub objects_counted : (old new : BTreeMap Label ℕ) (objects more : List WorldObject) (o : WorldObject)
@@ -75,9 +74,6 @@ procs_counted old new procs more w updates is before l =
 
 names_tie : (a b : List Name) → same_names a b ≡ is_eq (names_cmp a b)
 names_tie a b = lists_ties (slice_cmp nat_cmp) texts_ties a b
-
-names_same : (a b : List Name) → same_names a b ≡ true → a ≡ b
-names_same a b = (pointwise_decides (pointwise_decides unsigned_Decides) a b).0
 
 either : (b : Bool) (o : WorldObject) (x y : Option WorldObject) → cond b (Some o) (option_or x y) ≡ option_or (cond b (Some o) x) y
 either true o x y = refl

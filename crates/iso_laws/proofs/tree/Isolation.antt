@@ -1,7 +1,7 @@
 -- The calls on entries: a Low process in the state and in its part, and what the changes satisfy.
 use Rattle.std.specs.Prelude.{◌≡◌, ℕ, ◌+◌, ◌/◌, ◌%◌, ◌==◌, ◌≤◌, ◌&&◌, nat_le, nat_lt, Bool, true, false, not, List, [], ◌∷◌, Option, None, Some, refl, cond}
 use Rattle.std.proofs.Common.{sym, ◌∙◌, ap, subst, arith, inl, inr}
-use Rattle.std.proofs.lemmas.Bool.{and_from, and_cases, le-leb, leb-false}
+use Rattle.std.proofs.lemmas.Bool.{and_from, and_cases, le-leb, leb-false, not-false}
 use Rattle.std.proofs.lemmas.Nat.{and_le_l, and_le_r}
 use Rattle.std.specs.Int.{bit_not, w16}
 use Rattle.std.specs.List.{list_all}
@@ -46,7 +46,7 @@ use Rattle.iso_laws.proofs.Cases.{Cases, Meets, meets_given, meets_path, meets_r
 use Rattle.iso_laws.proofs.LowRows.{Same, seen_self, low_itself}
 use Rattle.iso_laws.proofs.Part.{by_number, shown, part_changes, part_of_low}
 use Rattle.iso_laws.proofs.Rows.{Passes, alike_same, alike_refuse, alike_give, alike_fail, alike_missing, ends_fail, ends_give, ends_need, ends_refuse, ends_missing}
-use Rattle.iso_laws.proofs.Sight.{alike_reach, alike_walk, alike_enter, alike_mac_read, alike_mac_write, ends_enter, ends_walk, ends_reach, object_low, drawn_low, shown_low, led_there, part_found, Seen, FoundIn, met_rule, not_false}
+use Rattle.iso_laws.proofs.Sight.{alike_reach, alike_walk, alike_enter, alike_mac_read, alike_mac_write, ends_enter, ends_walk, ends_reach, object_low, drawn_low, shown_low, led_there, part_found, Seen, FoundIn, met_rule}
 use Rattle.iso_laws.proofs.tree.Changes.{no_entries, not_true_false}
 use Rattle.iso_laws.proofs.tree.Holders.{under_low, not_led}
 use Rattle.iso_laws.proofs.tree.Entries.{names_low, empty_low, link_count_low, removed_low, stat_of_low}
@@ -300,7 +300,7 @@ module _ (bad : Rec → Bool) (s : State) (valid : IsValid s) (who : Pid) (p : P
       ends_walk bad s valid who p P cases.none is (λ n. First n) path _
       (meets_entry_of_object (λ dir name id. leave_from s p path dir id (Refuse errno.ENOTDIR (not (is_dir (object_at s id).kind)) (Refuse errno.ENOTEMPTY (not (is_empty s id)) (Commit (DropEntry (dir, name) ∷ []) answer.Nothing None))))
       (λ dir name id is_dir at. meets_leave path dir id _ (λ written. ends_refuse bad (subject who p) P cases.none _ _ _ (λ _. ends_refuse bad (subject who p) P cases.none _ _ _ (λ empty.
-      ends_give bad (subject who p) P cases.none _ answer.Nothing None (cases.leave dir name id place written is_dir at (not_false _ empty)))))) path.names)
+      ends_give bad (subject who p) P cases.none _ answer.Nothing None (cases.leave dir name id place written is_dir at (not-false _ empty)))))) path.names)
 
   pub unlink_meets : (path : PathValue) → Meets bad who p P (unlink_row s who p path)
   unlink_meets path =
@@ -339,7 +339,7 @@ module _ (bad : Rec → Bool) (s : State) (valid : IsValid s) (who : Pid) (p : P
       (meets_new_name path.names (λ dir name. make_in s p dir place (Refuse errno.ENOSPC (not (has_object_number s p)) (Commit (made s p dir name o) answer.Nothing None)))
       (λ dir name is_dir free named. meets_enter_in dir place (created_order s p dir place) _ refl (λ written order standing.
       ends_refuse bad (subject who p) P cases.none _ _ _ (λ room. ends_give bad (subject who p) P cases.none _ answer.Nothing None
-      (cases.make dir name o place written is_dir free standing (record { label = refl; mode = masked_is_mode mode p.umask; caps = refl; bytes = no_bytes; no_pipe = no_pipe }) (not_false _ room)
+      (cases.make dir name o place written is_dir free standing (record { label = refl; mode = masked_is_mode mode p.umask; caps = refl; bytes = no_bytes; no_pipe = no_pipe }) (not-false _ room)
       (ap (λ (d : Object). dominates p.label d.label) (sym (dir_at dir is_dir)) ∙ order) (λ f. named (args f)))))))
 
   pub mkdir_meets : (path : PathValue) (mode : ℕ) → (fit → are_names path ≡ true) → Meets bad who p P (mkdir_row s who p path mode)
@@ -371,7 +371,7 @@ module _ (bad : Rec → Bool) (s : State) (valid : IsValid s) (who : Pid) (p : P
 
   -- what may give way has no entries, be it a directory or not
   has_no_entries : (t : Oid) → (is_dir (object_at s t).kind && not (is_empty s t)) ≡ false → is_empty s t ≡ true
-  has_no_entries t h = elim (and_cases (is_dir (object_at s t).kind) (not (is_empty s t)) h) as (λ w. is_empty s t ≡ true) [ inl no_dir ↦ no_entries s valid t no_dir | inr empty ↦ not_false _ empty ]
+  has_no_entries t h = elim (and_cases (is_dir (object_at s t).kind) (not (is_empty s t)) h) as (λ w. is_empty s t ≡ true) [ inl no_dir ↦ no_entries s valid t no_dir | inr empty ↦ not-false _ empty ]
 
   -- the row goes on where what is at the target may give way: it is something else, without entries
   meets_give_way : (id : Oid) (object : Option Oid) (place : Place) (r : Row) → (((t : Oid) → object ≡ Some t → (same_oid t id ≡ false) × (is_empty s t ≡ true)) → Meets bad who p P r) → Meets bad who p P (give_way s p id object place r)

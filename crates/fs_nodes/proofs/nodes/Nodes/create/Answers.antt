@@ -10,7 +10,7 @@ use Rattle.kern_model.specs.declared.objects.Object.{Object}
 use Rattle.kern_model.specs.Keys.{oid_cmp}
 use Rattle.fs_nodes.specs.Nodes.{NodeSlots, NodeTable, IsPlaced, objects_in, with_new}
 use Rattle.fs_nodes.specs.declared.index.Index.{Index}
-use Rattle.fs_nodes.proofs.Made.{same_objects, placed_reserved, objects_made, placed_made, on_err}
+use Rattle.fs_nodes.proofs.Made.{same_objects, placed_reserved, objects_made, placed_made, where_err}
 use Rattle.fs_nodes.proofs.nodes.Nodes.create.Goals as goal
 
 reserved : (slots new : Slab Object) (keys : FinMap oid_cmp ℕ) (numbers : FinMap label_cmp ℕ) → new ≡ record slots { capacity = new.capacity } → IsPlaced slots keys numbers → IsPlaced new keys numbers
@@ -35,7 +35,7 @@ pub invariant_of-self : goal.invariant_of-self
 invariant_of-self c = reserved c.self.inside.slots c.reserve.new.self c.self.inside.index.keys c.self.inside.index.numbers c.reserve.ensures.rest_kept c.self.invariant
 
 pub returns-in_err-reserve-clause-err : goal.returns-in_err-reserve-clause-err
-returns-in_err-reserve-clause-err c = on_err c.from_residual-in_err-reserve.result (same_table c.self.inside.slots c.reserve.new.self c.self.inside.index.keys c.self.inside.index.numbers c.args.self.now c.reserve.ensures.rest_kept c.self.view_is)
+returns-in_err-reserve-clause-err c = where_err c.from_residual-in_err-reserve.result (same_table c.self.inside.slots c.reserve.new.self c.self.inside.index.keys c.self.inside.index.numbers c.args.self.now c.reserve.ensures.rest_kept c.self.view_is)
 
 pub invariant_of-self-in_err-enter : goal.invariant_of-self-in_err-enter
 invariant_of-self-in_err-enter c =
@@ -43,7 +43,7 @@ invariant_of-self-in_err-enter c =
     (reserved c.self.inside.slots c.reserve.new.self c.self.inside.index.keys c.self.inside.index.numbers c.reserve.ensures.rest_kept c.self.invariant)
 
 pub returns-in_err-enter-clause-err : goal.returns-in_err-enter-clause-err
-returns-in_err-enter-clause-err c = on_err c.from_residual-in_err-enter.result
+returns-in_err-enter-clause-err c = where_err c.from_residual-in_err-enter.result
     (ap (λ (x : Index). record { objects = objects_in c.reserve.new.self x.keys; numbers = x.numbers }) c.in_err-enter.ensures.err
     ∙ same_table c.self.inside.slots c.reserve.new.self c.self.inside.index.keys c.self.inside.index.numbers c.args.self.now c.reserve.ensures.rest_kept c.self.view_is)
 
