@@ -1,8 +1,6 @@
 -- The values of a world that can be written in canonical form.
-use Rattle.std.specs.Prelude.{◌≡◌, ◌/◌, ◌%◌, ◌≤◌, true, false, List, [], ◌∷◌, length, refl}
-use Rattle.std.proofs.Common.{arith}
+use Rattle.std.specs.Prelude.{◌≡◌, ◌≤◌, true, false, List, [], ◌∷◌, length, refl}
 use Rattle.std.specs.List.{AllByRecursion}
-use Rattle.std.proofs.lemmas.Bool.{and_parts, ltb-true, eqb-true}
 use Rattle.fs_path.specs.Path.{PathValue, HasForm}
 use Rattle.lab_lattice.specs.Label.{Label, dominates}
 use Rattle.cap_bits.specs.CapSet.{is_within}
@@ -13,7 +11,7 @@ use Rattle.kern_model.specs.declared.objects.Body.TheVariants as body
 use Rattle.kern_model.specs.declared.world.WorldObject.{WorldObject}
 use Rattle.kern_model.specs.declared.world.WorldProc.{WorldProc}
 use Rattle.kern_model.specs.declared.limits.TheConstants.{MAX_GROUPS}
-use Rattle.kern_model.specs.Kinds.{is_file, kind_of}
+use Rattle.kern_model.specs.Kinds.{is_file, kind_of, is_mode}
 use Rattle.kern_model.specs.World.{IsWorldObject, IsWorldProc}
 use Rattle.line_text.specs.Ranges.{are_bytes, are_numbers, IsNumber}
 use Rattle.world_text.specs.CanBeRead.{HasBytes, IsWrittenObject, IsWrittenIds}
