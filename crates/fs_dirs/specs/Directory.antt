@@ -37,7 +37,7 @@ pub record IsGap (entries : List Entry) (name : Name) (place : ℕ) : Type 0 whe
   pub less : AllWithin (λ (e : Entry). name_cmp e.name name ≡ Less) entries 0 place
   pub greater : AllWithin (λ (e : Entry). name_cmp e.name name ≡ Greater) entries place (length entries)
 
--- a look-up among n names takes few steps: they are no more than 4 n + 2 has halves
+-- a look-up among n names makes few comparisons: 2 to the power of their number is at most 4 n + 2
 pub record TakesFewSteps (n before after : ℕ) : Type 0 where
   pub steps : ℕ
   pub counted : after ≡ before + steps

@@ -1,7 +1,7 @@
 // One directory.
 ghost use Rattle.std.specs.Prelude.{◌≡◌, ◌<◌, IfErr, IfOk, IsOk, IsSome, OnErr, OnOk, length};
 ghost use Rattle.std.specs.FinMap as map;
-ghost use Rattle.fs_dirs.specs.Directory.{IsAt, IsGap, TakesFewSteps};
+ghost use Rattle.fs_dirs.specs.Directory.{AreSorted, IsAt, IsGap, TakesFewSteps};
 
 use fs_path::{Name, NameList, NoMemory, Steps};
 use kern_model::Oid;
@@ -61,8 +61,10 @@ impl Directory {
         ensures found { result ≡ map.get self.now name.now }
         ensures counted { TakesFewSteps (map.len self.now) steps.old steps.new }
     {
-        let place = search(&self.entries, name, steps).ok()?;
-        Some(self.entries[place].id)
+        match search(&self.entries, name, steps) {
+            Ok(place) => Some(self.entries[place].id),
+            Err(_) => None,
+        }
     }
 
     /// Has a name lead to an object, in place of the one to which it led. Where the name is there, it takes no memory.
@@ -83,8 +85,10 @@ impl Directory {
         ensures found { result ≡ map.get self.old name.now }
         ensures removed { self.new ≡ map.remove self.old name.now }
     {
-        let place = place_of(&self.entries, name).ok()?;
-        Some(self.entries.remove(place).id)
+        match place_of(&self.entries, name) {
+            Ok(place) => Some(self.entries.remove(place).id),
+            Err(_) => None,
+        }
     }
 
     /// Copies of the names, in their order.
@@ -100,11 +104,7 @@ impl Directory {
 }
 
 // Where a name is among sorted entries, or else where it belongs. Each comparison of names is counted.
-fn search<L: Ledger>(
-    entries: &[Entry],
-    name: &Name,
-    steps: &mut Steps<L>,
-) -> Result<usize, usize>
+fn search<L: Ledger>(entries: &[Entry], name: &Name, steps: &mut Steps<L>) -> Result<usize, usize>
     requires { AreSorted entries.now }
     ensures found { IfOk result (IsAt entries.now name.now) }
     ensures absent { IfErr result (IsGap entries.now name.now) }
