@@ -208,14 +208,9 @@ module _ (s : State) (top : Oid) where
   under_itself zero dir e = e
   under_itself (suc n) dir e = ap (λ b. b || is_so_above (λ above. is_under_within s n above top) (holder s dir)) e
 
-  -- another one lies under what the directory that holds it lies under
-  pub under_holder : (n k : ℕ) (dir above : Oid) → n ≡ suc k → same_oid dir top ≡ false → holder s dir ≡ Some above → is_under_within s n dir top ≡ is_under_within s k above top
+  -- another one lies under what the directory that holds it lies under, and under nothing where none does
+  pub under_holder : (n k : ℕ) (dir : Oid) (above : Option Oid) → n ≡ suc k → same_oid dir top ≡ false → holder s dir ≡ above → is_under_within s n dir top ≡ is_so_above (λ above. is_under_within s k above top) above
   under_holder n k dir above e f h =
-      ap (λ m. is_under_within s m dir top) e ∙ ap (λ b. b || is_so_above (λ above. is_under_within s k above top) (holder s dir)) f ∙ ap (is_so_above (λ above. is_under_within s k above top)) h
-
-  -- and under nothing else, where none holds it
-  pub under_nothing : (n k : ℕ) (dir : Oid) → n ≡ suc k → same_oid dir top ≡ false → holder s dir ≡ None → is_under_within s n dir top ≡ false
-  under_nothing n k dir e f h =
       ap (λ m. is_under_within s m dir top) e ∙ ap (λ b. b || is_so_above (λ above. is_under_within s k above top) (holder s dir)) f ∙ ap (is_so_above (λ above. is_under_within s k above top)) h
 
 -- ---- bytes that wait

@@ -1,7 +1,7 @@
 // The tree.
 ghost use Rattle.std.specs.Prelude.{◌≡◌, ◌↔◌, ◌<◌, ◌≤◌, ◌+◌, true, [], Some, None, Err, IfOk, IsErr, IsSome, OnErr, OnOk, length};
 ghost use Rattle.std.specs.FinMap as map;
-ghost use Rattle.kern_model.specs.Entries.{entry_count, is_empty, is_removed, link_count, names_in};
+ghost use Rattle.kern_model.specs.Entries.{entry_count, is_empty, is_removed, is_under, link_count, names_in};
 ghost use Rattle.kern_model.specs.FileRows.{written_over};
 ghost use Rattle.kern_model.specs.Kinds.{object_with};
 ghost use Rattle.kern_model.specs.State.{drawn, look, root};
@@ -258,6 +258,26 @@ impl Tree {
             Some(_) => Ok(()),
             None => Err(Absent),
         }
+    }
+
+    /// Whether a directory is another one or lies under it.
+    pub fn under(&self, dir: &Oid, top: &Oid) -> bool
+        requires { IsDir self.now.nodes.table.objects dir.now }
+        ensures { result ≡ is_under (state_of_tree self.now) dir.now top.now }
+    {
+        let mut current = *dir;
+        let mut left = self.entries.total();
+        'up: while !same(&current, top) {
+            if left == 0 {
+                return false;
+            }
+            let Some(above) = self.entries.holder(&current) else {
+                return false;
+            };
+            current = above;
+            left -= 1;
+        }
+        true
     }
 }
 
