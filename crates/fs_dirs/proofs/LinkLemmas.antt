@@ -1,5 +1,5 @@
 -- What is kept of the names of objects, after an entry is set or goes.
-use Rattle.std.specs.Prelude.{◌≡◌, ℕ, ◌+◌, ◌-◌, ◌≤◌, ◌<◌, nat_le, Bool, true, false, Option, Some, None, IsSome, cond, is_some, refl}
+use Rattle.std.specs.Prelude.{◌≡◌, ℕ, ◌+◌, ◌-◌, ◌≤◌, ◌<◌, nat_le, Bool, true, false, Option, Some, None, IfSome, IsSome, cond, is_some, refl}
 use Rattle.std.specs.Ordering.{eq_by_cmp, is_eq}
 use Rattle.std.specs.Option.{option_map}
 use Rattle.std.specs.Cmp.{eq_by_cmp_equiv}
@@ -16,10 +16,10 @@ use Rattle.kern_model.specs.Keys.{Spot, oid_cmp, spot_cmp, same_oid}
 use Rattle.kern_model.specs.Valid.{IsThere}
 use Rattle.kern_model.proofs.KeyLaws.{oid_cmp_total, oid_cmp_exact, spot_cmp_total, spot_cmp_exact}
 use Rattle.kern_model.proofs.MapLemmas.{same_key, some_same, get-insert_same, get-insert_kept}
-use Rattle.fs_dirs.specs.Entries.{AreKept, entries_alone, IsLinked, count_of, dir_of, linked, name_count, unlinked, with_links}
+use Rattle.fs_dirs.specs.Entries.{AreKept, entries_alone, IsLinked, count_of, dir_of, linked, name_count, unlinked, with_links, without_name}
 use Rattle.fs_dirs.specs.declared.links.Links.{Links}
 use Rattle.fs_dirs.specs.declared.links.Links.TheVariants.{One, Shared}
-use Rattle.fs_dirs.proofs.CountLemmas.{count_entries-empty, count_entries-insert, count_entries-remove, none_passing, only_passing, insert-remove, gone}
+use Rattle.fs_dirs.proofs.CountLemmas.{count_entries-empty, count_entries-insert, count_entries-remove, none_passing, only_passing, insert-remove, gone, remove_absent}
 
 one_more : (b : Bool) (n m : ℕ) → b ≡ true → m ≡ cond b 1 0 + n → m ≡ 1 + n
 one_more true n m t e = e
@@ -95,7 +95,8 @@ module _ (entries : FinMap spot_cmp Oid) (dir : Oid) (name : Name) (id : Oid) (t
         | false ↦ λ f. let many : 1 < n = grind (arith, nat_tests) in omega (arith, one, h, many)
       ] refl
 
-  kept_spot : (q : Oid) → same_oid id q ≡ false → (spot : Spot) → table.get entries spot ≡ Some q → table.get after_remove spot ≡ Some q
+  -- an entry that leads to another object stays
+  pub kept_spot : (q : Oid) → same_oid id q ≡ false → (spot : Spot) → table.get entries spot ≡ Some q → table.get after_remove spot ≡ Some q
   kept_spot q apart spot is = get-remove spot_cmp_total entries (dir, name) spot
       ∙ elim (eq_by_cmp spot_cmp spot (dir, name)) as (λ b. eq_by_cmp spot_cmp spot (dir, name) ≡ b → cond b None (table.get entries spot) ≡ Some q) [
         | true ↦ λ t.
@@ -134,6 +135,23 @@ module _ (entries : FinMap spot_cmp Oid) (dir : Oid) (name : Name) (id : Oid) (t
     | None ↦ λ _ h. let one = one_more (same_oid id id) (name_count after_remove id) (name_count entries id) (itself id) (counted_remove id) in absurd (omega (arith, one, h))
     | Some l ↦ λ e _. record { value = l; is = e }
   ] refl (kept.linked_so id)
+
+-- ---- an entry that goes, if it is there
+module _ (entries : FinMap spot_cmp Oid) (dir : Oid) (name : Name) (links : FinMap oid_cmp Links) (total : ℕ) (kept : AreKept entries links total) where
+  -- the object has names that are kept
+  pub names_there : (w : Option Oid) → table.get entries (dir, name) ≡ w → IfSome w (λ (id : Oid). IsThere links id)
+  names_there None is = tt
+  names_there (Some id) is = has_links entries dir name id is links total kept
+
+  -- where it is there, there is an entry
+  pub some_entry : (w : Option Oid) → table.get entries (dir, name) ≡ w → IsSome w → 1 ≤ total
+  some_entry None is h = absurd (true≢false (sym h))
+  some_entry (Some id) is h = let less = one_less entries dir name id is in let counted = kept.counted in omega (arith, less, counted)
+
+  -- with what is left of the object's names, each object's are kept
+  pub kept-without : (w : Option Oid) → table.get entries (dir, name) ≡ w → AreKept (table.remove entries (dir, name)) (without_name links w) (cond (is_some w) (total - 1) total)
+  kept-without None is = subst (λ (m : FinMap spot_cmp Oid). AreKept m links total) (sym (remove_absent spot_cmp_total spot_cmp_exact entries (dir, name) is)) kept
+  kept-without (Some id) is = kept-remove entries dir name id is links total kept
 
 -- ---- which directory holds an object
 module _ (entries : FinMap spot_cmp Oid) (id : Oid) where

@@ -1,5 +1,5 @@
 -- A tree stays one where objects change or are made, and where entries come and go.
-use Rattle.std.specs.Prelude.{◌≡◌, ◌≤◌, ◌+◌, ◌||◌, ℕ, zero, suc, Bool, true, false, ◌⊎◌, List, [], ◌∷◌, Option, Some, None, MatchOption, cond, refl}
+use Rattle.std.specs.Prelude.{◌≡◌, ◌≤◌, ◌+◌, ◌||◌, ℕ, zero, suc, Bool, true, false, ◌⊎◌, List, [], ◌∷◌, Option, Some, None, cond, refl}
 use Rattle.std.specs.Ordering.{eq_by_cmp}
 use Rattle.std.specs.List.{AllByRecursion, find}
 use Rattle.std.specs.Option.{option_map}
@@ -23,9 +23,9 @@ use Rattle.kern_model.proofs.MapLemmas.{each-entries, each-insert, each-remove, 
 use Rattle.fs_nodes.specs.Nodes.{NodeTable, no_nodes, with_new, with_object, next_in}
 use Rattle.fs_dirs.specs.declared.links.Links.{Links}
 use Rattle.fs_dirs.specs.declared.links.Links.TheVariants.{One, Shared}
-use Rattle.fs_dirs.specs.Entries.{EntryTable, count_of, entries_alone, linked, name_count, unlinked, with_links}
+use Rattle.fs_dirs.specs.Entries.{EntryTable, count_of, entries_alone, linked, HasShared, name_count, without_name}
 use Rattle.fs_dirs.specs.Tree.{IsNoDir, IsTree, MayBeAdded, TreeView, root_alone}
-use Rattle.fs_dirs.proofs.LinkLemmas.{get-with_links}
+use Rattle.fs_dirs.proofs.MoveLemmas.{shared_without}
 
 -- no number is drawn at first
 pub none_drawn : (l : Label) → drawn map.empty l ≡ 0
@@ -150,33 +150,23 @@ tree_added v t tree dir name id is_dir may counted t' entries links = record {
       ] refl (sym (get-insert oid_cmp_total t.links id (linked (map.get t.links id) dir) q) ∙ ap (λ (m : FinMap oid_cmp Links). map.get m q) (sym links) ∙ e);
 }
 
--- what is shared after a name goes was shared before
-was_shared : (w : Option Links) (n : ℕ) → unlinked w ≡ Some (Shared n) → (m : ℕ) × (w ≡ Some (Shared m))
-was_shared None n e = absurd (never_some None (Shared n) refl e)
-was_shared (Some (One dir)) n e = absurd (never_some None (Shared n) refl e)
-was_shared (Some (Shared m)) n e = (m, refl)
-
-tree_removed : (table : NodeTable) (t : EntryTable) → IsTree table t → (dir : Oid) (name : Name) (id : Oid)
-    → (t' : EntryTable) → t'.entries ≡ map.remove t.entries (dir, name) → t'.links ≡ with_links t.links id (unlinked (map.get t.links id)) → IsTree table t'
-tree_removed table t tree dir name id t' entries links = record {
-  drawn_already = tree.drawn_already;
-  dirs = λ spot at e. each-remove spot_cmp_total spot_cmp_exact (λ (spot : Spot) (at : Oid). IsDir table.objects spot.0) t.entries tree.dirs (dir, name) spot at (ap (λ (m : FinMap spot_cmp Oid). map.get m spot) (sym entries) ∙ e);
-  single = λ q n e.
-      elim (same_oid q id) as (λ b. same_oid q id ≡ b → cond b (unlinked (map.get t.links id)) (map.get t.links q) ≡ Some (Shared n) → IsNoDir table.objects q) [
-        | true ↦ λ s f. let was = was_shared (map.get t.links id) n f in tree.single q was.0 (ap (map.get t.links) (same_key oid_cmp_exact q id s) ∙ was.1)
-        | false ↦ λ _ f. tree.single q n f
-      ] refl (sym (get-with_links id t.links (unlinked (map.get t.links id)) q) ∙ ap (λ (m : FinMap oid_cmp Links). map.get m q) (sym links) ∙ e);
-}
-
 -- an entry that goes, if it is there
-pub tree_without : (table : NodeTable) (t : EntryTable) → IsTree table t → (dir : Oid) (name : Name) (w : Option Oid) (t' : EntryTable) → t'.entries ≡ map.remove t.entries (dir, name)
-    → MatchOption w (t'.links ≡ t.links) (λ (id : Oid). t'.links ≡ with_links t.links id (unlinked (map.get t.links id))) → IsTree table t'
-tree_without table t tree dir name None t' entries links = record {
+pub tree_removed : (table : NodeTable) (t : EntryTable) → IsTree table t → (spot : Spot) (w : Option Oid) (t' : EntryTable) → t'.entries ≡ map.remove t.entries spot → t'.links ≡ without_name t.links w → IsTree table t'
+tree_removed table t tree spot w t' entries links = record {
   drawn_already = tree.drawn_already;
-  dirs = λ spot at e. each-remove spot_cmp_total spot_cmp_exact (λ (spot : Spot) (at : Oid). IsDir table.objects spot.0) t.entries tree.dirs (dir, name) spot at (ap (λ (m : FinMap spot_cmp Oid). map.get m spot) (sym entries) ∙ e);
-  single = λ q n e. tree.single q n (ap (λ (m : FinMap oid_cmp Links). map.get m q) (sym links) ∙ e);
+  dirs = λ q at e. each-remove spot_cmp_total spot_cmp_exact (λ (spot : Spot) (at : Oid). IsDir table.objects spot.0) t.entries tree.dirs spot q at (ap (λ (m : FinMap spot_cmp Oid). map.get m q) (sym entries) ∙ e);
+  single = λ q n e. let was = shared_without t.links w q n (ap (λ (m : FinMap oid_cmp Links). map.get m q) (sym links) ∙ e) in tree.single q was.count was.is;
 }
-tree_without table t tree dir name (Some id) t' entries links = tree_removed table t tree dir name id t' entries links
+
+-- an entry that moves
+pub tree_moved : (table : NodeTable) (t : EntryTable) → IsTree table t → (spot : Spot) (into : Oid) (new : Name) (id : Oid) → IsDir table.objects into → (t' : EntryTable)
+    → t'.entries ≡ map.insert (map.remove t.entries spot) (into, new) id → ((q : Oid) (n : ℕ) → map.get t'.links q ≡ Some (Shared n) → HasShared t.links q) → IsTree table t'
+tree_moved table t tree spot into new id is_dir t' entries shared = record {
+  drawn_already = tree.drawn_already;
+  dirs = λ q at e. each-insert spot_cmp_total spot_cmp_exact (λ (spot : Spot) (at : Oid). IsDir table.objects spot.0) (map.remove t.entries spot)
+      (each-remove spot_cmp_total spot_cmp_exact (λ (spot : Spot) (at : Oid). IsDir table.objects spot.0) t.entries tree.dirs spot) (into, new) id is_dir q at (ap (λ (m : FinMap spot_cmp Oid). map.get m q) (sym entries) ∙ e);
+  single = λ q n e. let was = shared q n e in tree.single q was.count was.is;
+}
 
 -- ---- the directories above one
 all_found : {X : Type 0} (P : X → Type 0) (p : X → Bool) (xs : List X) (x : X) → AllByRecursion P xs → find p xs ≡ Some x → P x

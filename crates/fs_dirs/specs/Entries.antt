@@ -89,10 +89,26 @@ unlinked None = None
 unlinked (Some (One dir)) = None
 unlinked (Some (Shared n)) = cond (nat_le n 1) None (Some (Shared (n - 1)))
 
+-- the same names, the one of them in another directory
+abbrev pub relinked : Option Links → Oid → Option Links
+relinked None dir = None
+relinked (Some (One other)) dir = Some (One dir)
+relinked (Some (Shared n)) dir = Some (Shared n)
+
 -- a table with other names of an object, or none
 abbrev pub with_links : FinMap oid_cmp Links → Oid → Option Links → FinMap oid_cmp Links
 with_links links id None = table.remove links id
 with_links links id (Some l) = table.insert links id l
+
+-- a table in which an object, if there is one, has one name less
+abbrev pub without_name : FinMap oid_cmp Links → Option Oid → FinMap oid_cmp Links
+without_name links None = links
+without_name links (Some id) = with_links links id (unlinked (table.get links id))
+
+-- an object has had several names
+pub record HasShared (links : FinMap oid_cmp Links) (id : Oid) : Type 0 where
+  pub count : ℕ
+  pub is : table.get links id ≡ Some (Shared count)
 
 -- ---- both
 

@@ -1,5 +1,5 @@
 -- The tree: the objects, and the entries of the directories among them.
-use Rattle.std.specs.Prelude.{◌≡◌, ℕ, ◌≤◌, ◌<◌, Some, refl}
+use Rattle.std.specs.Prelude.{◌≡◌, ◌&&◌, ℕ, Bool, ◌≤◌, ◌<◌, Some, refl}
 use Rattle.std.specs.FinMap as map
 use Rattle.std.specs.FinMap.{FinMap}
 use Rattle.std.specs.Coded.{Coded, code_by, coded×}
@@ -10,10 +10,10 @@ use Rattle.kern_model.specs.declared.objects.Body.TheVariants as body
 use Rattle.kern_model.specs.declared.objects.Kind.TheVariants as kind
 use Rattle.kern_model.specs.declared.objects.Object.{Object}
 use Rattle.kern_model.specs.declared.limits.TheConstants.{MAX_LINKS}
-use Rattle.kern_model.specs.Entries.{link_count}
+use Rattle.kern_model.specs.Entries.{is_under, link_count}
 use Rattle.kern_model.specs.Keys.{Spot, oid_cmp, spot_cmp}
-use Rattle.kern_model.specs.Kinds.{object_with}
-use Rattle.kern_model.specs.State.{State, drawn, root}
+use Rattle.kern_model.specs.Kinds.{is_dir, object_with}
+use Rattle.kern_model.specs.State.{State, drawn, object_at, root}
 use Rattle.kern_model.specs.Valid.{IsDir}
 use Rattle.fs_nodes.specs.Nodes.{NodeSlots, NodeTable}
 use Rattle.fs_dirs.specs.declared.links.Links.TheVariants.{Shared}
@@ -58,3 +58,7 @@ pub record MayBeAdded (t : TreeView) (id : Oid) : Type 0 where
   pub no_root : id ≡ root → ⊥
   pub no_pipe : object.kind ≡ kind.Pipe → ⊥
   pub one : object.kind ≡ kind.Dir → link_count (state_of_tree t) id ≡ 0
+
+-- whether an object would lie under itself in a directory: it is a directory, and the other one is it or lies under it
+abbrev pub would_loop : State → Oid → Oid → Bool
+would_loop s id dir = is_dir (object_at s id).kind && is_under s dir id

@@ -1,14 +1,17 @@
 // The entries of all directories.
-ghost use Rattle.std.specs.Prelude.{◌≡◌, ◌<◌, ℕ, None, Some, IfOk, MatchOption, OnErr, OnOk};
+ghost use Rattle.std.specs.Prelude.{◌≡◌, ◌-◌, ◌<◌, ◌≤◌, ℕ, false, None, Some, IfOk, IsSome, OnErr, OnOk, cond, is_some};
+ghost use Rattle.std.specs.Ordering.{eq_by_cmp};
 ghost use Rattle.std.specs.FinMap as map;
 ghost use Rattle.kern_model.specs.declared.limits.TheConstants.{MAX_LINKS};
+ghost use Rattle.kern_model.specs.declared.numbers.Oid.{Oid as Number};
+ghost use Rattle.kern_model.specs.Keys.{spot_cmp};
 ghost use Rattle.kern_model.specs.Entries.{entry_count, holder, link_count, names_in};
 ghost use Rattle.fs_dirs.specs.declared.links.Links.TheVariants as links;
 ghost use Rattle.fs_dirs.specs.Directory.{TakesFewSteps};
-ghost use Rattle.fs_dirs.specs.Entries.{count_of, entries_alone, linked, unlinked, with_links};
+ghost use Rattle.fs_dirs.specs.Entries.{count_of, entries_alone, HasShared, linked, without_name};
 
 use crate::dirs::Dirs;
-use crate::links::{LinkTable, count, only_dir, with_name, without_name};
+use crate::links::{LinkTable, count, only_dir, with_name};
 use fs_path::{Name, NameList, NoMemory, Steps};
 use kern_model::Oid;
 use std::alloc::Global;
@@ -35,6 +38,17 @@ impl Model for Entries {
     ghost view = { λ e. record { entries = entries_of e.dirs; links = e.names } };
 
     ghost invariant = { λ e. AreKept (entries_of e.dirs) e.names e.total };
+}
+
+// How many entries are left where one goes, if it is there.
+fn without_one(total: usize, gone: &Option<Oid>) -> usize
+    requires { IsSome gone.now → 1 ≤ total }
+    ensures { result ≡ cond (is_some gone.now) (total - 1) total }
+{
+    match gone {
+        Some(_) => total - 1,
+        None => total,
+    }
 }
 
 impl Entries {
@@ -143,12 +157,35 @@ impl Entries {
     pub fn remove(&mut self, dir: &Oid, name: &Name) -> Option<Oid>
         ensures found { result ≡ map.get self.old.entries (dir.now, name.now) }
         ensures entries { self.new.entries ≡ map.remove self.old.entries (dir.now, name.now) }
-        ensures links { MatchOption result (self.new.links ≡ self.old.links) (λ id. self.new.links ≡ with_links self.old.links id (unlinked (map.get self.old.links id))) }
+        ensures links { self.new.links ≡ without_name self.old.links result }
     {
-        let id = self.dirs.remove(dir, name)?;
-        let links = without_name(self.names.get(&id));
-        self.names.replace(&id, links);
-        self.total -= 1;
-        Some(id)
+        let removed = self.dirs.remove(dir, name);
+        self.names.drop_name(&removed);
+        self.total = without_one(self.total, &removed);
+        removed
+    }
+
+    /// Moves the entry that leads to an object to another spot, in place of the one that is there.
+    pub fn relocate(
+        &mut self,
+        from: &Oid,
+        old: &Name,
+        to: &Oid,
+        new: &Name,
+        id: &Oid,
+    ) -> Result<(), NoMemory>
+        requires there { map.get self.old.entries (from.now, old.now) ≡ Some id.now }
+        requires apart { eq_by_cmp spot_cmp (from.now, old.now) (to.now, new.now) ≡ false }
+        ensures entries { OnOk result (self.new.entries ≡ map.insert (map.remove self.old.entries (from.now, old.now)) (to.now, new.now) id.now) }
+        ensures shared { OnOk result ((q : Number) (n : ℕ) → map.get self.new.links q ≡ Some (links.Shared n) → HasShared self.old.links q) }
+        ensures err { OnErr result (self.new ≡ self.old) }
+    {
+        let replaced = self.look(to, new);
+        self.dirs.insert(to, new, id)?;
+        self.dirs.remove(from, old);
+        self.names.drop_name(&replaced);
+        self.names.move_name(id, to);
+        self.total = without_one(self.total, &replaced);
+        Ok(())
     }
 }

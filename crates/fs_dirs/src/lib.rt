@@ -8,4 +8,4 @@ mod links;
 mod tree;
 
 pub use fs_path::NoMemory;
-pub use tree::{Absent, AddError, Tree, root_directory};
+pub use tree::{Absent, AddError, MoveError, Tree, root_directory};

@@ -1,8 +1,8 @@
 // How many names objects have.
-ghost use Rattle.std.specs.Prelude.{◌≡◌, ◌<◌, IsOk, IsSome, OnErr, OnOk};
+ghost use Rattle.std.specs.Prelude.{◌≡◌, ◌<◌, IfSome, IsOk, IsSome, OnErr, OnOk};
 ghost use Rattle.std.specs.FinMap as map;
 ghost use Rattle.kern_model.specs.Valid.{IsThere};
-ghost use Rattle.fs_dirs.specs.Entries.{count_of, dir_of, linked, unlinked, with_links};
+ghost use Rattle.fs_dirs.specs.Entries.{count_of, dir_of, linked, relinked, unlinked, with_links, without_name};
 
 use fs_path::NoMemory;
 use kern_model::Oid;
@@ -59,6 +59,16 @@ pub fn without_name(links: Option<Links>) -> Option<Links>
     match links {
         Some(Links::Shared(n)) if n > 1 => Some(Links::Shared(n - 1)),
         _ => None,
+    }
+}
+
+/// The names of an object whose one name moves to another directory.
+pub fn in_directory(links: Option<Links>, dir: Oid) -> Option<Links>
+    ensures { result ≡ relinked links dir }
+{
+    match links {
+        Some(Links::One(_)) => Some(Links::One(dir)),
+        other => other,
     }
 }
 
@@ -124,5 +134,25 @@ impl LinkTable {
                 }
             }
         }
+    }
+
+    /// Takes a name from an object, if there is one. It takes no memory.
+    pub fn drop_name(&mut self, id: &Option<Oid>)
+        requires { IfSome id.now (λ id. IsThere self.old id) }
+        ensures { self.new ≡ without_name self.old id.now }
+    {
+        if let Some(id) = id {
+            let links = without_name(self.get(id));
+            self.replace(id, links);
+        }
+    }
+
+    /// Moves the one name of an object to another directory. It takes no memory.
+    pub fn move_name(&mut self, id: &Oid, dir: &Oid)
+        requires { IsThere self.old id.now }
+        ensures { self.new ≡ with_links self.old id.now (relinked (map.get self.old id.now) dir.now) }
+    {
+        let links = in_directory(self.get(id), *dir);
+        self.replace(id, links);
     }
 }

@@ -1,23 +1,25 @@
 // The tree.
-ghost use Rattle.std.specs.Prelude.{◌≡◌, ◌↔◌, ◌<◌, ◌≤◌, ◌+◌, true, [], Some, None, Err, IfOk, IsErr, IsSome, OnErr, OnOk, length};
+ghost use Rattle.std.specs.Prelude.{◌≡◌, ◌↔◌, ◌<◌, ◌≤◌, ◌+◌, true, false, [], Some, None, Err, IfOk, IsErr, IsSome, OnErr, OnOk, length};
+ghost use Rattle.std.specs.Ordering.{eq_by_cmp};
 ghost use Rattle.std.specs.FinMap as map;
+ghost use Rattle.kern_model.specs.declared.numbers.Oid.{Oid as Number};
 ghost use Rattle.kern_model.specs.Entries.{entry_count, is_empty, is_removed, is_under, link_count, names_in};
 ghost use Rattle.kern_model.specs.FileRows.{written_over};
-ghost use Rattle.kern_model.specs.Kinds.{object_with};
-ghost use Rattle.kern_model.specs.State.{drawn, look, root};
+ghost use Rattle.kern_model.specs.Kinds.{is_dir, object_with};
+ghost use Rattle.kern_model.specs.State.{drawn, look, object_at, root};
 ghost use Rattle.kern_model.specs.Valid.{IsDir, IsThere};
 ghost use Rattle.kern_model.specs.declared.limits.TheConstants.{MAX_FILE_BYTES, MAX_OBJECTS};
 ghost use Rattle.kern_model.specs.declared.objects.Object.{Object as Value};
 ghost use Rattle.fs_nodes.specs.Nodes.{IsFile, next_in, with_new, with_object};
-ghost use Rattle.kern_model.specs.Keys.{same_oid};
+ghost use Rattle.kern_model.specs.Keys.{same_oid, spot_cmp};
 ghost use Rattle.fs_dirs.specs.Directory.{TakesFewSteps};
-ghost use Rattle.fs_dirs.specs.Tree.{MayBeAdded, root_alone, state_of_tree};
+ghost use Rattle.fs_dirs.specs.Tree.{MayBeAdded, root_alone, state_of_tree, would_loop};
 
 use crate::NoMemory;
 use crate::entries::Entries;
 use fs_nodes::{Buffers, NodeError, Nodes, WriteError};
 use fs_path::{Name, NameList, Steps};
-use kern_model::{Attr, Body, Object, Oid};
+use kern_model::{Attr, Body, Kind, Object, Oid};
 use lab_lattice::{Label, bottom};
 use std::alloc::Global;
 use std::marker::Model;
@@ -41,6 +43,29 @@ impl From<NoMemory> for AddError {
 
     fn from(e: NoMemory) -> Self {
         AddError::NoMemory(e)
+    }
+}
+
+/// Why no entry is moved.
+#[derive(Clone, Copy, Debug, PartialEq, Eq)]
+pub enum MoveError {
+    /// The name is not there.
+    Absent,
+    /// A directory would lie under itself.
+    Loop,
+    /// The new directory is removed.
+    Removed,
+    NoMemory(NoMemory),
+}
+
+impl From<NoMemory> for MoveError {
+    ghost use Rattle.std.specs.Prelude.{◌≡◌};
+    ghost use Rattle.fs_dirs.specs.declared.tree.MoveError.TheVariants as error;
+
+    ghost from_gives = { λ e n. n ≡ error.NoMemory e };
+
+    fn from(e: NoMemory) -> Self {
+        MoveError::NoMemory(e)
     }
 }
 
@@ -89,6 +114,21 @@ fn same(a: &Oid, b: &Oid) -> bool
     ensures { result ≡ same_oid a.now b.now }
 {
     a.cmp(b).is_eq()
+}
+
+// Whether two spots are one.
+#[tactic(auto, unfolding(kern_model::specs::Keys::oid_cmp, kern_model::specs::Keys::spot_cmp))]
+fn same_spot(from: &Oid, old: &Name, to: &Oid, new: &Name) -> bool
+    ensures { result ≡ eq_by_cmp spot_cmp (from.now, old.now) (to.now, new.now) }
+{
+    from.cmp(to).then(old.cmp(new)).is_eq()
+}
+
+// Whether it is the kind of a directory.
+fn is_dir(kind: Kind) -> bool
+    ensures { result ≡ is_dir kind }
+{
+    matches!(kind, Kind::Dir)
 }
 
 // The root directory alone.
@@ -258,6 +298,55 @@ impl Tree {
             Some(_) => Ok(()),
             None => Err(Absent),
         }
+    }
+
+    // Whether an object is there and is a directory.
+    fn is_directory(&self, id: &Oid) -> bool
+        ensures { result ≡ is_dir (object_at (state_of_tree self.now) id.now).kind }
+    {
+        match self.nodes.get(id) {
+            Some(object) => is_dir(object.kind),
+            None => false,
+        }
+    }
+
+    // Whether an object would lie under itself in a directory.
+    fn would_loop(&self, id: &Oid, dir: &Oid) -> bool
+        requires { IsDir self.now.nodes.table.objects dir.now }
+        ensures { result ≡ would_loop (state_of_tree self.now) id.now dir.now }
+    {
+        self.is_directory(id) && self.under(dir, id)
+    }
+
+    /// Moves an entry to another name, in place of what is there. Where both names are one, nothing changes.
+    pub fn move_entry(
+        &mut self,
+        from: &Oid,
+        old: &Name,
+        to: &Oid,
+        new: &Name,
+    ) -> Result<(), MoveError>
+        requires { IsDir self.old.nodes.table.objects to.now }
+        ensures moved { (id : Number) → look (state_of_tree self.old) from.now old.now ≡ Some id → OnOk result (self.new ≡ record self.old { entries = map.insert (map.remove self.old.entries (from.now, old.now)) (to.now, new.now) id }) }
+        ensures absent { (result ≡ Err MoveError.Absent) ↔ (look (state_of_tree self.old) from.now old.now ≡ None) }
+        ensures loops { (id : Number) → look (state_of_tree self.old) from.now old.now ≡ Some id → (result ≡ Err MoveError.Loop) ↔ (would_loop (state_of_tree self.old) id to.now ≡ true) }
+        ensures removed { (id : Number) → look (state_of_tree self.old) from.now old.now ≡ Some id → (result ≡ Err MoveError.Removed) ↔ (would_loop (state_of_tree self.old) id to.now ≡ false) × (is_removed (state_of_tree self.old) to.now ≡ true) }
+        ensures err { OnErr result (self.new ≡ self.old) }
+    {
+        let Some(id) = self.entries.look(from, old) else {
+            return Err(MoveError::Absent);
+        };
+        if self.would_loop(&id, to) {
+            return Err(MoveError::Loop);
+        }
+        if self.is_removed(to) {
+            return Err(MoveError::Removed);
+        }
+        if same_spot(from, old, to, new) {
+            return Ok(());
+        }
+        self.entries.relocate(from, old, to, new, &id)?;
+        Ok(())
     }
 
     /// Whether a directory is another one or lies under it.

@@ -3,13 +3,13 @@ use Rattle.kern_model.proofs.KeyLaws.{spot_cmp_total, spot_cmp_exact}
 use Rattle.fs_dirs.specs.Tree.{TreeView}
 use Rattle.fs_dirs.proofs.Answering.{same_err}
 use Rattle.fs_dirs.proofs.CountLemmas.{remove_absent}
-use Rattle.fs_dirs.proofs.TreeLemmas.{tree_without}
+use Rattle.fs_dirs.proofs.TreeLemmas.{tree_removed}
 use Rattle.fs_dirs.proofs.tree.Tree.remove.Goals.{in-Some, in-None}
 use Rattle.fs_dirs.proofs.tree.Tree.remove.Goals as goal
 
 pub invariant_of-self : goal.invariant_of-self
 invariant_of-self c =
-    tree_without c.self.inside.nodes.table c.self.inside.entries c.self.invariant c.args.dir.now c.args.name.now c.remove.result c.remove.new.self c.remove.ensures.entries c.remove.ensures.links
+    tree_removed c.self.inside.nodes.table c.self.inside.entries c.self.invariant (c.args.dir.now, c.args.name.now) c.remove.result c.remove.new.self c.remove.ensures.entries c.remove.ensures.links
 
 pub returns-clause-err : goal.returns-clause-err
 returns-clause-err c =
