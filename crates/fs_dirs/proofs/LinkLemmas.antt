@@ -16,7 +16,7 @@ use Rattle.kern_model.specs.Keys.{Spot, oid_cmp, spot_cmp, same_oid}
 use Rattle.kern_model.specs.Valid.{IsThere}
 use Rattle.kern_model.proofs.KeyLaws.{oid_cmp_total, oid_cmp_exact, spot_cmp_total, spot_cmp_exact}
 use Rattle.kern_model.proofs.MapLemmas.{same_key, some_same, get-insert_same, get-insert_kept}
-use Rattle.fs_dirs.specs.Entries.{AreKept, entries_alone, IsLinked, count_of, dir_of, linked, name_count, unlinked, with_links, without_name}
+use Rattle.fs_dirs.specs.Entries.{AreKept, entries_alone, IsLinked, dir_of, linked, name_count, unlinked, with_links, without_name}
 use Rattle.fs_dirs.specs.declared.links.Links.{Links}
 use Rattle.fs_dirs.specs.declared.links.Links.TheVariants.{One, Shared}
 use Rattle.fs_dirs.proofs.CountLemmas.{count_entries-empty, count_entries-insert, count_entries-remove, none_passing, only_passing, insert-remove, gone, remove_absent}
@@ -31,12 +31,6 @@ no_more false n m t e = omega arith
 
 itself : (id : Oid) → same_oid id id ≡ true
 itself id = ap is_eq (tied_itself oid_cmp_total id)
-
--- the names kept are as many as the entries say
-pub count_linked : (entries : FinMap spot_cmp Oid) (id : Oid) (l : Option Links) → IsLinked entries id l → count_of l ≡ name_count entries id
-count_linked entries id None h = sym h
-count_linked entries id (Some (One dir)) h = sym h.0
-count_linked entries id (Some (Shared n)) h = sym h
 
 -- ---- an entry that is new
 module _ (entries : FinMap spot_cmp Oid) (dir : Oid) (name : Name) (id : Oid) (absent : table.get entries (dir, name) ≡ None) where

@@ -20,9 +20,6 @@ use Rattle.fs_dirs.proofs.LinkLemmas.{get-with_links, has_links, kept-remove, ke
 
 -- ---- tables
 module _ {K X : Type 0} {R : K → K → Ordering} (o : IsTotalOrder R) (exact : IsAntisymmetric R) (m : FinMap R X) (k q : K) (apart : eq_by_cmp R k q ≡ false) where
-  other_side : eq_by_cmp R q k ≡ false
-  other_side = (eq_by_cmp_equiv o).symm q k ∙ apart
-
   -- what is there stays where another key goes
   pub get-remove_other : table.get (table.remove m q) k ≡ table.get m k
   get-remove_other = get-remove o m q k ∙ ap (λ b. cond b None (table.get m k)) apart

@@ -1,5 +1,5 @@
 -- A tree stays one where objects change or are made, and where entries come and go.
-use Rattle.std.specs.Prelude.{◌≡◌, ◌≤◌, ◌+◌, ◌||◌, ℕ, zero, suc, Bool, true, false, ◌⊎◌, List, [], ◌∷◌, Option, Some, None, cond, refl}
+use Rattle.std.specs.Prelude.{◌≡◌, ◌≤◌, ◌+◌, ◌||◌, ℕ, suc, Bool, true, false, ◌⊎◌, List, [], ◌∷◌, Option, Some, None, cond, refl}
 use Rattle.std.specs.Ordering.{eq_by_cmp}
 use Rattle.std.specs.List.{AllByRecursion, find}
 use Rattle.std.specs.Option.{option_map}
@@ -186,19 +186,8 @@ holder_dir table t tree id above h =
       | Some e ↦ λ found f. subst (IsDir table.objects) (some_same e.0.0 above f) (all_found (λ (e : Spot × Oid). IsDir table.objects e.0.0) (λ (e : Spot × Oid). same_oid e.1 id) (map.entries t.entries) e each found)
     ] refl h
 
--- a directory never has several names
-pub dir_single : (table : NodeTable) (t : EntryTable) → IsTree table t → (id : Oid) → IsDir table.objects id → (n : ℕ) → map.get t.links id ≡ Some (Shared n) → ⊥
-dir_single table t tree id d n e =
-    let other = tree.single id n e in
-    other.no_dir (ap (λ (o : Object). o.kind) (some_same other.object d.object (sym other.is ∙ d.is)) ∙ d.dir)
-
 module _ (s : State) (top : Oid) where
-  -- a directory lies under itself
-  pub under_itself : (n : ℕ) (dir : Oid) → same_oid dir top ≡ true → is_under_within s n dir top ≡ true
-  under_itself zero dir e = e
-  under_itself (suc n) dir e = ap (λ b. b || is_so_above (λ above. is_under_within s n above top) (holder s dir)) e
-
-  -- another one lies under what the directory that holds it lies under, and under nothing where none does
+  -- a directory that is not the one lies under it where the directory that holds it does, and does not where none holds it
   pub under_holder : (n k : ℕ) (dir : Oid) (above : Option Oid) → n ≡ suc k → same_oid dir top ≡ false → holder s dir ≡ above → is_under_within s n dir top ≡ is_so_above (λ above. is_under_within s k above top) above
   under_holder n k dir above e f h =
       ap (λ m. is_under_within s m dir top) e ∙ ap (λ b. b || is_so_above (λ above. is_under_within s k above top) (holder s dir)) f ∙ ap (is_so_above (λ above. is_under_within s k above top)) h
