@@ -4,7 +4,7 @@ use Rattle.std.specs.FinMap as map
 use Rattle.kern_model.specs.Keys.{pid_cmp}
 use Rattle.kern_model.proofs.KeyLaws.{pid_cmp_total, pid_cmp_exact}
 use Rattle.kern_model.proofs.TableLemmas.{entries_view}
-use Rattle.kern_core.proofs.tables.procs.Procs.live.Goals as goal
+use Rattle.proc_table.proofs.living.Living.numbers.Goals as goal
 
 pub loop-who-init : goal.loop-who-init
 unfolding pid_cmp

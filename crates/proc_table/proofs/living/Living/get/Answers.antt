@@ -3,7 +3,7 @@ use Rattle.std.specs.FinMap as map
 use Rattle.kern_model.specs.Keys.{pid_cmp}
 use Rattle.kern_model.proofs.KeyLaws.{pid_cmp_total}
 use Rattle.kern_model.proofs.TableLemmas.{get_at}
-use Rattle.kern_core.proofs.tables.procs.Procs.get.Goals as goal
+use Rattle.proc_table.proofs.living.Living.get.Goals as goal
 
 pub returns : goal.returns
 unfolding pid_cmp

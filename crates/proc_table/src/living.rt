@@ -1,23 +1,21 @@
 // Living processes by their numbers.
-ghost use Rattle.std.specs.Prelude.{◌≡◌, true, false, IfOk, IfSome, OnOk, OnErr, option_copied, option_map};
+ghost use Rattle.std.specs.Prelude.{◌≡◌, IfOk, OnErr, OnOk, option_copied, option_map};
 ghost use Rattle.std.specs.FinMap as map;
-ghost use Rattle.kern_model.specs.State.{Process};
 
 use crate::process::Proc;
-use cap_bits::CapState;
 use kern_model::{NoMemory, Pid, PidList};
-use lab_lattice::Label;
+use proc_creds::Creds;
 use std::alloc::Global;
 use std::collections::BTreeMap;
 use std::marker::Model;
 
 /// Living processes by their numbers.
 #[derive(Drop)]
-pub struct Procs {
+pub struct Living {
     kept: BTreeMap<Pid, Proc>,
 }
 
-impl Model for Procs {
+impl Model for Living {
     ghost use Rattle.std.specs.Prelude.{ℕ};
     ghost use Rattle.std.specs.Ordering.{nat_cmp};
     ghost use Rattle.std.specs.FinMap as map;
@@ -36,43 +34,65 @@ impl Model for Procs {
     ghost view = { λ a. map.from_entries a.kept.entries };
 }
 
-impl Procs {
+impl Living {
     ghost use Rattle.std.specs.Borrow.{sem};
     ghost use Rattle.std.specs.Option.{option_copied_mut};
-    ghost use Rattle.kern_core.specs.Lending.{LendsProcess};
+    ghost use Rattle.proc_table.specs.Procs.{creds_of};
+    ghost use Rattle.proc_table.specs.Lending.{LendsCreds, LendsProcess};
 
     /// The empty table.
     pub fn new(alloc: Global) -> Self
         ensures { result ≡ map.empty }
     {
-        Procs {
+        Living {
             kept: BTreeMap::new(alloc),
         }
     }
 
-    /// The process with this number, if there is one.
+    /// The process with a number, if there is one.
     pub fn get(&self, who: &Pid) -> Option<&Proc>
         ensures { option_copied result ≡ map.get self.now who.now }
     {
         self.kept.get(who)
     }
 
-    /// The label of the process with this number, if there is one.
-    pub fn label_of(&self, who: &Pid) -> Option<Label>
-        ensures { result ≡ option_map (λ (p : Process). p.label) (map.get self.now who.now) }
+    /// The process with a number, for changes to it, if there is one.
+    pub fn get_mut(&mut self, who: &Pid) -> Option<&mut Proc>
+        ensures* writes_back { sem 𝓛 (LendsProcess self.entry who.now result) }
+        ensures value { option_copied_mut result ≡ map.get self.old who.now }
     {
-        self.get(who).map(Proc::label)
+        self.kept.get_mut(who)
     }
 
-    /// The capability sets of the process with this number, if there is one.
-    pub fn caps_of(&self, who: &Pid) -> Option<CapState>
-        ensures { result ≡ option_map (λ (p : Process). p.caps) (map.get self.now who.now) }
+    /// The credentials of the process with a number, for changes to them, if there is one.
+    pub fn creds_mut(&mut self, who: &Pid) -> Option<&mut Creds>
+        ensures* writes_back { sem 𝓛 (LendsCreds self.entry who.now result) }
+        ensures value { option_copied_mut result ≡ option_map creds_of (map.get self.old who.now) }
     {
-        self.get(who).map(Proc::caps)
+        match self.get_mut(who) {
+            Some(process) => Some(&mut process.creds),
+            None => None,
+        }
+    }
+
+    /// Puts a process in place of what was there.
+    pub fn set(&mut self, who: Pid, process: Proc) -> Result<(), NoMemory>
+        ensures ok { OnOk result (self.new ≡ map.insert self.old who process) }
+        ensures err { OnErr result (self.new ≡ self.old) }
+    {
+        self.kept.insert(who, process)?;
+        Ok(())
+    }
+
+    /// Removes the process with a number, if there is one.
+    pub fn remove(&mut self, who: &Pid)
+        ensures { self.new ≡ map.remove self.old who.now }
+    {
+        self.kept.remove(who);
     }
 
     /// The numbers of the processes, in order.
-    pub fn live(&self, alloc: Global) -> Result<PidList, NoMemory>
+    pub fn numbers(&self, alloc: Global) -> Result<PidList, NoMemory>
         ensures { IfOk result (λ numbers. numbers ≡ map.keys self.now) }
     {
         let mut numbers = PidList::new(alloc);
@@ -80,21 +100,5 @@ impl Procs {
             numbers.push(*who)?;
         }
         Ok(numbers)
-    }
-
-    /// Sets the process with this number.
-    pub fn set(&mut self, who: Pid, value: Proc) -> Result<(), NoMemory>
-        ensures { OnOk result (self.new ≡ map.insert self.old who value) }
-    {
-        self.kept.insert(who, value)?;
-        Ok(())
-    }
-
-    /// The process with this number, for changes to it, if there is one.
-    pub fn get_mut(&mut self, who: &Pid) -> Option<&mut Proc>
-        ensures* writes_back { sem 𝓛 (LendsProcess self.entry who.now result) }
-        ensures value { option_copied_mut result ≡ map.get self.old who.now }
-    {
-        self.kept.get_mut(who)
     }
 }

@@ -3,8 +3,8 @@ use Rattle.std.specs.FinMap as map
 use Rattle.kern_model.specs.Keys.{pid_cmp}
 use Rattle.kern_model.proofs.KeyLaws.{pid_cmp_total, pid_cmp_exact}
 use Rattle.kern_model.proofs.TableLemmas.{get_at, one_set}
-use Rattle.kern_core.proofs.LendLemmas.{where_lent}
-use Rattle.kern_core.proofs.tables.procs.Procs.get_mut.Goals as goal
+use Rattle.proc_table.proofs.LendLemmas.{where_lent}
+use Rattle.proc_table.proofs.living.Living.get_mut.Goals as goal
 
 pub returns : goal.returns
 unfolding pid_cmp
