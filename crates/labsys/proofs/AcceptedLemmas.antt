@@ -1,4 +1,4 @@
--- What an input's accepted world and its script are.
+-- An accepted world is a world, and the calls of its script may be played.
 use Rattle.std.proofs.Common.{◌≡◌, ℕ, ◌+◌, Bool, true, false, cond, List, [], ◌∷◌, length, take, refl, sym, subst, Some}
 use Rattle.std.specs.Prelude.{nat_lt, Result, Ok, Err}
 use Rattle.std.proofs.lemmas.Bool.{and_from}
@@ -7,6 +7,7 @@ use Rattle.lab_text.specs.Policy.{PolicyNames, top_of}
 use Rattle.kern_model.specs.Arguments.{has_names, is_call, is_number, is_script}
 use Rattle.kern_model.specs.World.{IsWorld}
 use Rattle.kern_model.specs.declared.calls.Call.{Call}
+use Rattle.kern_model.specs.declared.limits.TheConstants.{MAX_INPUT}
 use Rattle.kern_model.specs.declared.numbers.Pid.{Pid}
 use Rattle.kern_core.specs.Built.{is_built}
 use Rattle.kern_core.proofs.BuiltLaws.{built_laws}
@@ -26,7 +27,7 @@ use Rattle.labsys.specs.Input.{Accepted as AcceptedWorld, Script, Input, no_worl
 
 -- ---- scripts
 
--- each call of a script may be made, and has laws
+-- the arguments of each call of a script are in their ranges, and the call has laws
 pub record MayBePlayed (top : Label) (s : Script) : Type 0 where
   pub arguments : is_script top s.items ≡ true
   pub laws : have_laws s.items ≡ true
@@ -50,7 +51,7 @@ module _ (policy : PolicyNames) where
 
 -- ---- inputs
 
--- an accepted world is one, and its script may be played
+-- a world is one, and the calls of its script may be played
 pub record IsPlayable (a : AcceptedWorld) (s : Script) : Type 0 where
   pub world : IsWorld a.world
   pub script : MayBePlayed a.world.top s
@@ -74,7 +75,7 @@ module _ (over : Bool) (a : WorldText) where
   by_reading text (Stopped n why) is e = absurd (cc)
   by_reading text (Ended n last) is e = absurd (cc)
 
--- what is accepted can be played
+-- an accepted world and its script can be played
 pub accepted_input : (text : List ℕ) (a : WorldText) → (input_of text).accepted ≡ Some a → IsPlayable a (input_of text).script
 unfolding input_of
-accepted_input text a is = by_reading (nat_lt 16777216 (length text)) a (take 16777216 text) (read_text (take 16777216 text)) refl is
+accepted_input text a is = by_reading (nat_lt MAX_INPUT (length text)) a (take MAX_INPUT text) (read_text (take MAX_INPUT text)) refl is

@@ -1,9 +1,10 @@
 -- The clauses of the top call, from what a run did.
 use Rattle.std.specs.Prelude.{Result, IfOk, IfSome, Ok, Err, None, Some}
-use Rattle.std.proofs.Common.{◌≡◌, ℕ, List, ◌++◌, refl, sym, ◌∙◌, ap, subst}
+use Rattle.std.proofs.Common.{◌≡◌, ℕ, ◌+◌, List, ◌++◌, refl, sym, ◌∙◌, ap, subst}
 use Rattle.std.specs.declared.option.Option.{Option}
 use Rattle.std.specs.Io.KnownBytes.{Appends, Consumes}
 use Rattle.lab_lattice.specs.Label.{Label}
+use Rattle.kern_model.specs.declared.limits.TheConstants.{MAX_INPUT}
 use Rattle.kern_model.specs.Prefixes.{IsPrefix}
 use Rattle.kern_model.specs.Lineage.{OnlyDrops, GrowsByExec}
 use Rattle.iso_laws.proofs.Laws.{drops_by_records, growth_by_records}
@@ -30,7 +31,7 @@ use Rattle.labsys.proofs.Isolating.{written, is_isolated, is_isolated_whole, two
 
 -- ---- the ends that report
 
--- where a source reports its bytes it does so after some were taken
+-- a source that reports its bytes reports those that are left after some were taken
 record Left (text taken : List ℕ) (now : Option (List ℕ)) : Type 0 where
   rest : List ℕ
   text_is : text ≡ taken ++ rest
@@ -47,7 +48,7 @@ held_after : (now : Option (List ℕ)) (before bs : List ℕ) → Appends (Some 
 held_after None before bs h = absurd h
 held_after (Some ys) before bs h = ap (λ (z : List ℕ). Some z) h
 
--- what was sent was appended where the sinks report it
+-- what was taken and what was sent, as the ends report it
 moved : (l l' : Option (List ℕ)) (e e' : Ends) (taken : List ℕ) → Consumes l l' taken → (sent : List Sent) → Sends sent e e'
     → (P : List ℕ → List ℕ → List ℕ → Type 0) (text before above : List ℕ) → l ≡ Some text → e.out.held ≡ Some before → e.trail.held ≡ Some above → P text (out_of sent) (trail_of sent)
     → Moved text before above (reports l' e'.out.held e'.trail.held) P
@@ -89,7 +90,7 @@ on_whole (Err Write) P f = tt
 on_whole (Err Trail) P f = tt
 on_whole (Err Memory) P f = tt
 
--- the one command
+-- there is one command: what holds of it holds of each
 on_command : (o : Option Command) (P : Command → Type 0) → P Play → IfSome o P
 on_command None P p = tt
 on_command (Some Play) P p = p
@@ -137,7 +138,7 @@ session_dropped a m sent rest e = record {
   grows = subst (GrowsByExec a.world.bound) (sym (all_numbered a m)) (growth_by_records a.world m.items);
 }
 
--- where the whole output stands all replies do
+-- a whole output begins with all replies
 all_written : (text : List ℕ) (a : Accepted) (out : List ℕ) → (input_of text).accepted ≡ Some a → out ≡ out_of (order_of (input_of text)) → IsPrefix (replies_of (bytes_of (session_of a (input_of text).script))) out
 unfolding order_by
 all_written text a out is so = record {
@@ -154,7 +155,7 @@ module _ (r : Result InputEnd Fault) (l l' : Option (List ℕ)) (entry exit : En
   abbrev now : Reports
   now = reports l' exit.out.held exit.trail.held
 
-  -- what holds of each prefix of the order holds where the ends report
+  -- what holds of each prefix of the order holds of what was sent, where the ends report
   where_sent : (P : List ℕ → List ℕ → List ℕ → Type 0) → ((text : List ℕ) (sent rest : List Sent) → order_of (input_of text) ≡ sent ++ rest → P text (out_of sent) (trail_of sent)) → WhereReported old now P
   where_sent P f text before above el eo et =
       let p = prefix_of r (order_of (input_of (x.taken ++ left_of l'))) entry exit x.writes in
@@ -194,7 +195,7 @@ module _ (r : Result InputEnd Fault) (l l' : Option (List ℕ)) (entry exit : En
   pub run_counts : (s : Status) → s ≡ status_of r → faults_of exit ≡ counts_after s (faults_of entry)
   run_counts s is = subst (λ (z : Status). faults_of exit ≡ counts_after z (faults_of entry)) (sym is) (counts_by r (order_of (input_of (x.taken ++ left_of l'))) entry exit x.writes)
 
-  pub run_few : TakesAtMost 16777217 l l'
+  pub run_few : TakesAtMost (MAX_INPUT + 1) l l'
   run_few = record { taken = x.taken; took = x.took; few = x.few }
 
   -- ---- a whole run

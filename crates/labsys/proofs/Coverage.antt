@@ -13,7 +13,7 @@ use Rattle.labsys.specs.Session.{Session, CallBytes, bytes_from, bytes_of, repli
 use Rattle.labsys.specs.Order.{Sent, out_of, trail_of, to_out, to_trail, call_order, session_order}
 use Rattle.labsys.proofs.Sending.{out_of-append, trail_of-append, out_of-to_out, out_of-to_trail, trail_of-to_out, trail_of-to_trail}
 
--- a prefix of two lists is a prefix of the first, or all of it and a prefix of the second
+-- a prefix of `a ++ b` is a proper prefix of a, or a and then a prefix of b
 pub data Split {X : Type 0} (a b prefix rest : List X) : Type 0 where
   Within : (more : List X) (a_is : a ≡ prefix ++ more) (some : 0 < length more) → Split a b prefix rest
   Past : (more : List X) (prefix_is : prefix ≡ a ++ more) (b_is : b ≡ more ++ rest) → Split a b prefix rest
@@ -29,7 +29,7 @@ split {X = X} (x ∷ a) b (y ∷ prefix) rest e =
       | Past more prefix_is b_is ↦ Past more (ap (λ (z : List X). y ∷ z) prefix_is ∙ ap (λ q. q ∷ (a ++ more)) (sym h)) b_is
     ]
 
--- what each sink has after records, and after a reply
+-- what each sink gets of records and what follows, and of a reply and what follows
 out_after : (r : List ℕ) (x : List Sent) → out_of (to_trail r ++ x) ≡ out_of x
 out_after r x = out_of-append (to_trail r) x ∙ ap (λ (z : List ℕ). z ++ out_of x) (out_of-to_trail r)
 
@@ -108,7 +108,7 @@ some_out p x y e = let h = ap length (sym (out_of-to_out p) ∙ ap out_of e ∙ 
 none_trail : (p : List ℕ) (x y : List Sent) → to_out p ≡ x ++ y → length (trail_of x) ≡ 0
 none_trail p x y e = let h = ap length (sym (trail_of-to_out p) ∙ ap trail_of e ∙ trail_of-append x y) in omega (arith, h, length-append (trail_of x) (trail_of y))
 
--- nor after any of it
+-- the rest of a reply adds nothing to the trail
 none_after : (p : List ℕ) (x y : List Sent) → to_out p ≡ x ++ y → trail_of y ≡ []
 none_after p x y e = empty_back (trail_of x) (trail_of y) (sym (sym (trail_of-to_out p) ∙ ap trail_of e ∙ trail_of-append x y))
 

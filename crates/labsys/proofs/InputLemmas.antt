@@ -14,6 +14,7 @@ use Rattle.labsys.specs.declared.status.Refusal.TheVariants as refusal
 use Rattle.labsys.specs.declared.status.Part.{Part}
 use Rattle.labsys.specs.declared.status.Part.TheVariants as part
 use Rattle.labsys.specs.declared.status.Fault.{Fault}
+use Rattle.kern_model.specs.declared.limits.TheConstants.{MAX_INPUT, MAX_LINE}
 use Rattle.lab_text.specs.Policy.{PolicyNames}
 use Rattle.world_text.specs.declared.world.WorldText.{WorldText}
 use Rattle.world_text.specs.declared.expecting.Expecting.{Expecting}
@@ -48,34 +49,34 @@ pub nothing_left : (left : Option (List ℕ)) → IsAtEnd left → left_of left 
 nothing_left None h = refl
 nothing_left (Some bytes) h = h
 
--- the input of all bytes is given by those that were kept
+-- the input of all bytes is read from those that were kept
 pub record IsInput (w : Whole) (got : List ℕ) (now : Option (List ℕ)) (text : List ℕ) : Type 0 where
   pub input : input_of (got ++ left_of now) ≡ read_input w.more text
-  pub small : length text ≤ 16777216
+  pub small : length text ≤ MAX_INPUT
 
-limit_take : (got : List ℕ) → length (take 16777216 got) ≤ 16777216
-limit_take got = omega (arith, length-take 16777216 got)
+limit_take : (got : List ℕ) → length (take MAX_INPUT got) ≤ MAX_INPUT
+limit_take got = omega (arith, length-take MAX_INPUT got)
 
-pub input_taken : (w : Whole) (got : List ℕ) (now : Option (List ℕ)) (text : List ℕ) → IsWhole w got 16777216 now → text ≡ w.bytes → IsInput w got now text
+pub input_taken : (w : Whole) (got : List ℕ) (now : Option (List ℕ)) (text : List ℕ) → IsWhole w got MAX_INPUT now → text ≡ w.bytes → IsInput w got now text
 unfolding input_of
 input_taken w got now text is kept =
-    let bytes : text ≡ take 16777216 got = kept ∙ is.bytes in
+    let bytes : text ≡ take MAX_INPUT got = kept ∙ is.bytes in
     elim w.more as (λ b. w.more ≡ b → IsInput w got now text) [
       | true ↦ λ over.
-          let long : 16777216 < length got = is_more 16777216 (length got) (sym is.more ∙ over) in
-          let le : 16777216 ≤ length got = omega arith in
+          let long : MAX_INPUT < length got = is_more MAX_INPUT (length got) (sym is.more ∙ over) in
+          let le : MAX_INPUT ≤ length got = omega arith in
           let len = length-append got (left_of now) in
-          let longer : 16777216 < length (got ++ left_of now) = omega arith in
+          let longer : MAX_INPUT < length (got ++ left_of now) = omega arith in
           record {
-            input = ap (λ b. read_input b (take 16777216 (got ++ left_of now))) (more_is 16777216 (length (got ++ left_of now)) longer ∙ sym over)
-                ∙ ap (λ (x : List ℕ). read_input w.more x) (take-append-le 16777216 got (left_of now) le ∙ sym bytes);
-            small = subst (λ (x : List ℕ). length x ≤ 16777216) (sym bytes) (limit_take got);
+            input = ap (λ b. read_input b (take MAX_INPUT (got ++ left_of now))) (more_is MAX_INPUT (length (got ++ left_of now)) longer ∙ sym over)
+                ∙ ap (λ (x : List ℕ). read_input w.more x) (take-append-le MAX_INPUT got (left_of now) le ∙ sym bytes);
+            small = subst (λ (x : List ℕ). length x ≤ MAX_INPUT) (sym bytes) (limit_take got);
           }
       | false ↦ λ within.
           let none : got ++ left_of now ≡ got = ap (λ (x : List ℕ). got ++ x) (nothing_left now (is.to_the_end within)) ∙ append-nil got in
           record {
-            input = ap input_of none ∙ ap (λ b. read_input b (take 16777216 got)) (sym is.more) ∙ ap (λ (x : List ℕ). read_input w.more x) (sym bytes);
-            small = subst (λ (x : List ℕ). length x ≤ 16777216) (sym bytes) (limit_take got);
+            input = ap input_of none ∙ ap (λ b. read_input b (take MAX_INPUT got)) (sym is.more) ∙ ap (λ (x : List ℕ). read_input w.more x) (sym bytes);
+            small = subst (λ (x : List ℕ). length x ≤ MAX_INPUT) (sym bytes) (limit_take got);
           }
     ] refl
 
@@ -85,7 +86,7 @@ abbrev NotWhole : InputEnd → Type 0
 NotWhole e = e ≡ AllRead → ⊥
 
 cut_not : (n : ℕ) (p : Part) (why : Refusal) (last : List ℕ) → NotWhole (cut_off n p why last)
-cut_not n p why last = elim (nat_lt 2048 (length last)) as (λ b. NotWhole (cond b (Refused n p why) TooMuch)) [ true ↦ λ e. cc | false ↦ λ e. cc ]
+cut_not n p why last = elim (nat_lt MAX_LINE (length last)) as (λ b. NotWhole (cond b (Refused n p why) TooMuch)) [ true ↦ λ e. cc | false ↦ λ e. cc ]
 
 line_not : (parsed : Result Line LineError) (n : ℕ) (more : Script) → NotWhole more.ending → NotWhole (after_line parsed n more).ending
 line_not (Err e) n more h = λ e. cc
@@ -101,7 +102,7 @@ script_not policy n l (next ∷ ls) = line_not (script_lines.parse_line policy l
 abbrev InputNot : Input → Type 0
 InputNot i = NotWhole i.script.ending
 
--- a reading whose script, if it has one, has a first piece
+-- the script of an accepted world has a piece
 abbrev HasPiece : Reading → Type 0
 HasPiece (Accepted w n []) = ⊥
 HasPiece (Accepted w n (l ∷ ls)) = Unit {0}
@@ -138,8 +139,8 @@ pub without_world : (e : InputEnd) → to_out (last_text 0 e) ≡ order_of (no_w
 unfolding order_by
 without_world e = refl
 
--- a source at which an input ended whole is at its end
-at_end : (w : Whole) (got text : List ℕ) (now : Option (List ℕ)) → IsWhole w got 16777216 now → (read_input w.more text).script.ending ≡ AllRead → IsAtEnd now
+-- where an input ended whole, the source is at its end
+at_end : (w : Whole) (got text : List ℕ) (now : Option (List ℕ)) → IsWhole w got MAX_INPUT now → (read_input w.more text).script.ending ≡ AllRead → IsAtEnd now
 at_end w got text now is =
     elim w.more as (λ b. w.more ≡ b → (read_input b text).script.ending ≡ AllRead → IsAtEnd now) [
       | true ↦ λ _ e. absurd (lines_not text e)
@@ -157,7 +158,7 @@ module _ (w : Whole) (left left' : Option (List ℕ)) (text : List ℕ) (takes :
   }
   ends_as (Err fault) is = tt
 
-  -- a run that played what was taken
+  -- what a run leaves that played what was taken
   pub plays_taken : (r : Result InputEnd Fault) (n n' : ℕ) (o o' t t' : SinkView) → n' ≡ n
       → Writes r (order_of (read_input w.more text)) (ends n' o t) (ends n' o' t') → IfOk r (λ e. e ≡ (read_input w.more text).script.ending)
       → RunDid r left left' (ends n o t) (ends n' o' t')
@@ -169,7 +170,7 @@ module _ (w : Whole) (left left' : Option (List ℕ)) (text : List ℕ) (takes :
     ending = ends_as r ending;
   }
 
--- nothing was played
+-- what a run leaves that played nothing
 pub plays_nothing : (r : Result InputEnd Fault) (w : Result Whole Fault) (fault : Fault) (left left' : Option (List ℕ)) (n n' : ℕ) (o t : SinkView) → Takes w left left'
     → counts n' o.faults t.faults ≡ counted_by fault (counts n o.faults t.faults) → IsErrAnd r (λ e. e ≡ fault) → RunDid r left left' (ends n o t) (ends n' o t)
 plays_nothing (Ok e) w fault left left' n n' o t takes once is = absurd is

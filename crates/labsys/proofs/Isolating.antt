@@ -1,4 +1,4 @@
--- How many replies an output has, and that they are those of the part alone.
+-- How many whole replies an output has; those to Low tags are those of the part alone.
 use Rattle.std.proofs.Common.{◌≡◌, ℕ, ◌+◌, ◌≤◌, ◌<◌, true, false, cond, List, [], ◌∷◌, ◌++◌, length, take, suc, zero, refl, sym, ◌∙◌, ap, subst, append_assoc, arith}
 use Rattle.std.proofs.lemmas.List.{append-nil, length-append}
 use Rattle.lab_lattice.specs.Label.{Label}
@@ -54,7 +54,7 @@ written (t ∷ ts) tail out more e =
 
 -- ---- the first calls
 
--- before the first crossing the first calls are the first of all
+-- where m calls come before the first crossing, the first m of all calls are the first m of these
 pub take_up_to : (l : Label) (m : ℕ) (ps : List CallRecord) → m ≤ length (up_to l ps) → take m ps ≡ take m (up_to l ps)
 take_up_to l zero ps le = refl
 take_up_to l (suc m) [] le = refl

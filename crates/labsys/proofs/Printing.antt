@@ -1,4 +1,4 @@
--- End lines by the records, and the records in the trail.
+-- The end lines as the records give them, and the trail as the lines of all records.
 use Rattle.std.proofs.Common.{◌≡◌, ℕ, ◌+◌, List, [], ◌∷◌, ◌++◌, length, map, refl, sym, ◌∙◌, ap, append_assoc}
 use Rattle.std.proofs.lemmas.Grind.{flat_map-append}
 use Rattle.std.proofs.lemmas.List.{map-append}
@@ -73,7 +73,7 @@ module _ (a : Accepted) (script : Script) where
       ∙ ap (λ (xs : List Rec). xs ++ recs_in (numbered_from 1 s.calls)) (unnumbered 0 s.boot_recs)
       ∙ ap (λ (xs : List Rec). s.boot_recs ++ xs) (unnumbered_from 1 s.calls)
 
-  -- an end line by what is found of the process
+  -- the end line of a process, by what is found under its number
   abbrev line : Pid → Option Process → List ℕ
   line who found = end_text a.policy who (option_map (λ (p : Process). p.label) found) (option_map (λ (p : Process). p.caps) found)
 

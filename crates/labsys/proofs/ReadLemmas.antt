@@ -4,8 +4,6 @@ use Rattle.std.specs.Prelude.{Result, Ok, Err}
 use Rattle.fs_path.specs.Split.{split_once, pieces}
 use Rattle.fs_path.proofs.SplitLemmas.{pieces_some, pieces_none, pieces_first}
 use Rattle.lab_text.specs.Policy.{PolicyNames, top_of}
-use Rattle.kern_model.specs.declared.calls.Call.{Call}
-use Rattle.kern_model.specs.declared.numbers.Pid.{Pid}
 use Rattle.kern_model.specs.Arguments.{is_call}
 use Rattle.kern_core.specs.Built.{is_built}
 use Rattle.script_text.specs.declared.line.Line.{Line}
@@ -24,7 +22,9 @@ use Rattle.labsys.specs.declared.status.Part.TheVariants as part
 use Rattle.labsys.specs.declared.status.Refusal.{Refusal}
 use Rattle.labsys.specs.declared.status.Refusal.TheVariants as refusal
 use Rattle.labsys.specs.Input.{Script, item_of, last_piece, refusal_of_line, no_world, script, script_from, after_line, has_fifo, input_by}
-use Rattle.labsys.specs.Reading.{Reads, PlaysLine, SkipsLine, Ends, IsRefusal}
+use Rattle.labsys.specs.declared.reading.Item.{Item}
+use Rattle.labsys.specs.declared.reading.Unread.{Unread}
+use Rattle.labsys.specs.Reading.{Reads, PlaysLine, SkipsLine, Ends, IsRefusal, script_left}
 
 -- ---- a world
 
@@ -36,17 +36,18 @@ prefix_world text w n rest = by_reading (read_text text)
     by_reading (Stopped m why) h = absurd h
     by_reading (Ended m last) h = absurd h
 
-pub reads_world : (over : Bool) (text : List ℕ) (w : WorldText) (n : ℕ) (rest : List ℕ) → read_text text ≡ Accepted w n (pieces 10 rest) → has_fifo w.world ≡ false → length rest + n ≤ length text + 1 → Reads over text w n rest
+pub reads_world : (over : Bool) (text : List ℕ) (w : WorldText) (n : ℕ) (rest : Bor (List ℕ)) → read_text text ≡ Accepted w n (pieces 10 rest.now) → has_fifo w.world ≡ false → length rest.now + n ≤ length text + 1
+    → Reads over text (record { read = w; script = record { number = n; text = rest; over = over } })
 reads_world over text w n rest is plain numbered = record {
-  says = ap (input_by over) is ∙ ap (λ b. cond b (no_world (Refused 0 part.World refusal.NotBuilt)) (record { accepted = Some w; script = script_from over w.policy n (pieces 10 rest) })) plain;
-  is_world = accepted_world text w n (pieces 10 rest) is;
-  has_top = accepted_top text w n (pieces 10 rest) is;
+  says = ap (input_by over) is ∙ ap (λ b. cond b (no_world (Refused 0 part.World refusal.NotBuilt)) (record { accepted = Some w; script = script_from over w.policy n (pieces 10 rest.now) })) plain;
+  is_world = accepted_world text w n (pieces 10 rest.now) is;
+  has_top = accepted_top text w n (pieces 10 rest.now) is;
   numbered = numbered;
 }
 
 -- ---- a script
 
--- a script by its first line feed
+-- a script that is cut at its first line feed, if it has one
 abbrev script_next : Bool → PolicyNames → ℕ → List ℕ → Option (List ℕ × List ℕ) → Script
 script_next over policy n text None = script [] (last_piece over n text)
 script_next over policy n text (Some p) = after_line (parse_line policy p.0) n (script_from over policy (n + 1) (pieces 10 p.1))
@@ -68,40 +69,41 @@ script_is over policy n text (Some p) e =
     ap (script_from over policy n) (pieces_some 10 text p.0 p.1 e) ∙ script_more over policy n p.0 (pieces 10 p.1) first.0 first.1 first.2
 
 -- no line feed is left
-pub ends_last : (over : Bool) (policy : PolicyNames) (n : ℕ) (text : List ℕ) (ending : InputEnd) → split_once 10 text ≡ None → ending ≡ last_piece over n text → Ends over policy n text ending
-ends_last over policy n text ending none is = script_is over policy n text None none ∙ sym (ap (script []) is)
+pub ends_last : (policy : PolicyNames) (last : Unread) (ending : InputEnd) → split_once 10 last.text.now ≡ None → ending ≡ last_piece last.over last.number last.text.now → Ends policy last ending
+ends_last policy last ending none is = script_is last.over policy last.number last.text.now None none ∙ sym (ap (script []) is)
 
-module _ (over : Bool) (policy : PolicyNames) (n : ℕ) (text line rest : List ℕ) (next : split_once 10 text ≡ Some (line, rest)) where
+module _ (policy : PolicyNames) (before : Unread) (line : List ℕ) (text : Bor (List ℕ)) (next : split_once 10 before.text.now ≡ Some (line, text.now)) where
   -- the script after the line
-  abbrev after : Script
-  after = script_from over policy (n + 1) (pieces 10 rest)
+  abbrev rest : Unread
+  rest = record { number = before.number + 1; text = text; over = before.over }
 
   -- the script that begins with the line
-  by_line : (parsed : Result Line LineError) → parse_line policy line ≡ parsed → script_from over policy n (pieces 10 text) ≡ after_line parsed n after
-  by_line parsed is = script_is over policy n text (Some (line, rest)) next ∙ ap (λ (r : Result Line LineError). after_line r n after) is
+  by_line : (parsed : Result Line LineError) → parse_line policy line ≡ parsed → script_left policy before ≡ after_line parsed before.number (script_left policy rest)
+  by_line parsed is = script_is before.over policy before.number before.text.now (Some (line, text.now)) next ∙ ap (λ (r : Result Line LineError). after_line r before.number (script_left policy rest)) is
 
-  pub skips_line : parse_line policy line ≡ Ok Blank → length rest < length text → SkipsLine over policy n text rest
-  skips_line is less = record { says = by_line (Ok Blank) is; shorter = less }
+  -- the script where the line has a call, which may be built
+  by_call : (item : Item) → parse_line policy line ≡ Ok (One item.who item.call) → {b : Bool} → is_built item.call ≡ b
+      → script_left policy before ≡ cond b (script (item_of item.who item.call ∷ (script_left policy rest).items) (script_left policy rest).ending) (script [] (Refused before.number part.Script refusal.NotBuilt))
+  by_call item is built =
+      by_line (Ok (One item.who item.call)) is
+      ∙ ap (λ b. cond b (script (item_of item.who item.call ∷ (script_left policy rest).items) (script_left policy rest).ending) (script [] (Refused before.number part.Script refusal.NotBuilt))) built
 
-  pub plays_line : (who : Pid) (call : Call) → parse_line policy line ≡ Ok (One who call) → is_built call ≡ true → is_call (top_of policy) call ≡ true → length rest < length text → PlaysLine over policy n text who call rest
-  plays_line who call is built arguments less = record {
-    says = by_line (Ok (One who call)) is ∙ ap (λ b. cond b (script (item_of who call ∷ after.items) after.ending) (script [] (Refused n part.Script refusal.NotBuilt))) built;
-    arguments = arguments;
-    built = built;
-    shorter = less;
-  }
+  pub skips_line : parse_line policy line ≡ Ok Blank → length text.now < length before.text.now → SkipsLine policy before rest
+  skips_line is less = record { says = by_line (Ok Blank) is; after = record { next = refl; shorter = less } }
 
-  pub ends_unbuilt : (who : Pid) (call : Call) → parse_line policy line ≡ Ok (One who call) → is_built call ≡ false → Ends over policy n text (Refused n part.Script refusal.NotBuilt)
-  ends_unbuilt who call is built =
-      by_line (Ok (One who call)) is ∙ ap (λ b. cond b (script (item_of who call ∷ after.items) after.ending) (script [] (Refused n part.Script refusal.NotBuilt))) built
+  pub plays_line : (item : Item) → parse_line policy line ≡ Ok (One item.who item.call) → is_built item.call ≡ true → is_call (top_of policy) item.call ≡ true → length text.now < length before.text.now → PlaysLine policy before item rest
+  plays_line item is built arguments less = record { says = by_call item is built; arguments = arguments; built = built; after = record { next = refl; shorter = less } }
 
-  by_word : (why : Refusal) {word : Refusal} → why ≡ word → Ends over policy n text (Refused n part.Script word) → Ends over policy n text (Refused n part.Script why)
-  by_word why is ends = subst (λ (w : Refusal). Ends over policy n text (Refused n part.Script w)) (sym is) ends
+  pub ends_unbuilt : (item : Item) → parse_line policy line ≡ Ok (One item.who item.call) → is_built item.call ≡ false → Ends policy before (Refused before.number part.Script refusal.NotBuilt)
+  ends_unbuilt item is built = by_call item is built
 
-  ends_refused : (e : LineError) → parse_line policy line ≡ Err e → Ends over policy n text (Refused n part.Script (refusal_of_line e))
+  by_word : (why : Refusal) {word : Refusal} → why ≡ word → Ends policy before (Refused before.number part.Script word) → Ends policy before (Refused before.number part.Script why)
+  by_word why is ends = subst (λ (w : Refusal). Ends policy before (Refused before.number part.Script w)) (sym is) ends
+
+  ends_refused : (e : LineError) → parse_line policy line ≡ Err e → Ends policy before (Refused before.number part.Script (refusal_of_line e))
   ends_refused e is = by_line (Err e) is
 
-  pub refused_by : (e : LineError) (why : Refusal) → IsRefusal e why → IsCause (parse_line policy line) e → Ends over policy n text (Refused n part.Script why)
+  pub refused_by : (e : LineError) (why : Refusal) → IsRefusal e why → IsCause (parse_line policy line) e → Ends policy before (Refused before.number part.Script why)
   refused_by (error.NoMemory m) why word is = absurd word
   refused_by error.TooLong why word is = by_word why word (ends_refused error.TooLong is)
   refused_by error.Syntax why word is = by_word why word (ends_refused error.Syntax is)

@@ -36,7 +36,7 @@ order_end : (policy : PolicyNames) (count : ℕ) (s : State) (e : InputEnd) → 
 unfolding order_in bytes_from tail_from
 order_end policy count s e = let none : count + 0 ≡ count = omega arith in ap (λ k. to_out (ends_text policy s ++ last_text k e)) none
 
--- so much was written, and what is left of the script still has to be
+-- some bytes were written, and with the order of the script that is left they are the whole order
 pub record Underway (before now : Ends) (whole : List Sent) (ending : InputEnd) (policy : PolicyNames) (count : ℕ) (s : State) (left : Script) : Type 0 where
   pub sent : List Sent
   pub sends : SendsAll sent before now
@@ -56,7 +56,7 @@ module _ (before now : Ends) (whole : List Sent) (ending : InputEnd) (policy : P
     goes : call_order (call_bytes policy (count + 1) (played s item)) ++ order_in policy (count + 1) (step s item.who item.call).state more ≡ order_in policy count s left
     goes = sym (ap (λ m. order_in policy count s m) says ∙ order_item policy count s item more)
 
-    -- the item's bytes were cut
+    -- a fault cut the item's bytes off
     pub underway_stops : {T : Type 0} (r : Result T Fault) (fault : Fault) (after : Ends) → StopsBy fault (call_order (call_bytes policy (count + 1) (played s item))) now after → IsErrAnd r (λ q. q ≡ fault) → Writes r whole before after
     underway_stops r fault after w by =
         underway_writes r after (in_order r _ _ now after goes (stops r fault (call_order (call_bytes policy (count + 1) (played s item))) (order_in policy (count + 1) (step s item.who item.call).state more) now after w by))

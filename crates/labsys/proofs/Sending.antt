@@ -1,4 +1,4 @@
--- Bytes that go out one after another, each to its sink, and what a function leaves that writes them.
+-- Bytes that are sent one after another, each to its sink, and what a function leaves that sends them.
 use Rattle.std.proofs.Common.{◌≡◌, ℕ, ◌+◌, ◌<◌, ◌≤◌, List, [], ◌∷◌, ◌++◌, length, take, drop, get_or, refl, sym, ◌∙◌, ap, subst, append_assoc}
 use Rattle.std.proofs.lemmas.List.{append-nil, take-append-drop, take_all, take_more, drop_more, map-append}
 use Rattle.std.proofs.lemmas.Grind.{flat_map-append}
@@ -113,7 +113,7 @@ stops_at_once order e = record { sends = prefix_nothing order e.source e.source 
 
 -- ---- what a function leaves
 
--- the fault of a step is that of the function
+-- a function stops by the fault of its step
 pub passes_on : {T : Type 0} (r : Result T Fault) (fault : Fault) (order : List Sent) (e f : Ends) → StopsBy fault order e f → IsErrAnd r (λ x. x ≡ fault) → Writes r order e f
 passes_on (Ok x) fault order e f s is = absurd is
 passes_on (Err x) fault order e f s is = subst (λ q. StopsBy q order e f) (sym is) s
@@ -216,7 +216,7 @@ module _ {X : Type 0} (send : List ℕ → List Sent) (parts : (a b : List ℕ) 
   one_more bs e e' e'' is s t =
       subst (λ order. SendsAll order e e'') (ap (λ (ys : List ℕ). send (flat_map f (take i xs)) ++ send ys) is ∙ with_next) (all_more (send (flat_map f (take i xs))) (send bs) e e' e'' s t)
 
-  -- the next piece was cut
+  -- a fault cut the next piece off
   pub piece_stops : {T : Type 0} (r : Result T Fault) (fault : Fault) (bs : List ℕ) (e e' e'' : Ends) → bs ≡ f (get_or xs i x) → SendsAll (send (flat_map f (take i xs))) e e' → StopsBy fault (send bs) e' e'' → IsErrAnd r (λ q. q ≡ fault) → Writes r (send (flat_map f xs)) e e''
   piece_stops r fault bs e e' e'' is s t by =
       in_order r _ _ e e'' (ap (λ (ys : List ℕ). (send (flat_map f (take i xs)) ++ send ys) ++ send (flat_map f (drop (i + 1) xs))) is ∙ with_rest)

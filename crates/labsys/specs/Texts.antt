@@ -5,12 +5,11 @@ use Rattle.std.specs.Option.{option_map}
 use Rattle.std.specs.Fmt.{decimal}
 use Rattle.std.specs.FinMap as map
 use Rattle.cap_bits.specs.declared.state.CapState.{CapState}
-use Rattle.cap_clause.specs.Written.{caps_text}
-use Rattle.fs_path.specs.Words.{quoted_text}
+use Rattle.fs_path.specs.Words.{line_text}
 use Rattle.lab_lattice.specs.Label.{Label}
-use Rattle.lab_text.specs.Numbered.{numbered_text}
 use Rattle.lab_text.specs.Policy.{PolicyNames}
 use Rattle.lab_text.specs.Text.{label_text}
+use Rattle.line_text.specs.Words.{pid_text, caps_word}
 use Rattle.kern_model.specs.declared.numbers.Pid.{Pid}
 use Rattle.kern_model.specs.State.{State, Process}
 use Rattle.kern_model.specs.Run.{CallRecord}
@@ -28,7 +27,7 @@ reply_text policy p = reply_line policy p.who p.head p.reply
 
 -- the end line of a process that lives: `end PID LABEL "CAPS"`
 unfoldable pub life_text : PolicyNames → Pid → Label → CapState → List ℕ
-life_text policy who l caps = codes "end " ++ (numbered_text policy who.n who.label ++ 32 ∷ (label_text policy l ++ 32 ∷ (quoted_text (caps_text caps) ++ 10 ∷ [])))
+life_text policy who l caps = line_text (codes "end" ∷ pid_text policy who ∷ label_text policy l ∷ caps_word caps ∷ []) ++ 10 ∷ []
 
 -- the end line, where the process lives
 abbrev pub end_text : PolicyNames → Pid → Option Label → Option CapState → List ℕ
@@ -67,8 +66,12 @@ refusal_text refusal.BadPath = codes "bad_path"
 refusal_text refusal.BadLabel = codes "bad_label"
 refusal_text refusal.BadCaps = codes "bad_caps"
 
--- the last line: `done COUNT`, `refused LINE PART WORD` or `too long`
+-- the words of the last line: `done COUNT`, `refused LINE PART WORD` or `too long`
+abbrev pub last_words : ℕ → InputEnd → List (List ℕ)
+last_words count Whole = codes "done" ∷ decimal count ∷ []
+last_words count (Refused n part why) = codes "refused" ∷ decimal n ∷ part_text part ∷ refusal_text why ∷ []
+last_words count TooMuch = codes "too" ∷ codes "long" ∷ []
+
+-- the last line
 unfoldable pub last_text : ℕ → InputEnd → List ℕ
-last_text count Whole = codes "done " ++ (decimal count ++ 10 ∷ [])
-last_text count (Refused n part why) = codes "refused " ++ (decimal n ++ 32 ∷ (part_text part ++ 32 ∷ (refusal_text why ++ 10 ∷ [])))
-last_text count TooMuch = codes "too long\n"
+last_text count ending = line_text (last_words count ending) ++ 10 ∷ []

@@ -9,25 +9,24 @@ ghost use Rattle.kern_core.specs.Built.{is_built};
 ghost use Rattle.kern_core.specs.Kernel.{state_of};
 ghost use Rattle.lab_text.specs.Policy.{top_of};
 ghost use Rattle.aud_record.specs.Written.{rec_text as rec_line, header_text as head_lines};
-ghost use Rattle.fs_path.specs.Split.{pieces};
 ghost use Rattle.io_ends.specs.Sinks.{sink_view};
-ghost use Rattle.labsys.specs.Input.{item_of, script_from, read_input};
+ghost use Rattle.labsys.specs.Input.{item_of, read_input};
+ghost use Rattle.labsys.specs.Reading.{script_left};
 ghost use Rattle.labsys.specs.Texts.{end_text, label_in, caps_in, ends_text, last_text};
 ghost use Rattle.labsys.specs.Session.{call_bytes};
 ghost use Rattle.labsys.specs.Order.{call_order, order_by, order_of};
 ghost use Rattle.labsys.specs.Counts.{CountsOnce, counts};
 ghost use Rattle.labsys.specs.Playing.{Takes, RunDid, WritesBoth, WritesOut, WritesTrail, ends, order_in};
 
-use crate::reading::{Halt, Next, ReadWorld, next_item, read_world};
-use crate::texts::{end_line, last_line};
+use crate::reading::{Halt, Item, Next, ReadWorld, Unread, next_item, read_world};
+use crate::texts::{Texts, end_line, last_line};
 use crate::{Fault, InputEnd};
 use aud_record::{header_text, rec_text};
 use cap_bits::CapSet;
 use io_ends::{ReadError, Sink, Source, Whole, read_whole, write_whole};
 use kern_core::Kernel;
 use kern_model::limits::MAX_INPUT;
-use kern_model::{Call, NoMemory, Pid, Rec};
-use lab_text::Policy;
+use kern_model::{NoMemory, Pid, Rec};
 use script_text::reply_text;
 use std::alloc::Global;
 
@@ -52,17 +51,11 @@ fn answer<K: Sink>(out: &mut K, piece: &[u8]) -> Result<(), Fault>
 }
 
 // Writes the records of a call to the trail, each as one piece.
-fn note_all<T: Sink>(
-    alloc: Global,
-    policy: &Policy,
-    call: u64,
-    recs: &[Rec],
-    trail: &mut T,
-) -> Result<(), Fault>
-    ensures { WritesTrail result (flat_map (rec_line policy.now call) recs.now) (sink_view (T.held trail.old) (T.faults trail.old)) (sink_view (T.held trail.new) (T.faults trail.new)) }
+fn note_all<T: Sink>(texts: Texts<'_>, call: u64, recs: &[Rec], trail: &mut T) -> Result<(), Fault>
+    ensures { WritesTrail result (flat_map (rec_line texts.entry.policy.now call) recs.now) (sink_view (T.held trail.old) (T.faults trail.old)) (sink_view (T.held trail.new) (T.faults trail.new)) }
 {
     for rec in recs {
-        let text = rec_text(alloc, policy, call, rec)?;
+        let text = rec_text(texts.alloc, texts.policy, call, rec)?;
         note(trail, &text)?;
     }
     Ok(())
@@ -70,49 +63,43 @@ fn note_all<T: Sink>(
 
 // Plays one call of the script: its records go to the trail, and then its reply to the output.
 fn play_item<K: Sink, T: Sink>(
-    alloc: Global,
+    texts: Texts<'_>,
     kernel: &mut Kernel,
-    policy: &Policy,
     number: u64,
-    who: Pid,
-    call: Call,
+    item: Item,
     out: &mut K,
     trail: &mut T,
 ) -> Result<(), Fault>
-    requires arguments { is_call (state_of kernel.old).top call ≡ true }
-    requires built { is_built call ≡ true }
-    ensures writes { WritesBoth result (call_order (call_bytes policy.now number (played (state_of kernel.old) (item_of who call))))
+    requires arguments { is_call (state_of kernel.old).top item.call ≡ true }
+    requires built { is_built item.call ≡ true }
+    ensures writes { WritesBoth result (call_order (call_bytes texts.entry.policy.now number (played (state_of kernel.old) (item_of item.who item.call))))
         (sink_view (K.held out.old) (K.faults out.old)) (sink_view (K.held out.new) (K.faults out.new)) (sink_view (T.held trail.old) (T.faults trail.old)) (sink_view (T.held trail.new) (T.faults trail.new)) }
-    ensures state { OnOk result (state_of kernel.new ≡ (step (state_of kernel.old) who call).state) }
+    ensures state { OnOk result (state_of kernel.new ≡ (step (state_of kernel.old) item.who item.call).state) }
 {
-    let outcome = kernel.call(&who, &call)?;
-    note_all(alloc, policy, number, outcome.recs.items(), trail)?;
-    let text = reply_text(alloc, policy, &who, call.name().word(), &outcome.reply)?;
+    let outcome = kernel.call(&item.who, &item.call)?;
+    note_all(texts, number, outcome.recs.items(), trail)?;
+    let word = item.call.name().word();
+    let text = reply_text(texts.alloc, texts.policy, &item.who, word, &outcome.reply)?;
     answer(out, &text)
 }
 
 // The end line of a process, or no byte where it does not live.
-fn end_of(alloc: Global, kernel: &Kernel, policy: &Policy, who: &Pid) -> Result<Vec<u8>, NoMemory>
-    ensures { IfOk result (λ text. text.items ≡ end_text policy.now who.now (label_in (state_of kernel.now) who.now) (caps_in (state_of kernel.now) who.now)) }
+fn end_of(texts: Texts<'_>, kernel: &Kernel, who: &Pid) -> Result<Vec<u8>, NoMemory>
+    ensures { IfOk result (λ text. text.items ≡ end_text texts.entry.policy.now who.now (label_in (state_of kernel.now) who.now) (caps_in (state_of kernel.now) who.now)) }
 {
     match (kernel.label_of(who), kernel.caps_of(who)) {
-        (Some(label), Some(caps)) => end_line(alloc, policy, who, &label, &caps),
-        _ => Ok(Vec::new(alloc)),
+        (Some(label), Some(caps)) => end_line(texts, who, &label, &caps),
+        _ => Ok(Vec::new(texts.alloc)),
     }
 }
 
 // Writes the end lines of all that live.
-fn report_ends<K: Sink>(
-    alloc: Global,
-    kernel: &Kernel,
-    policy: &Policy,
-    out: &mut K,
-) -> Result<(), Fault>
-    ensures { WritesOut result (ends_text policy.now (state_of kernel.now)) (sink_view (K.held out.old) (K.faults out.old)) (sink_view (K.held out.new) (K.faults out.new)) }
+fn report_ends<K: Sink>(texts: Texts<'_>, kernel: &Kernel, out: &mut K) -> Result<(), Fault>
+    ensures { WritesOut result (ends_text texts.entry.policy.now (state_of kernel.now)) (sink_view (K.held out.old) (K.faults out.old)) (sink_view (K.held out.new) (K.faults out.new)) }
 {
     let numbers = kernel.live()?;
     for who in numbers.items() {
-        let text = end_of(alloc, kernel, policy, who)?;
+        let text = end_of(texts, kernel, who)?;
         answer(out, &text)?;
     }
     Ok(())
@@ -133,53 +120,44 @@ fn report_last<K: Sink>(
 
 // Writes the end lines and the last line.
 fn finish<K: Sink>(
-    alloc: Global,
+    texts: Texts<'_>,
     kernel: &Kernel,
-    policy: &Policy,
     count: u64,
     ending: InputEnd,
     out: &mut K,
 ) -> Result<(), Fault>
-    ensures { WritesOut result (ends_text policy.now (state_of kernel.now) ++ last_text count ending) (sink_view (K.held out.old) (K.faults out.old)) (sink_view (K.held out.new) (K.faults out.new)) }
+    ensures { WritesOut result (ends_text texts.entry.policy.now (state_of kernel.now) ++ last_text count ending) (sink_view (K.held out.old) (K.faults out.old)) (sink_view (K.held out.new) (K.faults out.new)) }
 {
-    report_ends(alloc, kernel, policy, out)?;
-    report_last(alloc, count, ending, out)
+    report_ends(texts, kernel, out)?;
+    report_last(texts.alloc, count, ending, out)
 }
 
-// Plays a script to its end, from its first line on, which has this number in the input.
+// Plays a script to its end.
 fn play_script<K: Sink, T: Sink>(
-    alloc: Global,
+    texts: Texts<'_>,
     kernel: &mut Kernel,
-    policy: &Policy,
-    first: u64,
-    script: &[u8],
-    over: bool,
+    script: Unread<'_>,
     out: &mut K,
     trail: &mut T,
 ) -> Result<InputEnd, Fault>
-    requires small { first + length script.now ≤ 2 ^ 60 }
-    requires top { (state_of kernel.old).top ≡ top_of policy.now }
-    ensures writes { WritesBoth result (order_in policy.now 0 (state_of kernel.old) (script_from over policy.now first (pieces 10 script.now)))
+    requires small { script.number + length script.text.now ≤ 2 ^ 60 }
+    requires top { (state_of kernel.old).top ≡ top_of texts.policy.now }
+    ensures writes { WritesBoth result (order_in texts.entry.policy.now 0 (state_of kernel.old) (script_left texts.entry.policy.now script.entry))
         (sink_view (K.held out.old) (K.faults out.old)) (sink_view (K.held out.new) (K.faults out.new)) (sink_view (T.held trail.old) (T.faults trail.old)) (sink_view (T.held trail.new) (T.faults trail.new)) }
-    ensures ending { IfOk result (λ e. e ≡ (script_from over policy.now first (pieces 10 script.now)).ending) }
+    ensures ending { IfOk result (λ e. e ≡ (script_left texts.entry.policy.now script.entry).ending) }
 {
     let mut rest = script;
-    let mut number = first;
     let mut count = 0u64;
     loop {
-        match next_item(alloc, policy, number, rest, over)? {
-            Next::Item(who, call, after) => {
-                play_item(alloc, kernel, policy, count + 1, who, call, out, trail)?;
-                rest = after;
-                number += 1;
+        match next_item(texts, rest)? {
+            Next::Item(item, after) => {
                 count += 1;
-            }
-            Next::Blank(after) => {
+                play_item(texts, kernel, count, item, out, trail)?;
                 rest = after;
-                number += 1;
             }
+            Next::Blank(after) => rest = after,
             Next::Ended(ending) => {
-                finish(alloc, kernel, policy, count, ending, out)?;
+                finish(texts, kernel, count, ending, out)?;
                 return Ok(ending);
             }
         }
@@ -188,52 +166,40 @@ fn play_script<K: Sink, T: Sink>(
 
 // Writes the head of the trail: its header and the boot records.
 fn begin<T: Sink>(
-    alloc: Global,
-    policy: &Policy,
+    texts: Texts<'_>,
     bound: &CapSet,
     recs: &[Rec],
     trail: &mut T,
 ) -> Result<(), Fault>
-    ensures { WritesTrail result (head_lines policy.now bound.now ++ flat_map (rec_line policy.now 0) recs.now) (sink_view (T.held trail.old) (T.faults trail.old)) (sink_view (T.held trail.new) (T.faults trail.new)) }
+    ensures { WritesTrail result (head_lines texts.entry.policy.now bound.now ++ flat_map (rec_line texts.entry.policy.now 0) recs.now) (sink_view (T.held trail.old) (T.faults trail.old)) (sink_view (T.held trail.new) (T.faults trail.new)) }
 {
-    let text = header_text(alloc, policy, bound)?;
+    let text = header_text(texts.alloc, texts.policy, bound)?;
     note(trail, &text)?;
-    note_all(alloc, policy, 0, recs, trail)
+    note_all(texts, 0, recs, trail)
 }
 
 // Plays a world that was accepted, with its script.
 fn play_world<K: Sink, T: Sink>(
     alloc: Global,
-    read: &ReadWorld,
-    over: bool,
+    world: &ReadWorld,
     out: &mut K,
     trail: &mut T,
 ) -> Result<InputEnd, Fault>
-    requires world { IsWorld read.now.read.world }
-    requires top { read.now.read.world.top ≡ top_of read.now.read.policy }
-    requires small { read.now.number + length read.now.script.now ≤ 2 ^ 60 }
-    ensures writes { WritesBoth result (order_by (Some read.now.read) (script_from over read.now.read.policy read.now.number (pieces 10 read.now.script.now)))
+    requires world { IsWorld world.now.read.world }
+    requires top { world.now.read.world.top ≡ top_of world.now.read.policy }
+    requires small { world.now.script.number + length world.now.script.text.now ≤ 2 ^ 60 }
+    ensures writes { WritesBoth result (order_by (Some world.now.read) (script_left world.now.read.policy world.now.script))
         (sink_view (K.held out.old) (K.faults out.old)) (sink_view (K.held out.new) (K.faults out.new)) (sink_view (T.held trail.old) (T.faults trail.old)) (sink_view (T.held trail.new) (T.faults trail.new)) }
-    ensures ending { IfOk result (λ e. e ≡ (script_from over read.now.read.policy read.now.number (pieces 10 read.now.script.now)).ending) }
+    ensures ending { IfOk result (λ e. e ≡ (script_left world.now.read.policy world.now.script).ending) }
 {
-    let (mut kernel, recs) = Kernel::boot(alloc, &read.read.world)?;
-    begin(
+    let read = &world.read;
+    let texts = Texts {
         alloc,
-        &read.read.policy,
-        &read.read.world.bound,
-        recs.items(),
-        trail,
-    )?;
-    play_script(
-        alloc,
-        &mut kernel,
-        &read.read.policy,
-        read.number,
-        read.script,
-        over,
-        out,
-        trail,
-    )
+        policy: &read.policy,
+    };
+    let (mut kernel, recs) = Kernel::boot(alloc, &read.world)?;
+    begin(texts, &read.world.bound, recs.items(), trail)?;
+    play_script(texts, &mut kernel, world.script, out, trail)
 }
 
 // Writes the last line of an input without a world, which is all that is written of it.
@@ -263,7 +229,7 @@ fn play_text<K: Sink, T: Sink>(
     ensures ending { IfOk result (λ e. e ≡ (read_input over text.now).script.ending) }
 {
     match read_world(alloc, text, over) {
-        Ok(read) => play_world(alloc, &read, over, out, trail),
+        Ok(world) => play_world(alloc, &world, out, trail),
         Err(Halt::Ended(ending)) => end_without_world(alloc, ending, out),
         Err(Halt::NoMemory) => Err(Fault::NoMemory),
     }

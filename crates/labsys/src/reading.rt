@@ -1,15 +1,15 @@
 //! An input, read line by line.
-ghost use Rattle.std.specs.Prelude.{◌≡◌, ◌==◌, ◌&&◌, ◌<◌, None, Some, MatchOption, MatchResult, IfSome, IfOk, length, not};
+ghost use Rattle.std.specs.Prelude.{◌≡◌, ◌==◌, ◌&&◌, ◌+◌, ◌^◌, ◌<◌, ◌≤◌, None, Some, MatchOption, MatchResult, IfSome, IfOk, length, not};
 ghost use Rattle.labsys.specs.Input.{ends_at, has_fifo, last_piece};
 ghost use Rattle.labsys.specs.Reading.{Reads, ReadsNone, IsRefusal, Follows};
 ghost use Rattle.labsys.specs.declared.reading.Halt.TheVariants as halt;
 
+use crate::texts::Texts;
 use crate::{InputEnd, Part, Refusal};
 use fs_path::next_line;
 use kern_core::built;
 use kern_model::limits::MAX_LINE;
 use kern_model::{Body, Call, NoMemory, Pid, World};
-use lab_text::Policy;
 use script_text::{Line, LineError, read_line};
 use std::alloc::Global;
 use world_text::{Prefix, WorldText, read_prefix};
@@ -31,22 +31,30 @@ impl From<NoMemory> for Halt {
     }
 }
 
-/// A world that was read, with the names of its labels, and the text of its script, whose first line has this number.
+/// The part of an input that is not read yet: the number of its first line, and its bytes. `over` where the input goes
+/// on past the limit.
+#[derive(Clone, Copy)]
+pub struct Unread<'a> {
+    pub number: u64,
+    pub text: &'a [u8],
+    pub over: bool,
+}
+
+/// A world that was read, with the names of its labels, and its script.
 #[derive(Drop)]
 pub struct ReadWorld<'a> {
     pub read: WorldText,
-    pub script: &'a [u8],
-    pub number: u64,
+    pub script: Unread<'a>,
 }
 
-// How an input ends at its last piece, which no line feed ends; `over` where the input goes on past the limit.
-fn ends_at(over: bool, number: u64, part: Part, why: Refusal, last: &[u8]) -> InputEnd
-    ensures { result ≡ ends_at over number part why last.now }
+// How an input ends at its last piece, which no line feed ends.
+fn ends_at(last: Unread<'_>, part: Part, why: Refusal) -> InputEnd
+    ensures { result ≡ ends_at last.entry.over last.entry.number part why last.entry.text.now }
 {
-    if over && last.len() <= MAX_LINE {
+    if last.over && last.text.len() <= MAX_LINE {
         return InputEnd::TooMuch;
     }
-    InputEnd::Refused(number, part, why)
+    InputEnd::Refused(last.number, part, why)
 }
 
 // Whether a world has a FIFO.
@@ -62,47 +70,41 @@ fn has_fifo(world: &World) -> bool
 
 /// Reads the world of an input; `over` where the input goes on past the limit.
 pub fn read_world(alloc: Global, text: &[u8], over: bool) -> Result<ReadWorld<'_>, Halt>
-    ensures { MatchResult result (λ world. Reads over text.now world.read world.number world.script.now) (λ halt. ReadsNone over text.now halt) }
+    ensures { MatchResult result (λ world. Reads over text.now world) (λ halt. ReadsNone over text.now halt) }
 {
     match read_prefix(alloc, text)? {
-        Prefix::World(read, number, script) => {
+        Prefix::World(read, number, text) => {
             if has_fifo(&read.world) {
                 let ending = InputEnd::Refused(0, Part::World, Refusal::NotBuilt);
                 return Err(Halt::Ended(ending));
             }
-            Ok(ReadWorld {
-                read,
-                script,
-                number,
-            })
+            let script = Unread { number, text, over };
+            Ok(ReadWorld { read, script })
         }
         Prefix::Refused(number, fault) => {
             let ending = InputEnd::Refused(number, Part::World, fault.into());
             Err(Halt::Ended(ending))
         }
-        Prefix::Ended(number, last) => Err(Halt::Ended(ends_at(
-            over,
-            number,
-            Part::World,
-            Refusal::Syntax,
-            last,
-        ))),
+        Prefix::Ended(number, text) => {
+            let last = Unread { number, text, over };
+            Err(Halt::Ended(ends_at(last, Part::World, Refusal::Syntax)))
+        }
     }
 }
 
 // How a script ends at its last piece, which no line feed ends. An empty one ends the input whole.
-fn last_ending(over: bool, number: u64, last: &[u8]) -> InputEnd
-    ensures { result ≡ last_piece over number last.now }
+fn last_ending(last: Unread<'_>) -> InputEnd
+    ensures { result ≡ last_piece last.entry.over last.entry.number last.entry.text.now }
 {
-    if last.is_empty() && !over {
+    if last.text.is_empty() && !last.over {
         return InputEnd::Whole;
     }
-    let why = if last.len() > MAX_LINE {
+    let why = if last.text.len() > MAX_LINE {
         Refusal::TooLong
     } else {
         Refusal::Syntax
     };
-    ends_at(over, number, Part::Script, why, last)
+    ends_at(last, Part::Script, why)
 }
 
 // Why a line is refused that `read_line` refuses. Out of memory is no refusal.
@@ -120,41 +122,48 @@ fn refusal_of(fault: LineError) -> Result<Refusal, NoMemory>
     }
 }
 
+/// A call of a script, and its caller.
+#[derive(Drop)]
+pub struct Item {
+    pub who: Pid,
+    pub call: Call,
+}
+
 /// What is next in a script.
 #[derive(Drop)]
 pub enum Next<'a> {
-    /// A call and its caller, and the text after the line.
-    Item(Pid, Call, &'a [u8]),
-    /// A blank line or a comment, and the text after it.
-    Blank(&'a [u8]),
+    /// A call, and the script after its line.
+    Item(Item, Unread<'a>),
+    /// A blank line or a comment, and the script after it.
+    Blank(Unread<'a>),
     /// How the input ends.
     Ended(InputEnd),
 }
 
-/// Reads the next line of a script, which has this number; `over` where the input goes on past the limit.
-pub fn next_item<'a>(
-    alloc: Global,
-    policy: &Policy,
-    number: u64,
-    text: &'a [u8],
-    over: bool,
-) -> Result<Next<'a>, NoMemory>
-    ensures { IfOk result (Follows over policy.now number text.now) }
+/// Reads the next line of a script.
+pub fn next_item<'a>(texts: Texts<'_>, script: Unread<'a>) -> Result<Next<'a>, NoMemory>
+    requires { script.number + length script.text.now ≤ 2 ^ 60 }
+    ensures { IfOk result (Follows texts.entry.policy.now script.entry) }
 {
-    let Some((line, rest)) = next_line(text) else {
-        return Ok(Next::Ended(last_ending(over, number, text)));
+    let Some((line, text)) = next_line(script.text) else {
+        return Ok(Next::Ended(last_ending(script)));
     };
-    match read_line(alloc, policy, line) {
+    let rest = Unread {
+        number: script.number + 1,
+        text,
+        ..script
+    };
+    match read_line(texts.alloc, texts.policy, line) {
         Ok(Line::Blank) => Ok(Next::Blank(rest)),
         Ok(Line::One { who, call }) => {
             if !built(&call) {
-                let refused = InputEnd::Refused(number, Part::Script, Refusal::NotBuilt);
+                let refused = InputEnd::Refused(script.number, Part::Script, Refusal::NotBuilt);
                 return Ok(Next::Ended(refused));
             }
-            Ok(Next::Item(who, call, rest))
+            Ok(Next::Item(Item { who, call }, rest))
         }
         Err(fault) => {
-            let refused = InputEnd::Refused(number, Part::Script, refusal_of(fault)?);
+            let refused = InputEnd::Refused(script.number, Part::Script, refusal_of(fault)?);
             Ok(Next::Ended(refused))
         }
     }

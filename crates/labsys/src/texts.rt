@@ -1,15 +1,22 @@
 // The lines of the output other than replies.
-ghost use Rattle.std.specs.Prelude.{◌≡◌, IfOk};
-ghost use Rattle.labsys.specs.Texts.{life_text, part_text, refusal_text, last_text};
+ghost use Rattle.std.specs.Prelude.{◌≡◌, ◌++◌, IfOk};
+ghost use Rattle.fs_path.specs.Words.{line_text};
+ghost use Rattle.labsys.specs.Texts.{life_text, part_text, refusal_text, last_text, last_words};
 
 use crate::{InputEnd, Part, Refusal};
 use cap_bits::CapState;
-use cap_clause::cap_to_text;
-use fs_path::{put_number, put_quoted};
 use kern_model::{NoMemory, Pid};
 use lab_lattice::Label;
-use lab_text::{Policy, mac_to_text, put_numbered};
+use lab_text::Policy;
+use line_text::LineWriter;
 use std::alloc::Global;
+
+/// What writing a line takes: memory, and the names of the world's labels.
+#[derive(Clone, Copy)]
+pub struct Texts<'a> {
+    pub alloc: Global,
+    pub policy: &'a Policy,
+}
 
 impl Part {
     /// Its word in a last line.
@@ -51,23 +58,35 @@ impl Refusal {
 /// The end line of a process that lives at the end, with its label and its capability sets.
 #[tactic(auto, unfolding(crate::specs::Texts::life_text))]
 pub fn end_line(
-    alloc: Global,
-    policy: &Policy,
+    texts: Texts<'_>,
     who: &Pid,
     label: &Label,
     caps: &CapState,
 ) -> Result<Vec<u8>, NoMemory>
-    ensures { IfOk result (λ text. text.items ≡ life_text policy.now who.now label.now caps.now) }
+    ensures { IfOk result (λ text. text.items ≡ life_text texts.entry.policy.now who.now label.now caps.now) }
 {
-    let mut text = Vec::new(alloc);
-    text.extend_from_slice(b"end ")?;
-    put_numbered(alloc, &mut text, policy, u64::from(who.n), &who.label)?;
-    text.push(b' ')?;
-    text.extend_from_slice(mac_to_text(alloc, policy, label)?.as_slice())?;
-    text.push(b' ')?;
-    put_quoted(&mut text, cap_to_text(alloc, caps)?.as_slice())?;
-    text.push(b'\n')?;
-    Ok(text)
+    let line = LineWriter::new(texts.alloc)
+        .bytes(b"end")?
+        .pid(texts.policy, who)?
+        .label(texts.policy, label)?
+        .caps(caps)?
+        .line_feed()?;
+    Ok(line.into_text())
+}
+
+// Appends the words of the last line.
+fn put_last(line: LineWriter, count: u64, ending: InputEnd) -> Result<LineWriter, NoMemory>
+    ensures { IfOk result (λ new. new ≡ line ++ line_text (last_words count ending)) }
+{
+    match ending {
+        InputEnd::Whole => line.bytes(b"done ")?.digits(count),
+        InputEnd::Refused(number, part, why) => line
+            .bytes(b"refused ")?
+            .digits(number)?
+            .word(part.word())?
+            .word(why.word()),
+        InputEnd::TooMuch => line.bytes(b"too long"),
+    }
 }
 
 /// The last line, after `count` calls.
@@ -75,22 +94,6 @@ pub fn end_line(
 pub fn last_line(alloc: Global, count: u64, ending: InputEnd) -> Result<Vec<u8>, NoMemory>
     ensures { IfOk result (λ text. text.items ≡ last_text count ending) }
 {
-    let mut text = Vec::new(alloc);
-    match ending {
-        InputEnd::Whole => {
-            text.extend_from_slice(b"done ")?;
-            put_number(alloc, &mut text, count)?;
-        }
-        InputEnd::Refused(line, part, why) => {
-            text.extend_from_slice(b"refused ")?;
-            put_number(alloc, &mut text, line)?;
-            text.push(b' ')?;
-            text.extend_from_slice(part.word())?;
-            text.push(b' ')?;
-            text.extend_from_slice(why.word())?;
-        }
-        InputEnd::TooMuch => text.extend_from_slice(b"too long")?,
-    }
-    text.push(b'\n')?;
-    Ok(text)
+    let line = put_last(LineWriter::new(alloc), count, ending)?;
+    Ok(line.line_feed()?.into_text())
 }

@@ -14,10 +14,10 @@ returns-in_err-text g c = λ source out. out_of_memory _ _ _ c.from_residual.ens
 
 pub returns-in_err-note : goal.returns-in_err-note
 returns-in_err-note g c = λ source out. in_order _ _ _ _ _
-    (header_first c.deref.result.now (header_text c.args.policy.now c.args.bound.now) (flat_map (rec_text c.args.policy.now 0) c.args.recs.now) (c.deref.ensures.value ∙ c.in_ok-text.ensures))
+    (header_first c.deref.result.now (header_text c.args.texts.policy.now c.args.bound.now) (flat_map (rec_text c.args.texts.policy.now 0) c.args.recs.now) (c.deref.ensures.value ∙ c.in_ok-text.ensures))
     (stops _ _ _ _ _ _ (c.in_err-note.ensures source out) c.from_residual-in_err-note.ensures.1)
 
 pub returns : goal.returns
 returns g c = λ source out. in_order c.note_all.result _ _ _ _
-    (header_first c.deref.result.now (header_text c.args.policy.now c.args.bound.now) (flat_map (rec_text c.args.policy.now 0) c.args.recs.now) (c.deref.ensures.value ∙ c.in_ok-text.ensures))
+    (header_first c.deref.result.now (header_text c.args.texts.policy.now c.args.bound.now) (flat_map (rec_text c.args.texts.policy.now 0) c.args.recs.now) (c.deref.ensures.value ∙ c.in_ok-text.ensures))
     (goes_on c.note_all.result _ _ _ _ _ (c.in_ok-note.ensures source out) (c.note_all.ensures source out))

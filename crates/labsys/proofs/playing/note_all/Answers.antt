@@ -9,16 +9,16 @@ unfolding to_trail
 loop-rec-init g c = λ source out. all_nothing _
 
 pub returns-in_err-text : goal.returns-in_err-text
-returns-in_err-text g c = λ source out. piece_has_no_memory to_trail to_trail-append (rec_text c.args.policy.now c.args.call) c.args.recs.now c.loop-rec.rec-index c.rec-item.result c.loop-rec-test.true
+returns-in_err-text g c = λ source out. piece_has_no_memory to_trail to_trail-append (rec_text c.args.texts.policy.now c.args.call) c.args.recs.now c.loop-rec.rec-index c.rec-item.result c.loop-rec-test.true
     _ _ _ (c.loop-rec.invariant source out) c.from_residual.ensures.1
 
 pub returns-in_err-note : goal.returns-in_err-note
-returns-in_err-note g c = λ source out. piece_stops to_trail to_trail-append (rec_text c.args.policy.now c.args.call) c.args.recs.now c.loop-rec.rec-index c.rec-item.result c.loop-rec-test.true
-    _ _ c.deref.result.now _ _ _ (c.deref.ensures.value ∙ c.in_ok-text.ensures.text ∙ ap (rec_text c.args.policy.now c.args.call) c.rec-item.is) (c.loop-rec.invariant source out) (c.in_err-note.ensures source out) c.from_residual-in_err-note.ensures.1
+returns-in_err-note g c = λ source out. piece_stops to_trail to_trail-append (rec_text c.args.texts.policy.now c.args.call) c.args.recs.now c.loop-rec.rec-index c.rec-item.result c.loop-rec-test.true
+    _ _ c.deref.result.now _ _ _ (c.deref.ensures.value ∙ c.in_ok-text.ensures.text ∙ ap (rec_text c.args.texts.policy.now c.args.call) c.rec-item.is) (c.loop-rec.invariant source out) (c.in_err-note.ensures source out) c.from_residual-in_err-note.ensures.1
 
 pub loop-rec-preserved : goal.loop-rec-preserved
-loop-rec-preserved g c = λ source out. one_more to_trail to_trail-append (rec_text c.args.policy.now c.args.call) c.args.recs.now c.loop-rec.rec-index c.rec-item.result c.loop-rec-test.true
-    c.deref.result.now _ _ _ (c.deref.ensures.value ∙ c.in_ok-text.ensures.text ∙ ap (rec_text c.args.policy.now c.args.call) c.rec-item.is) (c.loop-rec.invariant source out) (c.in_ok-note.ensures source out)
+loop-rec-preserved g c = λ source out. one_more to_trail to_trail-append (rec_text c.args.texts.policy.now c.args.call) c.args.recs.now c.loop-rec.rec-index c.rec-item.result c.loop-rec-test.true
+    c.deref.result.now _ _ _ (c.deref.ensures.value ∙ c.in_ok-text.ensures.text ∙ ap (rec_text c.args.texts.policy.now c.args.call) c.rec-item.is) (c.loop-rec.invariant source out) (c.in_ok-note.ensures source out)
 
 pub returns : goal.returns
-returns g c = λ source out. all_pieces to_trail (rec_text c.args.policy.now c.args.call) c.args.recs.now c.loop-rec.rec-index c.loop-rec-test.false _ refl _ _ (c.loop-rec.invariant source out)
+returns g c = λ source out. all_pieces to_trail (rec_text c.args.texts.policy.now c.args.call) c.args.recs.now c.loop-rec.rec-index c.loop-rec-test.false _ refl _ _ (c.loop-rec.invariant source out)

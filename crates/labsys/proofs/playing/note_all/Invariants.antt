@@ -7,5 +7,5 @@ use Rattle.labsys.specs.Playing.{SendsAll, ends}
 use Rattle.labsys.proofs.playing.note_all.Given as goal
 
 abbrev pub invariant-loop-rec : goal.invariant-loop-rec
-invariant-loop-rec g l = (source : ℕ) (out : SinkView) → SendsAll (to_trail (flat_map (rec_text l.policy l.call) (take l.rec-index l.recs)))
+invariant-loop-rec g l = (source : ℕ) (out : SinkView) → SendsAll (to_trail (flat_map (rec_text l.texts.policy.now l.call) (take l.rec-index l.recs)))
     (ends source out (sink_view (g.T.Sink.held l.initial.trail) (g.T.Sink.faults l.initial.trail))) (ends source out (sink_view (g.T.Sink.held l.trail) (g.T.Sink.faults l.trail)))

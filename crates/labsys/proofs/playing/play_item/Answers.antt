@@ -35,16 +35,16 @@ returns-in_err-outcome-clause-writes g c = λ source. out_of_memory _ _ _ c.from
 
 pub returns-in_err-note_all-clause-writes : goal.returns-in_err-note_all-clause-writes
 returns-in_err-note_all-clause-writes g c = λ source. in_order _ _ _ _ _
-    (recs_first c.args.policy.now c.args.number (state_of c.args.kernel.now) _ c.args.who c.args.call c.in_ok-outcome.outcome c.in_ok-outcome.ensures.played _ c.items.ensures)
+    (recs_first c.args.texts.policy.now c.args.number (state_of c.args.kernel.now) _ c.args.item.who c.args.item.call c.in_ok-outcome.outcome c.in_ok-outcome.ensures.played _ c.items.ensures)
     (stops _ _ _ _ _ _ (c.in_err-note_all.ensures source _) c.from_residual-in_err-note_all.ensures.1)
 
 pub returns-in_err-text-clause-writes : goal.returns-in_err-text-clause-writes
 returns-in_err-text-clause-writes g c = λ source. in_order _ _ _ _ _
-    (recs_first c.args.policy.now c.args.number (state_of c.args.kernel.now) _ c.args.who c.args.call c.in_ok-outcome.outcome c.in_ok-outcome.ensures.played _ c.items.ensures)
+    (recs_first c.args.texts.policy.now c.args.number (state_of c.args.kernel.now) _ c.args.item.who c.args.item.call c.in_ok-outcome.outcome c.in_ok-outcome.ensures.played _ c.items.ensures)
     (goes_on _ _ _ _ _ _ (c.in_ok-note_all.ensures source _) (out_of_memory _ _ _ c.from_residual-in_err-text.ensures.1))
 
 pub returns-clause-writes : goal.returns-clause-writes
 returns-clause-writes g c = λ source. in_order c.answer.result _ _ _ _
-    (reply_last c.args.policy.now c.args.number (state_of c.args.kernel.now) _ c.args.who c.args.call c.in_ok-outcome.outcome c.in_ok-outcome.ensures.played _ c.items.ensures c.deref.result.now
-    (c.deref.ensures.value ∙ c.in_ok-text.ensures ∙ ap (λ w. reply_line c.args.policy.now c.args.who w c.in_ok-outcome.outcome.reply) (c.word.ensures ∙ ap word_of c.name.ensures)))
+    (reply_last c.args.texts.policy.now c.args.number (state_of c.args.kernel.now) _ c.args.item.who c.args.item.call c.in_ok-outcome.outcome c.in_ok-outcome.ensures.played _ c.items.ensures c.deref.result.now
+    (c.deref.ensures.value ∙ c.in_ok-text.ensures ∙ ap (λ w. reply_line c.args.texts.policy.now c.args.item.who w c.in_ok-outcome.outcome.reply) (c.word-word.ensures ∙ ap word_of c.name.ensures)))
     (goes_on c.answer.result _ _ _ _ _ (c.in_ok-note_all.ensures source _) (c.answer.ensures source _))

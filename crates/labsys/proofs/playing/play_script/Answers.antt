@@ -12,49 +12,49 @@ use Rattle.labsys.proofs.Sending.{out_of_memory, passes_on}
 use Rattle.labsys.proofs.ScriptLemmas.{underway_begins, underway_writes, underway_stops, underway_item, underway_end}
 use Rattle.labsys.proofs.playing.play_script.Goals as goal
 
-pub loop-who-init : goal.loop-who-init
-loop-who-init g c = record {
+pub loop-item-init : goal.loop-item-init
+loop-item-init g c = record {
   underway = λ source. underway_begins _ _ _ _ _;
   top = c.requires.top;
   few = c.requires.small;
   counted = omega arith;
 }
 
-pub returns-in_err-who-clause-writes : goal.returns-in_err-who-clause-writes
-returns-in_err-who-clause-writes g c = λ source. underway_writes _ _ _ _ _ _ _ _ (c.loop-who.invariant.underway source) _ _ (out_of_memory _ _ _ c.from_residual.ensures.1)
+pub returns-in_err-item-clause-writes : goal.returns-in_err-item-clause-writes
+returns-in_err-item-clause-writes g c = λ source. underway_writes _ _ _ _ _ _ _ _ (c.loop-item.invariant.underway source) _ _ (out_of_memory _ _ _ c.from_residual.ensures.1)
 
 pub returns-in_err-play_item-in-Item-clause-writes : goal.returns-in_err-play_item-in-Item-clause-writes
 returns-in_err-play_item-in-Item-clause-writes g c = λ source.
-    let line = subst (λ x. Follows c.args.over c.args.policy.now c.loop-who.number c.loop-who.rest.now x) c.in-Item.is c.in_ok-who.ensures in
-    underway_stops _ _ _ _ _ _ _ _ (c.loop-who.invariant.underway source) _ _ line.says _ _ _ (c.in_err-play_item-in-Item.ensures.writes source) c.from_residual-in_err-play_item-in-Item.ensures.1
+    let line = subst (λ x. Follows c.args.texts.policy.now c.loop-item.rest x) c.in-Item.is c.in_ok-item.ensures in
+    underway_stops _ _ _ _ _ _ _ _ (c.loop-item.invariant.underway source) _ _ line.says _ _ _ (c.in_err-play_item-in-Item.ensures.writes source) c.from_residual-in_err-play_item-in-Item.ensures.1
 
 pub play_item-requires-clause-arguments : goal.play_item-requires-clause-arguments
 play_item-requires-clause-arguments g c =
-    let line = subst (λ x. Follows c.args.over c.args.policy.now c.loop-who.number c.loop-who.rest.now x) c.in-Item.is c.in_ok-who.ensures in
-    subst (λ (top : Label). is_call top c.in-Item.call ≡ true) (sym c.loop-who.invariant.top) line.arguments
+    let line = subst (λ x. Follows c.args.texts.policy.now c.loop-item.rest x) c.in-Item.is c.in_ok-item.ensures in
+    subst (λ (top : Label). is_call top c.in-Item.item.call ≡ true) (sym c.loop-item.invariant.top) line.arguments
 
-pub loop-who-preserved-in-Item : goal.loop-who-preserved-in-Item
-loop-who-preserved-in-Item g c =
-    let line = subst (λ x. Follows c.args.over c.args.policy.now c.loop-who.number c.loop-who.rest.now x) c.in-Item.is c.in_ok-who.ensures in
-    let shorter = line.shorter in
-    let i = c.loop-who.invariant in
+pub loop-item-preserved-in-Item : goal.loop-item-preserved-in-Item
+loop-item-preserved-in-Item g c =
+    let line = subst (λ x. Follows c.args.texts.policy.now c.loop-item.rest x) c.in-Item.is c.in_ok-item.ensures in
+    let after = line.after in
+    let i = c.loop-item.invariant in
     record {
       underway = λ source. underway_item _ _ _ _ _ _ _ _ (i.underway source) _ _ line.says _ _ (c.in_ok-play_item-in-Item.ensures.writes source) c.in_ok-play_item-in-Item.ensures.state;
-      top = ap (λ (s : State). s.top) c.in_ok-play_item-in-Item.ensures.state ∙ top_step (state_of c.loop-who.kernel) c.in-Item.who c.in-Item.call ∙ i.top;
+      top = ap (λ (s : State). s.top) c.in_ok-play_item-in-Item.ensures.state ∙ top_step (state_of c.loop-item.kernel) c.in-Item.item.who c.in-Item.item.call ∙ i.top;
       few = omega arith;
       counted = omega arith;
     }
 
 pub returns-in_err-finish-in-Ended-clause-writes : goal.returns-in_err-finish-in-Ended-clause-writes
 returns-in_err-finish-in-Ended-clause-writes g c = λ source.
-    underway_end _ _ _ _ _ _ _ _ (c.loop-who.invariant.underway source) _ (subst (λ x. Follows c.args.over c.args.policy.now c.loop-who.number c.loop-who.rest.now x) c.in-Ended.is c.in_ok-who.ensures)
+    underway_end _ _ _ _ _ _ _ _ (c.loop-item.invariant.underway source) _ (subst (λ x. Follows c.args.texts.policy.now c.loop-item.rest x) c.in-Ended.is c.in_ok-item.ensures)
     _ _ (passes_on _ _ _ _ _ (c.in_err-finish-in-Ended.ensures source _) c.from_residual-in_err-finish-in-Ended.ensures.1)
 
 pub returns-in-Ended-clause-writes : goal.returns-in-Ended-clause-writes
 returns-in-Ended-clause-writes g c = λ source.
-    underway_end _ _ _ _ _ _ _ _ (c.loop-who.invariant.underway source) _ (subst (λ x. Follows c.args.over c.args.policy.now c.loop-who.number c.loop-who.rest.now x) c.in-Ended.is c.in_ok-who.ensures)
+    underway_end _ _ _ _ _ _ _ _ (c.loop-item.invariant.underway source) _ (subst (λ x. Follows c.args.texts.policy.now c.loop-item.rest x) c.in-Ended.is c.in_ok-item.ensures)
     {T = InputEnd} (Ok c.in-Ended.ending) _ (c.in_ok-finish-in-Ended.ensures source _)
 
 pub returns-in-Ended-clause-ending : goal.returns-in-Ended-clause-ending
 returns-in-Ended-clause-ending g c =
-    sym ((c.loop-who.invariant.underway 0).ends ∙ ap (λ (m : Script). m.ending) (subst (λ x. Follows c.args.over c.args.policy.now c.loop-who.number c.loop-who.rest.now x) c.in-Ended.is c.in_ok-who.ensures))
+    sym ((c.loop-item.invariant.underway 0).ends ∙ ap (λ (m : Script). m.ending) (subst (λ x. Follows c.args.texts.policy.now c.loop-item.rest x) c.in-Ended.is c.in_ok-item.ensures))

@@ -23,26 +23,26 @@ loop-who-init g c = λ source trail. all_nothing _
 pub returns-in_err-text : goal.returns-in_err-text
 unfolding ends_text
 returns-in_err-text g c = λ source trail.
-    let line = line_in c.args.policy.now (state_of c.args.kernel.now) in
+    let line = line_in c.args.texts.policy.now (state_of c.args.kernel.now) in
     in_order _ _ _ _ _ (ap (λ (xs : List Pid). to_out (flat_map line xs)) (c.items-who-items.ensures ∙ c.in_ok-numbers.ensures))
     (piece_has_no_memory to_out to_out-append line c.items-who-items.result.now c.loop-who.who-index c.who-item.result c.loop-who-test.true _ _ _ (c.loop-who.invariant source trail) c.from_residual-in_err-text.ensures.1)
 
 pub returns-in_err-answer : goal.returns-in_err-answer
 unfolding ends_text
 returns-in_err-answer g c = λ source trail.
-    let line = line_in c.args.policy.now (state_of c.args.kernel.now) in
+    let line = line_in c.args.texts.policy.now (state_of c.args.kernel.now) in
     in_order _ _ _ _ _ (ap (λ (xs : List Pid). to_out (flat_map line xs)) (c.items-who-items.ensures ∙ c.in_ok-numbers.ensures))
     (piece_stops to_out to_out-append line c.items-who-items.result.now c.loop-who.who-index c.who-item.result c.loop-who-test.true _ _ c.deref.result.now _ _ _
     (c.deref.ensures.value ∙ c.in_ok-text.ensures ∙ ap line c.who-item.is) (c.loop-who.invariant source trail) (c.in_err-answer.ensures source trail) c.from_residual-in_err-answer.ensures.1)
 
 pub loop-who-preserved : goal.loop-who-preserved
 loop-who-preserved g c = λ source trail.
-    let line = line_in c.args.policy.now (state_of c.args.kernel.now) in
+    let line = line_in c.args.texts.policy.now (state_of c.args.kernel.now) in
     one_more to_out to_out-append line c.items-who-items.result.now c.loop-who.who-index c.who-item.result c.loop-who-test.true c.deref.result.now _ _ _
     (c.deref.ensures.value ∙ c.in_ok-text.ensures ∙ ap line c.who-item.is) (c.loop-who.invariant source trail) (c.in_ok-answer.ensures source trail)
 
 pub returns : goal.returns
 unfolding ends_text
 returns g c = λ source trail.
-    let line = line_in c.args.policy.now (state_of c.args.kernel.now) in
+    let line = line_in c.args.texts.policy.now (state_of c.args.kernel.now) in
     all_pieces to_out line c.items-who-items.result.now c.loop-who.who-index c.loop-who-test.false _ (ap (λ (xs : List Pid). to_out (flat_map line xs)) (c.items-who-items.ensures ∙ c.in_ok-numbers.ensures)) _ _ (c.loop-who.invariant source trail)

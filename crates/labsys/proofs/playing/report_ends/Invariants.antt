@@ -9,5 +9,5 @@ use Rattle.labsys.specs.Playing.{SendsAll, ends}
 use Rattle.labsys.proofs.playing.report_ends.Given as goal
 
 abbrev pub invariant-loop-who : goal.invariant-loop-who
-invariant-loop-who g l = (source : ℕ) (trail : SinkView) → SendsAll (to_out (flat_map (λ (who : Pid). end_text l.policy who (label_in (state_of l.kernel) who) (caps_in (state_of l.kernel) who)) (take l.who-index l.who-items)))
+invariant-loop-who g l = (source : ℕ) (trail : SinkView) → SendsAll (to_out (flat_map (λ (who : Pid). end_text l.texts.policy.now who (label_in (state_of l.kernel) who) (caps_in (state_of l.kernel) who)) (take l.who-index l.who-items)))
     (ends source (sink_view (g.K.Sink.held l.initial.out) (g.K.Sink.faults l.initial.out)) trail) (ends source (sink_view (g.K.Sink.held l.out) (g.K.Sink.faults l.out)) trail)

@@ -8,5 +8,5 @@ pub returns-else-has_fifo : goal.returns-else-has_fifo
 returns-else-has_fifo c =
     let is = subst (λ (f : Prefix). IsPrefix (read_text c.args.text.now) f) c.in-World.is c.in_ok-read.ensures.prefix in
     let within = subst (λ (f : Prefix). IsWithin (length c.args.text.now) f) c.in-World.is c.in_ok-read.ensures.number in
-    reads_world c.args.over c.args.text.now c.in-World.read c.in-World.number c.in-World.script.now (prefix_world c.args.text.now c.in-World.read c.in-World.number c.in-World.script is)
+    reads_world c.args.over c.args.text.now c.in-World.read c.in-World.number c.in-World.text (prefix_world c.args.text.now c.in-World.read c.in-World.number c.in-World.text is)
     (sym c.has_fifo.ensures ∙ c.if-has_fifo.false) within
