@@ -14,4 +14,8 @@ mod lattice;
 #[cfg(test)]
 mod model;
 #[cfg(test)]
+mod names;
+#[cfg(test)]
 mod objects;
+#[cfg(test)]
+mod processes;
