@@ -14,6 +14,8 @@ const INPUT: &[u8] = b"world 1\n\
     script\n\
     1@unc mac_get_file /a\n";
 
+const CALL: &[u8] = b"1@unc mac_get_file /a\n";
+
 const REPLY: &[u8] = b"1@unc mac_get_file ok sec\n";
 
 const END: &[u8] = b"end 1@unc unc \"cap_mac_read=ep\"\n";
@@ -29,9 +31,11 @@ const RECORD: &[u8] = b"1 exercise 1@unc unc cap_mac_read mac_read obj:1@sec sec
 
 const SECOND: &[u8] = b"2 exercise 1@unc unc cap_mac_read mac_read obj:1@sec sec - p1\n";
 
-const ANSWERS: &[&[u8]] = &[REPLY, END, b"done 1\n"];
+type Pieces = &'static [&'static [u8]];
 
-const TRAIL: &[&[u8]] = &[HEADER, BOOT, RECORD];
+const ANSWERS: Pieces = &[REPLY, END, b"done 1\n"];
+
+const TRAIL: Pieces = &[HEADER, BOOT, RECORD];
 
 const LIMIT: usize = 16_777_216;
 
@@ -44,36 +48,32 @@ const CALLS: u32 = 199_728;
 // The room of the output and of the trail.
 const ROOM: usize = 8_388_608;
 
-// One text of these pieces.
-fn joined(alloc: Global, pieces: &[&[u8]]) -> Result<Vec<u8>, Fail> {
-    let mut text = Vec::new(alloc);
-    for piece in pieces {
-        text.extend_from_slice(piece)?;
+// The call that fails, counted from 1 at its end: a read, a write to the output or a write to the trail.
+#[derive(Clone, Copy, Debug)]
+enum Fails {
+    Nothing,
+    Read(u64),
+    Write(u64),
+    Note(u64),
+}
+
+// What a run leaves: its status, and the bytes of the output and of the trail.
+#[derive(Debug, PartialEq, Eq, Drop)]
+struct Left {
+    status: Status,
+    out: Vec<u8>,
+    trail: Vec<u8>,
+}
+
+impl Left {
+    fn new(alloc: Global, status: Status, out: &[&[u8]], trail: &[&[u8]]) -> Result<Left, Fail> {
+        Ok(Left {
+            status,
+            out: out.concat(alloc)?,
+            trail: trail.concat(alloc)?,
+        })
     }
-    Ok(text)
 }
-
-fn words_of_texts(alloc: Global, texts: &[&str]) -> Result<Vec<String>, Fail> {
-    let mut words = Vec::new(alloc);
-    for text in texts {
-        words.push(String::from_str(alloc, text)?)?;
-    }
-    Ok(words)
-}
-
-// The calls of each end that fail, counted from 1.
-#[derive(Clone, Copy)]
-struct Fails<'a> {
-    reads: &'a [u64],
-    writes: &'a [u64],
-    notes: &'a [u64],
-}
-
-const NONE: Fails<'static> = Fails {
-    reads: &[],
-    writes: &[],
-    notes: &[],
-};
 
 #[derive(Drop)]
 struct Ends {
@@ -83,198 +83,118 @@ struct Ends {
 }
 
 impl Ends {
-    fn new(alloc: Global, input: Vec<u8>, fails: Fails<'_>) -> Result<Ends, Fail> {
-        let reads = Vec::from_slice(alloc, fails.reads)?;
-        let writes = Vec::from_slice(alloc, fails.writes)?;
-        let notes = Vec::from_slice(alloc, fails.notes)?;
+    fn new(alloc: Global, input: &[&[u8]], fails: Fails) -> Result<Ends, Fail> {
+        let mut reads = Vec::new(alloc);
+        let mut writes = Vec::new(alloc);
+        let mut notes = Vec::new(alloc);
+        match fails {
+            Fails::Nothing => {}
+            Fails::Read(call) => reads.push(call)?,
+            Fails::Write(call) => writes.push(call)?,
+            Fails::Note(call) => notes.push(call)?,
+        }
         Ok(Ends {
-            source: MemSource::new(input, reads),
+            source: MemSource::new(input.concat(alloc)?, reads),
             out: MemSink::new(alloc, ROOM, writes)?,
             trail: MemSink::new(alloc, ROOM, notes)?,
         })
     }
 
-    fn run(&mut self, alloc: Global, words: &[&str]) -> Result<Status, Fail> {
-        let words = words_of_texts(alloc, words)?;
-        Ok(run(
+    fn run(&mut self, alloc: Global, texts: &[&str]) -> Result<Left, Fail> {
+        let mut words = Vec::new(alloc);
+        for text in texts {
+            words.push(String::from_str(alloc, text)?)?;
+        }
+        let status = run(
             alloc,
             &words,
             &mut self.source,
             &mut self.out,
             &mut self.trail,
-        ))
-    }
-
-    // Whether the output and the trail hold these bytes.
-    fn hold(&self, alloc: Global, out: &[&[u8]], trail: &[&[u8]]) -> Result<(bool, bool), Fail> {
-        let out = joined(alloc, out)?;
-        let trail = joined(alloc, trail)?;
-        Ok((
-            self.out.bytes() == out.as_slice(),
-            self.trail.bytes() == trail.as_slice(),
-        ))
+        );
+        Left::new(alloc, status, &[self.out.bytes()], &[self.trail.bytes()])
     }
 }
 
-// The status of a run of `play trail.out`, and whether it left these bytes in the output and in the trail.
-fn played(
-    alloc: Global,
-    input: Vec<u8>,
-    fails: Fails<'_>,
-    out: &[&[u8]],
-    trail: &[&[u8]],
-) -> Result<(Status, bool, bool), Fail> {
-    let mut ends = Ends::new(alloc, input, fails)?;
-    let status = ends.run(alloc, &["play", "trail.out"])?;
-    let (same_out, same_trail) = ends.hold(alloc, out, trail)?;
-    Ok((status, same_out, same_trail))
+// What `play` leaves of an input.
+fn played(alloc: Global, input: &[&[u8]], fails: Fails) -> Result<Left, Fail> {
+    Ends::new(alloc, input, fails)?.run(alloc, &["play", "trail.out"])
 }
 
-// The same of the worked input.
-fn worked(
-    alloc: Global,
-    fails: Fails<'_>,
-    out: &[&[u8]],
-    trail: &[&[u8]],
-) -> Result<(Status, bool, bool), Fail> {
-    played(alloc, Vec::from_slice(alloc, INPUT)?, fails, out, trail)
-}
+// What each fault leaves of the worked input.
+const FAULTS: [(Fails, Status, Pieces, Pieces); 12] = [
+    (Fails::Read(1), Status::ReadFault, &[], &[]),
+    (Fails::Read(2), Status::ReadFault, &[], &[]),
+    (Fails::Note(1), Status::TrailFault, &[], &[]),
+    (Fails::Note(2), Status::TrailFault, &[], &[HEADER]),
+    (Fails::Note(3), Status::TrailFault, &[], &[HEADER, BOOT]),
+    (Fails::Write(1), Status::WriteFault, &[], TRAIL),
+    (Fails::Write(2), Status::WriteFault, &[REPLY], TRAIL),
+    (Fails::Write(3), Status::WriteFault, &[REPLY, END], TRAIL),
+    // Each piece is one write, so there is no further one to fail.
+    (Fails::Nothing, Status::Done, ANSWERS, TRAIL),
+    (Fails::Read(3), Status::Done, ANSWERS, TRAIL),
+    (Fails::Note(4), Status::Done, ANSWERS, TRAIL),
+    (Fails::Write(4), Status::Done, ANSWERS, TRAIL),
+];
 
 #[test]
-fn the_worked_input_is_answered(rt: HostRuntime) -> Result<(), Fail> {
-    assert_eq!(rt;
-        worked(rt.alloc(), NONE, ANSWERS, TRAIL)?,
-        (Status::Done, true, true)
-    );
-    Ok(())
-}
-
-#[test]
-fn a_read_that_fails_leaves_nothing(rt: HostRuntime) -> Result<(), Fail> {
-    for call in [1u64, 2] {
-        let fails = Fails {
-            reads: &[call],
-            ..NONE
-        };
+fn a_fault_leaves_the_pieces_before_it(rt: HostRuntime) -> Result<(), Fail> {
+    let alloc = rt.alloc();
+    for (fails, status, out, trail) in FAULTS {
         assert_eq!(rt;
-            worked(rt.alloc(), fails, &[], &[])?,
-            (Status::ReadFault, true, true),
-            "at {call}"
+            played(alloc, &[INPUT], fails)?,
+            Left::new(alloc, status, out, trail)?,
+            "{fails:?}"
         );
     }
-    Ok(())
-}
-
-#[test]
-fn a_write_that_fails_comes_after_the_records(rt: HostRuntime) -> Result<(), Fail> {
-    let rows: [(u64, &[&[u8]]); 3] = [(1, &[]), (2, &[REPLY]), (3, &[REPLY, END])];
-    for (call, out) in rows {
-        let fails = Fails {
-            writes: &[call],
-            ..NONE
-        };
-        assert_eq!(rt;
-            worked(rt.alloc(), fails, out, TRAIL)?,
-            (Status::WriteFault, true, true),
-            "at {call}"
-        );
-    }
-    Ok(())
-}
-
-#[test]
-fn a_trail_that_fails_leaves_the_pieces_before(rt: HostRuntime) -> Result<(), Fail> {
-    let rows: [(u64, &[&[u8]]); 3] = [(1, &[]), (2, &[HEADER]), (3, &[HEADER, BOOT])];
-    for (call, trail) in rows {
-        let fails = Fails {
-            notes: &[call],
-            ..NONE
-        };
-        assert_eq!(rt;
-            worked(rt.alloc(), fails, &[], trail)?,
-            (Status::TrailFault, true, true),
-            "at {call}"
-        );
-    }
-    Ok(())
-}
-
-#[test]
-fn each_piece_is_one_write(rt: HostRuntime) -> Result<(), Fail> {
-    let fails = Fails {
-        reads: &[3],
-        writes: &[4],
-        notes: &[4],
-    };
-    assert_eq!(rt;
-        worked(rt.alloc(), fails, ANSWERS, TRAIL)?,
-        (Status::Done, true, true)
-    );
     Ok(())
 }
 
 #[test]
 fn a_reply_stands_before_the_next_records(rt: HostRuntime) -> Result<(), Fail> {
     let alloc = rt.alloc();
-    let input = joined(alloc, &[INPUT, b"1@unc mac_get_file /a\n"])?;
-    let fails = Fails {
-        notes: &[4],
-        ..NONE
-    };
-    assert_eq!(rt;
-        played(alloc, input.clone()?, fails, &[REPLY], TRAIL)?,
-        (Status::TrailFault, true, true)
-    );
-    let fails = Fails {
-        writes: &[2],
-        ..NONE
-    };
-    assert_eq!(rt;
-        played(
-            alloc,
-            input,
-            fails,
-            &[REPLY],
-            &[HEADER, BOOT, RECORD, SECOND]
-        )?,
-        (Status::WriteFault, true, true)
-    );
+    let input = [INPUT, CALL];
+    let rows: [(Fails, Status, Pieces); 2] = [
+        (Fails::Note(4), Status::TrailFault, TRAIL),
+        (
+            Fails::Write(2),
+            Status::WriteFault,
+            &[HEADER, BOOT, RECORD, SECOND],
+        ),
+    ];
+    for (fails, status, trail) in rows {
+        assert_eq!(rt;
+            played(alloc, &input, fails)?,
+            Left::new(alloc, status, &[REPLY], trail)?,
+            "{fails:?}"
+        );
+    }
     Ok(())
 }
+
+// What inputs with a refused line leave.
+const REFUSED: [(Pieces, Pieces, Pieces); 3] = [
+    (&[], &[b"refused 1 world syntax\n"], &[]),
+    (
+        &[b"world 1\nlevels unc"],
+        &[b"refused 2 world syntax\n"],
+        &[],
+    ),
+    (
+        &[INPUT, b"1@unc getpid\n", CALL],
+        &[REPLY, END, b"refused 10 script not_built\n"],
+        TRAIL,
+    ),
+];
 
 #[test]
 fn a_refused_line_leaves_what_stands_before_it(rt: HostRuntime) -> Result<(), Fail> {
     let alloc = rt.alloc();
-    let input = joined(alloc, &[INPUT, b"1@unc getpid\n1@unc mac_get_file /a\n"])?;
-    assert_eq!(rt;
-        played(
-            alloc,
-            input,
-            NONE,
-            &[REPLY, END, b"refused 10 script not_built\n"],
-            TRAIL
-        )?,
-        (Status::Refused, true, true)
-    );
-    Ok(())
-}
-
-#[test]
-fn a_world_that_ends_early_leaves_no_trail(rt: HostRuntime) -> Result<(), Fail> {
-    let rows: [(&[u8], &[u8]); 2] = [
-        (b"", b"refused 1 world syntax\n"),
-        (b"world 1\nlevels unc", b"refused 2 world syntax\n"),
-    ];
-    for (input, out) in rows {
+    for (input, out, trail) in REFUSED {
         assert_eq!(rt;
-            played(
-                rt.alloc(),
-                Vec::from_slice(rt.alloc(), input)?,
-                NONE,
-                &[out],
-                &[]
-            )?,
-            (Status::Refused, true, true)
+            played(alloc, input, Fails::Nothing)?,
+            Left::new(alloc, Status::Refused, out, trail)?
         );
     }
     Ok(())
@@ -306,20 +226,16 @@ fn one_byte_over_16_mib_is_too_long(rt: HostRuntime) -> Result<(), Fail> {
     let alloc = rt.alloc();
     let mut input = longest_input(alloc)?;
     let replies = longest_replies(alloc)?;
+    let out = [&replies, END, b"done 199728\n"];
     assert_eq!(rt;
-        played(
-            alloc,
-            input.clone()?,
-            NONE,
-            &[&replies, END, b"done 199728\n"],
-            TRAIL
-        )?,
-        (Status::Done, true, true)
+        played(alloc, &[&input], Fails::Nothing)?,
+        Left::new(alloc, Status::Done, &out, TRAIL)?
     );
     input.push(b'\n')?;
+    let out = [&replies, END, b"too long\n"];
     assert_eq!(rt;
-        played(alloc, input, NONE, &[&replies, END, b"too long\n"], TRAIL)?,
-        (Status::TooLong, true, true)
+        played(alloc, &[&input], Fails::Nothing)?,
+        Left::new(alloc, Status::TooLong, &out, TRAIL)?
     );
     Ok(())
 }
@@ -335,12 +251,14 @@ fn words_that_are_no_command_touch_nothing(rt: HostRuntime) -> Result<(), Fail> 
         &["play", "-x"],
         &["play", "a", "b"],
     ];
-    let mut ends = Ends::new(alloc, Vec::from_slice(alloc, INPUT)?, NONE)?;
+    let mut ends = Ends::new(alloc, &[INPUT], Fails::Nothing)?;
+    let nothing = Left::new(alloc, Status::Usage, &[], &[])?;
     for words in rows {
-        assert_eq!(rt; ends.run(alloc, words)?, Status::Usage);
-        assert_eq!(rt; ends.hold(alloc, &[], &[])?, (true, true));
+        assert_eq!(rt; ends.run(alloc, words)?, nothing);
     }
-    assert_eq!(rt; ends.run(alloc, &["play", "trail.out"])?, Status::Done);
-    assert_eq!(rt; ends.hold(alloc, ANSWERS, TRAIL)?, (true, true));
+    assert_eq!(rt;
+        ends.run(alloc, &["play", "trail.out"])?,
+        Left::new(alloc, Status::Done, ANSWERS, TRAIL)?
+    );
     Ok(())
 }
