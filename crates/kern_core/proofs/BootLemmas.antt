@@ -7,7 +7,7 @@ use Rattle.std.proofs.Common.{ap, sym, ◌∙◌, subst, arith, get_or, drop, dr
 use Rattle.fs_path.specs.Name.{Name}
 use Rattle.lab_lattice.specs.Label.{Label, label_cmp}
 use Rattle.lab_lattice.proofs.Labels.{label_cmp_total, label_cmp_exact, dominates_itself}
-use Rattle.kern_model.specs.declared.limits.TheConstants.{MAX_OBJECTS, MAX_PROCS}
+use Rattle.kern_model.specs.declared.limits.TheConstants.{MAX_PROCS}
 use Rattle.kern_model.specs.declared.numbers.Oid.{Oid}
 use Rattle.kern_model.specs.declared.numbers.Pid.{Pid}
 use Rattle.kern_model.specs.declared.objects.Object.{Object}
@@ -17,9 +17,8 @@ use Rattle.kern_model.specs.declared.world.World.{World}
 use Rattle.kern_model.specs.declared.world.WorldObject.{WorldObject}
 use Rattle.kern_model.specs.declared.world.WorldProc.{WorldProc}
 use Rattle.kern_model.specs.Maps.{get_or as or_default}
-use Rattle.kern_model.specs.Keys.{Spot}
-use Rattle.kern_model.specs.State.{State, Process, Change, SetObject, SetProcess, DrawObject, DrawProcess, changed_by, drawn, next_object, next_process, look, root}
-use Rattle.kern_model.specs.Boot.{object_of, process_of, entry_for, boot_object, boot_objects, boot_process, boot_processes, started}
+use Rattle.kern_model.specs.State.{State, Process, SetProcess, DrawProcess, changed_by, drawn, next_object, next_process, look, root}
+use Rattle.kern_model.specs.Boot.{process_of, entry_for, boot_object, boot_objects, boot_process, boot_processes, started}
 use Rattle.kern_model.specs.Rules.{same_label}
 use Rattle.kern_model.specs.World.{IsWorld, IsWorldProc, procs_at}
 use Rattle.cap_bits.specs.CapSet.{is_within}

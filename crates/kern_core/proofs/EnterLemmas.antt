@@ -1,17 +1,16 @@
 -- The objects of a world can be made, one after another.
-use Rattle.std.specs.Prelude.{◌≡◌, ℕ, ◌+◌, ◌-◌, ◌<◌, ◌≤◌, ◌&&◌, Bool, true, false, not, List, [], ◌∷◌, ◌++◌, length, Option, Some, None, refl, unwrap_or}
+use Rattle.std.specs.Prelude.{◌≡◌, ℕ, ◌+◌, ◌-◌, ◌<◌, ◌≤◌, ◌&&◌, Bool, true, false, not, List, [], ◌∷◌, ◌++◌, length, Some, None, refl, unwrap_or}
 use Rattle.std.specs.List.{AllByRecursion}
 use Rattle.std.specs.Option.{option_and_then}
 use Rattle.std.specs.Ordering.{is_eq}
 use Rattle.std.specs.FinMap as map
-use Rattle.std.specs.FinMap.{FinMap, get-empty}
+use Rattle.std.specs.FinMap.{FinMap}
 use Rattle.std.proofs.Common.{ap, sym, ◌∙◌, subst, arith, get_or, drop, take}
 use Rattle.std.proofs.lemmas.Cmp.{tied_itself}
 use Rattle.std.proofs.lemmas.List.{same_from_push, take_all, take_more}
-use Rattle.cap_bits.specs.CapSet.{CapSet}
 use Rattle.fs_path.specs.Name.{Name}
-use Rattle.lab_lattice.specs.Label.{Label, bottom, label_cmp}
-use Rattle.kern_model.specs.declared.limits.TheConstants.{MAX_LINKS, MAX_OBJECTS}
+use Rattle.lab_lattice.specs.Label.{Label, label_cmp}
+use Rattle.kern_model.specs.declared.limits.TheConstants.{MAX_OBJECTS}
 use Rattle.kern_model.specs.declared.numbers.Oid.{Oid}
 use Rattle.kern_model.specs.declared.objects.Body.{Body}
 use Rattle.kern_model.specs.declared.objects.Body.TheVariants as body
@@ -20,7 +19,7 @@ use Rattle.kern_model.specs.declared.world.World.{World}
 use Rattle.kern_model.specs.declared.world.WorldObject.{WorldObject}
 use Rattle.kern_model.specs.Boot.{boot_object, boot_objects, entry_for, furnished, nothing, object_of}
 use Rattle.kern_model.specs.Entries.{is_held, is_removed, link_count}
-use Rattle.kern_model.specs.Maps.{any_entry, count_entries}
+use Rattle.kern_model.specs.Maps.{count_entries}
 use Rattle.kern_model.specs.Keys.{Spot, oid_cmp, same_oid}
 use Rattle.kern_model.specs.Kinds.{kind_of, object_with}
 use Rattle.kern_model.specs.State.{State, Change, DrawObject, SetEntry, SetObject, changed_by, drawn, look, next_object, root}
@@ -42,7 +41,7 @@ module _ {X : Type 0} where
   split_first [] x some is = absurd (omega arith)
   split_first (y ∷ ys) x some is = λ i. sym is i ∷ sym (take_all (length (y ∷ ys) - 1) ys (omega arith)) i
 
-  pub split_end : (xs : List X) (x : X) → 1 ≤ length xs → x ≡ get_or xs (length xs - 1) x → xs ≡ take (length xs - 1) xs ++ x ∷ []
+  split_end : (xs : List X) (x : X) → 1 ≤ length xs → x ≡ get_or xs (length xs - 1) x → xs ≡ take (length xs - 1) xs ++ x ∷ []
   split_end xs x some is =
       sym (take_all (length xs - 1 + 1) xs (omega arith)) ∙ take_more xs (length xs - 1) x (omega arith)
       ∙ ap (λ y. take (length xs - 1) xs ++ y ∷ []) (sym is)
@@ -148,53 +147,51 @@ module _ (s : State) (os : List WorldObject) (i : ℕ) (o : WorldObject) (h : i 
     objects_step = ap (λ u. boot_objects u (drop (i + 1) os)) booted ∙ ap (boot_objects s) (sym (rest_from os i o h is))
 
 -- ---- one object
-module _ (s : State) (o : WorldObject) (can : CanEnter s o) (parents : List Name) (name : Name) (whole : o.path.names ≡ parents ++ name ∷ []) where
-  spot_is : (parents ≡ can.parents) × (name ≡ can.name)
-  spot_is = same_from_push parents can.parents name can.name (sym whole ∙ can.whole)
+-- its path was taken apart, and the names before the last one lead to a directory
+module _ (s : State) (o : WorldObject) (can : CanEnter s o) (names : List Name) (names_are : names ≡ o.path.names) (some : 1 ≤ length names) (name : Name) (name_is : name ≡ get_or names (length names - 1) name)
+    (from : Oid) (from_is : from ≡ root) (dir : Oid) (lead : Some dir ≡ leads s from (take (length names - 1) names)) where
+  abbrev parents : List Name
+  parents = take (length names - 1) names
 
-  -- its directory is there
-  pub parents_lead : leads s root parents ≡ Some can.dir
-  parents_lead = ap (leads s root) spot_is.0 ∙ can.lead
+  whole : o.path.names ≡ parents ++ name ∷ []
+  whole = sym names_are ∙ split_end names name some name_is
 
-  module _ (dir : Oid) (led : leads s root parents ≡ Some dir) where
-    dir_is : dir ≡ can.dir
-    dir_is = some_same dir can.dir (sym led ∙ parents_lead)
+  led : leads s root parents ≡ Some dir
+  led = sym (lead ∙ ap (λ (at : Oid). leads s at parents) from_is)
 
-    abbrev new_id : Oid
-    new_id = next_object s o.label
+  -- it is the directory that the object has
+  dir_is : dir ≡ can.dir
+  dir_is = some_same dir can.dir (sym led ∙ ap (leads s root) (same_from_push parents can.parents name can.name (sym whole ∙ can.whole)).0 ∙ can.lead)
 
-    -- the object was made, and has no entry yet
-    module _ (u : TreeView) (made : Object) (objects_are : u.nodes.table.objects ≡ map.insert s.objects new_id made) (entries_are : u.entries ≡ s.entries) where
-      pub name_free : look (state_of_tree u) dir name ≡ None
-      name_free = (λ i. map.get (entries_are i) (dir_is i, spot_is.1 i)) ∙ can.free
+  abbrev new_id : Oid
+  new_id = next_object s o.label
 
-      pub dir_stands : is_removed (state_of_tree u) dir ≡ false
-      dir_stands = (λ i. not (same_oid (dir_is i) root) && not (any_entry (λ (spot : Spot) (at : Oid). same_oid at (dir_is i)) (entries_are i))) ∙ can.standing
+  -- the object was made, and has no entry yet
+  module _ (u : TreeView) (made : Object) (objects_are : u.nodes.table.objects ≡ map.insert s.objects new_id made) (entries_are : u.entries ≡ s.entries) where
+    pub dir_there : IsDir u.nodes.table.objects dir
+    dir_there =
+        let d = subst (IsDir s.objects) (sym dir_is) can.is_dir in
+        subst (λ (m : FinMap oid_cmp Object). IsDir m dir) (sym objects_are) (record { object = d.object; is = get-insert_kept oid_cmp_total oid_cmp_exact s.objects new_id made can.absent dir d.object d.is; dir = d.dir })
 
-      pub dir_there : IsDir u.nodes.table.objects dir
-      dir_there =
-          let d = subst (IsDir s.objects) (sym dir_is) can.is_dir in
-          subst (λ (m : FinMap oid_cmp Object). IsDir m dir) (sym objects_are) (record { object = d.object; is = get-insert_kept oid_cmp_total oid_cmp_exact s.objects new_id made can.absent dir d.object d.is; dir = d.dir })
+    pub may_be_added : (id : Oid) → id ≡ new_id → made ≡ object_of o → MayBeAdded u id
+    may_be_added id is made_is =
+        let none : link_count (state_of_tree u) id ≡ 0 = (λ i. count_entries (λ (spot : Spot) (at : Oid). same_oid at (is i)) (entries_are i)) ∙ can.unnamed in
+        record {
+          object = made;
+          is = (λ i. map.get (objects_are i) (is i)) ∙ get-insert_same oid_cmp_total s.objects new_id made;
+          few = omega (arith, none);
+          no_root = λ e. can.no_root (sym is ∙ e);
+          no_pipe = λ h. can.no_pipe (ap (λ (x : Object). x.kind) (sym made_is) ∙ h);
+          one = λ _. none;
+        }
 
-      pub may_be_added : (id : Oid) → id ≡ new_id → made ≡ object_of o → MayBeAdded u id
-      may_be_added id is made_is =
-          let none : link_count (state_of_tree u) id ≡ 0 = (λ i. count_entries (λ (spot : Spot) (at : Oid). same_oid at (is i)) (entries_are i)) ∙ can.unnamed in
-          record {
-            object = made;
-            is = (λ i. map.get (objects_are i) (is i)) ∙ get-insert_same oid_cmp_total s.objects new_id made;
-            few = omega (arith, none);
-            no_root = λ e. can.no_root (sym is ∙ e);
-            no_pipe = λ h. can.no_pipe (ap (λ (x : Object). x.kind) (sym made_is) ∙ h);
-            one = λ _. none;
-          }
-
-    -- and gets it
-    pub object_booted : (id : Oid) → id ≡ new_id → (made : Object) → made ≡ object_of o
-        → (record s { object_numbers = map.insert s.object_numbers o.label (drawn s.object_numbers o.label + 1); objects = map.insert s.objects new_id made; entries = map.insert s.entries (dir, name) id }) ≡ boot_object s o
-    unfolding boot_object
-    object_booted id is made made_is =
-        (λ i. record s { object_numbers = map.insert s.object_numbers o.label (drawn s.object_numbers o.label + 1); objects = map.insert s.objects new_id (made_is i); entries = map.insert s.entries (dir, name) (is i) })
-        ∙ ap (λ (cs : List Change). changed_by s (DrawObject o.label (drawn s.object_numbers o.label + 1) ∷ SetObject new_id (object_of o) ∷ cs)) (sym (ap (λ (ns : List Name). entry_for s root ns new_id) whole ∙ entry_led s root parents dir name new_id led))
+  -- and gets it
+  pub object_booted : (id : Oid) → id ≡ new_id → (made : Object) → made ≡ object_of o
+      → (record s { object_numbers = map.insert s.object_numbers o.label (drawn s.object_numbers o.label + 1); objects = map.insert s.objects new_id made; entries = map.insert s.entries (dir, name) id }) ≡ boot_object s o
+  unfolding boot_object
+  object_booted id is made made_is =
+      (λ i. record s { object_numbers = map.insert s.object_numbers o.label (drawn s.object_numbers o.label + 1); objects = map.insert s.objects new_id (made_is i); entries = map.insert s.entries (dir, name) (is i) })
+      ∙ ap (λ (cs : List Change). changed_by s (DrawObject o.label (drawn s.object_numbers o.label + 1) ∷ SetObject new_id (object_of o) ∷ cs)) (sym (ap (λ (ns : List Name). entry_for s root ns new_id) whole ∙ entry_led s root parents dir name new_id led))
 
 -- ---- all objects of a world
 module _ (w : World) (is : IsWorld w) (first : WorldObject) (others : List WorldObject) (all : w.objects ≡ first ∷ others) where
