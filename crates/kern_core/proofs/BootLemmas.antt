@@ -10,7 +10,6 @@ use Rattle.lab_lattice.proofs.Labels.{label_cmp_total, label_cmp_exact, dominate
 use Rattle.kern_model.specs.declared.limits.TheConstants.{MAX_PROCS}
 use Rattle.kern_model.specs.declared.numbers.Oid.{Oid}
 use Rattle.kern_model.specs.declared.numbers.Pid.{Pid}
-use Rattle.kern_model.specs.declared.objects.Object.{Object}
 use Rattle.kern_model.specs.declared.records.Rec.{Rec}
 use Rattle.kern_model.specs.declared.records.Rec.TheVariants as rec
 use Rattle.kern_model.specs.declared.world.World.{World}

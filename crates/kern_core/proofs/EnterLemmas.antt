@@ -13,7 +13,6 @@ use Rattle.lab_lattice.specs.Label.{Label, label_cmp}
 use Rattle.kern_model.specs.declared.limits.TheConstants.{MAX_OBJECTS}
 use Rattle.kern_model.specs.declared.numbers.Oid.{Oid}
 use Rattle.kern_model.specs.declared.objects.Body.{Body}
-use Rattle.kern_model.specs.declared.objects.Body.TheVariants as body
 use Rattle.kern_model.specs.declared.objects.Object.{Object}
 use Rattle.kern_model.specs.declared.world.World.{World}
 use Rattle.kern_model.specs.declared.world.WorldObject.{WorldObject}
@@ -125,9 +124,9 @@ room_after s o os room = subst (λ (m : FinMap label_cmp ℕ). RoomFor label_of 
 all_enter : (top : Label) (os before : List WorldObject) (s : State) → IsBuilt top before s → ArePlaced before os → AllByRecursion (IsWorldObject top) os → RoomFor label_of MAX_OBJECTS s.object_numbers os → CanEnterAll s os
 all_enter top [] before s built placed worlds room = tt
 all_enter top (o ∷ os) before s built placed worlds room = (
-    can_enter top before s built o placed.0 worlds.0 (first_room label_of MAX_OBJECTS s.object_numbers o os room),
-    all_enter top os (before ++ o ∷ []) (boot_object s o) (built_object top before s built o placed.0 worlds.0) placed.1 worlds.1 (room_after s o os room)
-  )
+  can_enter top before s built o placed.0 worlds.0 (first_room label_of MAX_OBJECTS s.object_numbers o os room),
+  all_enter top os (before ++ o ∷ []) (boot_object s o) (built_object top before s built o placed.0 worlds.0) placed.1 worlds.1 (room_after s o os room),
+)
 
 -- ---- the objects that are left
 module _ (s : State) (os : List WorldObject) (i : ℕ) (o : WorldObject) (h : i < length os) (is : o ≡ get_or os i o) (can : CanEnterAll s (drop i os)) where
