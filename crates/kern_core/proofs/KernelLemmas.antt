@@ -12,10 +12,9 @@ use Rattle.kern_model.specs.declared.calls.CallName.{CallName}
 use Rattle.kern_model.specs.declared.numbers.Pid.{Pid}
 use Rattle.kern_model.specs.declared.records.Outcome as reported
 use Rattle.kern_model.specs.declared.world.World.{World}
-use Rattle.kern_model.specs.declared.world.WorldObject.{WorldObject}
 use Rattle.kern_model.specs.declared.world.WorldProc.{WorldProc}
 use Rattle.kern_model.specs.Arguments.{is_call}
-use Rattle.kern_model.specs.Boot.{boot_objects, boot_processes, nothing}
+use Rattle.kern_model.specs.Boot.{boot_processes, furnished}
 use Rattle.kern_model.specs.Drawing.{NumbersGoOn}
 use Rattle.kern_model.specs.Names.{name_of}
 use Rattle.kern_model.specs.Refusals.{IsNamed}
@@ -74,7 +73,5 @@ where_no_error (Err x) h e = absurd (true≢false e)
 
 -- ---- the first state
 -- is valid, by the parts that make it
-pub valid_started : (w : World) → IsWorld w → (empty furnished started : State) (os : List WorldObject) (ps : List WorldProc) → empty ≡ nothing w.bound w.top → os ≡ w.objects → furnished ≡ boot_objects empty os → ps ≡ w.procs → started ≡ boot_processes furnished ps → IsValid started
-valid_started w h empty furnished started os ps none objects furnishes procs starts =
-    let booted = starts ∙ (λ i. boot_processes ((furnishes ∙ (λ j. boot_objects (none j) (objects j))) i) (procs i)) in
-    subst IsValid (sym booted) (valid_boot w h)
+pub valid_started : (w : World) → IsWorld w → (made started : State) (ps : List WorldProc) → made ≡ furnished w → ps ≡ w.procs → started ≡ boot_processes made ps → IsValid started
+valid_started w h made started ps furnishes procs starts = subst IsValid (sym (starts ∙ (λ i. boot_processes (furnishes i) (procs i)))) (valid_boot w h)

@@ -1,6 +1,7 @@
 pub mod BootLemmas
 pub mod BuiltLaws
 pub mod CheckLemmas
+pub mod EnterLemmas
 pub mod KernelLemmas
 pub mod LendLemmas
 pub mod PlayLemmas

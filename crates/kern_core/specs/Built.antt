@@ -1,11 +1,11 @@
 -- Which calls are built.
-use Rattle.std.specs.Prelude.{◌&&◌, ◌==◌, Bool, true, false, length}
+use Rattle.std.specs.Prelude.{Bool, true, false}
 use Rattle.kern_model.specs.declared.calls.Call.{Call}
 use Rattle.kern_model.specs.declared.calls.Call.TheVariants as call
 
 -- whether a call can be played
 abbrev pub is_built : Call → Bool
-is_built (call.MacGetFile path) = path.absolute && length path.names == 1
+is_built (call.MacGetFile path) = true
 is_built call.CapGetProc = true
 is_built (call.CapSetProc caps) = true
 is_built _ = false

@@ -8,11 +8,11 @@ use Rattle.kern_core.specs.declared.tables.Metadata.{Metadata}
 -- the state that the tables hold: nothing is open yet
 abbrev pub state_of_tables : Tables → State
 state_of_tables t = record {
-  objects = t.nodes.table.objects;
-  entries = t.entries;
+  objects = t.tree.nodes.table.objects;
+  entries = t.tree.entries;
   procs = t.procs.procs;
   descriptions = map.empty;
-  object_numbers = t.nodes.table.numbers;
+  object_numbers = t.tree.nodes.table.numbers;
   process_numbers = t.procs.numbers;
   description_numbers = map.empty;
   bound = t.bound;

@@ -1,40 +1,57 @@
 // How the first state is made of a world.
 ghost use Rattle.std.specs.Prelude.{◌≡◌, ◌<◌, ◌++◌, ◌∷◌, [], true, IfOk, OnOk};
 ghost use Rattle.cap_bits.specs.CapSet.{is_within};
-ghost use Rattle.kern_model.specs.declared.limits.TheConstants.{MAX_OBJECTS, MAX_PROCS};
+ghost use Rattle.kern_model.specs.declared.limits.TheConstants.{MAX_PROCS};
 ghost use Rattle.kern_model.specs.declared.records.Rec.TheVariants as rec;
 ghost use Rattle.kern_model.specs.State.{drawn, next_process};
-ghost use Rattle.kern_model.specs.Boot.{boot_object, boot_objects, boot_process, boot_processes, nothing, started};
+ghost use Rattle.kern_model.specs.Boot.{boot_object, boot_objects, boot_process, boot_processes, furnished, started};
+ghost use Rattle.kern_model.specs.Valid.{leads};
+ghost use Rattle.kern_model.specs.World.{IsWorld};
 ghost use Rattle.kern_core.specs.Tables.{state_of_tables};
-ghost use Rattle.kern_core.specs.Starts.{CanStart, RoomForObjects, IsSpotOf};
+ghost use Rattle.kern_core.specs.Starts.{CanEnter, CanEnterAll, CanStart, with_root};
 
 use crate::from_world::{copy_body, creds_from};
-use crate::tables::{Entries, Spot, Tables, root_directory};
+use crate::tables::Tables;
 use cap_bits::CapSet;
-use fs_nodes::{NodeError, Nodes};
-use kern_model::{Name, NoMemory, Oid, Pid, Rec, RecList, WorldObject, WorldProc};
+use fs_dirs::{AddError, Tree, root_directory};
+use fs_nodes::NodeError;
+use kern_model::{Attr, Name, NoMemory, Oid, Pid, Rec, RecList, World, WorldObject, WorldProc};
 use lab_lattice::Label;
 use proc_table::{ProcError, Procs};
 use std::alloc::Global;
 
 impl Tables {
-    /// Tables without objects and processes.
-    pub fn empty(alloc: Global, bound: CapSet, top: Label) -> Result<Tables, NoMemory>
-        ensures { IfOk result (λ tables. state_of_tables tables ≡ nothing bound top) }
+    /// Tables with the objects of a world, and no process.
+    pub fn furnish(alloc: Global, world: &World) -> Result<Tables, NoMemory>
+        requires { IsWorld world.now }
+        ensures { IfOk result (λ tables. state_of_tables tables ≡ furnished world.now) }
+    {
+        match world.objects.items() {
+            [] => unreachable!(),
+            [first, others @ ..] => {
+                let mut tables = Tables::with_root(alloc, first.attr, world.bound, world.top)?;
+                tables.boot_objects(others)?;
+                Ok(tables)
+            }
+        }
+    }
+
+    // Tables with the root directory alone.
+    fn with_root(alloc: Global, attr: Attr, bound: CapSet, top: Label) -> Result<Tables, NoMemory>
+        ensures { IfOk result (λ tables. state_of_tables tables ≡ with_root attr bound top) }
     {
         Ok(Tables {
             alloc,
-            nodes: Nodes::new(alloc)?,
-            entries: Entries::new(alloc),
+            tree: Tree::new(alloc, attr)?,
             procs: Procs::new(alloc),
             bound,
             top,
         })
     }
 
-    /// Makes the objects of a world, in order.
-    pub fn boot_objects(&mut self, objects: &[WorldObject]) -> Result<(), NoMemory>
-        requires { RoomForObjects self.old.nodes.table.numbers objects.now }
+    // Makes objects of a world, in order.
+    fn boot_objects(&mut self, objects: &[WorldObject]) -> Result<(), NoMemory>
+        requires { CanEnterAll (state_of_tables self.old) objects.now }
         ensures { OnOk result (state_of_tables self.new ≡ boot_objects (state_of_tables self.old) objects.now) }
     {
         for object in objects {
@@ -59,33 +76,37 @@ impl Tables {
 
     // Makes an object under the next number of its label, and its entry.
     fn boot_object(&mut self, object: &WorldObject) -> Result<(), NoMemory>
-        requires { drawn self.old.nodes.table.numbers object.now.label < MAX_OBJECTS }
+        requires { CanEnter (state_of_tables self.old) object.now }
         ensures { OnOk result (state_of_tables self.new ≡ boot_object (state_of_tables self.old) object.now) }
     {
-        let spot = self.spot_of(root_directory(), object.path.components())?;
+        let [parents @ .., name] = object.path.components() else {
+            unreachable!();
+        };
+        let Some(dir) = self.leads_to(root_directory(), parents) else {
+            unreachable!();
+        };
         let body = copy_body(&object.body)?;
-        let id = match self.nodes.create(object.label, object.attr, body) {
+        let id = match self.tree.create(object.label, object.attr, body) {
             Ok(id) => id,
             Err(NodeError::Full) => unreachable!(),
             Err(NodeError::NoMemory(e)) => return Err(e),
         };
-        if let Some(spot) = spot {
-            self.entries.set(spot, id)?;
+        match self.tree.add(&dir, name, &id) {
+            Ok(()) => Ok(()),
+            Err(AddError::Exists | AddError::Removed) => unreachable!(),
+            Err(AddError::NoMemory(e)) => Err(e),
         }
-        Ok(())
     }
 
-    // The spot that a path from this directory names for a new object. The path of the root names none.
-    fn spot_of(&self, dir: Oid, names: &[Name]) -> Result<Option<Spot>, NoMemory>
-        ensures { IfOk result (λ spot. IsSpotOf (state_of_tables self.now) dir names.now spot) }
+    // The object to which names lead from a directory, if they do.
+    fn leads_to(&self, dir: Oid, names: &[Name]) -> Option<Oid>
+        ensures { result ≡ leads (state_of_tables self.now) dir names.now }
     {
         match names {
-            [] => Ok(None),
-            [name] => Ok(Some((dir, name.copy()?))),
+            [] => Some(dir),
             [name, rest @ ..] => {
-                let spot = (dir, name.copy()?);
-                let next = self.look(&spot).unwrap_or(dir);
-                self.spot_of(next, rest)
+                let next = self.tree.look(&dir, name)?;
+                self.leads_to(next, rest)
             }
         }
     }

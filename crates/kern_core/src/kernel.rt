@@ -39,8 +39,7 @@ impl Kernel {
         ensures valid { IfOk result (λ b. IsValid (state_of b.0)) }
         ensures sound { IfOk result (λ b. has_failed b.0 ≡ false) }
     {
-        let mut tables = Tables::empty(alloc, world.bound, world.top)?;
-        tables.boot_objects(world.objects.items())?;
+        let mut tables = Tables::furnish(alloc, world)?;
         let recs = tables.boot_processes(world.procs.items())?;
         let kernel = Kernel {
             tables,

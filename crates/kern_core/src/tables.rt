@@ -1,25 +1,20 @@
 // The tables in which a kernel keeps its state.
 ghost use Rattle.std.specs.Prelude.{◌≡◌};
 ghost use Rattle.kern_model.specs.Kinds.{is_dir};
-ghost use Rattle.kern_model.specs.State.{look, root};
 ghost use Rattle.kern_core.specs.Tables.{state_of_tables, metadata_of};
 
-mod entries;
-
 use cap_bits::{CapSet, CapState};
-pub use entries::{Entries, Spot};
-use fs_nodes::Nodes;
+use fs_dirs::Tree;
 use kern_model::{Attr, Kind, Oid};
-use lab_lattice::{Label, bottom};
+use lab_lattice::Label;
 use proc_table::Procs;
 use std::alloc::Global;
 
-/// Objects, entries and processes, the bound of capabilities over exec, and the highest label.
+/// The tree of directories, the processes, the bound of capabilities over exec, and the highest label.
 #[derive(Drop)]
 pub struct Tables {
     pub alloc: Global,
-    pub nodes: Nodes,
-    pub entries: Entries,
+    pub tree: Tree,
     pub procs: Procs,
     pub bound: CapSet,
     pub top: Label,
@@ -32,16 +27,6 @@ pub struct Metadata {
     pub kind: Kind,
     pub label: Label,
     pub attr: Attr,
-}
-
-/// The number of the root directory.
-pub fn root_directory() -> Oid
-    ensures { result ≡ root }
-{
-    Oid {
-        label: bottom(),
-        n: 1,
-    }
 }
 
 impl Metadata {
@@ -62,7 +47,7 @@ impl Tables {
     pub fn metadata(&self, id: &Oid) -> Metadata
         ensures { result ≡ metadata_of (state_of_tables self.now) id.now }
     {
-        match self.nodes.get(id) {
+        match self.tree.nodes().get(id) {
             Some(object) => Metadata {
                 id: *id,
                 kind: object.kind,
@@ -81,12 +66,5 @@ impl Tables {
                 },
             },
         }
-    }
-
-    /// The object that has a name in a directory, if one does.
-    pub fn look(&self, spot: &Spot) -> Option<Oid>
-        ensures { result ≡ look (state_of_tables self.now) spot.now.0 spot.now.1 }
-    {
-        self.entries.get(spot)
     }
 }

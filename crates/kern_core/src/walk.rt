@@ -7,8 +7,8 @@ ghost use Rattle.kern_core.specs.Tables.{state_of_tables};
 ghost use Rattle.kern_core.specs.Walks.{found_by, object_found, pass_name, walk_names};
 
 use crate::caller::Caller;
-use crate::tables::root_directory;
 use chk_rules::{Checks, Stop, refuse_if};
+use fs_dirs::root_directory;
 use kern_model::{Errno, Name, Oid, Path, Place};
 
 /// What a walk found.
@@ -100,20 +100,16 @@ impl Caller<'_> {
         ensures { GoesOn checks.old (walk_names (state_of_tables self.now.tables.now) self.now.process.now at dir (name.now ∷ [])) (found_by result) checks.new }
     {
         self.enter(checks, &dir, Place::First(at))?;
-        let spot = (dir, name.copy()?);
-        let object = self.tables.look(&spot);
-        let (_, name) = spot;
-        Ok(Found::Entry(dir, name, object))
+        let object = self.tables.tree.look(&dir, name);
+        Ok(Found::Entry(dir, name.copy()?, object))
     }
 
     // Looks up a name that is not the last: it leads to where the walk goes on.
-    #[tactic(auto, unfolding(chk_rules::specs::Ends::EndsBy))]
     fn pass(&self, checks: &mut Checks, at: u8, dir: Oid, name: &Name) -> Result<Oid, Stop>
         ensures { GoesOn checks.old (pass_name (state_of_tables self.now.tables.now) self.now.process.now (Place.First at) dir name.now) result checks.new }
     {
         self.enter(checks, &dir, Place::First(at))?;
-        let spot = (dir, name.copy()?);
-        present(self.tables.look(&spot))
+        present(self.tables.tree.look(&dir, name))
     }
 
     // Enters a directory: it may be read, is a directory, and may be searched.

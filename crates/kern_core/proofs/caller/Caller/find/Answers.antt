@@ -1,6 +1,4 @@
-use Rattle.std.proofs.Common.{◌∙◌, ap}
 use Rattle.kern_model.specs.declared.checks.Place.TheVariants.{First}
-use Rattle.kern_model.specs.State.{look}
 use Rattle.kern_model.specs.Walk.{Entry, enter}
 use Rattle.chk_rules.proofs.Steps.{item_goes, item_stops, gives}
 use Rattle.kern_core.specs.Tables.{state_of_tables}
@@ -16,4 +14,4 @@ pub returns : goal.returns
 returns c =
     let s = state_of_tables c.args.self.now.tables.now in
     item_goes (enter s c.args.self.now.process.now c.args.dir (First c.args.at)) c.in_ok-enter.ensures
-    (gives (λ i. Entry c.args.dir (c.in_ok-copy.ensures i) ((c.look-object.ensures ∙ ap (look s c.args.dir) c.in_ok-copy.ensures) i)))
+    (gives (λ i. Entry c.args.dir (c.in_ok-copy.ensures i) (c.look-object.ensures i)))

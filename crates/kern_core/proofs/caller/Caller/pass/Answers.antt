@@ -1,6 +1,5 @@
-use Rattle.std.proofs.Common.{◌∙◌, ap, subst}
+use Rattle.std.proofs.Common.{subst}
 use Rattle.kern_model.specs.declared.checks.Place.TheVariants.{First}
-use Rattle.kern_model.specs.State.{look}
 use Rattle.kern_model.specs.Walk.{enter, or_missing}
 use Rattle.chk_rules.specs.Ends.{GoesOn}
 use Rattle.chk_rules.proofs.Steps.{item_goes, item_stops}
@@ -15,4 +14,4 @@ returns c =
     let s = state_of_tables c.args.self.now.tables.now in
     let log = c.enter.new.checks in
     item_goes (enter s c.args.self.now.process.now c.args.dir (First c.args.at)) c.in_ok-enter.ensures
-    (subst (λ o. GoesOn log (or_missing o) c.present.result log) (c.look.ensures ∙ ap (look s c.args.dir) c.in_ok-copy.ensures) (c.present.ensures log))
+    (subst (λ o. GoesOn log (or_missing o) c.present.result log) c.look.ensures (c.present.ensures log))
