@@ -41,15 +41,12 @@ object_booted s o n is made made_is dir dir_is names names_is spot spot_is =
     ∙ (λ i. made_object s o (is i) (made_is i) (entry_for s (dir_is i) (names_is i) (object_id o (is i))))
 
 -- ---- one process
-abbrev pub process_id : WorldProc → ℕ → Pid
-process_id w n = record { label = w.label; n = n }
+abbrev pub with_made : State → Process → State
+with_made s p = changed_by s (DrawProcess p.label (drawn s.process_numbers p.label + 1) ∷ SetProcess (next_process s p.label) p ∷ [])
 
-abbrev pub made_process : State → WorldProc → ℕ → Process → State
-made_process s w n made = changed_by s (DrawProcess w.label n ∷ SetProcess (process_id w n) made ∷ [])
-
-pub process_booted : (s : State) (w : WorldProc) (n : ℕ) → n ≡ drawn s.process_numbers w.label + 1 → (made : Process) → made ≡ process_of w → made_process s w n made ≡ boot_process s w
+pub process_booted : (s : State) (w : WorldProc) (made : Process) → made ≡ process_of w → with_made s made ≡ boot_process s w
 unfolding boot_process
-process_booted s w n is made made_is = λ i. made_process s w (is i) (made_is i)
+process_booted s w made is = ap (with_made s) is
 
 -- ---- the numbers that are drawn
 entry_draws : (s t : State) (dir : Oid) (names : List Name) (id : Oid) → (changed_by t (entry_for s dir names id)).object_numbers ≡ t.object_numbers

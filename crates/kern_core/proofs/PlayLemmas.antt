@@ -1,15 +1,12 @@
 -- The body of a call along its row, step by step.
-use Rattle.std.specs.Prelude.{◌≡◌, ⊤, List, Option, Some, Result, Ok, Err}
-use Rattle.std.specs.FinMap as map
+use Rattle.std.specs.Prelude.{◌≡◌, ⊤, List, Option, Result, Ok, Err}
 use Rattle.std.specs.Result.{IsErrAnd}
 use Rattle.std.proofs.Common.{sym, ◌∙◌, subst}
 use Rattle.kern_model.specs.declared.calls.Answer.{Answer}
-use Rattle.kern_model.specs.declared.numbers.Pid.{Pid}
 use Rattle.kern_model.specs.declared.records.Rec.{Rec}
 use Rattle.kern_model.specs.declared.checks.Check.{Check}
 use Rattle.kern_model.specs.Row.{Row, Need, Commit}
-use Rattle.kern_model.specs.State.{State, Process, Change, changed_by}
-use Rattle.kern_model.proofs.MapLemmas.{some_same}
+use Rattle.kern_model.specs.State.{State, Change, changed_by}
 use Rattle.kern_model.proofs.RowLemmas.{judge-give}
 use Rattle.chk_rules.specs.CheckLog.{CheckLog}
 use Rattle.chk_rules.specs.Ends.{EndsBy, GoesOn}
@@ -73,7 +70,3 @@ commits s t log changes answer own made = record {
   ends = tt;
   keeps = tt;
 }
-
--- the row of the living process that was found is that of the caller
-pub caller_plays : {s t : State} {a b : CheckLog} {r : Result Effect Stop} (row : Process → Row) (who : Pid) (q p : Process) → Some q ≡ map.get s.procs who → map.get s.procs who ≡ Some p → PlaysRow s a (row q) r t b → PlaysRow s a (row p) r t b
-caller_plays {s = s} {t = t} {a = a} {b = b} {r = r} row who q p found there plays = subst (λ x. PlaysRow s a (row x) r t b) (some_same q p (found ∙ there)) plays

@@ -1,6 +1,5 @@
 pub mod Built
 pub mod Kernel
-pub mod Lending
 pub mod PlaysRow
 pub mod Starts
 pub mod Tables

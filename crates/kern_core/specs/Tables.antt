@@ -10,10 +10,10 @@ abbrev pub state_of_tables : Tables → State
 state_of_tables t = record {
   objects = t.nodes.table.objects;
   entries = t.entries;
-  procs = t.procs;
+  procs = t.procs.procs;
   descriptions = map.empty;
   object_numbers = t.nodes.table.numbers;
-  process_numbers = t.process_numbers;
+  process_numbers = t.procs.numbers;
   description_numbers = map.empty;
   bound = t.bound;
   top = t.top;

@@ -8,13 +8,13 @@ ghost use Rattle.kern_model.specs.Boot.{boot_object, boot_objects, boot_process,
 ghost use Rattle.kern_core.specs.Tables.{state_of_tables};
 ghost use Rattle.kern_core.specs.Starts.{CanStart, RoomForObjects, IsSpotOf};
 
-use crate::from_world::{copy_body, process_from};
-use crate::process::root_directory;
-use crate::tables::{Entries, Procs, Spot, Tables};
+use crate::from_world::{copy_body, creds_from};
+use crate::tables::{Entries, Spot, Tables, root_directory};
 use cap_bits::CapSet;
 use fs_nodes::{NodeError, Nodes};
-use kern_model::{Name, NoMemory, Numbers, Oid, Pid, Rec, RecList, WorldObject, WorldProc};
+use kern_model::{Name, NoMemory, Oid, Pid, Rec, RecList, WorldObject, WorldProc};
 use lab_lattice::Label;
+use proc_table::{ProcError, Procs};
 use std::alloc::Global;
 
 impl Tables {
@@ -27,7 +27,6 @@ impl Tables {
             nodes: Nodes::new(alloc)?,
             entries: Entries::new(alloc),
             procs: Procs::new(alloc),
-            process_numbers: Numbers::new(alloc),
             bound,
             top,
         })
@@ -46,7 +45,7 @@ impl Tables {
 
     /// Makes the processes of a world, in order, and returns a record for each.
     pub fn boot_processes(&mut self, procs: &[WorldProc]) -> Result<RecList, NoMemory>
-        requires { CanStart self.old.process_numbers procs.now }
+        requires { CanStart self.old.procs.numbers procs.now }
         ensures state { OnOk result (state_of_tables self.new ≡ boot_processes (state_of_tables self.old) procs.now) }
         ensures recs { IfOk result (λ recs. recs ≡ started (state_of_tables self.old) procs.now) }
     {
@@ -93,19 +92,16 @@ impl Tables {
 
     // Makes a process under the next number of its label, and returns the number.
     fn boot_process(&mut self, process: &WorldProc) -> Result<Pid, NoMemory>
-        requires number { drawn self.old.process_numbers process.now.label < MAX_PROCS }
+        requires number { drawn self.old.procs.numbers process.now.label < MAX_PROCS }
         requires within { is_within process.now.caps.e process.now.caps.p ≡ true }
         ensures state { OnOk result (state_of_tables self.new ≡ boot_process (state_of_tables self.old) process.now) }
         ensures number { IfOk result (λ who. who ≡ next_process (state_of_tables self.old) process.now.label) }
     {
-        let n = self.process_numbers.last(&process.label) + 1;
-        let who = Pid {
-            label: process.label,
-            n,
-        };
-        self.process_numbers.set(process.label, n)?;
-        self.procs.set(who, process_from(process)?)?;
-        Ok(who)
+        match self.procs.boot(creds_from(process)?, root_directory()) {
+            Ok(who) => Ok(who),
+            Err(ProcError::Full) => unreachable!(),
+            Err(ProcError::NoMemory(e)) => Err(e),
+        }
     }
 }
 

@@ -32,11 +32,12 @@ impl Tables {
         ensures played { IfOk result (λ outcome. IsPlayed (state_of_tables self.old) who.now call.now outcome (state_of_tables self.new)) }
         ensures ready { TakesNoMemory (state_of_tables self.old) who.now call.now → IsOk result }
     {
-        let Some(process) = self.procs.get(who) else {
+        let Some(process) = self.procs.find(who) else {
             return Ok(no_process(self.alloc));
         };
-        let audited = process.audited();
-        let mut checks = Checks::new(self.alloc, *who, process.label(), process.caps().e);
+        let audited = process.audited;
+        let creds = &process.creds;
+        let mut checks = Checks::new(self.alloc, *who, creds.label, creds.caps.e);
         let caller = Caller {
             tables: self,
             process,

@@ -1,9 +1,9 @@
-// The objects and processes that a world describes.
+// The bodies of objects and the credentials of processes that a world describes.
 ghost use Rattle.std.specs.Prelude.{◌≡◌, IfOk, true};
 ghost use Rattle.cap_bits.specs.CapSet.{is_within};
 ghost use Rattle.kern_model.specs.Boot.{process_of};
+ghost use Rattle.proc_table.specs.Procs.{creds_of};
 
-use crate::process::Proc;
 use kern_model::{Body, Mode, NoMemory, WorldProc};
 use proc_creds::{Creds, copy_ids};
 
@@ -22,16 +22,15 @@ pub fn copy_body(body: &Body) -> Result<Body, NoMemory>
     }
 }
 
-/// The process that a world describes.
-pub fn process_from(process: &WorldProc) -> Result<Proc, NoMemory>
+/// The credentials of a process that a world describes.
+pub fn creds_from(process: &WorldProc) -> Result<Creds, NoMemory>
     requires { is_within process.now.caps.e process.now.caps.p ≡ true }
-    ensures { IfOk result (λ made. made ≡ process_of process.now) }
+    ensures { IfOk result (λ creds. creds ≡ creds_of (process_of process.now)) }
 {
-    let creds = Creds {
+    Ok(Creds {
         ids: copy_ids(&process.ids)?,
         label: process.label,
         caps: process.caps,
         umask: START_UMASK,
-    };
-    Ok(Proc::start(creds))
+    })
 }

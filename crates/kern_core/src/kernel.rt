@@ -86,7 +86,8 @@ impl Kernel {
     pub fn caps_of(&self, who: &Pid) -> Option<CapState>
         ensures { result ≡ option_map (λ (p : Process). p.caps) (map.get (state_of self.now).procs who.now) }
     {
-        self.tables.procs.caps_of(who)
+        let process = self.tables.procs.find(who)?;
+        Some(process.creds.caps)
     }
 
     /// The label of the living process with this number, if there is one.
@@ -94,7 +95,8 @@ impl Kernel {
     pub fn label_of(&self, who: &Pid) -> Option<Label>
         ensures { result ≡ option_map (λ (p : Process). p.label) (map.get (state_of self.now).procs who.now) }
     {
-        self.tables.procs.label_of(who)
+        let process = self.tables.procs.find(who)?;
+        Some(process.creds.label)
     }
 
     /// The numbers of the living processes, by label and then by number.
@@ -102,6 +104,6 @@ impl Kernel {
     pub fn live(&self) -> Result<PidList, NoMemory>
         ensures { IfOk result (λ numbers. numbers ≡ map.keys (state_of self.now).procs) }
     {
-        self.tables.procs.live(self.tables.alloc)
+        self.tables.procs.live()
     }
 }

@@ -7,7 +7,6 @@ mod calls;
 mod from_world;
 mod kernel;
 mod outcome;
-mod process;
 mod tables;
 mod walk;
 

@@ -1,29 +1,26 @@
 // The tables in which a kernel keeps its state.
 ghost use Rattle.std.specs.Prelude.{◌≡◌};
 ghost use Rattle.kern_model.specs.Kinds.{is_dir};
-ghost use Rattle.kern_model.specs.State.{look};
+ghost use Rattle.kern_model.specs.State.{look, root};
 ghost use Rattle.kern_core.specs.Tables.{state_of_tables, metadata_of};
 
 mod entries;
-mod procs;
 
 use cap_bits::{CapSet, CapState};
 pub use entries::{Entries, Spot};
 use fs_nodes::Nodes;
-use kern_model::{Attr, Kind, Numbers, Oid};
-use lab_lattice::Label;
-pub use procs::Procs;
+use kern_model::{Attr, Kind, Oid};
+use lab_lattice::{Label, bottom};
+use proc_table::Procs;
 use std::alloc::Global;
 
-/// Objects, entries and processes, the last number of a process drawn of each label, the bound of capabilities over exec,
-/// and the highest label.
+/// Objects, entries and processes, the bound of capabilities over exec, and the highest label.
 #[derive(Drop)]
 pub struct Tables {
     pub alloc: Global,
     pub nodes: Nodes,
     pub entries: Entries,
     pub procs: Procs,
-    pub process_numbers: Numbers,
     pub bound: CapSet,
     pub top: Label,
 }
@@ -35,6 +32,16 @@ pub struct Metadata {
     pub kind: Kind,
     pub label: Label,
     pub attr: Attr,
+}
+
+/// The number of the root directory.
+pub fn root_directory() -> Oid
+    ensures { result ≡ root }
+{
+    Oid {
+        label: bottom(),
+        n: 1,
+    }
 }
 
 impl Metadata {

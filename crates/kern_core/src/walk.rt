@@ -7,7 +7,7 @@ ghost use Rattle.kern_core.specs.Tables.{state_of_tables};
 ghost use Rattle.kern_core.specs.Walks.{found_by, object_found, pass_name, walk_names};
 
 use crate::caller::Caller;
-use crate::process::root_directory;
+use crate::tables::root_directory;
 use chk_rules::{Checks, Stop, refuse_if};
 use kern_model::{Errno, Name, Oid, Path, Place};
 
@@ -64,10 +64,11 @@ impl Caller<'_> {
     pub fn walk(&self, checks: &mut Checks, path: &Path) -> Result<Found, Stop>
         ensures { GoesOn checks.old (walk_names (state_of_tables self.now.tables.now) self.now.process.now 0 (start_of self.now.process.now path.now) path.now.names) (found_by result) checks.new }
     {
+        let process = self.process;
         let start = if path.absolute {
             root_directory()
         } else {
-            self.process.cwd()
+            process.cwd
         };
         self.walk_from(checks, 0, start, path.components())
     }

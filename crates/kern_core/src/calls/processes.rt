@@ -9,19 +9,19 @@ ghost use Rattle.kern_core.specs.Tables.{state_of_tables};
 
 use crate::caller::cap_grow;
 use crate::outcome::Effect;
-use crate::process::Proc;
 use crate::tables::Tables;
 use cap_bits::CapState;
 use chk_rules::{Checks, Stop, must};
 use kern_model::{Answer, Pid, Rec};
 use proc_creds::NotAllowed;
+use proc_table::Proc;
 
 /// `cap_get_proc`: the caller's capability sets. No memory is taken.
 pub fn cap_get_proc(process: &Proc) -> Effect
     ensures { result ≡ record { answer = answer.Caps process.now.caps; own = None } }
 {
     Effect {
-        answer: Answer::Caps(process.caps()),
+        answer: Answer::Caps(process.creds.caps),
         own: None,
     }
 }
@@ -37,11 +37,11 @@ impl Tables {
         requires living { IsSome (map.get (state_of_tables self.old).procs who.now) }
         ensures { (p : Process) → map.get (state_of_tables self.old).procs who.now ≡ Some p → PlaysRow (state_of_tables self.old) checks.old (cap_set_proc_row (state_of_tables self.old) who.now p caps) result (state_of_tables self.new) checks.new }
     {
-        let Some(process) = self.procs.get_mut(who) else {
+        let Some(creds) = self.procs.creds_mut(who) else {
             unreachable!();
         };
-        must(checks, &cap_grow(who, process, &caps))?;
-        match process.cap_set(caps) {
+        must(checks, &cap_grow(who, creds, &caps))?;
+        match creds.cap_set(caps) {
             Ok(()) => Ok(Effect {
                 answer: Answer::Nothing,
                 own: Some(Rec::CapSetProc(*who, caps)),

@@ -21,7 +21,7 @@ boot_objects-requires c =
 
 pub boot_processes-requires : goal.boot_processes-requires
 boot_processes-requires c =
-    let none_drawn : c.boot_objects.new.self.process_numbers ≡ map.empty =
+    let none_drawn : c.boot_objects.new.self.procs.numbers ≡ map.empty =
     ap (λ (s : State). s.process_numbers) c.in_ok-boot_objects.ensures ∙ objects_keep (state_of_tables c.in_ok-tables.tables) c.items.result.now ∙ ap (λ (s : State). s.process_numbers) c.in_ok-tables.ensures in
     subst (λ (m : FinMap label_cmp ℕ). CanStart m c.items-2.result.now) (sym none_drawn)
     (subst (λ (ws : List WorldProc). CanStart map.empty ws) (sym c.items-2.ensures) (all_can c.args.world.now c.requires.world))

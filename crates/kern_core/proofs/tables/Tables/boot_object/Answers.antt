@@ -4,7 +4,7 @@ use Rattle.kern_model.specs.declared.numbers.Oid.{Oid}
 use Rattle.kern_model.specs.declared.objects.Body.{Body}
 use Rattle.kern_model.specs.Keys.{Spot}
 use Rattle.kern_model.specs.Kinds.{object_with}
-use Rattle.kern_model.specs.State.{State, drawn, next_object}
+use Rattle.kern_model.specs.State.{drawn, next_object}
 use Rattle.kern_core.specs.Starts.{IsSpotOf}
 use Rattle.kern_core.specs.Tables.{state_of_tables}
 use Rattle.kern_core.proofs.BootLemmas.{object_booted}

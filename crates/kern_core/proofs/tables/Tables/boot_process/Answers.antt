@@ -1,10 +1,12 @@
-use Rattle.std.proofs.Common.{◌∙◌, ◌+◌, ap}
+use Rattle.std.proofs.Common.{◌∙◌}
+use Rattle.proc_table.specs.Procs.{starting}
 use Rattle.kern_core.specs.Tables.{state_of_tables}
 use Rattle.kern_core.proofs.BootLemmas.{process_booted}
 use Rattle.kern_core.proofs.tables.Tables.boot_process.Goals as goal
 
-pub returns-clause-state : goal.returns-clause-state
-returns-clause-state c =
+pub returns-in-Ok-clause-state : goal.returns-in-Ok-clause-state
+returns-in-Ok-clause-state c =
     let s = state_of_tables c.args.self.now in
-    (λ i. record s { process_numbers = c.in_ok-set.ensures.ok i; procs = c.in_ok-set-2.ensures i })
-    ∙ process_booted s c.args.process.now (c.last-n.result + 1) (ap (λ n. n + 1) c.last-n.ensures) c.in_ok-process_from.field-0 c.in_ok-process_from.ensures
+    let made = c.in-Ok.ensures.made in
+    (λ i. record s { procs = (made i).procs; process_numbers = (made i).numbers })
+    ∙ process_booted s c.args.process.now (starting c.in_ok-creds_from.field-0 c.root_directory.result) (λ i. starting (c.in_ok-creds_from.ensures i) (c.root_directory.ensures i))

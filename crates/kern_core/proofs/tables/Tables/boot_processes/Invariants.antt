@@ -9,5 +9,5 @@ abbrev pub invariant-loop-process : goal.invariant-loop-process
 invariant-loop-process l = record {
   same : boot_processes (state_of_tables l.self) (drop l.process-index l.procs) ≡ boot_processes (state_of_tables l.fn.self) l.procs;
   recs : l.recs ++ started (state_of_tables l.self) (drop l.process-index l.procs) ≡ started (state_of_tables l.fn.self) l.procs;
-  can : CanStart l.self.process_numbers (drop l.process-index l.procs);
+  can : CanStart l.self.procs.numbers (drop l.process-index l.procs);
 }

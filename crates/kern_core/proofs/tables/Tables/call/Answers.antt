@@ -5,6 +5,7 @@ use Rattle.kern_model.specs.declared.calls.Answer.TheVariants.{Caps}
 use Rattle.kern_model.specs.declared.calls.Call.TheVariants as call
 use Rattle.kern_model.specs.declared.calls.CallName.{CallName}
 use Rattle.kern_model.specs.Names.{name_of}
+use Rattle.kern_model.specs.State.{Process}
 use Rattle.kern_model.specs.Table.{row}
 use Rattle.chk_rules.specs.CheckLog.{CheckLog, check_log}
 use Rattle.kern_core.specs.PlaysRow.{PlaysRow, OutcomeOf}
@@ -17,7 +18,7 @@ use Rattle.kern_core.proofs.tables.Tables.call.Goals.{in-MacGetFile, in-CapGetPr
 pub returns-in_default-clause-played : goal.returns-in_default-clause-played
 returns-in_default-clause-played c =
     let s = state_of_tables c.args.self.now in
-    no_process s c.args.who.now c.args.call.now (sym c.get.ensures ∙ ap option_copied c.in_default.is)
+    no_process s c.args.who.now c.args.call.now (sym c.find.ensures ∙ ap option_copied c.in_default.is)
     ∙ (λ i. record { state = s; reply = (sym c.no_process.ensures i).reply; recs = (sym c.no_process.ensures i).recs })
 
 -- the body of each call plays its row
@@ -27,7 +28,7 @@ plays c =
     let who = c.args.who.now in
     let p = c.in-Some.process.now in
     let log = c.new-checks.result in
-    let found = sym c.get.ensures ∙ ap option_copied c.in-Some.is in
+    let found = sym c.find.ensures ∙ ap option_copied c.in-Some.is in
     elim c.match-call.branch [
       | in-MacGetFile w ↦
           plays_same s who p log (call.MacGetFile w.in-MacGetFile.path) _ w.in-MacGetFile.is s _ (ap state_of_tables w.self-is) _ _ w.checks-is _ _ w.played-is (w.mac_get_file-played.ensures who)
@@ -43,9 +44,9 @@ returns-clause-played c =
     let who = c.args.who.now in
     let call = c.args.call.now in
     let p = c.in-Some.process.now in
-    let found = sym c.get.ensures ∙ ap option_copied c.in-Some.is in
-    let new_log : c.new-checks.result ≡ check_log who p.label p.caps.e = c.new-checks.ensures ∙ (λ i. check_log who (c.label.ensures i) (c.caps.ensures i).e) in
+    let found = sym c.find.ensures ∙ ap option_copied c.in-Some.is in
+    let new_log : c.new-checks.result ≡ check_log who p.label p.caps.e = c.new-checks.ensures ∙ (λ i. check_log who (c.creds.view_is i).label (c.creds.view_is i).caps.e) ∙ (λ i. check_log who (c.process.view_is i).label (c.process.view_is i).caps.e) in
     let from_new = subst (λ (log : CheckLog). PlaysRow s log (row s who p call) c.match-call.played (state_of_tables c.match-call.self) c.match-call.checks) new_log (plays c) in
     IfOk-weaker c.report.result _ _ (λ o reports. is_played s who call p found _ _ _ from_new o
-    (subst (λ (b : Bool). OutcomeOf c.match-call.checks who b (name_of call) c.match-call.played o) c.audited-audited.ensures
-    (subst (λ (n : CallName). OutcomeOf c.match-call.checks who c.audited-audited.result n c.match-call.played o) c.name.ensures reports))) c.report.ensures.reported
+    (subst (λ (b : Bool). OutcomeOf c.match-call.checks who b (name_of call) c.match-call.played o) (ap (λ (q : Process). q.audited) c.process.view_is)
+    (subst (λ (n : CallName). OutcomeOf c.match-call.checks who c.process.inside.audited n c.match-call.played o) c.name.ensures reports))) c.report.ensures.reported

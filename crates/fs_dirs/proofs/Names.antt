@@ -1,0 +1,71 @@
+-- The entries of one directory: what a look-up finds, and what an edit makes of the map.
+use Rattle.std.proofs.Common.{◌≡◌, ℕ, List, [], ◌∷◌, length, get_or, set, Some, None, ap, ◌∙◌}
+use Rattle.std.specs.Prelude.{map, not, refl}
+use Rattle.std.specs.Ordering.{eq_by_cmp}
+use Rattle.std.specs.List.{insert, remove}
+use Rattle.std.specs.FinMap as map
+use Rattle.std.specs.FinMap.{IsAntisymmetric, nat_cmp-IsAntisymmetric, slice_cmp-IsAntisymmetric, empty_of_len, entries-from_sorted, get-from_sorted, len-entries, put}
+use Rattle.std.specs.FinMap.Entries.{where_key}
+use Rattle.std.proofs.lemmas.Cmp.{nat_list_cmp_total}
+use Rattle.std.proofs.lemmas.List.{length-map}
+use Rattle.fs_path.specs.Name.{Name}
+use Rattle.kern_model.specs.declared.numbers.Oid.{Oid}
+use Rattle.fs_dirs.specs.Directory.{AreSorted, IsAt, IsGap, directory_of, name_cmp, pairs_of}
+use Rattle.fs_dirs.specs.declared.directory.Entry.{Entry}
+use Rattle.fs_dirs.proofs.Sorted.{holds_at, find_at, find_none, put_in, put_over, taken_out, sorted_put, map_put, sorted_without, map_without}
+
+abbrev pair_of : Entry → Name × Oid
+pair_of e = (e.name, e.id)
+
+pub names_exact : IsAntisymmetric name_cmp
+names_exact = slice_cmp-IsAntisymmetric nat_cmp-IsAntisymmetric
+
+-- of no entry
+pub none : directory_of [] ≡ map.empty
+none = empty_of_len (directory_of []) (len-entries (directory_of []) ∙ ap length (entries-from_sorted name_cmp [] tt))
+
+first_names : (es : List Entry) → map (λ (p : Name × Oid). p.0) (pairs_of es) ≡ map (λ (e : Entry). e.name) es
+first_names [] = refl
+first_names (e ∷ es) = ap (λ ns. e.name ∷ ns) (first_names es)
+
+module _ (es : List Entry) (sorted : AreSorted es) where
+  pub how_many : map.len (directory_of es) ≡ length es
+  how_many = len-entries (directory_of es) ∙ ap length (entries-from_sorted name_cmp (pairs_of es) sorted) ∙ length-map es pair_of
+
+  pub all_names : map.keys (directory_of es) ≡ map (λ (e : Entry). e.name) es
+  all_names = ap (map (λ (p : Name × Oid). p.0)) (entries-from_sorted name_cmp (pairs_of es) sorted) ∙ first_names es
+
+  pub found : (name : Name) (place : ℕ) (e : Entry) → IsAt es name place → e ≡ get_or es place e → map.get (directory_of es) name ≡ Some e.id
+  found name place e at is = get-from_sorted name_cmp (pairs_of es) name sorted ∙ find_at pair_of nat_list_cmp_total es name place e sorted at.within at.same is
+
+  pub absent : (name : Name) (place : ℕ) → IsGap es name place → map.get (directory_of es) name ≡ None
+  absent name place gap = get-from_sorted name_cmp (pairs_of es) name sorted ∙ find_none pair_of nat_list_cmp_total es name place gap.less gap.greater
+
+  module _ (name : Name) (place : ℕ) (id : Oid) (gap : IsGap es name place) where
+    added : pairs_of (insert es place (record { name = name; id = id })) ≡ put name_cmp name id (pairs_of es)
+    added = put_in pair_of nat_list_cmp_total es place (record { name = name; id = id }) gap.within gap.less gap.greater
+
+    pub sorted_added : AreSorted (insert es place (record { name = name; id = id }))
+    sorted_added = sorted_put nat_list_cmp_total (pairs_of es) _ name id sorted added
+
+    pub map_added : directory_of (insert es place (record { name = name; id = id })) ≡ map.insert (directory_of es) name id
+    map_added = map_put nat_list_cmp_total (pairs_of es) _ name id sorted added
+
+  module _ (name : Name) (place : ℕ) (at : IsAt es name place) where
+    over : (e : Entry) → e ≡ get_or es place e → (id : Oid) → pairs_of (set es place (record e { id = id })) ≡ put name_cmp name id (pairs_of es)
+    over e is id = put_over pair_of nat_list_cmp_total es name place (record e { id = id }) id sorted at.within at.same (holds_at (λ (x : Entry). ◌≡◌ {A = Name × Oid} (e.name, id) (x.name, id)) es place e at.within (ap (λ (x : Entry). (x.name, id)) is))
+
+    pub sorted_over : (e : Entry) → e ≡ get_or es place e → (id : Oid) → AreSorted (set es place (record e { id = id }))
+    sorted_over e is id = sorted_put nat_list_cmp_total (pairs_of es) _ name id sorted (over e is id)
+
+    pub map_over : (e : Entry) → e ≡ get_or es place e → (id : Oid) → directory_of (set es place (record e { id = id })) ≡ map.insert (directory_of es) name id
+    map_over e is id = map_put nat_list_cmp_total (pairs_of es) _ name id sorted (over e is id)
+
+    without : pairs_of (remove es place) ≡ where_key name_cmp (λ x. not (eq_by_cmp name_cmp name x)) (pairs_of es)
+    without = taken_out pair_of nat_list_cmp_total es name place sorted at.within at.same
+
+    pub sorted_removed : AreSorted (remove es place)
+    sorted_removed = sorted_without nat_list_cmp_total (pairs_of es) _ name sorted without
+
+    pub map_removed : directory_of (remove es place) ≡ map.remove (directory_of es) name
+    map_removed = map_without nat_list_cmp_total names_exact (pairs_of es) _ name sorted without

@@ -1,0 +1,146 @@
+// One directory.
+ghost use Rattle.std.specs.Prelude.{◌≡◌, ◌<◌, IfErr, IfOk, IsOk, IsSome, OnErr, OnOk, length};
+ghost use Rattle.std.specs.FinMap as map;
+ghost use Rattle.fs_dirs.specs.Directory.{AreSorted, IsAt, IsGap, TakesFewSteps};
+
+use fs_path::{Name, NameList, NoMemory, Steps};
+use kern_model::Oid;
+use std::alloc::Global;
+use std::cmp::Ordering;
+use std::marker::{Brand, Model};
+use std::sync::ledger::{Blank, Ledger};
+
+// A name in a directory, and the object to which it leads.
+#[derive(Drop)]
+struct Entry {
+    name: Name,
+    id: Oid,
+}
+
+/// One directory: the names in it, sorted by their bytes, and the object to which each leads.
+#[derive(Drop)]
+pub struct Directory {
+    entries: Vec<Entry>,
+}
+
+impl Model for Directory {
+    ghost use Rattle.std.specs.FinMap as map;
+    ghost use Rattle.std.specs.Coded.{codes};
+    ghost use Rattle.lab_lattice.specs.Label.{label_code};
+    ghost use Rattle.kern_model.specs.declared.numbers.Oid.{Oid};
+    ghost use Rattle.fs_dirs.specs.Directory.{AreSorted, directory_of, name_cmp};
+
+    ghost Value = { map.FinMap name_cmp Oid };
+
+    ghost coded = { map.code (Prim.hlevel codes) (Prim.hlevel (codes, label_code)) };
+
+    ghost view = { λ d. directory_of d.entries.items };
+
+    ghost invariant = { λ d. AreSorted d.entries.items };
+}
+
+impl Directory {
+    /// The directory that contains no name. It takes no memory until one is inserted.
+    pub fn new(alloc: Global) -> Self
+        ensures { result ≡ map.empty }
+    {
+        Directory {
+            entries: Vec::new(alloc),
+        }
+    }
+
+    /// How many names it contains.
+    pub fn len(&self) -> usize
+        ensures { result ≡ map.len self.now }
+    {
+        self.entries.len()
+    }
+
+    /// The object to which a name leads, if it is there. Each comparison of names is counted.
+    pub fn look_counted<L: Ledger>(&self, name: &Name, steps: &mut Steps<L>) -> Option<Oid>
+        ensures found { result ≡ map.get self.now name.now }
+        ensures counted { TakesFewSteps (map.len self.now) steps.old steps.new }
+    {
+        match search(&self.entries, name, steps) {
+            Ok(place) => Some(self.entries[place].id),
+            Err(_) => None,
+        }
+    }
+
+    /// Has a name lead to an object, in place of the one to which it led. Where the name is there, it takes no memory.
+    pub fn insert(&mut self, name: Name, id: Oid) -> Result<(), NoMemory>
+        ensures inserted { OnOk result (self.new ≡ map.insert self.old name id) }
+        ensures err { OnErr result (self.new ≡ self.old) }
+        ensures replaced { IsSome (map.get self.old name) → IsOk result }
+    {
+        match place_of(&self.entries, &name) {
+            Ok(place) => self.entries[place].id = id,
+            Err(place) => self.entries.insert(place, Entry { name, id })?,
+        }
+        Ok(())
+    }
+
+    /// Removes a name, if it is there, and returns the object to which it led. It takes no memory.
+    pub fn remove(&mut self, name: &Name) -> Option<Oid>
+        ensures found { result ≡ map.get self.old name.now }
+        ensures removed { self.new ≡ map.remove self.old name.now }
+    {
+        match place_of(&self.entries, name) {
+            Ok(place) => Some(self.entries.remove(place).id),
+            Err(_) => None,
+        }
+    }
+
+    /// Copies of the names, in their order.
+    pub fn names(&self, alloc: Global) -> Result<NameList, NoMemory>
+        ensures { IfOk result (λ names. names ≡ map.keys self.now) }
+    {
+        let mut names = NameList::new(alloc);
+        for entry in &self.entries {
+            names.push(entry.name.copy()?)?;
+        }
+        Ok(names)
+    }
+}
+
+// Where a name is among sorted entries, or else where it belongs. Each comparison of names is counted.
+fn search<L: Ledger>(entries: &[Entry], name: &Name, steps: &mut Steps<L>) -> Result<usize, usize>
+    requires { AreSorted entries.now }
+    ensures found { IfOk result (IsAt entries.now name.now) }
+    ensures absent { IfErr result (IsGap entries.now name.now) }
+    ensures counted { TakesFewSteps (length entries.now) steps.old steps.new }
+{
+    let mut low = 0;
+    let mut high = entries.len();
+    while low < high {
+        let middle = low + (high - low) / 2;
+        match entries[middle].name.compare(name, steps) {
+            Ordering::Less => low = middle + 1,
+            Ordering::Equal => return Ok(middle),
+            Ordering::Greater => high = middle,
+        }
+    }
+    Err(low)
+}
+
+// The same search, with a count of its own.
+fn search_from<L: Ledger>(entries: &[Entry], name: &Name, blank: Blank) -> Result<usize, usize>
+    requires sorted { AreSorted entries.now }
+    requires name { blank.name ≡ L.name }
+    requires parts { blank.parts ≡ L.parts }
+    requires any { 0 < L.parts }
+    ensures found { IfOk result (IsAt entries.now name.now) }
+    ensures absent { IfErr result (IsGap entries.now name.now) }
+{
+    let mut steps = Steps::<L>::new(blank);
+    search(entries, name, &mut steps)
+}
+
+// Where a name is among sorted entries, or else where it belongs.
+fn place_of(entries: &[Entry], name: &Name) -> Result<usize, usize>
+    requires { AreSorted entries.now }
+    ensures found { IfOk result (IsAt entries.now name.now) }
+    ensures absent { IfErr result (IsGap entries.now name.now) }
+{
+    search_from::<Brand>(entries, name, Blank::new(1))
+}

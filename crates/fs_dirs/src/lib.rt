@@ -1,0 +1,4 @@
+//! The entries of directories.
+#![tactic(auto)]
+
+mod directory;

@@ -1,0 +1,65 @@
+-- The table of living processes.
+use Rattle.std.specs.Prelude.{◌≡◌, ℕ, ◌+◌, ◌≤◌, true, [], Option, None, Some, refl}
+use Rattle.std.specs.FinMap as map
+use Rattle.std.specs.FinMap.{FinMap}
+use Rattle.std.specs.Coded.{Coded, code_by, coded×, coded_ℕ}
+use Rattle.lab_lattice.specs.Label.{Label, label_cmp}
+use Rattle.kern_model.specs.declared.numbers.Oid.{Oid}
+use Rattle.kern_model.specs.declared.numbers.Pid.{Pid}
+use Rattle.kern_model.specs.Keys.{pid_cmp}
+use Rattle.kern_model.specs.State.{Process, drawn}
+use Rattle.proc_creds.specs.Credentials.{Credentials}
+
+-- the living processes, and the last number drawn of each label
+pub record ProcTable : Type 0 where
+  pub procs : FinMap pid_cmp Process
+  pub numbers : FinMap label_cmp ℕ
+
+-- how a table is stored
+abbrev pub table_code : Coded Pid → Coded Process → Coded Label → Coded ProcTable
+table_code who process label =
+    code_by (FinMap pid_cmp Process × FinMap label_cmp ℕ)
+    (coded× (map.code who process) (map.code label coded_ℕ))
+    (λ t. (t.procs, t.numbers))
+    (λ p. record { procs = p.0; numbers = p.1 })
+    (λ _. refl)
+
+-- the table of no process
+abbrev pub no_procs : ProcTable
+no_procs = record { procs = map.empty; numbers = map.empty }
+
+-- the number of the next process at a label
+abbrev pub next_in : ProcTable → Label → Pid
+next_in t l = record { label = l; n = drawn t.numbers l + 1 }
+
+-- a process in place of the one with its number
+abbrev pub with_process : ProcTable → Pid → Process → ProcTable
+with_process t who p = record t { procs = map.insert t.procs who p }
+
+-- a new process under the next number of its label
+abbrev pub with_new : ProcTable → Process → ProcTable
+with_new t p = record { procs = map.insert t.procs (next_in t p.label) p; numbers = map.insert t.numbers p.label (drawn t.numbers p.label + 1) }
+
+-- a process that starts: its switch is on, and it has no parent, no child that ended and no descriptor
+abbrev pub starting : Credentials → Oid → Process
+starting c cwd = record { ids = c.ids; label = c.label; caps = c.caps; umask = c.umask; cwd = cwd; audited = true; parent = None; ended = []; fds = map.empty }
+
+-- the credentials of a process
+abbrev pub creds_of : Process → Credentials
+creds_of p = record { ids = p.ids; label = p.label; caps = p.caps; umask = p.umask }
+
+-- the process with other credentials
+abbrev pub with_creds : Process → Credentials → Process
+with_creds p c = record p { ids = c.ids; label = c.label; caps = c.caps; umask = c.umask }
+
+abbrev pub set_creds : FinMap pid_cmp Process → Pid → Credentials → Option Process → FinMap pid_cmp Process
+set_creds procs who c None = procs
+set_creds procs who c (Some p) = map.insert procs who (with_creds p c)
+
+-- the processes, where the one with a number, if there is one, has other credentials
+abbrev pub under_creds : FinMap pid_cmp Process → Pid → Credentials → FinMap pid_cmp Process
+under_creds procs who c = set_creds procs who c (map.get procs who)
+
+-- the number of each living process was drawn
+abbrev pub AreDrawn : FinMap pid_cmp Process → FinMap label_cmp ℕ → Type 0
+AreDrawn procs numbers = (who : Pid) (p : Process) → map.get procs who ≡ Some p → who.n ≤ drawn numbers who.label

@@ -1,0 +1,11 @@
+//! The living processes by their numbers, and the numbers drawn of each label.
+#![tactic(auto)]
+
+mod living;
+mod process;
+mod procs;
+mod table;
+
+pub use kern_model::NoMemory;
+pub use process::Proc;
+pub use procs::{ProcError, Procs};

@@ -1,0 +1,104 @@
+// Living processes by their numbers.
+ghost use Rattle.std.specs.Prelude.{◌≡◌, IfOk, OnErr, OnOk, option_copied, option_map};
+ghost use Rattle.std.specs.FinMap as map;
+
+use crate::process::Proc;
+use kern_model::{NoMemory, Pid, PidList};
+use proc_creds::Creds;
+use std::alloc::Global;
+use std::collections::BTreeMap;
+use std::marker::Model;
+
+/// Living processes by their numbers.
+#[derive(Drop)]
+pub struct Living {
+    kept: BTreeMap<Pid, Proc>,
+}
+
+impl Model for Living {
+    ghost use Rattle.std.specs.Prelude.{ℕ};
+    ghost use Rattle.std.specs.Ordering.{nat_cmp};
+    ghost use Rattle.std.specs.FinMap as map;
+    ghost use Rattle.std.specs.FinSet as set;
+    ghost use Rattle.std.specs.Coded.{codes, coded_ℕ};
+    ghost use Rattle.cap_bits.specs.Cap.{cap_cmp, cap_code};
+    ghost use Rattle.lab_lattice.specs.Label.{label_code};
+    ghost use Rattle.kern_model.specs.declared.numbers.Did.{Did};
+    ghost use Rattle.kern_model.specs.Keys.{pid_cmp};
+    ghost use Rattle.kern_model.specs.State.{Process};
+
+    ghost Value = { map.FinMap pid_cmp Process };
+
+    ghost coded = { map.code (Prim.hlevel (codes, label_code)) (Prim.hlevel (codes, map.code {K = ℕ} {X = Did} {R = nat_cmp} coded_ℕ (Prim.hlevel (codes, label_code)), set.code {R = cap_cmp} cap_code, label_code)) };
+
+    ghost view = { λ a. map.from_entries a.kept.entries };
+}
+
+impl Living {
+    ghost use Rattle.std.specs.Borrow.{sem};
+    ghost use Rattle.std.specs.Option.{option_copied_mut};
+    ghost use Rattle.proc_table.specs.Procs.{creds_of};
+    ghost use Rattle.proc_table.specs.Lending.{LendsCreds, LendsProcess};
+
+    /// The empty table.
+    pub fn new(alloc: Global) -> Self
+        ensures { result ≡ map.empty }
+    {
+        Living {
+            kept: BTreeMap::new(alloc),
+        }
+    }
+
+    /// The process with a number, if there is one.
+    pub fn get(&self, who: &Pid) -> Option<&Proc>
+        ensures { option_copied result ≡ map.get self.now who.now }
+    {
+        self.kept.get(who)
+    }
+
+    /// The process with a number, for changes to it, if there is one.
+    pub fn get_mut(&mut self, who: &Pid) -> Option<&mut Proc>
+        ensures* writes_back { sem 𝓛 (LendsProcess self.entry who.now result) }
+        ensures value { option_copied_mut result ≡ map.get self.old who.now }
+    {
+        self.kept.get_mut(who)
+    }
+
+    /// The credentials of the process with a number, for changes to them, if there is one.
+    pub fn creds_mut(&mut self, who: &Pid) -> Option<&mut Creds>
+        ensures* writes_back { sem 𝓛 (LendsCreds self.entry who.now result) }
+        ensures value { option_copied_mut result ≡ option_map creds_of (map.get self.old who.now) }
+    {
+        match self.get_mut(who) {
+            Some(process) => Some(&mut process.creds),
+            None => None,
+        }
+    }
+
+    /// Puts a process in place of what was there.
+    pub fn set(&mut self, who: Pid, process: Proc) -> Result<(), NoMemory>
+        ensures ok { OnOk result (self.new ≡ map.insert self.old who process) }
+        ensures err { OnErr result (self.new ≡ self.old) }
+    {
+        self.kept.insert(who, process)?;
+        Ok(())
+    }
+
+    /// Removes the process with a number, if there is one.
+    pub fn remove(&mut self, who: &Pid)
+        ensures { self.new ≡ map.remove self.old who.now }
+    {
+        self.kept.remove(who);
+    }
+
+    /// The numbers of the processes, in order.
+    pub fn numbers(&self, alloc: Global) -> Result<PidList, NoMemory>
+        ensures { IfOk result (λ numbers. numbers ≡ map.keys self.now) }
+    {
+        let mut numbers = PidList::new(alloc);
+        for (who, _) in self.kept.iter() {
+            numbers.push(*who)?;
+        }
+        Ok(numbers)
+    }
+}

@@ -1,0 +1,128 @@
+// The processes.
+ghost use Rattle.std.specs.Prelude.{◌≡◌, ◌↔◌, ◌≤◌, Some, Err, IfOk, OnErr, OnOk, option_copied, option_map};
+ghost use Rattle.std.specs.FinMap as map;
+ghost use Rattle.kern_model.specs.State.{Process, drawn};
+ghost use Rattle.kern_model.specs.Valid.{IsThere};
+ghost use Rattle.kern_model.specs.declared.limits.TheConstants.{MAX_PROCS};
+ghost use Rattle.proc_table.specs.Procs.{creds_of, next_in, no_procs, starting, with_new, with_process};
+
+use crate::process::Proc;
+use crate::table::Table;
+use kern_model::{NoMemory, Oid, Pid, PidList};
+use proc_creds::Creds;
+use std::alloc::Global;
+use std::marker::Model;
+
+/// Why no process is made.
+#[derive(Clone, Copy, Debug, PartialEq, Eq)]
+pub enum ProcError {
+    /// All numbers of the label are drawn.
+    Full,
+    NoMemory(NoMemory),
+}
+
+impl From<NoMemory> for ProcError {
+    ghost use Rattle.std.specs.Prelude.{◌≡◌};
+    ghost use Rattle.proc_table.specs.declared.procs.ProcError.TheVariants as error;
+
+    ghost from_gives = { λ e n. n ≡ error.NoMemory e };
+
+    fn from(e: NoMemory) -> Self {
+        ProcError::NoMemory(e)
+    }
+}
+
+/// The living processes by their numbers, and the last number drawn of each label.
+#[derive(Drop)]
+pub struct Procs {
+    alloc: Global,
+    table: Table,
+}
+
+impl Model for Procs {
+    ghost use Rattle.std.specs.Prelude.{ℕ};
+    ghost use Rattle.std.specs.Ordering.{nat_cmp};
+    ghost use Rattle.std.specs.FinMap as map;
+    ghost use Rattle.std.specs.FinSet as set;
+    ghost use Rattle.std.specs.Coded.{codes, coded_ℕ};
+    ghost use Rattle.cap_bits.specs.Cap.{cap_cmp, cap_code};
+    ghost use Rattle.lab_lattice.specs.Label.{label_code};
+    ghost use Rattle.kern_model.specs.declared.numbers.Did.{Did};
+    ghost use Rattle.proc_table.specs.Procs.{AreDrawn, ProcTable, table_code};
+
+    ghost Value = { ProcTable };
+
+    ghost coded = { table_code (Prim.hlevel (codes, label_code)) (Prim.hlevel (codes, map.code {K = ℕ} {X = Did} {R = nat_cmp} coded_ℕ (Prim.hlevel (codes, label_code)), set.code {R = cap_cmp} cap_code, label_code)) label_code };
+
+    ghost view = { λ p. record { procs = p.table.living; numbers = p.table.numbers } };
+
+    ghost invariant = { λ p. AreDrawn p.table.living p.table.numbers };
+}
+
+impl Procs {
+    ghost use Rattle.std.specs.Borrow.{sem};
+    ghost use Rattle.std.specs.Option.{option_copied_mut};
+    ghost use Rattle.proc_table.specs.Lending.{LendsCredsOf};
+
+    /// No process, and no number drawn.
+    pub fn new(alloc: Global) -> Self
+        ensures { result ≡ no_procs }
+    {
+        Procs {
+            alloc,
+            table: Table::new(alloc),
+        }
+    }
+
+    /// Starts a process in a directory, under the next number of its label, and returns the number. Its switch is on, and it
+    /// has no parent.
+    pub fn boot(&mut self, creds: Creds, cwd: Oid) -> Result<Pid, ProcError>
+        ensures who { IfOk result (λ who. who ≡ next_in self.old creds.label) }
+        ensures made { OnOk result (self.new ≡ with_new self.old (starting creds cwd)) }
+        ensures full { (result ≡ Err ProcError.Full) ↔ (MAX_PROCS ≤ drawn self.old.numbers creds.label) }
+        ensures err { OnErr result (self.new ≡ self.old) }
+    {
+        let who = self.table.next(&creds.label).ok_or(ProcError::Full)?;
+        let process = Proc {
+            creds,
+            cwd,
+            parent: None,
+            audited: true,
+        };
+        self.table.enter(&who, process)?;
+        Ok(who)
+    }
+
+    /// The living process with a number, if there is one.
+    pub fn find(&self, who: &Pid) -> Option<&Proc>
+        ensures { option_copied result ≡ map.get self.now.procs who.now }
+    {
+        self.table.living.get(who)
+    }
+
+    /// The credentials of the living process with a number, for changes to them, if there is one. It takes no memory.
+    pub fn creds_mut(&mut self, who: &Pid) -> Option<&mut Creds>
+        ensures* writes_back { sem 𝓛 (LendsCredsOf self.entry who.now result) }
+        ensures value { option_copied_mut result ≡ option_map creds_of (map.get self.old.procs who.now) }
+    {
+        self.table.living.creds_mut(who)
+    }
+
+    /// Sets the current directory of a living process. It takes no memory.
+    pub fn set_cwd(&mut self, who: &Pid, cwd: Oid)
+        requires { IsThere self.old.procs who.now }
+        ensures { (p : Process) → map.get self.old.procs who.now ≡ Some p → self.new ≡ with_process self.old who.now (record p { cwd = cwd }) }
+    {
+        let Some(process) = self.table.living.get_mut(who) else {
+            unreachable!();
+        };
+        process.cwd = cwd;
+    }
+
+    /// The numbers of the living processes, by label and then by number.
+    pub fn live(&self) -> Result<PidList, NoMemory>
+        ensures { IfOk result (λ numbers. numbers ≡ map.keys self.now.procs) }
+    {
+        self.table.living.numbers(self.alloc)
+    }
+}
