@@ -1,3 +1,10 @@
-pub mod Sorted
+pub mod Answering
+pub mod CountLemmas
+pub mod DirLemmas
 pub mod Halving
+pub mod LinkLemmas
+pub mod MoveLemmas
 pub mod Names
+pub mod SameEntries
+pub mod Sorted
+pub mod TreeLemmas

@@ -1,0 +1,273 @@
+-- The entries of all directories, by what each one contains.
+use Rattle.std.specs.Prelude.{◌≡◌, ◌&&◌, Bool, true, false, List, [], ◌∷◌, ◌++◌, Option, Some, None, cond, length, map, refl}
+use Rattle.std.specs.declared.cmp.Ordering.{Ordering}
+use Rattle.std.specs.declared.cmp.Ordering.TheVariants.{Less, Equal, Greater}
+use Rattle.std.specs.Ordering.{nat_cmp, is_lt, is_eq, eq_by_cmp, ordering_then}
+use Rattle.std.specs.Option.{option_or, option_and_then}
+use Rattle.std.specs.List.{flat_map}
+use Rattle.std.specs.Map.{lookup}
+use Rattle.std.specs.BTreeMap.{is_at}
+use Rattle.std.specs.Cmp.{IsTotalOrder, eq_by_cmp_equiv}
+use Rattle.std.specs.Cmp.Lexicographic.{slice_cmp}
+use Rattle.std.specs.FinMap as table
+use Rattle.std.specs.FinMap.{FinMap, IsAntisymmetric, same_map, get-empty, get-insert, get-remove, find, is_sorted, entries_sorted, get-entries, len-entries, entries-from_sorted}
+use Rattle.std.specs.FinMap.Entries.{below_all}
+use Rattle.std.proofs.Common.{ap, sym, ◌∙◌, subst, T}
+use Rattle.std.proofs.lemmas.Cmp.{tied_itself, nat_list_cmp_total}
+use Rattle.std.proofs.lemmas.List.{append-nil, length-map}
+use Rattle.std.proofs.lemmas.List.Concat.{flat_map-append}
+use Rattle.fs_path.specs.Name.{Name}
+use Rattle.kern_model.specs.declared.numbers.Oid.{Oid}
+use Rattle.kern_model.specs.Keys.{Spot, oid_cmp, spot_cmp, same_oid}
+use Rattle.kern_model.proofs.KeyLaws.{oid_cmp_total, oid_cmp_exact, spot_cmp_total, spot_cmp_exact}
+use Rattle.kern_model.proofs.MapLemmas.{same_key, get_or-found, get_or-absent, get_or-same}
+use Rattle.kern_model.proofs.TableLemmas.{get_at, one_set}
+use Rattle.kern_model.specs.Entries.{entry_count, names_in}
+use Rattle.kern_model.specs.Maps.{count_entries}
+use Rattle.fs_dirs.specs.Directory.{name_cmp}
+use Rattle.fs_dirs.specs.Entries.{Contents, at_spots, contents_of, entries_alone, entries_of}
+use Rattle.fs_dirs.proofs.CountLemmas.{count_chosen, insert_same, no_entries}
+
+-- ---- lists of entries in order
+both : (a b : Bool) → T a → T b → T (a && b)
+both true b p q = q
+both false b p q = p
+
+first : (a b : Bool) → T (a && b) → T a
+first true b p = tt
+first false b p = p
+
+second : (a b : Bool) → T (a && b) → T b
+second true b p = p
+second false b p = absurd p
+
+module _ {K X : Type 0} (R : K → K → Ordering) where
+  below_both : (k : K) (xs ys : List (K × X)) → T (below_all R k xs) → T (below_all R k ys) → T (below_all R k (xs ++ ys))
+  below_both k [] ys p q = q
+  below_both k (x ∷ xs) ys p q = both _ _ (first _ _ p) (below_both k xs ys (second _ _ p) q)
+
+  -- where each key of the first list is below all of the second
+  abbrev all_below : List (K × X) → List (K × X) → Bool
+  all_below [] ys = true
+  all_below (x ∷ xs) ys = below_all R x.0 ys && all_below xs ys
+
+  sorted_both : (xs ys : List (K × X)) → T (is_sorted R xs) → T (is_sorted R ys) → T (all_below xs ys) → T (is_sorted R (xs ++ ys))
+  sorted_both [] ys p q h = q
+  sorted_both (x ∷ xs) ys p q h = both _ _ (below_both x.0 xs ys (first _ _ p) (first _ _ h)) (sorted_both xs ys (second _ _ p) q (second _ _ h))
+
+  find_both : (q : K) (xs ys : List (K × X)) → find R q (xs ++ ys) ≡ option_or (find R q xs) (find R q ys)
+  find_both q [] ys = refl
+  find_both q (x ∷ xs) ys = elim (eq_by_cmp R q x.0) as (λ b. cond b (Some x.1) (find R q (xs ++ ys)) ≡ option_or (cond b (Some x.1) (find R q xs)) (find R q ys)) [
+    | true ↦ refl
+    | false ↦ find_both q xs ys
+  ]
+
+is_less : (r : Ordering) → T (is_lt r) → r ≡ Less
+is_less Less p = refl
+is_less Equal p = absurd p
+is_less Greater p = absurd p
+
+below_none : {K X : Type 0} {R : K → K → Ordering} (o : IsTotalOrder R) (exact : IsAntisymmetric R) (q k : K) (es : List (K × X)) → eq_by_cmp R q k ≡ true → T (below_all R k es) → find R q es ≡ None
+below_none o exact q k [] same h = refl
+below_none {R = R} o exact q k (e ∷ es) same h =
+    ap (λ r. cond (is_eq r) (Some e.1) (find R q es)) (ap (λ x. R x e.0) (same_key exact q k same) ∙ is_less _ (first _ _ h))
+    ∙ below_none o exact q k es same (second _ _ h)
+
+-- ---- spots
+-- entries of one directory, at their spots
+abbrev placed : Oid → List (Name × Oid) → List (Spot × Oid)
+placed d es = map (λ (e : Name × Oid). ((d, e.0), e.1)) es
+
+-- in one directory the names decide
+by_name : (d : Oid) (m n : Name) → spot_cmp (d, m) (d, n) ≡ slice_cmp nat_cmp m n
+unfolding spot_cmp
+by_name d m n = ap (λ r. ordering_then r (slice_cmp nat_cmp m n)) (tied_itself oid_cmp_total d)
+
+-- else the directories do
+by_directory : (c d : Oid) (m n : Name) → T (is_lt (oid_cmp c d)) → T (is_lt (spot_cmp (c, m) (d, n)))
+unfolding spot_cmp
+by_directory c d m n h = subst (λ r. T (is_lt (ordering_then r (slice_cmp nat_cmp m n)))) (sym (is_less _ h)) tt
+
+below_placed : (d : Oid) (n : Name) (es : List (Name × Oid)) → T (below_all (slice_cmp nat_cmp) n es) → T (below_all spot_cmp (d, n) (placed d es))
+below_placed d n [] h = tt
+below_placed d n (e ∷ es) h = both _ _ (subst (λ r. T (is_lt r)) (sym (by_name d n e.0)) (first _ _ h)) (below_placed d n es (second _ _ h))
+
+sorted_placed : (d : Oid) (es : List (Name × Oid)) → T (is_sorted (slice_cmp nat_cmp) es) → T (is_sorted spot_cmp (placed d es))
+sorted_placed d [] h = tt
+sorted_placed d (e ∷ es) h = both _ _ (below_placed d e.0 es (first _ _ h)) (sorted_placed d es (second _ _ h))
+
+-- a directory that is below others has each entry below theirs
+below_other : (c d : Oid) (n : Name) (es : List (Name × Oid)) → T (is_lt (oid_cmp c d)) → T (below_all spot_cmp (c, n) (placed d es))
+below_other c d n [] h = tt
+below_other c d n (e ∷ es) h = both _ _ (by_directory c d n e.0 h) (below_other c d n es h)
+
+below_others : (c : Oid) (n : Name) (ds : List (Oid × Contents)) → T (below_all oid_cmp c ds) → T (below_all spot_cmp (c, n) (flat_map at_spots ds))
+below_others c n [] h = tt
+below_others c n (d ∷ ds) h = below_both spot_cmp (c, n) (at_spots d) (flat_map at_spots ds) (below_other c d.0 n (table.entries d.1) (first _ _ h)) (below_others c n ds (second _ _ h))
+
+all_below_others : (c : Oid) (es : List (Name × Oid)) (ds : List (Oid × Contents)) → T (below_all oid_cmp c ds) → T (all_below spot_cmp (placed c es) (flat_map at_spots ds))
+all_below_others c [] ds h = tt
+all_below_others c (e ∷ es) ds h = both _ _ (below_others c e.0 ds h) (all_below_others c es ds h)
+
+sorted_all : (ds : List (Oid × Contents)) → T (is_sorted oid_cmp ds) → T (is_sorted spot_cmp (flat_map at_spots ds))
+sorted_all [] h = tt
+sorted_all (d ∷ ds) h = sorted_both spot_cmp (at_spots d) (flat_map at_spots ds) (sorted_placed d.0 (table.entries d.1) (entries_sorted d.1)) (sorted_all ds (second _ _ h)) (all_below_others d.0 (table.entries d.1) ds (first _ _ h))
+
+-- the entries in order
+pub entries_in_turn : (dirs : FinMap oid_cmp Contents) → table.entries (entries_of dirs) ≡ flat_map at_spots (table.entries dirs)
+unfolding entries_of
+entries_in_turn dirs = entries-from_sorted spot_cmp (flat_map at_spots (table.entries dirs)) (sorted_all (table.entries dirs) (entries_sorted dirs))
+
+-- ---- what is found
+spot_is : (d c : Oid) (m n : Name) → spot_cmp (d, m) (c, n) ≡ ordering_then (oid_cmp d c) (slice_cmp nat_cmp m n)
+unfolding spot_cmp
+spot_is d c m n = refl
+
+picked : (r t : Ordering) (x : Oid) (w : Option Oid) → cond (is_eq (ordering_then r t)) (Some x) (cond (is_eq r) w None) ≡ cond (is_eq r) (cond (is_eq t) (Some x) w) None
+picked Less t x w = refl
+picked Equal t x w = refl
+picked Greater t x w = refl
+
+find_placed : (d c : Oid) (n : Name) (es : List (Name × Oid)) → find spot_cmp (d, n) (placed c es) ≡ cond (same_oid d c) (find (slice_cmp nat_cmp) n es) None
+find_placed d c n [] = elim (same_oid d c) as (λ b. ◌≡◌ {A = Option Oid} None (cond b None None)) [ true ↦ refl | false ↦ refl ]
+find_placed d c n (e ∷ es) =
+    ap (λ r. cond (is_eq r) (Some e.1) (find spot_cmp (d, n) (placed c es))) (spot_is d c n e.0)
+    ∙ ap (cond (is_eq (ordering_then (oid_cmp d c) (slice_cmp nat_cmp n e.0))) (Some e.1)) (find_placed d c n es)
+    ∙ picked (oid_cmp d c) (slice_cmp nat_cmp n e.0) e.1 (find (slice_cmp nat_cmp) n es)
+
+or_none : {X : Type 0} (w v : Option X) → v ≡ None → option_or w v ≡ w
+or_none None v e = e
+or_none (Some x) v e = refl
+
+find_all : (d : Oid) (n : Name) (ds : List (Oid × Contents)) → T (is_sorted oid_cmp ds) → find spot_cmp (d, n) (flat_map at_spots ds) ≡ option_and_then (λ (m : Contents). table.get m n) (find oid_cmp d ds)
+find_all d n [] h = refl
+find_all d n (c ∷ ds) h =
+    find_both spot_cmp (d, n) (at_spots c) (flat_map at_spots ds)
+    ∙ ap (λ w. option_or w (find spot_cmp (d, n) (flat_map at_spots ds))) (find_placed d c.0 n (table.entries c.1))
+    ∙ elim (same_oid d c.0) as (λ b. same_oid d c.0 ≡ b → option_or (cond b (find (slice_cmp nat_cmp) n (table.entries c.1)) None) (find spot_cmp (d, n) (flat_map at_spots ds)) ≡ option_and_then (λ (m : Contents). table.get m n) (cond b (Some c.1) (find oid_cmp d ds))) [
+      | true ↦ λ t. or_none _ _ (find_all d n ds (second _ _ h) ∙ ap (option_and_then (λ (m : Contents). table.get m n)) (below_none oid_cmp_total oid_cmp_exact d c.0 ds t (first _ _ h))) ∙ sym (get-entries c.1 n)
+      | false ↦ λ _. find_all d n ds (second _ _ h)
+    ] refl
+
+in_contents : (dirs : FinMap oid_cmp Contents) (d : Oid) (n : Name) → option_and_then (λ (m : Contents). table.get m n) (table.get dirs d) ≡ table.get (contents_of dirs d) n
+in_contents dirs d n = elim (table.get dirs d) as (λ w. table.get dirs d ≡ w → option_and_then (λ (m : Contents). table.get m n) w ≡ table.get (contents_of dirs d) n) [
+  | None ↦ λ e. sym (ap (λ (m : Contents). table.get m n) (get_or-absent dirs d table.empty e) ∙ get-empty (slice_cmp nat_cmp) n)
+  | Some m ↦ λ e. ap (λ (m : Contents). table.get m n) (sym (get_or-found dirs d table.empty m e))
+] refl
+
+-- where an entry leads is what its directory says
+pub get-entries_of : (dirs : FinMap oid_cmp Contents) (d : Oid) (n : Name) → table.get (entries_of dirs) (d, n) ≡ table.get (contents_of dirs d) n
+get-entries_of dirs d n =
+    get-entries (entries_of dirs) (d, n) ∙ ap (find spot_cmp (d, n)) (entries_in_turn dirs) ∙ find_all d n (table.entries dirs) (entries_sorted dirs)
+    ∙ ap (option_and_then (λ (m : Contents). table.get m n)) (sym (get-entries dirs d)) ∙ in_contents dirs d n
+
+contents_set : (dirs : FinMap oid_cmp Contents) (d : Oid) (m : Contents) (q : Oid) → contents_of (table.insert dirs d m) q ≡ cond (same_oid q d) m (contents_of dirs q)
+contents_set dirs d m q = elim (same_oid q d) as (λ b. same_oid q d ≡ b → contents_of (table.insert dirs d m) q ≡ cond b m (contents_of dirs q)) [
+  | true ↦ λ t. get_or-found (table.insert dirs d m) q table.empty m (get-insert oid_cmp_total dirs d m q ∙ ap (λ b. cond b (Some m) (table.get dirs q)) t)
+  | false ↦ λ t. get_or-same (table.insert dirs d m) dirs q table.empty (get-insert oid_cmp_total dirs d m q ∙ ap (λ b. cond b (Some m) (table.get dirs q)) t)
+] refl
+
+spots_alike : (q d : Oid) (m n : Name) → eq_by_cmp spot_cmp (q, m) (d, n) ≡ (same_oid q d && eq_by_cmp (slice_cmp nat_cmp) m n)
+unfolding spot_cmp
+spots_alike q d m n = elim (oid_cmp q d) as (λ r. is_eq (ordering_then r (slice_cmp nat_cmp m n)) ≡ (is_eq r && is_eq (slice_cmp nat_cmp m n))) [
+  | Less ↦ refl
+  | Equal ↦ refl
+  | Greater ↦ refl
+]
+
+-- where there is no directory, there is no entry
+pub entries_of-empty : entries_of table.empty ≡ table.empty
+entries_of-empty = same_map spot_cmp_total spot_cmp_exact _ _ (λ q.
+    get-entries_of table.empty q.0 q.1 ∙ ap (λ (m : Contents). table.get m q.1) (get_or-absent table.empty q.0 table.empty (get-empty oid_cmp q.0))
+    ∙ get-empty name_cmp q.1 ∙ sym (get-empty spot_cmp q))
+
+-- a name that is set or removed in one directory
+module _ (dirs : FinMap oid_cmp Contents) (d : Oid) where
+  changed_one : (m : Contents) (n : Name) (w : Option Oid) → ((k : Name) → table.get m k ≡ cond (eq_by_cmp (slice_cmp nat_cmp) k n) w (table.get (contents_of dirs d) k))
+      → (q : Spot) → table.get (entries_of (table.insert dirs d m)) (q.0, q.1) ≡ cond (eq_by_cmp spot_cmp (q.0, q.1) (d, n)) w (table.get (entries_of dirs) (q.0, q.1))
+  changed_one m n w h q =
+      get-entries_of (table.insert dirs d m) q.0 q.1
+      ∙ ap (λ (c : Contents). table.get c q.1) (contents_set dirs d m q.0)
+      ∙ elim (same_oid q.0 d) as (λ b. same_oid q.0 d ≡ b → table.get (cond b m (contents_of dirs q.0)) q.1 ≡ cond (b && eq_by_cmp (slice_cmp nat_cmp) q.1 n) w (table.get (entries_of dirs) (q.0, q.1))) [
+        | true ↦ λ t. h q.1 ∙ ap (λ v. cond (eq_by_cmp (slice_cmp nat_cmp) q.1 n) w v) (ap (λ (c : Oid). table.get (contents_of dirs c) q.1) (sym (same_key oid_cmp_exact q.0 d t)) ∙ sym (get-entries_of dirs q.0 q.1))
+        | false ↦ λ _. sym (get-entries_of dirs q.0 q.1)
+      ] refl
+      ∙ ap (λ b. cond b w (table.get (entries_of dirs) (q.0, q.1))) (sym (spots_alike q.0 d q.1 n))
+
+  pub entries_of-insert : (n : Name) (x : Oid) → entries_of (table.insert dirs d (table.insert (contents_of dirs d) n x)) ≡ table.insert (entries_of dirs) (d, n) x
+  entries_of-insert n x = same_map spot_cmp_total spot_cmp_exact _ _ (λ q.
+      changed_one (table.insert (contents_of dirs d) n x) n (Some x) (get-insert nat_list_cmp_total (contents_of dirs d) n x) q ∙ sym (get-insert spot_cmp_total (entries_of dirs) (d, n) x q))
+
+  pub entries_of-remove : (n : Name) → entries_of (table.insert dirs d (table.remove (contents_of dirs d) n)) ≡ table.remove (entries_of dirs) (d, n)
+  entries_of-remove n = same_map spot_cmp_total spot_cmp_exact _ _ (λ q.
+      changed_one (table.remove (contents_of dirs d) n) n None (get-remove nat_list_cmp_total (contents_of dirs d) n) q ∙ sym (get-remove spot_cmp_total (entries_of dirs) (d, n) q))
+
+-- ---- what one directory contains
+abbrev chosen : Oid → List (Spot × Oid) → List Name
+chosen dir es = flat_map (λ (e : Spot × Oid). cond (same_oid e.0.0 dir) (e.0.1 ∷ []) []) es
+
+chosen_placed : (d dir : Oid) (es : List (Name × Oid)) → chosen dir (placed d es) ≡ cond (same_oid d dir) (map (λ (e : Name × Oid). e.0) es) []
+chosen_placed d dir [] = elim (same_oid d dir) as (λ b. ◌≡◌ {A = List Name} [] (cond b [] [])) [ true ↦ refl | false ↦ refl ]
+chosen_placed d dir (e ∷ es) =
+    ap (λ (ns : List Name). cond (same_oid d dir) (e.0 ∷ []) [] ++ ns) (chosen_placed d dir es)
+    ∙ elim (same_oid d dir) as (λ b. cond b (e.0 ∷ []) [] ++ cond b (map (λ (e : Name × Oid). e.0) es) [] ≡ cond b (e.0 ∷ map (λ (e : Name × Oid). e.0) es) []) [ true ↦ refl | false ↦ refl ]
+
+abbrev keys_in : Option Contents → List Name
+keys_in None = []
+keys_in (Some m) = table.keys m
+
+chosen_all : (dir : Oid) (ds : List (Oid × Contents)) → T (is_sorted oid_cmp ds) → chosen dir (flat_map at_spots ds) ≡ keys_in (find oid_cmp dir ds)
+chosen_all dir [] h = refl
+chosen_all dir (c ∷ ds) h =
+    flat_map-append (λ (e : Spot × Oid). cond (same_oid e.0.0 dir) (e.0.1 ∷ []) []) (at_spots c) (flat_map at_spots ds)
+    ∙ ap (λ (ns : List Name). ns ++ chosen dir (flat_map at_spots ds)) (chosen_placed c.0 dir (table.entries c.1))
+    ∙ ap (λ b. cond b (table.keys c.1) [] ++ chosen dir (flat_map at_spots ds)) ((eq_by_cmp_equiv oid_cmp_total).symm c.0 dir)
+    ∙ elim (same_oid dir c.0) as (λ b. same_oid dir c.0 ≡ b → cond b (table.keys c.1) [] ++ chosen dir (flat_map at_spots ds) ≡ keys_in (cond b (Some c.1) (find oid_cmp dir ds))) [
+      | true ↦ λ t. ap (λ (ns : List Name). table.keys c.1 ++ ns) (chosen_all dir ds (second _ _ h) ∙ ap keys_in (below_none oid_cmp_total oid_cmp_exact dir c.0 ds t (first _ _ h))) ∙ append-nil (table.keys c.1)
+      | false ↦ λ _. chosen_all dir ds (second _ _ h)
+    ] refl
+
+-- a directory that contains nothing has no names
+pub no_names : table.keys (table.empty {K = Name} {X = Oid} {R = name_cmp}) ≡ []
+no_names = ap (map (λ (e : Name × Oid). e.0)) (no_entries name_cmp Oid)
+
+keys_contained : (dirs : FinMap oid_cmp Contents) (dir : Oid) → keys_in (table.get dirs dir) ≡ table.keys (contents_of dirs dir)
+keys_contained dirs dir = elim (table.get dirs dir) as (λ w. table.get dirs dir ≡ w → keys_in w ≡ table.keys (contents_of dirs dir)) [
+  | None ↦ λ e. sym no_names ∙ ap (λ (m : Contents). table.keys m) (sym (get_or-absent dirs dir table.empty e))
+  | Some m ↦ λ e. ap (λ (m : Contents). table.keys m) (sym (get_or-found dirs dir table.empty m e))
+] refl
+
+-- the names in a directory are those that it contains
+pub names_in-entries_of : (dirs : FinMap oid_cmp Contents) (dir : Oid) → names_in (entries_alone (entries_of dirs)) dir ≡ table.keys (contents_of dirs dir)
+unfolding names_in
+names_in-entries_of dirs dir =
+    ap (chosen dir) (entries_in_turn dirs) ∙ chosen_all dir (table.entries dirs) (entries_sorted dirs)
+    ∙ ap keys_in (sym (get-entries dirs dir)) ∙ keys_contained dirs dir
+
+-- and so is their number
+pub entry_count-entries_of : (dirs : FinMap oid_cmp Contents) (dir : Oid) → entry_count (entries_alone (entries_of dirs)) dir ≡ table.len (contents_of dirs dir)
+unfolding count_entries names_in
+entry_count-entries_of dirs dir =
+    count_chosen (λ (e : Spot × Oid). same_oid e.0.0 dir) (λ (e : Spot × Oid). e.0.1) (table.entries (entries_of dirs))
+    ∙ ap length (names_in-entries_of dirs dir) ∙ length-map (table.entries (contents_of dirs dir)) (λ (e : Name × Oid). e.0) ∙ sym (len-entries (contents_of dirs dir))
+
+-- ---- a list of directories, and the table that it makes
+module _ (ds : List (Oid × Contents)) (dirs : FinMap oid_cmp Contents) (view : table.from_entries {R = oid_cmp} ds ≡ dirs) (dir : Oid) where
+  pub dir_found : (w : Option Contents) → w ≡ lookup (is_at (oid_cmp dir)) ds → table.get dirs dir ≡ w
+  dir_found w is = ap (λ (m : FinMap oid_cmp Contents). table.get m dir) (sym view) ∙ get_at oid_cmp_total ds dir ∙ sym is
+
+  -- what is found is what the directory contains
+  pub contents_found : (m : Contents) → Some m ≡ lookup (is_at (oid_cmp dir)) ds → contents_of dirs dir ≡ m
+  contents_found m is = get_or-found dirs dir table.empty m (dir_found (Some m) is)
+
+  -- and where nothing is, it contains nothing
+  pub contents_absent : None ≡ lookup (is_at (oid_cmp dir)) ds → contents_of dirs dir ≡ table.empty
+  contents_absent is = get_or-absent dirs dir table.empty (dir_found None is)
+
+  -- a list that differs at one directory alone makes the table with that directory
+  pub dirs_set : (ds' : List (Oid × Contents)) (m : Contents) → ((q : Oid) → lookup (is_at (oid_cmp q)) ds' ≡ cond (is_at (oid_cmp dir) q) (Some m) (lookup (is_at (oid_cmp q)) ds)) → table.from_entries {R = oid_cmp} ds' ≡ table.insert dirs dir m
+  dirs_set ds' m h = one_set oid_cmp_total oid_cmp_exact ds ds' dir m h ∙ ap (λ (t : FinMap oid_cmp Contents). table.insert t dir m) view
+
+  -- and the same one, where the directory is as it was
+  pub dirs_kept : (ds' : List (Oid × Contents)) (m old : Contents) → ((q : Oid) → lookup (is_at (oid_cmp q)) ds' ≡ cond (is_at (oid_cmp dir) q) (Some m) (lookup (is_at (oid_cmp q)) ds)) → m ≡ old → Some old ≡ lookup (is_at (oid_cmp dir)) ds → table.from_entries {R = oid_cmp} ds' ≡ dirs
+  dirs_kept ds' m old h same is = dirs_set ds' m h ∙ ap (table.insert dirs dir) same ∙ insert_same oid_cmp_total oid_cmp_exact dirs dir old (dir_found (Some old) is)

@@ -1,0 +1,205 @@
+-- A tree stays one where objects change or are made, and where entries come and go.
+use Rattle.std.specs.Prelude.{◌≡◌, ◌≤◌, ◌+◌, ◌||◌, ℕ, suc, Bool, true, false, ◌⊎◌, List, [], ◌∷◌, Option, Some, None, cond, refl}
+use Rattle.std.specs.Ordering.{eq_by_cmp}
+use Rattle.std.specs.List.{AllByRecursion, find}
+use Rattle.std.specs.Option.{option_map}
+use Rattle.std.specs.FinMap as map
+use Rattle.std.specs.FinMap.{FinMap, get-empty, get-insert}
+use Rattle.std.proofs.Common.{ap, sym, ◌∙◌, subst, arith, inl, inr}
+use Rattle.fs_path.specs.Name.{Name}
+use Rattle.lab_lattice.specs.Label.{Label, bottom, label_cmp}
+use Rattle.lab_lattice.proofs.Labels.{label_cmp_total, label_cmp_exact}
+use Rattle.kern_model.specs.declared.numbers.Oid.{Oid}
+use Rattle.kern_model.specs.declared.objects.Attr.{Attr}
+use Rattle.kern_model.specs.declared.objects.Body.TheVariants as body
+use Rattle.kern_model.specs.declared.objects.Object.{Object}
+use Rattle.kern_model.specs.Entries.{holder, is_so_above, is_under_within}
+use Rattle.kern_model.specs.Keys.{Spot, oid_cmp, spot_cmp, same_oid}
+use Rattle.kern_model.specs.Kinds.{object_with}
+use Rattle.kern_model.specs.State.{State, drawn}
+use Rattle.kern_model.specs.Valid.{IsDir}
+use Rattle.kern_model.proofs.KeyLaws.{oid_cmp_total, oid_cmp_exact, spot_cmp_total, spot_cmp_exact}
+use Rattle.kern_model.proofs.MapLemmas.{each-entries, each-insert, each-remove, get-insert_kept, get-insert_same, get_or-absent, get_or-found, get_or-same, never_some, same_key, some_same}
+use Rattle.fs_nodes.specs.Nodes.{NodeTable, no_nodes, with_new, with_object, next_in}
+use Rattle.fs_dirs.specs.declared.links.Links.{Links}
+use Rattle.fs_dirs.specs.declared.links.Links.TheVariants.{One, Shared}
+use Rattle.fs_dirs.specs.Entries.{EntryTable, count_of, entries_alone, linked, HasShared, name_count, without_name}
+use Rattle.fs_dirs.specs.Tree.{IsNoDir, IsTree, MayBeAdded, TreeView, root_alone}
+use Rattle.fs_dirs.proofs.MoveLemmas.{shared_without}
+
+-- no number is drawn at first
+pub none_drawn : (l : Label) → drawn map.empty l ≡ 0
+none_drawn l = get_or-absent map.empty l 0 (get-empty label_cmp l)
+
+-- the first object is the root
+pub root_made : (attr : Attr) → with_new no_nodes bottom (object_with bottom attr body.Dir) ≡ root_alone attr
+root_made attr = ap (λ (n : ℕ). record { objects = map.insert map.empty (record { label = bottom; n = n }) (object_with bottom attr body.Dir); numbers = map.insert map.empty bottom n }) (ap (λ n. n + 1) (none_drawn bottom))
+
+-- ---- the objects
+-- what is there after a change of one object
+set_at : (m : FinMap oid_cmp Object) (id : Oid) (o : Object) (q : Oid) (x : Object) → map.get (map.insert m id o) q ≡ Some x → ((q ≡ id) × (x ≡ o)) ⊎ (map.get m q ≡ Some x)
+set_at m id o q x e =
+    elim (same_oid q id) as (λ b. same_oid q id ≡ b → cond b (Some o) (map.get m q) ≡ Some x → ((q ≡ id) × (x ≡ o)) ⊎ (map.get m q ≡ Some x)) [
+      | true ↦ λ t f. inl (same_key oid_cmp_exact q id t, sym (some_same o x f))
+      | false ↦ λ _ f. inr f
+    ] refl (sym (get-insert oid_cmp_total m id o q) ∙ e)
+
+-- what is kept where another object is set
+set_other : (m : FinMap oid_cmp Object) (id : Oid) (o : Object) (q : Oid) (x : Object) → map.get m q ≡ Some x → (map.get (map.insert m id o) q ≡ Some x) ⊎ ((q ≡ id) × (map.get (map.insert m id o) q ≡ Some o))
+set_other m id o q x e =
+    elim (same_oid q id) as (λ b. same_oid q id ≡ b → (map.get (map.insert m id o) q ≡ Some x) ⊎ ((q ≡ id) × (map.get (map.insert m id o) q ≡ Some o))) [
+      | true ↦ λ t. inr (same_key oid_cmp_exact q id t, get-insert oid_cmp_total m id o q ∙ ap (λ b. cond b (Some o) (map.get m q)) t)
+      | false ↦ λ f. inl (get-insert oid_cmp_total m id o q ∙ ap (λ b. cond b (Some o) (map.get m q)) f ∙ e)
+    ] refl
+
+-- an object is changed, but not its kind
+module _ (objects : FinMap oid_cmp Object) (id : Oid) (old o : Object) (is : map.get objects id ≡ Some old) (same : o.kind ≡ old.kind) where
+  still_dir : (q : Oid) → IsDir objects q → IsDir (map.insert objects id o) q
+  still_dir q d = elim (set_other objects id o q d.object d.is) [
+    | inl e ↦ record { object = d.object; is = e; dir = d.dir }
+    | inr e ↦ record { object = o; is = e.1; dir = same ∙ ap (λ (x : Object). x.kind) (some_same old d.object (sym is ∙ ap (map.get objects) (sym e.0) ∙ d.is)) ∙ d.dir }
+  ]
+
+  still_no_dir : (q : Oid) → IsNoDir objects q → IsNoDir (map.insert objects id o) q
+  still_no_dir q d = elim (set_other objects id o q d.object d.is) [
+    | inl e ↦ record { object = d.object; is = e; no_dir = d.no_dir }
+    | inr e ↦ record { object = o; is = e.1; no_dir = λ k. d.no_dir (ap (λ (x : Object). x.kind) (some_same d.object old (sym d.is ∙ ap (map.get objects) e.0 ∙ is)) ∙ sym same ∙ k) }
+  ]
+
+pub tree_with_object : (table : NodeTable) (t : EntryTable) → IsTree table t → (id : Oid) (old o : Object) → map.get table.objects id ≡ Some old → o.kind ≡ old.kind → IsTree (with_object table id o) t
+tree_with_object table t tree id old o is same = record {
+  drawn_already = λ q x e. elim (set_at table.objects id o q x e) [
+    | inl f ↦ tree.drawn_already q old (ap (map.get table.objects) f.0 ∙ is)
+    | inr f ↦ tree.drawn_already q x f
+  ];
+  dirs = λ spot at e. still_dir table.objects id old o is same spot.0 (tree.dirs spot at e);
+  single = λ q n e. still_no_dir table.objects id old o is same q (tree.single q n e);
+}
+
+-- an object is made
+module _ (table : NodeTable) (label : Label) (o : Object) (drawn_already : (id : Oid) (x : Object) → map.get table.objects id ≡ Some x → id.n ≤ drawn table.numbers id.label) where
+  abbrev last : ℕ
+  last = drawn table.numbers label
+
+  new_absent : map.get table.objects (next_in table label) ≡ None
+  new_absent = elim (map.get table.objects (next_in table label)) as (λ w. map.get table.objects (next_in table label) ≡ w → w ≡ None) [
+    | None ↦ λ _. refl
+    | Some x ↦ λ e. let low : last + 1 ≤ last = drawn_already (next_in table label) x e in absurd (omega (arith, low))
+  ] refl
+
+  drawn_after : (l : Label) → drawn (map.insert table.numbers label (last + 1)) l ≡ cond (eq_by_cmp label_cmp l label) (last + 1) (drawn table.numbers l)
+  drawn_after l = elim (eq_by_cmp label_cmp l label) as (λ b. eq_by_cmp label_cmp l label ≡ b → drawn (map.insert table.numbers label (last + 1)) l ≡ cond b (last + 1) (drawn table.numbers l)) [
+    | true ↦ λ t. get_or-found (map.insert table.numbers label (last + 1)) l 0 (last + 1) (get-insert label_cmp_total table.numbers label (last + 1) l ∙ ap (λ b. cond b (Some (last + 1)) (map.get table.numbers l)) t)
+    | false ↦ λ f. get_or-same (map.insert table.numbers label (last + 1)) table.numbers l 0 (get-insert label_cmp_total table.numbers label (last + 1) l ∙ ap (λ b. cond b (Some (last + 1)) (map.get table.numbers l)) f)
+  ] refl
+
+  more_drawn : (l : Label) → drawn table.numbers l ≤ drawn (map.insert table.numbers label (last + 1)) l
+  more_drawn l = subst (λ n. drawn table.numbers l ≤ n) (sym (drawn_after l)) (elim (eq_by_cmp label_cmp l label) as (λ b. eq_by_cmp label_cmp l label ≡ b → drawn table.numbers l ≤ cond b (last + 1) (drawn table.numbers l)) [
+    | true ↦ λ t. let same : drawn table.numbers l ≡ last = ap (drawn table.numbers) (same_key label_cmp_exact l label t) in omega (arith, same)
+    | false ↦ λ _. omega arith
+  ] refl)
+
+  drawn_new : drawn (map.insert table.numbers label (last + 1)) label ≡ last + 1
+  drawn_new = get_or-found (map.insert table.numbers label (last + 1)) label 0 (last + 1) (get-insert_same label_cmp_total table.numbers label (last + 1))
+
+  still_there : (q : Oid) (x : Object) → map.get table.objects q ≡ Some x → map.get (map.insert table.objects (next_in table label) o) q ≡ Some x
+  still_there q x e = get-insert_kept oid_cmp_total oid_cmp_exact table.objects (next_in table label) o new_absent q x e
+
+  made_drawn : (q : Oid) (x : Object) → map.get (map.insert table.objects (next_in table label) o) q ≡ Some x → q.n ≤ drawn (map.insert table.numbers label (last + 1)) q.label
+  made_drawn q x e = elim (set_at table.objects (next_in table label) o q x e) [
+    | inl f ↦ subst (λ (i : Oid). i.n ≤ drawn (map.insert table.numbers label (last + 1)) i.label) (sym f.0) (subst (λ n. last + 1 ≤ n) (sym drawn_new) (omega arith))
+    | inr f ↦ let low = drawn_already q x f in let more = more_drawn q.label in omega (arith, low, more)
+  ]
+
+pub tree_with_new : (table : NodeTable) (t : EntryTable) → IsTree table t → (label : Label) (o : Object) → IsTree (with_new table label o) t
+tree_with_new table t tree label o = record {
+  drawn_already = made_drawn table label o tree.drawn_already;
+  dirs = λ spot at e. let d = tree.dirs spot at e in record { object = d.object; is = still_there table label o tree.drawn_already spot.0 d.object d.is; dir = d.dir };
+  single = λ q n e. let d = tree.single q n e in record { object = d.object; is = still_there table label o tree.drawn_already q d.object d.is; no_dir = d.no_dir };
+}
+
+-- ---- the entries
+-- the root alone has no entry
+pub tree_alone : (attr : Attr) (t : EntryTable) → t.entries ≡ map.empty → t.links ≡ map.empty → IsTree (root_alone attr) t
+tree_alone attr t none unlinked = record {
+  drawn_already = subst (λ (table : NodeTable). (id : Oid) (o : Object) → map.get table.objects id ≡ Some o → id.n ≤ drawn table.numbers id.label) (root_made attr)
+      (made_drawn no_nodes bottom (object_with bottom attr body.Dir) (λ id o e. absurd (never_some (map.get map.empty id) o (get-empty oid_cmp id) e)));
+  dirs = λ spot at e. absurd (never_some (map.get t.entries spot) at (ap (λ (m : FinMap spot_cmp Oid). map.get m spot) none ∙ get-empty spot_cmp spot) e);
+  single = λ q n e. absurd (never_some (map.get t.links q) (Shared n) (ap (λ (m : FinMap oid_cmp Links). map.get m q) unlinked ∙ get-empty oid_cmp q) e);
+}
+
+-- where an object that gets one more name has several from then on, it is no directory
+shared_no_dir : (v : TreeView) (t : EntryTable) → IsTree v.nodes.table t → (id : Oid) → MayBeAdded v id → (w : Option Links) → map.get t.links id ≡ w → count_of w ≡ name_count v.entries id → (dir : Oid) (n : ℕ) → linked w dir ≡ Shared n → IsNoDir v.nodes.table.objects id
+shared_no_dir v t tree id may None is counted dir n e = cc
+shared_no_dir v t tree id may (Some (One other)) is counted dir n e = record {
+  object = may.object;
+  is = may.is;
+  no_dir = λ k. let none : name_count v.entries id ≡ 0 = may.one k in absurd (omega (arith, counted, none));
+}
+shared_no_dir v t tree id may (Some (Shared m)) is counted dir n e = tree.single id m is
+
+pub tree_added : (v : TreeView) (t : EntryTable) → IsTree v.nodes.table t → (dir : Oid) (name : Name) (id : Oid) → IsDir v.nodes.table.objects dir → MayBeAdded v id → count_of (map.get t.links id) ≡ name_count v.entries id
+    → (t' : EntryTable) → t'.entries ≡ map.insert t.entries (dir, name) id → t'.links ≡ map.insert t.links id (linked (map.get t.links id) dir) → IsTree v.nodes.table t'
+tree_added v t tree dir name id is_dir may counted t' entries links = record {
+  drawn_already = tree.drawn_already;
+  dirs = λ spot at e. each-insert spot_cmp_total spot_cmp_exact (λ (spot : Spot) (at : Oid). IsDir v.nodes.table.objects spot.0) t.entries tree.dirs (dir, name) id is_dir spot at (ap (λ (m : FinMap spot_cmp Oid). map.get m spot) (sym entries) ∙ e);
+  single = λ q n e.
+      elim (same_oid q id) as (λ b. same_oid q id ≡ b → cond b (Some (linked (map.get t.links id) dir)) (map.get t.links q) ≡ Some (Shared n) → IsNoDir v.nodes.table.objects q) [
+        | true ↦ λ s f. subst (IsNoDir v.nodes.table.objects) (sym (same_key oid_cmp_exact q id s)) (shared_no_dir v t tree id may (map.get t.links id) refl counted dir n (some_same (linked (map.get t.links id) dir) (Shared n) f))
+        | false ↦ λ _ f. tree.single q n f
+      ] refl (sym (get-insert oid_cmp_total t.links id (linked (map.get t.links id) dir) q) ∙ ap (λ (m : FinMap oid_cmp Links). map.get m q) (sym links) ∙ e);
+}
+
+-- an entry that goes, if it is there
+pub tree_removed : (table : NodeTable) (t : EntryTable) → IsTree table t → (spot : Spot) (w : Option Oid) (t' : EntryTable) → t'.entries ≡ map.remove t.entries spot → t'.links ≡ without_name t.links w → IsTree table t'
+tree_removed table t tree spot w t' entries links = record {
+  drawn_already = tree.drawn_already;
+  dirs = λ q at e. each-remove spot_cmp_total spot_cmp_exact (λ (spot : Spot) (at : Oid). IsDir table.objects spot.0) t.entries tree.dirs spot q at (ap (λ (m : FinMap spot_cmp Oid). map.get m q) (sym entries) ∙ e);
+  single = λ q n e. let was = shared_without t.links w q n (ap (λ (m : FinMap oid_cmp Links). map.get m q) (sym links) ∙ e) in tree.single q was.count was.is;
+}
+
+-- an entry that moves
+pub tree_moved : (table : NodeTable) (t : EntryTable) → IsTree table t → (spot : Spot) (into : Oid) (new : Name) (id : Oid) → IsDir table.objects into → (t' : EntryTable)
+    → t'.entries ≡ map.insert (map.remove t.entries spot) (into, new) id → ((q : Oid) (n : ℕ) → map.get t'.links q ≡ Some (Shared n) → HasShared t.links q) → IsTree table t'
+tree_moved table t tree spot into new id is_dir t' entries shared = record {
+  drawn_already = tree.drawn_already;
+  dirs = λ q at e. each-insert spot_cmp_total spot_cmp_exact (λ (spot : Spot) (at : Oid). IsDir table.objects spot.0) (map.remove t.entries spot)
+      (each-remove spot_cmp_total spot_cmp_exact (λ (spot : Spot) (at : Oid). IsDir table.objects spot.0) t.entries tree.dirs spot) (into, new) id is_dir q at (ap (λ (m : FinMap spot_cmp Oid). map.get m q) (sym entries) ∙ e);
+  single = λ q n e. let was = shared q n e in tree.single q was.count was.is;
+}
+
+-- ---- the directories above one
+all_found : {X : Type 0} (P : X → Type 0) (p : X → Bool) (xs : List X) (x : X) → AllByRecursion P xs → find p xs ≡ Some x → P x
+all_found P p [] x h e = absurd (never_some None x refl e)
+all_found P p (y ∷ xs) x h e = elim (p y) as (λ b. cond b (Some y) (find p xs) ≡ Some x → P x) [
+  | true ↦ λ f. subst P (some_same y x f) h.0
+  | false ↦ λ f. all_found P p xs x h.1 f
+] e
+
+-- what holds an object is a directory
+pub holder_dir : (table : NodeTable) (t : EntryTable) → IsTree table t → (id above : Oid) → holder (entries_alone t.entries) id ≡ Some above → IsDir table.objects above
+unfolding holder
+holder_dir table t tree id above h =
+    let each = each-entries spot_cmp_total spot_cmp_exact (λ (spot : Spot) (at : Oid). IsDir table.objects spot.0) t.entries tree.dirs in
+    elim (find (λ (e : Spot × Oid). same_oid e.1 id) (map.entries t.entries)) as (λ w. find (λ (e : Spot × Oid). same_oid e.1 id) (map.entries t.entries) ≡ w → option_map (λ (e : Spot × Oid). e.0.0) w ≡ Some above → IsDir table.objects above) [
+      | None ↦ λ _ f. absurd (never_some None above refl f)
+      | Some e ↦ λ found f. subst (IsDir table.objects) (some_same e.0.0 above f) (all_found (λ (e : Spot × Oid). IsDir table.objects e.0.0) (λ (e : Spot × Oid). same_oid e.1 id) (map.entries t.entries) e each found)
+    ] refl h
+
+module _ (s : State) (top : Oid) where
+  -- a directory that is not the one lies under it where the directory that holds it does, and does not where none holds it
+  pub under_holder : (n k : ℕ) (dir : Oid) (above : Option Oid) → n ≡ suc k → same_oid dir top ≡ false → holder s dir ≡ above → is_under_within s n dir top ≡ is_so_above (λ above. is_under_within s k above top) above
+  under_holder n k dir above e f h =
+      ap (λ m. is_under_within s m dir top) e ∙ ap (λ b. b || is_so_above (λ above. is_under_within s k above top) (holder s dir)) f ∙ ap (is_so_above (λ above. is_under_within s k above top)) h
+
+-- ---- bytes that wait
+-- an object is changed, but not its kind, and no number is drawn
+pub tree_streamed : (table new : NodeTable) (t : EntryTable) → IsTree table t → (id : Oid) (old o : Object) → map.get table.objects id ≡ Some old → o.kind ≡ old.kind → new.objects ≡ map.insert table.objects id o → new.numbers ≡ table.numbers → IsTree new t
+tree_streamed table new t tree id old o is same objects numbers =
+    let made : new ≡ with_object table id o = λ i. record { objects = objects i; numbers = numbers i } in
+    subst (λ (x : NodeTable). IsTree x t) (sym made) (tree_with_object table t tree id old o is same)
+
+pub tree_same : (table new : NodeTable) (t : EntryTable) → IsTree table t → new.objects ≡ table.objects → new.numbers ≡ table.numbers → IsTree new t
+tree_same table new t tree objects numbers =
+    let made : new ≡ table = λ i. record { objects = objects i; numbers = numbers i } in
+    subst (λ (x : NodeTable). IsTree x t) (sym made) tree

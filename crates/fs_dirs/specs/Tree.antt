@@ -1,0 +1,64 @@
+-- The tree: the objects, and the entries of the directories among them.
+use Rattle.std.specs.Prelude.{◌≡◌, ◌&&◌, ℕ, Bool, ◌≤◌, ◌<◌, Some, refl}
+use Rattle.std.specs.FinMap as map
+use Rattle.std.specs.FinMap.{FinMap}
+use Rattle.std.specs.Coded.{Coded, code_by, coded×}
+use Rattle.lab_lattice.specs.Label.{bottom}
+use Rattle.kern_model.specs.declared.numbers.Oid.{Oid}
+use Rattle.kern_model.specs.declared.objects.Attr.{Attr}
+use Rattle.kern_model.specs.declared.objects.Body.TheVariants as body
+use Rattle.kern_model.specs.declared.objects.Kind.TheVariants as kind
+use Rattle.kern_model.specs.declared.objects.Object.{Object}
+use Rattle.kern_model.specs.declared.limits.TheConstants.{MAX_LINKS}
+use Rattle.kern_model.specs.Entries.{is_under, link_count}
+use Rattle.kern_model.specs.Keys.{Spot, oid_cmp, spot_cmp}
+use Rattle.kern_model.specs.Kinds.{is_dir, object_with}
+use Rattle.kern_model.specs.State.{State, drawn, object_at, root}
+use Rattle.kern_model.specs.Valid.{IsDir}
+use Rattle.fs_nodes.specs.Nodes.{NodeSlots, NodeTable}
+use Rattle.fs_dirs.specs.declared.links.Links.TheVariants.{Shared}
+use Rattle.fs_dirs.specs.Entries.{EntryTable, entries_alone}
+
+-- objects with their places, and the entries of directories
+pub record TreeView : Type 0 where
+  pub nodes : NodeSlots
+  pub entries : FinMap spot_cmp Oid
+
+-- how they are stored
+abbrev pub tree_code : Coded NodeSlots → Coded (FinMap spot_cmp Oid) → Coded TreeView
+tree_code nodes entries =
+    code_by (NodeSlots × FinMap spot_cmp Oid) (coded× nodes entries)
+    (λ t. (t.nodes, t.entries)) (λ p. record { nodes = p.0; entries = p.1 }) (λ _. refl)
+
+-- the state that has these objects and entries, and nothing else
+abbrev pub state_of_tree : TreeView → State
+state_of_tree t = record (entries_alone t.entries) { objects = t.nodes.table.objects; object_numbers = t.nodes.table.numbers }
+
+-- the root directory alone
+abbrev pub root_alone : Attr → NodeTable
+root_alone attr = record { objects = map.insert map.empty root (object_with bottom attr body.Dir); numbers = map.insert map.empty bottom 1 }
+
+-- an object has the number, and is no directory
+pub record IsNoDir (objects : FinMap oid_cmp Object) (id : Oid) : Type 0 where
+  pub object : Object
+  pub is : map.get objects id ≡ Some object
+  pub no_dir : object.kind ≡ kind.Dir → ⊥
+
+-- objects have numbers that were drawn, entries stand in directories, and a directory never has several names
+pub record IsTree (table : NodeTable) (t : EntryTable) : Type 0 where
+  pub drawn_already : (id : Oid) (o : Object) → map.get table.objects id ≡ Some o → id.n ≤ drawn table.numbers id.label
+  pub dirs : (spot : Spot) (id : Oid) → map.get t.entries spot ≡ Some id → IsDir table.objects spot.0
+  pub single : (id : Oid) (n : ℕ) → map.get t.links id ≡ Some (Shared n) → IsNoDir table.objects id
+
+-- an object may get one more name: it has few, is neither a pipe nor the root, and a directory gets no second one
+pub record MayBeAdded (t : TreeView) (id : Oid) : Type 0 where
+  pub object : Object
+  pub is : map.get t.nodes.table.objects id ≡ Some object
+  pub few : link_count (state_of_tree t) id < MAX_LINKS
+  pub no_root : id ≡ root → ⊥
+  pub no_pipe : object.kind ≡ kind.Pipe → ⊥
+  pub one : object.kind ≡ kind.Dir → link_count (state_of_tree t) id ≡ 0
+
+-- whether an object would lie under itself in a directory: it is a directory, and the other one is it or lies under it
+abbrev pub would_loop : State → Oid → Oid → Bool
+would_loop s id dir = is_dir (object_at s id).kind && is_under s dir id

@@ -1,0 +1,191 @@
+// The entries of all directories.
+ghost use Rattle.std.specs.Prelude.{◌≡◌, ◌-◌, ◌<◌, ◌≤◌, ℕ, false, None, Some, IfOk, IsSome, OnErr, OnOk, cond, is_some};
+ghost use Rattle.std.specs.Ordering.{eq_by_cmp};
+ghost use Rattle.std.specs.FinMap as map;
+ghost use Rattle.kern_model.specs.declared.limits.TheConstants.{MAX_LINKS};
+ghost use Rattle.kern_model.specs.declared.numbers.Oid.{Oid as Number};
+ghost use Rattle.kern_model.specs.Keys.{spot_cmp};
+ghost use Rattle.kern_model.specs.Entries.{entry_count, holder, link_count, names_in};
+ghost use Rattle.fs_dirs.specs.declared.links.Links.TheVariants as links;
+ghost use Rattle.fs_dirs.specs.Directory.{TakesFewSteps};
+ghost use Rattle.fs_dirs.specs.Entries.{count_of, entries_alone, HasShared, linked, without_name};
+
+use crate::dirs::Dirs;
+use crate::links::{LinkTable, count, only_dir, with_name};
+use fs_path::{Name, NameList, NoMemory, Steps};
+use kern_model::Oid;
+use std::alloc::Global;
+use std::marker::{Brand, Model};
+use std::sync::ledger::{Blank, Ledger};
+
+/// The entries of all directories, and the names of each object that has some.
+#[derive(Drop)]
+pub struct Entries {
+    dirs: Dirs,
+    names: LinkTable,
+    total: usize,
+}
+
+impl Model for Entries {
+    ghost use Rattle.std.specs.Coded.{codes};
+    ghost use Rattle.lab_lattice.specs.Label.{label_code};
+    ghost use Rattle.fs_dirs.specs.Entries.{AreKept, EntryTable, entries_of, entry_table_code};
+
+    ghost Value = { EntryTable };
+
+    ghost coded = { entry_table_code (Prim.hlevel (codes, label_code)) (Prim.hlevel (codes, label_code)) (Prim.hlevel (codes, label_code)) };
+
+    ghost view = { λ e. record { entries = entries_of e.dirs; links = e.names } };
+
+    ghost invariant = { λ e. AreKept (entries_of e.dirs) e.names e.total };
+}
+
+// How many entries are left where one goes, if it is there.
+fn without_one(total: usize, gone: &Option<Oid>) -> usize
+    requires { IsSome gone.now → 1 ≤ total }
+    ensures { result ≡ cond (is_some gone.now) (total - 1) total }
+{
+    match gone {
+        Some(_) => total - 1,
+        None => total,
+    }
+}
+
+impl Entries {
+    /// No entry.
+    pub fn new(alloc: Global) -> Self
+        ensures entries { result.entries ≡ map.empty }
+        ensures links { result.links ≡ map.empty }
+    {
+        Entries {
+            dirs: Dirs::new(alloc),
+            names: LinkTable::new(alloc),
+            total: 0,
+        }
+    }
+
+    /// How many entries there are.
+    pub fn total(&self) -> usize
+        ensures { result ≡ map.len self.now.entries }
+    {
+        self.total
+    }
+
+    /// Where an entry leads, if it is there. Each comparison of names is counted.
+    pub fn look_counted<L: Ledger>(
+        &self,
+        dir: &Oid,
+        name: &Name,
+        steps: &mut Steps<L>,
+    ) -> Option<Oid>
+        ensures found { result ≡ map.get self.now.entries (dir.now, name.now) }
+        ensures counted { TakesFewSteps (entry_count (entries_alone self.now.entries) dir.now) steps.old steps.new }
+    {
+        self.dirs.look_counted(dir, name, steps)
+    }
+
+    /// How many names a directory contains.
+    pub fn len(&self, dir: &Oid) -> usize
+        ensures { result ≡ entry_count (entries_alone self.now.entries) dir.now }
+    {
+        self.dirs.len(dir)
+    }
+
+    /// Copies of the names in a directory, in their order.
+    pub fn names(&self, dir: &Oid) -> Result<NameList, NoMemory>
+        ensures { IfOk result (λ names. names ≡ names_in (entries_alone self.now.entries) dir.now) }
+    {
+        self.dirs.names(dir)
+    }
+
+    /// Where an entry leads, if it is there.
+    pub fn look(&self, dir: &Oid, name: &Name) -> Option<Oid>
+        ensures { result ≡ map.get self.now.entries (dir.now, name.now) }
+    {
+        self.look_from::<Brand>(dir, name, Blank::new(1))
+    }
+
+    // The same, with a count of its own.
+    fn look_from<L: Ledger>(&self, dir: &Oid, name: &Name, blank: Blank) -> Option<Oid>
+        requires name { blank.name ≡ L.name }
+        requires parts { blank.parts ≡ L.parts }
+        requires any { 0 < L.parts }
+        ensures { result ≡ map.get self.now.entries (dir.now, name.now) }
+    {
+        let mut steps = Steps::<L>::new(blank);
+        self.look_counted(dir, name, &mut steps)
+    }
+
+    /// The directory that holds an object, if one does, where the object never had several names.
+    pub fn holder(&self, id: &Oid) -> Option<Oid>
+        requires { (n : ℕ) → map.get self.now.links id.now ≡ Some (links.Shared n) → ⊥ }
+        ensures { result ≡ holder (entries_alone self.now.entries) id.now }
+    {
+        only_dir(self.names.get(id))
+    }
+
+    /// How many names an object has.
+    pub fn name_count(&self, id: &Oid) -> u32
+        ensures { result ≡ link_count (entries_alone self.now.entries) id.now }
+    {
+        count(self.names.get(id))
+    }
+
+    /// Adds an entry.
+    pub fn insert(&mut self, dir: &Oid, name: &Name, id: &Oid) -> Result<(), NoMemory>
+        requires absent { map.get self.old.entries (dir.now, name.now) ≡ None }
+        requires few { link_count (entries_alone self.old.entries) id.now < MAX_LINKS }
+        ensures entries { OnOk result (self.new.entries ≡ map.insert self.old.entries (dir.now, name.now) id.now) }
+        ensures links { OnOk result (self.new.links ≡ map.insert self.old.links id.now (linked (map.get self.old.links id.now) dir.now)) }
+        ensures err { OnErr result (self.new ≡ self.old) }
+        ensures before { count_of (map.get self.old.links id.now) ≡ link_count (entries_alone self.old.entries) id.now }
+    {
+        if self.total == usize::MAX {
+            return Err(NoMemory);
+        }
+        let links = with_name(self.names.get(id), *dir);
+        self.dirs.insert(dir, name, id)?;
+        if let Err(e) = self.names.set(*id, links) {
+            self.dirs.remove(dir, name);
+            return Err(e);
+        }
+        self.total += 1;
+        Ok(())
+    }
+
+    /// Removes an entry, if it is there, and returns the object to which it led. It takes no memory.
+    pub fn remove(&mut self, dir: &Oid, name: &Name) -> Option<Oid>
+        ensures found { result ≡ map.get self.old.entries (dir.now, name.now) }
+        ensures entries { self.new.entries ≡ map.remove self.old.entries (dir.now, name.now) }
+        ensures links { self.new.links ≡ without_name self.old.links result }
+    {
+        let removed = self.dirs.remove(dir, name);
+        self.names.drop_name(&removed);
+        self.total = without_one(self.total, &removed);
+        removed
+    }
+
+    /// Moves the entry that leads to an object to another spot, in place of the one that is there.
+    pub fn relocate(
+        &mut self,
+        from: &Oid,
+        old: &Name,
+        to: &Oid,
+        new: &Name,
+        id: &Oid,
+    ) -> Result<(), NoMemory>
+        requires there { map.get self.old.entries (from.now, old.now) ≡ Some id.now }
+        requires apart { eq_by_cmp spot_cmp (from.now, old.now) (to.now, new.now) ≡ false }
+        ensures entries { OnOk result (self.new.entries ≡ map.insert (map.remove self.old.entries (from.now, old.now)) (to.now, new.now) id.now) }
+        ensures shared { OnOk result ((q : Number) (n : ℕ) → map.get self.new.links q ≡ Some (links.Shared n) → HasShared self.old.links q) }
+        ensures err { OnErr result (self.new ≡ self.old) }
+    {
+        let replaced = self.look(to, new);
+        self.dirs.insert(to, new, id)?;
+        self.dirs.remove(from, old);
+        self.names.drop_name(&replaced);
+        self.names.move_name(id, to);
+        self.total = without_one(self.total, &replaced);
+        Ok(())
+    }
+}

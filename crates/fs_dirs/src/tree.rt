@@ -1,0 +1,400 @@
+// The tree.
+ghost use Rattle.std.specs.Prelude.{◌≡◌, ◌↔◌, ◌<◌, ◌≤◌, ◌+◌, true, false, [], Some, None, Err, IfOk, IsErr, IsSome, OnErr, OnOk, length};
+ghost use Rattle.std.specs.Ordering.{eq_by_cmp};
+ghost use Rattle.std.specs.FinMap as map;
+ghost use Rattle.kern_model.specs.declared.numbers.Oid.{Oid as Number};
+ghost use Rattle.kern_model.specs.Entries.{entry_count, is_empty, is_removed, is_under, link_count, names_in};
+ghost use Rattle.kern_model.specs.FileRows.{written_over};
+ghost use Rattle.kern_model.specs.Kinds.{is_dir, object_with};
+ghost use Rattle.kern_model.specs.State.{drawn, look, object_at, root};
+ghost use Rattle.kern_model.specs.Valid.{IsDir, IsThere};
+ghost use Rattle.kern_model.specs.declared.limits.TheConstants.{MAX_FILE_BYTES, MAX_OBJECTS};
+ghost use Rattle.kern_model.specs.declared.objects.Object.{Object as Value};
+ghost use Rattle.fs_nodes.specs.Nodes.{IsFile, next_in, with_new, with_object};
+ghost use Rattle.kern_model.specs.Keys.{same_oid, spot_cmp};
+ghost use Rattle.fs_dirs.specs.Directory.{TakesFewSteps};
+ghost use Rattle.fs_dirs.specs.Tree.{MayBeAdded, root_alone, state_of_tree, would_loop};
+
+use crate::NoMemory;
+use crate::entries::Entries;
+use fs_nodes::{Buffers, NodeError, Nodes, WriteError};
+use fs_path::{Name, NameList, Steps};
+use kern_model::{Attr, Body, Kind, Object, Oid};
+use lab_lattice::{Label, bottom};
+use std::alloc::Global;
+use std::marker::Model;
+use std::sync::ledger::Ledger;
+
+/// Why no entry is added.
+#[derive(Clone, Copy, Debug, PartialEq, Eq)]
+pub enum AddError {
+    /// The name is there already.
+    Exists,
+    /// The directory is removed.
+    Removed,
+    NoMemory(NoMemory),
+}
+
+impl From<NoMemory> for AddError {
+    ghost use Rattle.std.specs.Prelude.{◌≡◌};
+    ghost use Rattle.fs_dirs.specs.declared.tree.AddError.TheVariants as error;
+
+    ghost from_gives = { λ e n. n ≡ error.NoMemory e };
+
+    fn from(e: NoMemory) -> Self {
+        AddError::NoMemory(e)
+    }
+}
+
+/// Why no entry is moved.
+#[derive(Clone, Copy, Debug, PartialEq, Eq)]
+pub enum MoveError {
+    /// The name is not there.
+    Absent,
+    /// A directory would lie under itself.
+    Loop,
+    /// The new directory is removed.
+    Removed,
+    NoMemory(NoMemory),
+}
+
+impl From<NoMemory> for MoveError {
+    ghost use Rattle.std.specs.Prelude.{◌≡◌};
+    ghost use Rattle.fs_dirs.specs.declared.tree.MoveError.TheVariants as error;
+
+    ghost from_gives = { λ e n. n ≡ error.NoMemory e };
+
+    fn from(e: NoMemory) -> Self {
+        MoveError::NoMemory(e)
+    }
+}
+
+/// A name that is not there.
+#[derive(Clone, Copy, Debug, PartialEq, Eq)]
+pub struct Absent;
+
+/// The objects, and the entries of the directories among them.
+#[derive(Drop)]
+pub struct Tree {
+    nodes: Nodes,
+    entries: Entries,
+}
+
+impl Model for Tree {
+    ghost use Rattle.std.specs.FinSet as set;
+    ghost use Rattle.std.specs.FinMap as map;
+    ghost use Rattle.std.specs.Coded.{codes};
+    ghost use Rattle.cap_bits.specs.Cap.{cap_cmp, cap_code};
+    ghost use Rattle.lab_lattice.specs.Label.{label_code};
+    ghost use Rattle.fs_nodes.specs.Nodes.{slots_code};
+    ghost use Rattle.fs_dirs.specs.Tree.{IsTree, TreeView, tree_code};
+
+    ghost Value = { TreeView };
+
+    ghost coded = { tree_code (slots_code (Prim.hlevel (codes, label_code)) (Prim.hlevel (codes, set.code {R = cap_cmp} cap_code, label_code)) label_code) (map.code (Prim.hlevel (codes, label_code)) (Prim.hlevel (codes, label_code))) };
+
+    ghost view = { λ t. record { nodes = t.nodes; entries = t.entries.entries } };
+
+    ghost invariant = { λ t. IsTree t.nodes.table t.entries };
+}
+
+/// The number of the root directory.
+pub fn root_directory() -> Oid
+    ensures { result ≡ root }
+{
+    Oid {
+        label: bottom(),
+        n: 1,
+    }
+}
+
+// Whether two numbers are one.
+#[tactic(auto, unfolding(kern_model::specs::Keys::oid_cmp))]
+fn same(a: &Oid, b: &Oid) -> bool
+    ensures { result ≡ same_oid a.now b.now }
+{
+    a.cmp(b).is_eq()
+}
+
+// Whether two spots are one.
+#[tactic(auto, unfolding(kern_model::specs::Keys::oid_cmp, kern_model::specs::Keys::spot_cmp))]
+fn same_spot(from: &Oid, old: &Name, to: &Oid, new: &Name) -> bool
+    ensures { result ≡ eq_by_cmp spot_cmp (from.now, old.now) (to.now, new.now) }
+{
+    from.cmp(to).then(old.cmp(new)).is_eq()
+}
+
+// Whether it is the kind of a directory.
+fn is_dir(kind: Kind) -> bool
+    ensures { result ≡ is_dir kind }
+{
+    matches!(kind, Kind::Dir)
+}
+
+// The root directory alone.
+fn root_nodes(alloc: Global, attr: Attr) -> Result<Nodes, NoMemory>
+    ensures { IfOk result (λ nodes. nodes.table ≡ root_alone attr) }
+{
+    let mut nodes = Nodes::new(alloc)?;
+    match nodes.create(bottom(), attr, Body::Dir) {
+        Ok(_) => Ok(nodes),
+        Err(NodeError::NoMemory(e)) => Err(e),
+        Err(NodeError::Full) => unreachable!(),
+    }
+}
+
+impl Tree {
+    /// The root directory alone, at the bottom label.
+    pub fn new(alloc: Global, attr: Attr) -> Result<Tree, NoMemory>
+        ensures nodes { IfOk result (λ tree. tree.nodes.table ≡ root_alone attr) }
+        ensures entries { IfOk result (λ tree. tree.entries ≡ map.empty) }
+    {
+        let nodes = root_nodes(alloc, attr)?;
+        let entries = Entries::new(alloc);
+        Ok(Tree { nodes, entries })
+    }
+
+    /// The objects.
+    pub fn nodes(&self) -> &Nodes
+        ensures { result.now ≡ self.now.nodes }
+    {
+        &self.nodes
+    }
+
+    /// The object to which a name in a directory leads, if it is there. Each comparison of names is counted.
+    pub fn look_counted<L: Ledger>(
+        &self,
+        dir: &Oid,
+        name: &Name,
+        steps: &mut Steps<L>,
+    ) -> Option<Oid>
+        ensures found { result ≡ look (state_of_tree self.now) dir.now name.now }
+        ensures counted { TakesFewSteps (entry_count (state_of_tree self.now) dir.now) steps.old steps.new }
+    {
+        self.entries.look_counted(dir, name, steps)
+    }
+
+    /// The object to which a name in a directory leads, if it is there.
+    pub fn look(&self, dir: &Oid, name: &Name) -> Option<Oid>
+        ensures { result ≡ look (state_of_tree self.now) dir.now name.now }
+    {
+        self.entries.look(dir, name)
+    }
+
+    /// Whether no name stands in a directory.
+    pub fn is_empty(&self, dir: &Oid) -> bool
+        ensures { result ≡ is_empty (state_of_tree self.now) dir.now }
+    {
+        self.entries.len(dir) == 0
+    }
+
+    /// How many names stand in a directory.
+    pub fn entry_count(&self, dir: &Oid) -> u64
+        ensures { result ≡ entry_count (state_of_tree self.now) dir.now }
+    {
+        self.entries.len(dir) as u64
+    }
+
+    /// The names in a directory, sorted by their bytes.
+    pub fn names(&self, dir: &Oid) -> Result<NameList, NoMemory>
+        ensures { IfOk result (λ names. names ≡ names_in (state_of_tree self.now) dir.now) }
+    {
+        self.entries.names(dir)
+    }
+
+    /// How many names an object has.
+    pub fn name_count(&self, id: &Oid) -> u32
+        ensures { result ≡ link_count (state_of_tree self.now) id.now }
+    {
+        self.entries.name_count(id)
+    }
+
+    /// Whether a directory is not the root, and no directory holds it.
+    pub fn is_removed(&self, dir: &Oid) -> bool
+        ensures { result ≡ is_removed (state_of_tree self.now) dir.now }
+    {
+        if same(dir, &root_directory()) {
+            return false;
+        }
+        self.entries.name_count(dir) == 0
+    }
+
+    /// Makes an object under the next number of its label, and returns the number. No entry leads to it.
+    pub fn create(&mut self, label: Label, attr: Attr, body: Body) -> Result<Oid, NodeError>
+        ensures id { IfOk result (λ id. id ≡ next_in self.old.nodes.table label) }
+        ensures made { OnOk result (self.new.nodes.table ≡ with_new self.old.nodes.table label (object_with label attr body)) }
+        ensures full { (result ≡ Err NodeError.Full) ↔ (MAX_OBJECTS ≤ drawn self.old.nodes.table.numbers label) }
+        ensures err { OnErr result (self.new.nodes.table ≡ self.old.nodes.table) }
+        ensures entries { self.new.entries ≡ self.old.entries }
+    {
+        self.nodes.create(label, attr, body)
+    }
+
+    /// Gives an object other attributes. It takes no memory.
+    pub fn set_attr(&mut self, id: &Oid, attr: Attr)
+        requires { IsThere self.old.nodes.table.objects id.now }
+        ensures attr { (o : Value) → map.get self.old.nodes.table.objects id.now ≡ Some o → self.new.nodes.table ≡ with_object self.old.nodes.table id.now (record o { attr = attr }) }
+        ensures entries { self.new.entries ≡ self.old.entries }
+    {
+        self.nodes.set_attr(id, attr);
+    }
+
+    /// Gives an object another label. It takes no memory.
+    pub fn set_label(&mut self, id: &Oid, label: Label)
+        requires { IsThere self.old.nodes.table.objects id.now }
+        ensures label { (o : Value) → map.get self.old.nodes.table.objects id.now ≡ Some o → self.new.nodes.table ≡ with_object self.old.nodes.table id.now (record o { label = label }) }
+        ensures entries { self.new.entries ≡ self.old.entries }
+    {
+        self.nodes.set_label(id, label);
+    }
+
+    /// Empties a file. It takes no memory.
+    pub fn truncate(&mut self, id: &Oid)
+        requires { IsFile self.old.nodes.table.objects id.now }
+        ensures bytes { (o : Value) → map.get self.old.nodes.table.objects id.now ≡ Some o → self.new.nodes.table ≡ with_object self.old.nodes.table id.now (record o { bytes = [] }) }
+        ensures entries { self.new.entries ≡ self.old.entries }
+    {
+        self.nodes.truncate(id);
+    }
+
+    /// Writes bytes into a file from a place on.
+    pub fn write_at(&mut self, id: &Oid, at: u32, bytes: &[u8]) -> Result<(), WriteError>
+        requires { IsFile self.old.nodes.table.objects id.now }
+        ensures written { (o : Value) → map.get self.old.nodes.table.objects id.now ≡ Some o → OnOk result (self.new.nodes.table ≡ with_object self.old.nodes.table id.now (record o { bytes = written_over o.bytes at bytes.now })) }
+        ensures past_end { (o : Value) → map.get self.old.nodes.table.objects id.now ≡ Some o → (result ≡ Err WriteError.PastEnd) ↔ (length o.bytes < at) }
+        ensures too_big { (o : Value) → map.get self.old.nodes.table.objects id.now ≡ Some o → (result ≡ Err WriteError.TooBig) ↔ (at ≤ length o.bytes) × (MAX_FILE_BYTES < at + length bytes.now) }
+        ensures err { OnErr result (self.new.nodes.table ≡ self.old.nodes.table) }
+        ensures entries { self.new.entries ≡ self.old.entries }
+    {
+        self.nodes.write_at(id, at, bytes)
+    }
+
+    /// Has a new name in a directory lead to an object.
+    pub fn add(&mut self, dir: &Oid, name: &Name, id: &Oid) -> Result<(), AddError>
+        requires dir { IsDir self.old.nodes.table.objects dir.now }
+        requires may { MayBeAdded self.old id.now }
+        ensures added { OnOk result (self.new ≡ record self.old { entries = map.insert self.old.entries (dir.now, name.now) id.now }) }
+        ensures exists { (result ≡ Err AddError.Exists) ↔ IsSome (look (state_of_tree self.old) dir.now name.now) }
+        ensures removed { (result ≡ Err AddError.Removed) ↔ (look (state_of_tree self.old) dir.now name.now ≡ None) × (is_removed (state_of_tree self.old) dir.now ≡ true) }
+        ensures err { OnErr result (self.new ≡ self.old) }
+    {
+        if self.entries.look(dir, name).is_some() {
+            return Err(AddError::Exists);
+        }
+        if self.is_removed(dir) {
+            return Err(AddError::Removed);
+        }
+        self.entries.insert(dir, name, id)?;
+        Ok(())
+    }
+
+    /// Removes a name from a directory. It takes no memory.
+    pub fn remove(&mut self, dir: &Oid, name: &Name) -> Result<(), Absent>
+        ensures removed { OnOk result (self.new ≡ record self.old { entries = map.remove self.old.entries (dir.now, name.now) }) }
+        ensures absent { IsErr result ↔ (look (state_of_tree self.old) dir.now name.now ≡ None) }
+        ensures err { OnErr result (self.new ≡ self.old) }
+    {
+        match self.entries.remove(dir, name) {
+            Some(_) => Ok(()),
+            None => Err(Absent),
+        }
+    }
+
+    // Whether an object is there and is a directory.
+    fn is_directory(&self, id: &Oid) -> bool
+        ensures { result ≡ is_dir (object_at (state_of_tree self.now) id.now).kind }
+    {
+        match self.nodes.get(id) {
+            Some(object) => is_dir(object.kind),
+            None => false,
+        }
+    }
+
+    // Whether an object would lie under itself in a directory.
+    fn would_loop(&self, id: &Oid, dir: &Oid) -> bool
+        requires { IsDir self.now.nodes.table.objects dir.now }
+        ensures { result ≡ would_loop (state_of_tree self.now) id.now dir.now }
+    {
+        self.is_directory(id) && self.under(dir, id)
+    }
+
+    /// Moves an entry to another name, in place of what is there. Where both names are one, nothing changes.
+    pub fn move_entry(
+        &mut self,
+        from: &Oid,
+        old: &Name,
+        to: &Oid,
+        new: &Name,
+    ) -> Result<(), MoveError>
+        requires { IsDir self.old.nodes.table.objects to.now }
+        ensures moved { (id : Number) → look (state_of_tree self.old) from.now old.now ≡ Some id → OnOk result (self.new ≡ record self.old { entries = map.insert (map.remove self.old.entries (from.now, old.now)) (to.now, new.now) id }) }
+        ensures absent { (result ≡ Err MoveError.Absent) ↔ (look (state_of_tree self.old) from.now old.now ≡ None) }
+        ensures loops { (id : Number) → look (state_of_tree self.old) from.now old.now ≡ Some id → (result ≡ Err MoveError.Loop) ↔ (would_loop (state_of_tree self.old) id to.now ≡ true) }
+        ensures removed { (id : Number) → look (state_of_tree self.old) from.now old.now ≡ Some id → (result ≡ Err MoveError.Removed) ↔ (would_loop (state_of_tree self.old) id to.now ≡ false) × (is_removed (state_of_tree self.old) to.now ≡ true) }
+        ensures err { OnErr result (self.new ≡ self.old) }
+    {
+        let Some(id) = self.entries.look(from, old) else {
+            return Err(MoveError::Absent);
+        };
+        if self.would_loop(&id, to) {
+            return Err(MoveError::Loop);
+        }
+        if self.is_removed(to) {
+            return Err(MoveError::Removed);
+        }
+        if same_spot(from, old, to, new) {
+            return Ok(());
+        }
+        self.entries.relocate(from, old, to, new, &id)?;
+        Ok(())
+    }
+
+    /// Whether a directory is another one or lies under it.
+    pub fn under(&self, dir: &Oid, top: &Oid) -> bool
+        requires { IsDir self.now.nodes.table.objects dir.now }
+        ensures { result ≡ is_under (state_of_tree self.now) dir.now top.now }
+    {
+        let mut current = *dir;
+        let mut left = self.entries.total();
+        'up: while !same(&current, top) {
+            if left == 0 {
+                return false;
+            }
+            let Some(above) = self.entries.holder(&current) else {
+                return false;
+            };
+            current = above;
+            left -= 1;
+        }
+        true
+    }
+}
+
+impl Buffers for Tree {
+    ghost use Rattle.std.specs.Prelude.{◌≡◌, refl};
+    ghost use Rattle.std.proofs.Common.{◌∙◌};
+
+    ghost objects = { λ t. t.nodes.table.objects };
+
+    ghost rest_same = { λ a b. (b.nodes.table.numbers ≡ a.nodes.table.numbers) × (b.entries ≡ a.entries) };
+
+    fn object(&self, id: &Oid) -> Option<&Object> {
+        self.nodes.get(id)
+    }
+
+    fn put_bytes(&mut self, id: &Oid, bytes: &[u8]) -> Result<(), NoMemory> {
+        self.nodes.put_bytes(id, bytes)
+    }
+
+    fn take_bytes(&mut self, id: &Oid, buf: &mut [u8]) -> usize {
+        self.nodes.take_bytes(id, buf)
+    }
+
+    fn drop_bytes(&mut self, id: &Oid) {
+        self.nodes.drop_bytes(id);
+    }
+
+    ghost reflexive = { λ x. (refl, refl) };
+
+    ghost transitive = { λ x y z p q. (q.0 ∙ p.0, q.1 ∙ p.1) };
+}
