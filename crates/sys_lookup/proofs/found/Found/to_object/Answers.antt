@@ -1,0 +1,9 @@
+use Rattle.std.proofs.Common.{sym, subst}
+use Rattle.kern_model.specs.Walk.{to_object}
+use Rattle.chk_rules.specs.Ends.{GoesOn}
+use Rattle.sys_lookup.specs.Walks.{found_of}
+use Rattle.sys_lookup.specs.declared.found.Found.{Found}
+use Rattle.sys_lookup.proofs.found.Found.to_object.Goals as goal
+
+pub returns-in-Entry : goal.returns-in-Entry
+returns-in-Entry c = λ log. subst (λ (w : Found). GoesOn log (to_object (found_of w)) c.present.result log) (sym c.in-Entry.is) (c.present.ensures log)

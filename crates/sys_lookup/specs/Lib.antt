@@ -1,0 +1,3 @@
+pub mod PlaysRow
+pub mod Shared
+pub mod Walks
