@@ -1,9 +1,11 @@
 // What a walk found, and what rows ask of it.
-ghost use Rattle.std.specs.Prelude.{◌≡◌};
+ghost use Rattle.std.specs.Prelude.{◌≡◌, None, Some, IfOk};
+ghost use Rattle.kern_model.specs.State.{State};
 ghost use Rattle.kern_model.specs.Walk.{or_missing, to_entry, to_entry_of_object, to_new_name, to_object};
+ghost use Rattle.kern_model.specs.declared.numbers.Oid.{Oid as Number};
 ghost use Rattle.chk_rules.specs.CheckLog.{CheckLog};
 ghost use Rattle.chk_rules.specs.Ends.{GoesOn};
-ghost use Rattle.sys_lookup.specs.Walks.{found_of};
+ghost use Rattle.sys_lookup.specs.Walks.{IsEntry, IsFound, IsLedTo, found_of};
 
 use chk_rules::Stop;
 use kern_model::{Errno, Name, Oid};
@@ -21,7 +23,8 @@ impl Found {
     /// The object at the end of the path, or a refusal where there is none.
     #[tactic(auto, unfolding(kern_model::specs::Row::judge, chk_rules::specs::Ends::EndsBy))]
     pub fn to_object(&self) -> Result<Oid, Stop>
-        ensures { (log : CheckLog) → GoesOn log (to_object (found_of self.now)) result log }
+        ensures step { (log : CheckLog) → GoesOn log (to_object (found_of self.now)) result log }
+        ensures led { (s : State) (start : Number) → IsFound s start self.now → IfOk result (IsLedTo s start) }
     {
         match self {
             Found::Start(id) => Ok(*id),
@@ -32,7 +35,8 @@ impl Found {
     /// The directory and the name of an object that is to be made, or a refusal where the name is taken.
     #[tactic(auto, unfolding(kern_model::specs::Row::judge, chk_rules::specs::Ends::EndsBy))]
     pub fn into_new_name(self) -> Result<(Oid, Name), Stop>
-        ensures { (log : CheckLog) → GoesOn log (λ rest. to_new_name (found_of self) (λ dir name. rest (dir, name))) result log }
+        ensures entry { (s : State) (start : Number) → IsFound s start self → IfOk result (λ e. IsEntry s e.0 e.1 None) }
+        ensures step { (log : CheckLog) → GoesOn log (λ rest. to_new_name (found_of self) (λ dir name. rest (dir, name))) result log }
     {
         match self {
             Found::Entry(dir, name, None) => Ok((dir, name)),
@@ -43,7 +47,8 @@ impl Found {
     /// The directory, the name and its object, if it has one, or a refusal where the path has no names.
     #[tactic(auto, unfolding(kern_model::specs::Row::judge, chk_rules::specs::Ends::EndsBy))]
     pub fn into_entry(self) -> Result<(Oid, Name, Option<Oid>), Stop>
-        ensures { (log : CheckLog) → GoesOn log (λ rest. to_entry (found_of self) (λ dir name object. rest (dir, name, object))) result log }
+        ensures entry { (s : State) (start : Number) → IsFound s start self → IfOk result (λ e. IsEntry s e.0 e.1 e.2) }
+        ensures step { (log : CheckLog) → GoesOn log (λ rest. to_entry (found_of self) (λ dir name object. rest (dir, name, object))) result log }
     {
         match self {
             Found::Start(_) => Err(Stop::Refused(Errno::EBUSY)),
@@ -54,7 +59,8 @@ impl Found {
     /// The directory, the name and its object, or a refusal where there is none.
     #[tactic(auto, unfolding(kern_model::specs::Row::judge, chk_rules::specs::Ends::EndsBy))]
     pub fn into_entry_of_object(self) -> Result<(Oid, Name, Oid), Stop>
-        ensures { (log : CheckLog) → GoesOn log (λ rest. to_entry_of_object (found_of self) (λ dir name id. rest (dir, name, id))) result log }
+        ensures entry { (s : State) (start : Number) → IsFound s start self → IfOk result (λ e. IsEntry s e.0 e.1 (Some e.2)) }
+        ensures step { (log : CheckLog) → GoesOn log (λ rest. to_entry_of_object (found_of self) (λ dir name id. rest (dir, name, id))) result log }
     {
         let (dir, name, object) = self.into_entry()?;
         let id = present(object)?;
@@ -65,7 +71,8 @@ impl Found {
 /// The object, or a refusal where there is none.
 #[tactic(auto, unfolding(kern_model::specs::Row::judge, chk_rules::specs::Ends::EndsBy))]
 pub fn present(object: Option<Oid>) -> Result<Oid, Stop>
-    ensures { (log : CheckLog) → GoesOn log (or_missing object) result log }
+    ensures step { (log : CheckLog) → GoesOn log (or_missing object) result log }
+    ensures some { IfOk result (λ id. object ≡ Some id) }
 {
     match object {
         Some(id) => Ok(id),

@@ -1,9 +1,11 @@
 // The walk of a path.
-ghost use Rattle.std.specs.Prelude.{◌≡◌, ◌≤◌, ◌+◌, length};
-ghost use Rattle.kern_model.specs.Walk.{enter, last_place, reach, walk, walk_from};
+ghost use Rattle.std.specs.Prelude.{◌≡◌, ◌≤◌, ◌+◌, ◌∷◌, length, IfOk, OnOk};
+ghost use Rattle.kern_model.specs.Walk.{enter, last_place, reach, start_of, walk, walk_from};
+ghost use Rattle.kern_model.specs.Valid.{IsDir};
+ghost use Rattle.kern_model.specs.declared.numbers.Oid.{Oid as Number};
 ghost use Rattle.chk_rules.specs.Ends.{GoesOn};
 ghost use Rattle.sys_lookup.specs.Shared.{state_of};
-ghost use Rattle.sys_lookup.specs.Walks.{find_name, found_by, pass_name, place_in};
+ghost use Rattle.sys_lookup.specs.Walks.{IsFound, IsLedTo, find_name, found_by, pass_name, place_in};
 
 use crate::argument::PathArgument;
 use crate::caller::Caller;
@@ -14,8 +16,14 @@ use kern_model::{Errno, Name, Oid, Path, Place};
 
 impl Caller<'_> {
     /// Walks a path to an object that is there, and returns its number and its place.
-    pub fn reach(&self, checks: &mut Checks, which: PathArgument, path: &Path) -> Result<(Oid, Place), Stop>
-        ensures { GoesOn checks.old (λ rest. reach (state_of self.now.shared.now) self.now.process.now (place_in which) path.now (λ id. rest (id, last_place (place_in which) path.now))) result checks.new }
+    pub fn reach(
+        &self,
+        checks: &mut Checks,
+        which: PathArgument,
+        path: &Path,
+    ) -> Result<(Oid, Place), Stop>
+        ensures step { GoesOn checks.old (λ rest. reach (state_of self.now.shared.now) self.now.process.now (place_in which) path.now (λ id. rest (id, last_place (place_in which) path.now))) result checks.new }
+        ensures led { IfOk result (λ r. IsLedTo (state_of self.now.shared.now) (start_of self.now.process.now path.now) r.0) }
     {
         let found = self.walk(checks, which, path)?;
         let id = found.to_object()?;
@@ -23,8 +31,14 @@ impl Caller<'_> {
     }
 
     /// Walks a path from where it starts. Its last name may be absent.
-    pub fn walk(&self, checks: &mut Checks, which: PathArgument, path: &Path) -> Result<Found, Stop>
-        ensures { GoesOn checks.old (walk (state_of self.now.shared.now) self.now.process.now (place_in which) path.now) (found_by result) checks.new }
+    pub fn walk(
+        &self,
+        checks: &mut Checks,
+        which: PathArgument,
+        path: &Path,
+    ) -> Result<Found, Stop>
+        ensures step { GoesOn checks.old (walk (state_of self.now.shared.now) self.now.process.now (place_in which) path.now) (found_by result) checks.new }
+        ensures found { IfOk result (IsFound (state_of self.now.shared.now) (start_of self.now.process.now path.now)) }
     {
         let process = self.process;
         let start = if path.absolute {
@@ -32,12 +46,16 @@ impl Caller<'_> {
         } else {
             process.cwd
         };
-        self.walk_from(checks, which, 0, start, path.components())
+        match path.components() {
+            [] => Ok(Found::Start(start)),
+            [first, rest @ ..] => self.walk_from(checks, which, 0, start, first, rest),
+        }
     }
 
     /// Enters a directory: it may be read, is a directory, and may be searched.
     pub fn enter(&self, checks: &mut Checks, dir: &Oid, place: Place) -> Result<(), Stop>
-        ensures { GoesOn checks.old (λ rest. enter (state_of self.now.shared.now) self.now.process.now dir.now place (rest tt)) result checks.new }
+        ensures step { GoesOn checks.old (λ rest. enter (state_of self.now.shared.now) self.now.process.now dir.now place (rest tt)) result checks.new }
+        ensures dir { OnOk result (IsDir (state_of self.now.shared.now).objects dir.now) }
     {
         let object = self.shared.metadata(dir);
         self.mac_read(checks, &object, place)?;
@@ -45,24 +63,25 @@ impl Caller<'_> {
         self.dac_search(checks, &object, place)
     }
 
-    // Walks names from a directory, which is reached after so many names of the path.
+    // Walks a name and the rest of a path from a directory, which is reached after so many names.
     fn walk_from(
         &self,
         checks: &mut Checks,
         which: PathArgument,
         at: u8,
         dir: Oid,
-        names: &[Name],
+        name: &Name,
+        rest: &[Name],
     ) -> Result<Found, Stop>
-        requires { at + length names.now ≤ 32 }
-        ensures { GoesOn checks.old (walk_from (state_of self.now.shared.now) self.now.process.now (place_in which) at dir names.now) (found_by result) checks.new }
+        requires { at + length rest.now ≤ 31 }
+        ensures step { GoesOn checks.old (walk_from (state_of self.now.shared.now) self.now.process.now (place_in which) at dir (name.now ∷ rest.now)) (found_by result) checks.new }
+        ensures found { (start : Number) → IfOk result (IsFound (state_of self.now.shared.now) start) }
     {
-        match names {
-            [] => Ok(Found::Start(dir)),
-            [name] => self.find(checks, which.place(at), dir, name),
-            [name, rest @ ..] => {
-                let next = self.pass(checks, which.place(at), dir, name)?;
-                self.walk_from(checks, which, at + 1, next, rest)
+        match rest {
+            [] => self.find(checks, which.place(at), dir, name),
+            [next, rest @ ..] => {
+                let dir = self.pass(checks, which.place(at), dir, name)?;
+                self.walk_from(checks, which, at + 1, dir, next, rest)
             }
         }
     }
@@ -76,7 +95,8 @@ impl Caller<'_> {
         dir: Oid,
         name: &Name,
     ) -> Result<Found, Stop>
-        ensures { GoesOn checks.old (find_name (state_of self.now.shared.now) self.now.process.now place dir name.now) (found_by result) checks.new }
+        ensures step { GoesOn checks.old (find_name (state_of self.now.shared.now) self.now.process.now place dir name.now) (found_by result) checks.new }
+        ensures found { (start : Number) → IfOk result (IsFound (state_of self.now.shared.now) start) }
     {
         self.enter(checks, &dir, place)?;
         let object = self.shared.tree.look(&dir, name);

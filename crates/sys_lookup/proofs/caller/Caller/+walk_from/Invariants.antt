@@ -2,4 +2,4 @@ use Rattle.std.proofs.Common.{length}
 use Rattle.sys_lookup.proofs.caller.Caller.+walk_from.Given as goal
 
 abbrev pub decreases-walk_from : goal.decreases-walk_from
-decreases-walk_from l = length l.names.now
+decreases-walk_from l = length l.rest.now
