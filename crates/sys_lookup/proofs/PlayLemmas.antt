@@ -1,17 +1,19 @@
 -- The body of a call along its row, step by step.
-use Rattle.std.specs.Prelude.{◌≡◌, List, Option, Some, Result, Ok, Err}
+use Rattle.std.specs.Prelude.{◌≡◌, Bool, List, Option, Some, Result, Ok, Err}
 use Rattle.std.specs.FinMap as map
 use Rattle.std.specs.Result.{IsErrAnd}
+use Rattle.std.specs.declared.alloc.AllocError.{AllocError}
 use Rattle.std.proofs.Common.{sym, ◌∙◌, subst}
 use Rattle.kern_model.specs.declared.calls.Answer.{Answer}
+use Rattle.kern_model.specs.declared.calls.Errno.{Errno}
 use Rattle.kern_model.specs.declared.numbers.Pid.{Pid}
 use Rattle.kern_model.specs.declared.records.Rec.{Rec}
 use Rattle.kern_model.specs.declared.checks.Check.{Check}
-use Rattle.kern_model.specs.Row.{Row, Need, Commit}
+use Rattle.kern_model.specs.Row.{Row, Need, Refuse, Commit}
 use Rattle.kern_model.specs.State.{State, Process, Change, changed_by}
 use Rattle.kern_model.proofs.MapLemmas.{some_same}
 use Rattle.kern_model.proofs.RowLemmas.{judge-give}
-use Rattle.chk_rules.specs.CheckLog.{CheckLog}
+use Rattle.chk_rules.specs.CheckLog.{CheckLog, judge_from}
 use Rattle.chk_rules.specs.Ends.{EndsBy, GoesOn}
 use Rattle.chk_rules.specs.declared.stop.Stop.{Stop}
 use Rattle.chk_rules.specs.declared.stop.Stop.TheVariants as stop
@@ -66,6 +68,23 @@ module _ {X : Type 0} {a b : CheckLog} {check : Check} {y : X} {s t : State} {ro
   pub need_stops_row : {how : Stop} (r : Result Effect Stop) → IsErrAnd r (λ e. e ≡ how) → t ≡ s → GoesOn a (λ (rest : X → Row). Need check (rest y)) (Err how) b → PlaysRow s a (Need check row) r t b
   need_stops_row r is same step = item_stops_row (Need check) r is same step
 
+module _ {X : Type 0} {a b : CheckLog} {errno : Errno} {holds : Bool} {y : X} {s t : State} {row : Row} where
+  pub refuse_plays : {c : CheckLog} {x : X} {r : Result Effect Stop} → GoesOn a (λ (rest : X → Row). Refuse errno holds (rest y)) (Ok x) b → PlaysRow s b row r t c → PlaysRow s a (Refuse errno holds row) r t c
+  refuse_plays step plays = item_plays (Refuse errno holds) step plays
+
+  pub refuse_stops_row : {how : Stop} (r : Result Effect Stop) → IsErrAnd r (λ e. e ≡ how) → t ≡ s → GoesOn a (λ (rest : X → Row). Refuse errno holds (rest y)) (Err how) b → PlaysRow s a (Refuse errno holds row) r t b
+  refuse_stops_row r is same step = item_stops_row (Refuse errno holds) r is same step
+
+-- memory runs out
+pub no_memory_row : {s t : State} {a b : CheckLog} {row : Row} {m : AllocError} (r : Result Effect Stop) → IsErrAnd r (λ e. e ≡ stop.NoMemory m) → PlaysRow s a row r t b
+unfolding EndsBy Keeps
+no_memory_row (Ok effect) is = absurd is
+no_memory_row {s = s} {t = t} {a = a} {b = b} {row = row} (Err how) is = record {
+  completes = tt;
+  ends = subst (λ h. EndsBy (judge_from a row) b h) (sym is) tt;
+  keeps = subst (λ h. Keeps h s t) (sym is) tt;
+}
+
 -- the row ends, and its changes are made
 pub commits : (s t : State) (log : CheckLog) (changes : List Change) (answer : Answer) (own : Option Rec) → t ≡ changed_by s changes → PlaysRow s log (Commit changes answer own) (Ok (record { answer = answer; own = own })) t log
 commits s t log changes answer own made = record {
@@ -73,6 +92,10 @@ commits s t log changes answer own made = record {
   ends = tt;
   keeps = tt;
 }
+
+-- the same with an equal answer
+pub equal_answer : {s t : State} {a b : CheckLog} {r : Result Effect Stop} {changes : List Change} {own : Option Rec} {given answer : Answer} → given ≡ answer → PlaysRow s a (Commit changes given own) r t b → PlaysRow s a (Commit changes answer own) r t b
+equal_answer {s = s} {t = t} {a = a} {b = b} {r = r} {changes = changes} {own = own} same plays = subst (λ x. PlaysRow s a (Commit changes x own) r t b) same plays
 
 -- the row of the living process that was found is that of the caller
 pub caller_plays : {s t : State} {a b : CheckLog} {r : Result Effect Stop} (row : Process → Row) (who : Pid) (q p : Process) → Some q ≡ map.get s.procs who → map.get s.procs who ≡ Some p → PlaysRow s a (row q) r t b → PlaysRow s a (row p) r t b
