@@ -1,3 +1,4 @@
 pub mod CheckLemmas
 pub mod PlayLemmas
+pub mod StopLemmas
 pub mod WalkLemmas

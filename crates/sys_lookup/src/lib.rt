@@ -8,7 +8,8 @@ mod directories;
 mod effect;
 mod found;
 mod shared;
-mod walk;
+mod walk_stop;
+mod walking;
 
 pub use argument::PathArgument;
 pub use caller::Caller;
@@ -16,3 +17,4 @@ pub use effect::Effect;
 pub use found::Found;
 pub use kern_model::NoMemory;
 pub use shared::{Metadata, Shared};
+pub use walk_stop::{WalkStop, walk};
