@@ -10,7 +10,7 @@ use Rattle.kern_model.specs.declared.checks.Place.{Place}
 use Rattle.kern_model.specs.declared.numbers.Oid.{Oid}
 use Rattle.kern_model.specs.declared.records.Rec.{Rec}
 use Rattle.kern_model.specs.Kinds.{is_dir}
-use Rattle.kern_model.specs.Row.{Row, Need, Refuse, Fail, Commit, Subject, Stopped, Refused, Done, check_outcome, judge, is_denied, noted, verdict_of}
+use Rattle.kern_model.specs.Row.{Row, Need, Refuse, Commit, Subject, Stopped, Refused, Done, check_outcome, judge, is_denied, noted, verdict_of}
 use Rattle.kern_model.specs.Rules.{mac_read, dac_search}
 use Rattle.kern_model.specs.State.{State, Process, look, object_at}
 use Rattle.kern_model.specs.Walk.{Found, Start, Entry, enter, or_missing, walk_from}

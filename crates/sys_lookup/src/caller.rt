@@ -34,7 +34,12 @@ impl Caller<'_> {
     }
 
     /// Checks that the caller may write an object.
-    pub fn mac_write(&self, checks: &mut Checks, object: &Metadata, place: Place) -> Result<(), Stop>
+    pub fn mac_write(
+        &self,
+        checks: &mut Checks,
+        object: &Metadata,
+        place: Place,
+    ) -> Result<(), Stop>
         ensures { (s : State) (id : Oid) → object.now ≡ metadata_of s id → GoesOn checks.old (λ rest. Need (mac_write s self.now.process.now id place) (rest tt)) result checks.new }
     {
         let process = self.process;
@@ -51,7 +56,12 @@ impl Caller<'_> {
     }
 
     /// Checks that the mode of an object lets the caller write it.
-    pub fn dac_write(&self, checks: &mut Checks, object: &Metadata, place: Place) -> Result<(), Stop>
+    pub fn dac_write(
+        &self,
+        checks: &mut Checks,
+        object: &Metadata,
+        place: Place,
+    ) -> Result<(), Stop>
         ensures { (s : State) (id : Oid) → object.now ≡ metadata_of s id → GoesOn checks.old (λ rest. Need (dac_write s self.now.process.now id place) (rest tt)) result checks.new }
     {
         let holds = self.mode_lets(object, Want::Write);
@@ -75,11 +85,19 @@ impl Caller<'_> {
     }
 
     /// Checks that a name of an object may be unlinked: it is no directory.
-    pub fn unlink_dir(&self, checks: &mut Checks, object: &Metadata, place: Place) -> Result<(), Stop>
+    pub fn unlink_dir(
+        &self,
+        checks: &mut Checks,
+        object: &Metadata,
+        place: Place,
+    ) -> Result<(), Stop>
         ensures { (s : State) (id : Oid) → object.now ≡ metadata_of s id → GoesOn checks.old (λ rest. Need (unlink_dir s id place) (rest tt)) result checks.new }
     {
         let holds = !object.is_directory();
-        must(checks, &check_of(CheckName::UnlinkDir, holds, object, place))
+        must(
+            checks,
+            &check_of(CheckName::UnlinkDir, holds, object, place),
+        )
     }
 
     /// The check of a directory in which the caller makes an object: the order of labels holds.
@@ -111,7 +129,12 @@ impl Caller<'_> {
 fn label_order(label: &Label, dir: &Metadata, place: Place) -> Check
     ensures { result ≡ record { name = check.LabelOrder; holds = dominates label.now dir.now.label; thing = thing.Object dir.now.id; thing_label = dir.now.label; new_label = None; place = place } }
 {
-    check_of(CheckName::LabelOrder, label.dominates(&dir.label), dir, place)
+    check_of(
+        CheckName::LabelOrder,
+        label.dominates(&dir.label),
+        dir,
+        place,
+    )
 }
 
 // A check of an object, given whether its rule holds.

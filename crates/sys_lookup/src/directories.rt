@@ -25,7 +25,12 @@ impl Caller<'_> {
     }
 
     /// Writes an object, by label, and returns its metadata.
-    pub fn write_object(&self, checks: &mut Checks, id: &Oid, place: Place) -> Result<Metadata, Stop>
+    pub fn write_object(
+        &self,
+        checks: &mut Checks,
+        id: &Oid,
+        place: Place,
+    ) -> Result<Metadata, Stop>
         ensures step { GoesOn checks.old (λ rest. Need (mac_write (state_of self.now.shared.now) self.now.process.now id.now place) (rest (metadata_of (state_of self.now.shared.now) id.now))) result checks.new }
         ensures object { IfOk result (λ object. object ≡ metadata_of (state_of self.now.shared.now) id.now) }
     {

@@ -31,12 +31,7 @@ impl Caller<'_> {
     }
 
     /// Walks a path from where it starts. Its last name may be absent.
-    pub fn walk(
-        &self,
-        checks: &mut Checks,
-        which: PathArgument,
-        path: &Path,
-    ) -> Result<Found, Stop>
+    pub fn walk(&self, checks: &mut Checks, which: PathArgument, path: &Path) -> Result<Found, Stop>
         ensures step { GoesOn checks.old (walk (state_of self.now.shared.now) self.now.process.now (place_in which) path.now) (found_by result) checks.new }
         ensures found { IfOk result (IsFound (state_of self.now.shared.now) (start_of self.now.process.now path.now)) }
     {
@@ -88,13 +83,7 @@ impl Caller<'_> {
 
     // Looks up the last name of a walk, which may be absent.
     #[tactic(auto, unfolding(chk_rules::specs::Ends::EndsBy))]
-    fn find(
-        &self,
-        checks: &mut Checks,
-        place: Place,
-        dir: Oid,
-        name: &Name,
-    ) -> Result<Found, Stop>
+    fn find(&self, checks: &mut Checks, place: Place, dir: Oid, name: &Name) -> Result<Found, Stop>
         ensures step { GoesOn checks.old (find_name (state_of self.now.shared.now) self.now.process.now place dir name.now) (found_by result) checks.new }
         ensures found { (start : Number) → IfOk result (IsFound (state_of self.now.shared.now) start) }
     {
@@ -104,13 +93,7 @@ impl Caller<'_> {
     }
 
     // Looks up a name that is not the last: it leads to where the walk goes on.
-    fn pass(
-        &self,
-        checks: &mut Checks,
-        place: Place,
-        dir: Oid,
-        name: &Name,
-    ) -> Result<Oid, Stop>
+    fn pass(&self, checks: &mut Checks, place: Place, dir: Oid, name: &Name) -> Result<Oid, Stop>
         ensures { GoesOn checks.old (pass_name (state_of self.now.shared.now) self.now.process.now place dir name.now) result checks.new }
     {
         self.enter(checks, &dir, place)?;
