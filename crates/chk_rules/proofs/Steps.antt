@@ -40,28 +40,28 @@ module _ {X Y : Type 0} {a b : CheckLog} {part : (X → Row) → Row} where
 pub gives : {X : Type 0} {a : CheckLog} {x y : X} → x ≡ y → GoesOn a (λ (rest : X → Row). rest y) (Ok x) a
 gives {a = a} is = record { continues = λ rest. ap (λ z. judge_from a (rest z)) (sym is); stops = tt; subject = refl }
 
--- An item of a row, as `Need check` or `Refuse errno holds`, is a step that gives no value.
-module _ {Y : Type 0} {a b : CheckLog} (item : Row → Row) where
+-- An item of a row, as `Need check` or `Refuse errno holds`, is a step with one value.
+module _ {X Y : Type 0} {a b : CheckLog} (item : Row → Row) {y : X} where
   -- where the item lets the row go on, the next step is made after it
-  pub item_goes : {c : CheckLog} {x : ⊤} {part : (Y → Row) → Row} {r : Result Y Stop} → GoesOn a (λ (rest : ⊤ → Row). item (rest tt)) (Ok x) b → GoesOn b part r c → GoesOn a (λ rest. item (part rest)) r c
+  pub item_goes : {c : CheckLog} {x : X} {part : (Y → Row) → Row} {r : Result Y Stop} → GoesOn a (λ (rest : X → Row). item (rest y)) (Ok x) b → GoesOn b part r c → GoesOn a (λ rest. item (part rest)) r c
   item_goes {part = part} first second = then_goes {next = λ _ rest. part rest} first second
 
   -- where the item stops the row, the body stops
-  pub item_stops : {part : (Y → Row) → Row} {how : Stop} (r : Result Y Stop) → IsErrAnd r (λ e. e ≡ how) → GoesOn a (λ (rest : ⊤ → Row). item (rest tt)) (Err how) b → GoesOn a (λ rest. item (part rest)) r b
+  pub item_stops : {part : (Y → Row) → Row} {how : Stop} (r : Result Y Stop) → IsErrAnd r (λ e. e ≡ how) → GoesOn a (λ (rest : X → Row). item (rest y)) (Err how) b → GoesOn a (λ rest. item (part rest)) r b
   item_stops {part = part} r is step = stops_there {next = λ _ rest. part rest} r is step
 
-module _ {Y : Type 0} {a b : CheckLog} {check : Check} where
-  pub need_goes : {c : CheckLog} {x : ⊤} {part : (Y → Row) → Row} {r : Result Y Stop} → GoesOn a (λ (rest : ⊤ → Row). Need check (rest tt)) (Ok x) b → GoesOn b part r c → GoesOn a (λ rest. Need check (part rest)) r c
+module _ {X Y : Type 0} {a b : CheckLog} {check : Check} {y : X} where
+  pub need_goes : {c : CheckLog} {x : X} {part : (Y → Row) → Row} {r : Result Y Stop} → GoesOn a (λ (rest : X → Row). Need check (rest y)) (Ok x) b → GoesOn b part r c → GoesOn a (λ rest. Need check (part rest)) r c
   need_goes first second = item_goes (Need check) first second
 
-  pub need_stops : {part : (Y → Row) → Row} {how : Stop} (r : Result Y Stop) → IsErrAnd r (λ e. e ≡ how) → GoesOn a (λ (rest : ⊤ → Row). Need check (rest tt)) (Err how) b → GoesOn a (λ rest. Need check (part rest)) r b
+  pub need_stops : {part : (Y → Row) → Row} {how : Stop} (r : Result Y Stop) → IsErrAnd r (λ e. e ≡ how) → GoesOn a (λ (rest : X → Row). Need check (rest y)) (Err how) b → GoesOn a (λ rest. Need check (part rest)) r b
   need_stops r is step = item_stops (Need check) r is step
 
-module _ {Y : Type 0} {a b : CheckLog} {errno : Errno} {holds : Bool} where
-  pub refuse_goes : {c : CheckLog} {x : ⊤} {part : (Y → Row) → Row} {r : Result Y Stop} → GoesOn a (λ (rest : ⊤ → Row). Refuse errno holds (rest tt)) (Ok x) b → GoesOn b part r c → GoesOn a (λ rest. Refuse errno holds (part rest)) r c
+module _ {X Y : Type 0} {a b : CheckLog} {errno : Errno} {holds : Bool} {y : X} where
+  pub refuse_goes : {c : CheckLog} {x : X} {part : (Y → Row) → Row} {r : Result Y Stop} → GoesOn a (λ (rest : X → Row). Refuse errno holds (rest y)) (Ok x) b → GoesOn b part r c → GoesOn a (λ rest. Refuse errno holds (part rest)) r c
   refuse_goes first second = item_goes (Refuse errno holds) first second
 
-  pub refuse_stops : {part : (Y → Row) → Row} {how : Stop} (r : Result Y Stop) → IsErrAnd r (λ e. e ≡ how) → GoesOn a (λ (rest : ⊤ → Row). Refuse errno holds (rest tt)) (Err how) b → GoesOn a (λ rest. Refuse errno holds (part rest)) r b
+  pub refuse_stops : {part : (Y → Row) → Row} {how : Stop} (r : Result Y Stop) → IsErrAnd r (λ e. e ≡ how) → GoesOn a (λ (rest : X → Row). Refuse errno holds (rest y)) (Err how) b → GoesOn a (λ rest. Refuse errno holds (part rest)) r b
   refuse_stops r is step = item_stops (Refuse errno holds) r is step
 
 module _ {a b : CheckLog} {r : Result ⊤ Stop} where

@@ -2,7 +2,7 @@
 ghost use Rattle.std.specs.Prelude.{◌≡◌, ◌≤◌, ◌==◌};
 ghost use Rattle.std.specs.List.{list_any};
 ghost use Rattle.lab_lattice.specs.Label.{dominates};
-ghost use Rattle.kern_model.specs.Rules.{class_shift, is_member, mode_allows as mode_lets, want_bit};
+ghost use Rattle.kern_model.specs.Rules.{class_shift, is_member, mode_allows as mode_lets, same_label, want_bit};
 
 use kern_model::{Attr, Gid, Ids, Want};
 use lab_lattice::{Label, Lattice};
@@ -12,6 +12,13 @@ pub fn mac_read_ok(process: &Label, thing: &Label) -> bool
     ensures { result ≡ dominates process.now thing.now }
 {
     process.dominates(thing)
+}
+
+/// The rule of `mac_write`: whether the process's label is that of the thing.
+pub fn mac_write_ok(process: &Label, thing: &Label) -> bool
+    ensures { result ≡ same_label process.now thing.now }
+{
+    mac_read_ok(process, thing) && thing.dominates(process)
 }
 
 /// The rule of modes: whether the bits of the caller's class allow what is wanted. The owner's bits count for the

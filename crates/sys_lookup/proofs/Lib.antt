@@ -1,0 +1,4 @@
+pub mod CheckLemmas
+pub mod PlayLemmas
+pub mod StopLemmas
+pub mod WalkLemmas

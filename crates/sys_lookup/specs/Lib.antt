@@ -1,0 +1,4 @@
+pub mod PlaysRow
+pub mod Shared
+pub mod WalkStops
+pub mod Walks

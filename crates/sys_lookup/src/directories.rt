@@ -1,0 +1,95 @@
+// What rows ask of a directory that is written.
+ghost use Rattle.std.specs.Prelude.{◌≡◌, IfOk};
+ghost use Rattle.kern_model.specs.Create.{enter_in, make_in, write_directory};
+ghost use Rattle.kern_model.specs.Row.{Need};
+ghost use Rattle.kern_model.specs.Rules.{mac_read, mac_write};
+ghost use Rattle.kern_model.specs.TreeRows.{leave_from};
+ghost use Rattle.chk_rules.specs.Ends.{GoesOn};
+ghost use Rattle.sys_lookup.specs.Shared.{metadata_of, state_of};
+
+use crate::argument::PathArgument;
+use crate::caller::Caller;
+use crate::shared::Metadata;
+use chk_rules::{Checks, Stop, must, refuse_if};
+use kern_model::{Check, Errno, Oid, Path, Place};
+
+impl Caller<'_> {
+    /// Reads an object, by label, and returns its metadata.
+    pub fn read_object(&self, checks: &mut Checks, id: &Oid, place: Place) -> Result<Metadata, Stop>
+        ensures step { GoesOn checks.old (λ rest. Need (mac_read (state_of self.now.shared.now) self.now.process.now id.now place) (rest (metadata_of (state_of self.now.shared.now) id.now))) result checks.new }
+        ensures object { IfOk result (λ object. object ≡ metadata_of (state_of self.now.shared.now) id.now) }
+    {
+        let object = self.shared.metadata(id);
+        self.mac_read(checks, &object, place)?;
+        Ok(object)
+    }
+
+    /// Writes an object, by label, and returns its metadata.
+    pub fn write_object(
+        &self,
+        checks: &mut Checks,
+        id: &Oid,
+        place: Place,
+    ) -> Result<Metadata, Stop>
+        ensures step { GoesOn checks.old (λ rest. Need (mac_write (state_of self.now.shared.now) self.now.process.now id.now place) (rest (metadata_of (state_of self.now.shared.now) id.now))) result checks.new }
+        ensures object { IfOk result (λ object. object ≡ metadata_of (state_of self.now.shared.now) id.now) }
+    {
+        let object = self.shared.metadata(id);
+        self.mac_write(checks, &object, place)?;
+        Ok(object)
+    }
+
+    /// Writes a directory, by label and mode, where the order of labels holds.
+    pub fn write_directory(
+        &self,
+        checks: &mut Checks,
+        dir: &Oid,
+        place: Place,
+        order: &Check,
+    ) -> Result<(), Stop>
+        ensures { GoesOn checks.old (λ rest. write_directory (state_of self.now.shared.now) self.now.process.now dir.now place order.now (rest tt)) result checks.new }
+    {
+        let object = self.write_object(checks, dir, place)?;
+        self.dac_write(checks, &object, place)?;
+        must(checks, order)
+    }
+
+    /// Writes a directory in which an entry is to be made. It may not be removed.
+    pub fn enter_in(
+        &self,
+        checks: &mut Checks,
+        dir: &Oid,
+        place: Place,
+        order: &Check,
+    ) -> Result<(), Stop>
+        ensures { GoesOn checks.old (λ rest. enter_in (state_of self.now.shared.now) self.now.process.now dir.now place order.now (rest tt)) result checks.new }
+    {
+        self.write_directory(checks, dir, place, order)?;
+        refuse_if(self.shared.tree.is_removed(dir), Errno::ENOENT)
+    }
+
+    /// Writes a directory in which the caller is to make an object.
+    pub fn make_in(&self, checks: &mut Checks, dir: &Oid, place: Place) -> Result<(), Stop>
+        ensures { GoesOn checks.old (λ rest. make_in (state_of self.now.shared.now) self.now.process.now dir.now place (rest tt)) result checks.new }
+    {
+        self.enter_in(checks, dir, place, &self.created_order(dir, place))
+    }
+
+    /// Writes the directory from which the entry at the end of a path is to be taken, and the entry's object, and returns the
+    /// object's metadata.
+    pub fn leave_from(
+        &self,
+        checks: &mut Checks,
+        path: &Path,
+        dir: &Oid,
+        id: &Oid,
+    ) -> Result<Metadata, Stop>
+        ensures step { GoesOn checks.old (λ rest. leave_from (state_of self.now.shared.now) self.now.process.now path.now dir.now id.now (rest (metadata_of (state_of self.now.shared.now) id.now))) result checks.new }
+        ensures object { IfOk result (λ object. object ≡ metadata_of (state_of self.now.shared.now) id.now) }
+    {
+        let place = PathArgument::First.dir_place(path);
+        let parent = self.write_object(checks, dir, place)?;
+        self.dac_write(checks, &parent, place)?;
+        self.write_object(checks, id, PathArgument::First.last_place(path))
+    }
+}

@@ -1,0 +1,20 @@
+//! What the bodies of calls share: the state that they look things up in, the caller and its checks, the walk of a path, and
+//! what it means that a body plays its row.
+#![tactic(auto)]
+
+mod argument;
+mod caller;
+mod directories;
+mod effect;
+mod found;
+mod shared;
+mod walk_stop;
+mod walking;
+
+pub use argument::PathArgument;
+pub use caller::Caller;
+pub use effect::Effect;
+pub use found::Found;
+pub use kern_model::NoMemory;
+pub use shared::{Metadata, Shared};
+pub use walk_stop::{WalkStop, walk};
