@@ -62,7 +62,7 @@ module _ {K X : Type 0} (R : K → K → Ordering) where
     | false ↦ find_both q xs ys
   ]
 
-is_less : (r : Ordering) → T (is_lt r) → r ≡ Less
+pub is_less : (r : Ordering) → T (is_lt r) → r ≡ Less
 is_less Less p = refl
 is_less Equal p = absurd p
 is_less Greater p = absurd p

@@ -17,7 +17,7 @@ use Rattle.kern_model.specs.State.{State, drawn, object_at, root}
 use Rattle.kern_model.specs.Valid.{IsDir}
 use Rattle.fs_nodes.specs.Nodes.{NodeSlots, NodeTable}
 use Rattle.fs_dirs.specs.declared.links.Links.TheVariants.{Shared}
-use Rattle.fs_dirs.specs.Entries.{EntryTable, entries_alone}
+use Rattle.fs_dirs.specs.Entries.{EntryTable, entries_alone, name_count}
 
 -- objects with their places, and the entries of directories
 pub record TreeView : Type 0 where
@@ -49,6 +49,13 @@ pub record IsTree (table : NodeTable) (t : EntryTable) : Type 0 where
   pub drawn_already : (id : Oid) (o : Object) → map.get table.objects id ≡ Some o → id.n ≤ drawn table.numbers id.label
   pub dirs : (spot : Spot) (id : Oid) → map.get t.entries spot ≡ Some id → IsDir table.objects spot.0
   pub single : (id : Oid) (n : ℕ) → map.get t.links id ≡ Some (Shared n) → IsNoDir table.objects id
+
+-- objects have numbers that were drawn, entries stand in directories, an object has few names, and a directory never several
+pub record AreEntries (table : NodeTable) (entries : FinMap spot_cmp Oid) : Type 0 where
+  pub drawn_already : (id : Oid) (o : Object) → map.get table.objects id ≡ Some o → id.n ≤ drawn table.numbers id.label
+  pub dirs : (spot : Spot) (id : Oid) → map.get entries spot ≡ Some id → IsDir table.objects spot.0
+  pub few : (id : Oid) → name_count entries id ≤ MAX_LINKS
+  pub single : (id : Oid) → 1 < name_count entries id → IsNoDir table.objects id
 
 -- an object may get one more name: it has few, is neither a pipe nor the root, and a directory gets no second one
 pub record MayBeAdded (t : TreeView) (id : Oid) : Type 0 where

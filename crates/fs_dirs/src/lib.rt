@@ -5,7 +5,9 @@ mod directory;
 mod dirs;
 mod entries;
 mod links;
+mod spots;
 mod tree;
 
 pub use fs_path::NoMemory;
+pub use spots::{Spot, Spots};
 pub use tree::{Absent, AddError, MoveError, Tree, root_directory};

@@ -13,10 +13,11 @@ ghost use Rattle.kern_model.specs.declared.objects.Object.{Object as Value};
 ghost use Rattle.fs_nodes.specs.Nodes.{IsFile, next_in, with_new, with_object};
 ghost use Rattle.kern_model.specs.Keys.{same_oid, spot_cmp};
 ghost use Rattle.fs_dirs.specs.Directory.{TakesFewSteps};
-ghost use Rattle.fs_dirs.specs.Tree.{MayBeAdded, root_alone, state_of_tree, would_loop};
+ghost use Rattle.fs_dirs.specs.Tree.{AreEntries, MayBeAdded, root_alone, state_of_tree, would_loop};
 
 use crate::NoMemory;
 use crate::entries::Entries;
+use crate::spots::Spots;
 use fs_nodes::{Buffers, NodeError, Nodes, WriteError};
 use fs_path::{Name, NameList, Steps};
 use kern_model::{Attr, Body, Kind, Object, Oid};
@@ -151,6 +152,16 @@ impl Tree {
     {
         let nodes = root_nodes(alloc, attr)?;
         let entries = Entries::new(alloc);
+        Ok(Tree { nodes, entries })
+    }
+
+    /// The tree of these objects, and of all its entries at once.
+    pub fn load(alloc: Global, nodes: Nodes, spots: Spots) -> Result<Tree, NoMemory>
+        requires { AreEntries nodes.table spots }
+        ensures nodes { IfOk result (λ tree. tree.nodes ≡ nodes) }
+        ensures entries { IfOk result (λ tree. tree.entries ≡ spots) }
+    {
+        let entries = spots.entered(alloc)?;
         Ok(Tree { nodes, entries })
     }
 

@@ -1,0 +1,76 @@
+// Entries that stand in no directory yet.
+ghost use Rattle.std.specs.Prelude.{◌≡◌, ◌<◌, ◌≤◌, ℕ, Some, IfOk, OnOk};
+ghost use Rattle.std.specs.FinMap as map;
+ghost use Rattle.kern_model.specs.declared.limits.TheConstants.{MAX_LINKS};
+ghost use Rattle.kern_model.specs.declared.numbers.Oid.{Oid as Number};
+ghost use Rattle.fs_dirs.specs.declared.links.Links.TheVariants as links;
+ghost use Rattle.fs_dirs.specs.Entries.{name_count};
+
+use crate::entries::Entries;
+use fs_path::{Name, NoMemory};
+use kern_model::Oid;
+use std::alloc::Global;
+use std::collections::BTreeMap;
+use std::marker::Model;
+
+/// The spot of an entry: the directory that holds it, and its name there.
+pub type Spot = (Oid, Name);
+
+/// Where entries lead that stand in no directory yet.
+#[derive(Drop)]
+pub struct Spots {
+    kept: BTreeMap<Spot, Oid>,
+}
+
+impl Model for Spots {
+    ghost use Rattle.std.specs.FinMap as map;
+    ghost use Rattle.std.specs.Coded.{codes};
+    ghost use Rattle.lab_lattice.specs.Label.{label_code};
+    ghost use Rattle.kern_model.specs.declared.numbers.Oid.{Oid};
+    ghost use Rattle.kern_model.specs.Keys.{spot_cmp};
+
+    ghost Value = { map.FinMap spot_cmp Oid };
+
+    ghost coded = { map.code (Prim.hlevel (codes, label_code)) (Prim.hlevel (codes, label_code)) };
+
+    ghost view = { λ a. map.from_entries a.kept.entries };
+}
+
+impl Spots {
+    /// No entry.
+    pub fn new(alloc: Global) -> Self
+        ensures { result ≡ map.empty }
+    {
+        Spots {
+            kept: BTreeMap::new(alloc),
+        }
+    }
+
+    /// Where the entry at a spot leads, if there is one.
+    pub fn get(&self, spot: &Spot) -> Option<Oid>
+        ensures { result ≡ map.get self.now spot.now }
+    {
+        self.kept.get(spot).copied()
+    }
+
+    /// Has the entry at a spot lead to an object, in place of the one to which it led.
+    pub fn set(&mut self, spot: Spot, id: Oid) -> Result<(), NoMemory>
+        ensures { OnOk result (self.new ≡ map.insert self.old spot id) }
+    {
+        self.kept.insert(spot, id)?;
+        Ok(())
+    }
+
+    // The entries in their directories. They are entered in the order of their spots, so that each is the last one of its directory.
+    pub(crate) fn entered(&self, alloc: Global) -> Result<Entries, NoMemory>
+        requires { (id : Number) → name_count self.now id ≤ MAX_LINKS }
+        ensures entries { IfOk result (λ entered. entered.entries ≡ self.now) }
+        ensures shared { IfOk result (λ entered. (id : Number) (n : ℕ) → map.get entered.links id ≡ Some (links.Shared n) → 1 < name_count self.now id) }
+    {
+        let mut entries = Entries::new(alloc);
+        for (spot, id) in self.kept.iter() {
+            entries.insert(&spot.0, &spot.1, id)?;
+        }
+        Ok(entries)
+    }
+}
