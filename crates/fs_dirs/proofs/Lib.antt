@@ -3,6 +3,7 @@ pub mod CountLemmas
 pub mod DirLemmas
 pub mod Halving
 pub mod LinkLemmas
+pub mod LoadLemmas
 pub mod MoveLemmas
 pub mod Names
 pub mod SameEntries

@@ -48,10 +48,14 @@ pub none_set : (whole : FinMap spot_cmp Oid) → map.entries (map.empty {K = Spo
 none_set whole = ap (λ (es : List (Spot × Oid)). es ++ map.entries whole) (no_entries spot_cmp Oid)
 
 -- at last all are
-pub all_set : (entries whole : FinMap spot_cmp Oid) → map.entries entries ++ [] ≡ map.entries whole → entries ≡ whole
-all_set entries whole h = same_entries_map entries whole (sym (append-nil (map.entries entries)) ∙ h)
+pub all_set : (entries whole : FinMap spot_cmp Oid) (left : List (Spot × Oid)) → map.entries entries ++ left ≡ map.entries whole → left ≡ [] → entries ≡ whole
+all_set entries whole left so_far none =
+    same_entries_map entries whole (sym (append-nil (map.entries entries)) ∙ ap (λ (es : List (Spot × Oid)). map.entries entries ++ es) (sym none) ∙ so_far)
 
-module _ (entries whole : FinMap spot_cmp Oid) (spot : Spot) (id : Oid) (rest : List (Spot × Oid)) (parts : map.entries entries ++ (spot, id) ∷ rest ≡ map.entries whole) where
+module _ (entries whole : FinMap spot_cmp Oid) (left : List (Spot × Oid)) (so_far : map.entries entries ++ left ≡ map.entries whole) (spot : Spot) (id : Oid) (rest : List (Spot × Oid)) (next : left ≡ (spot, id) ∷ rest) where
+  parts : map.entries entries ++ (spot, id) ∷ rest ≡ map.entries whole
+  parts = ap (λ (es : List (Spot × Oid)). map.entries entries ++ es) (sym next) ∙ so_far
+
   rising : T (is_sorted spot_cmp (map.entries entries ++ (spot, id) ∷ rest))
   rising = subst (λ (es : List (Spot × Oid)). T (is_sorted spot_cmp es)) (sym parts) (entries_sorted whole)
 
@@ -71,10 +75,10 @@ module _ (entries whole : FinMap spot_cmp Oid) (spot : Spot) (id : Oid) (rest : 
   fewer_names =
       let leads : Spot × Oid → Bool = λ (e : Spot × Oid). same_oid e.1 id in
       let one : ◌≡◌ {A = ℕ} (cond (same_oid id id) 1 0) 1 = ap (λ r. cond {A = ℕ} (is_eq r) 1 0) (tied_itself oid_cmp_total id) in
-      let next = count-cons leads (spot, id) rest in
+      let one_more = count-cons leads (spot, id) rest in
       let all : count_by leads (map.entries entries ++ (spot, id) ∷ rest) ≡ count_by leads (map.entries entries) + count_by leads ((spot, id) ∷ rest) = sum_by-append (λ (e : Spot × Oid). cond (leads e) 1 0) (map.entries entries) ((spot, id) ∷ rest) in
       let same : count_by leads (map.entries entries ++ (spot, id) ∷ rest) ≡ count_by leads (map.entries whole) = ap (count_by leads) parts in
-      omega (arith, one, next, all, same)
+      omega (arith, one, one_more, all, same)
 
   -- what has several names so far has several in the end
   linked_shared : (w : Option Links) → count_of w ≡ name_count entries id → ((n : ℕ) → w ≡ Some (Shared n) → 1 < name_count whole id) → (dir : Oid) (n : ℕ) → linked w dir ≡ Shared n → 1 < name_count whole id

@@ -22,30 +22,23 @@ loop-spot-init c = record {
   shared = λ q n e. absurd (never_some (map.get c.new-entries.result.links q) (Shared n) (ap (λ (m : map.FinMap oid_cmp Links). map.get m q) c.new-entries.ensures.links ∙ map.get-empty oid_cmp q) e);
 }
 
--- the entries so far, the next one, and those after it
-parts : (c : goal.After-entries-1) → map.entries c.loop-spot.entries.entries ++ (c.in-Some.spot.now, c.in-Some.id.now) ∷ c.next.new.self ≡ map.entries c.args.self.now
-parts c = ap (λ (es : List (Spot × Oid)). map.entries c.loop-spot.entries.entries ++ es) (sym c.in-Some.ensures.steps) ∙ c.loop-spot.invariant.parts
-
 pub insert-requires-clause-absent : goal.insert-requires-clause-absent
-insert-requires-clause-absent c = next_absent c.loop-spot.entries.entries c.args.self.now c.in-Some.spot.now c.in-Some.id.now c.next.new.self (parts c)
+insert-requires-clause-absent c =
+    next_absent c.loop-spot.entries.entries c.args.self.now c.loop-spot.spot-iterator c.loop-spot.invariant.parts c.in-Some.spot.now c.in-Some.id.now c.next.new.self c.in-Some.ensures.steps
 
 pub insert-requires-clause-few : goal.insert-requires-clause-few
 insert-requires-clause-few c =
-    let fewer = fewer_names c.loop-spot.entries.entries c.args.self.now c.in-Some.spot.now c.in-Some.id.now c.next.new.self (parts c) in
+    let fewer = fewer_names c.loop-spot.entries.entries c.args.self.now c.loop-spot.spot-iterator c.loop-spot.invariant.parts c.in-Some.spot.now c.in-Some.id.now c.next.new.self c.in-Some.ensures.steps in
     let few = c.requires c.in-Some.id.now in
     omega (arith, fewer, few)
 
 pub loop-spot-preserved : goal.loop-spot-preserved
-loop-spot-preserved c =
-    let before : map.entries c.loop-spot.entries.entries ++ (c.in-Some.spot.now, c.in-Some.id.now) ∷ c.next.new.self ≡ map.entries c.args.self.now =
-    ap (λ (es : List (Spot × Oid)). map.entries c.loop-spot.entries.entries ++ es) (sym c.in-Some.ensures.steps) ∙ c.loop-spot.invariant.parts in
-    record {
-      parts = ap (λ (m : map.FinMap spot_cmp Oid). map.entries m ++ c.next.new.self) c.in_ok-insert.ensures.entries
-          ∙ next_set c.loop-spot.entries.entries c.args.self.now c.in-Some.spot.now c.in-Some.id.now c.next.new.self before;
-      shared = next_shared c.loop-spot.entries.entries c.args.self.now c.in-Some.spot.now c.in-Some.id.now c.next.new.self before
-          c.loop-spot.entries.links c.insert.new.self.links c.in-Some.spot.now.0 c.insert.ensures.before c.loop-spot.invariant.shared c.in_ok-insert.ensures.links;
-    }
+loop-spot-preserved c = record {
+  parts = ap (λ (m : map.FinMap spot_cmp Oid). map.entries m ++ c.next.new.self) c.in_ok-insert.ensures.entries
+      ∙ next_set c.loop-spot.entries.entries c.args.self.now c.loop-spot.spot-iterator c.loop-spot.invariant.parts c.in-Some.spot.now c.in-Some.id.now c.next.new.self c.in-Some.ensures.steps;
+  shared = next_shared c.loop-spot.entries.entries c.args.self.now c.loop-spot.spot-iterator c.loop-spot.invariant.parts c.in-Some.spot.now c.in-Some.id.now c.next.new.self c.in-Some.ensures.steps
+      c.loop-spot.entries.links c.insert.new.self.links c.in-Some.spot.now.0 c.insert.ensures.before c.loop-spot.invariant.shared c.in_ok-insert.ensures.links;
+}
 
 pub returns-clause-entries : goal.returns-clause-entries
-returns-clause-entries c = all_set c.loop-spot.entries.entries c.args.self.now
-    (ap (λ (es : List (Spot × Oid)). map.entries c.loop-spot.entries.entries ++ es) (sym c.in-None.ensures.steps.0) ∙ c.loop-spot.invariant.parts)
+returns-clause-entries c = all_set c.loop-spot.entries.entries c.args.self.now c.loop-spot.spot-iterator c.loop-spot.invariant.parts c.in-None.ensures.steps.0
