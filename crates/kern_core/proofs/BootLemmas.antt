@@ -7,23 +7,38 @@ use Rattle.std.proofs.Common.{ap, sym, ◌∙◌, subst, arith, get_or, drop, dr
 use Rattle.fs_path.specs.Name.{Name}
 use Rattle.lab_lattice.specs.Label.{Label, label_cmp}
 use Rattle.lab_lattice.proofs.Labels.{label_cmp_total, label_cmp_exact, dominates_itself}
-use Rattle.kern_model.specs.declared.limits.TheConstants.{MAX_PROCS}
+use Rattle.kern_model.specs.declared.limits.TheConstants.{MAX_OBJECTS, MAX_PROCS}
 use Rattle.kern_model.specs.declared.numbers.Oid.{Oid}
 use Rattle.kern_model.specs.declared.numbers.Pid.{Pid}
+use Rattle.kern_model.specs.declared.objects.Object.{Object}
 use Rattle.kern_model.specs.declared.records.Rec.{Rec}
 use Rattle.kern_model.specs.declared.records.Rec.TheVariants as rec
 use Rattle.kern_model.specs.declared.world.World.{World}
 use Rattle.kern_model.specs.declared.world.WorldObject.{WorldObject}
 use Rattle.kern_model.specs.declared.world.WorldProc.{WorldProc}
 use Rattle.kern_model.specs.Maps.{get_or as or_default}
-use Rattle.kern_model.specs.State.{State, Process, SetProcess, DrawProcess, changed_by, drawn, next_object, next_process, look, root}
-use Rattle.kern_model.specs.Boot.{process_of, entry_for, boot_object, boot_objects, boot_process, boot_processes, started}
+use Rattle.kern_model.specs.Keys.{Spot}
+use Rattle.kern_model.specs.State.{State, Process, Change, SetObject, SetProcess, DrawObject, DrawProcess, changed_by, drawn, next_object, next_process, look, root}
+use Rattle.kern_model.specs.Boot.{object_of, process_of, entry_for, boot_object, boot_objects, boot_process, boot_processes, started}
 use Rattle.kern_model.specs.Rules.{same_label}
 use Rattle.kern_model.specs.World.{IsWorld, IsWorldProc, procs_at}
 use Rattle.cap_bits.specs.CapSet.{is_within}
 use Rattle.std.specs.List.{AllByRecursion}
 use Rattle.kern_model.proofs.TableLemmas.{each_set_at}
-use Rattle.kern_core.specs.Starts.{CanStart}
+use Rattle.kern_core.specs.Starts.{CanStart, IsSpotOf, RoomForObjects, entry_at}
+
+-- ---- one object
+abbrev pub object_id : WorldObject → ℕ → Oid
+object_id o n = record { label = o.label; n = n }
+
+abbrev pub made_object : State → WorldObject → ℕ → Object → List Change → State
+made_object s o n made entry = changed_by s (DrawObject o.label n ∷ SetObject (object_id o n) made ∷ entry)
+
+pub object_booted : (s : State) (o : WorldObject) (n : ℕ) → n ≡ drawn s.object_numbers o.label + 1 → (made : Object) → made ≡ object_of o → (dir : Oid) → dir ≡ root → (names : List Name) → names ≡ o.path.names → (spot : Option Spot) → IsSpotOf s dir names spot → made_object s o n made (entry_at spot (object_id o n)) ≡ boot_object s o
+unfolding boot_object
+object_booted s o n is made made_is dir dir_is names names_is spot spot_is =
+    ap (made_object s o n made) (sym (spot_is (object_id o n)))
+    ∙ (λ i. made_object s o (is i) (made_is i) (entry_for s (dir_is i) (names_is i) (object_id o (is i))))
 
 -- ---- one process
 abbrev pub with_made : State → Process → State
@@ -39,7 +54,7 @@ entry_draws s t dir [] id = refl
 entry_draws s t dir (name ∷ []) id = refl
 entry_draws s t dir (name ∷ next ∷ names) id = entry_draws s t (unwrap_or (look s dir name) dir) (next ∷ names) id
 
-pub object_draws : (s : State) (o : WorldObject) → (boot_object s o).object_numbers ≡ map.insert s.object_numbers o.label (drawn s.object_numbers o.label + 1)
+object_draws : (s : State) (o : WorldObject) → (boot_object s o).object_numbers ≡ map.insert s.object_numbers o.label (drawn s.object_numbers o.label + 1)
 unfolding boot_object
 object_draws s o = entry_draws s _ root o.path.names (next_object s o.label)
 
@@ -81,11 +96,11 @@ left_for_one limit d n m e h = omega arith
 
 module _ {X : Type 0} (label_of : X → Label) (limit : ℕ) where
   -- how many have a label
-  abbrev pub how_many : Label → List X → ℕ
+  abbrev how_many : Label → List X → ℕ
   how_many l xs = count_by (λ x. same_label (label_of x) l) xs
 
   -- there are numbers left for these at each label
-  abbrev pub RoomFor : FinMap label_cmp ℕ → List X → Type 0
+  abbrev RoomFor : FinMap label_cmp ℕ → List X → Type 0
   RoomFor m xs = (l : Label) → drawn m l + how_many l xs ≤ limit
 
   with_first : (l : Label) (x : X) (xs : List X) → how_many l (x ∷ xs) ≡ cond (same_label (label_of x) l) 1 0 + how_many l xs
@@ -95,18 +110,18 @@ module _ {X : Type 0} (label_of : X → Label) (limit : ℕ) where
   one_more x xs = with_first (label_of x) x xs ∙ with_one _ (how_many (label_of x) xs) (same_itself (label_of x))
 
   -- there is a number for the first of these
-  pub first_room : (m : FinMap label_cmp ℕ) (x : X) (xs : List X) → RoomFor m (x ∷ xs) → drawn m (label_of x) < limit
+  first_room : (m : FinMap label_cmp ℕ) (x : X) (xs : List X) → RoomFor m (x ∷ xs) → drawn m (label_of x) < limit
   first_room m x xs room = left_for_one limit (drawn m (label_of x)) (how_many (label_of x) xs) _ (one_more x xs) (room (label_of x))
 
   -- one more number is drawn, for the first of these
-  pub less_room : (m : FinMap label_cmp ℕ) (x : X) (xs : List X) → RoomFor m (x ∷ xs) → RoomFor (map.insert m (label_of x) (drawn m (label_of x) + 1)) xs
+  less_room : (m : FinMap label_cmp ℕ) (x : X) (xs : List X) → RoomFor m (x ∷ xs) → RoomFor (map.insert m (label_of x) (drawn m (label_of x) + 1)) xs
   less_room m x xs room =
       each_set_at label_cmp_total label_cmp_exact (λ l n. n + how_many l xs ≤ limit) 0 m (label_of x) (drawn m (label_of x) + 1)
       (drawn_too limit (drawn m (label_of x)) (how_many (label_of x) xs) _ (one_more x xs) (room (label_of x)))
       (λ l. fewer limit (same_label (label_of x) l) (drawn m l) (how_many l xs) _ (with_first l x xs) (room l))
 
 -- nothing is drawn yet
-pub none_drawn : (l : Label) → drawn map.empty l ≡ 0
+none_drawn : (l : Label) → drawn map.empty l ≡ 0
 unfolding or_default
 none_drawn l = ap (λ (v : Option ℕ). elim v [ None ↦ 0 | Some x ↦ x ]) (map.get-empty {X = ℕ} label_cmp l)
 
@@ -126,8 +141,13 @@ pub all_can : (w : World) → IsWorld w → CanStart map.empty w.procs
 all_can w is = record { room = all_room MAX_PROCS (λ l. procs_at l w.procs) is.room.procs; within = within_all w.top w.procs is.procs }
 
 -- ---- one more of a list
-pub rest_from : {X : Type 0} (xs : List X) (i : ℕ) (x : X) → i < length xs → x ≡ get_or xs i x → drop i xs ≡ x ∷ drop (i + 1) xs
+rest_from : {X : Type 0} (xs : List X) (i : ℕ) (x : X) → i < length xs → x ≡ get_or xs i x → drop i xs ≡ x ∷ drop (i + 1) xs
 rest_from xs i x h is = drop-cons xs i x h ∙ ap (λ y. y ∷ drop (suc i) xs) (sym is) ∙ ap (λ n. x ∷ drop n xs) (sym (add-one i))
+
+-- the first object that is left has a number
+pub object_room : (s : State) (os : List WorldObject) (i : ℕ) (o : WorldObject) → i < length os → o ≡ get_or os i o → RoomForObjects s.object_numbers (drop i os) → drawn s.object_numbers o.label < MAX_OBJECTS
+object_room s os i o h is room =
+    first_room (λ (x : WorldObject). x.label) MAX_OBJECTS s.object_numbers o (drop (i + 1) os) (subst (λ xs. RoomForObjects s.object_numbers xs) (rest_from os i o h is) room)
 
 -- the first process that is left can start
 module _ (s : State) (ws : List WorldProc) (i : ℕ) (w : WorldProc) (h : i < length ws) (is : w ≡ get_or ws i w) (can : CanStart s.process_numbers (drop i ws)) where
@@ -136,6 +156,14 @@ module _ (s : State) (ws : List WorldProc) (i : ℕ) (w : WorldProc) (h : i < le
 
   pub process_room : drawn s.process_numbers w.label < MAX_PROCS
   process_room = first_room (λ (x : WorldProc). x.label) MAX_PROCS s.process_numbers w (drop (i + 1) ws) can_first.room
+
+module _ (s t : State) (os : List WorldObject) (i : ℕ) (o : WorldObject) (h : i < length os) (is : o ≡ get_or os i o) (booted : t ≡ boot_object s o) where
+  pub objects_step : boot_objects t (drop (i + 1) os) ≡ boot_objects s (drop i os)
+  objects_step = ap (λ u. boot_objects u (drop (i + 1) os)) booted ∙ ap (boot_objects s) (sym (rest_from os i o h is))
+
+  pub objects_room : RoomForObjects s.object_numbers (drop i os) → RoomForObjects t.object_numbers (drop (i + 1) os)
+  objects_room room = subst (λ m. RoomForObjects m (drop (i + 1) os)) (sym (ap (λ u. u.object_numbers) booted ∙ object_draws s o))
+      (less_room (λ (x : WorldObject). x.label) MAX_OBJECTS s.object_numbers o (drop (i + 1) os) (subst (λ xs. RoomForObjects s.object_numbers xs) (rest_from os i o h is) room))
 
 module _ (s t : State) (ws : List WorldProc) (i : ℕ) (w : WorldProc) (h : i < length ws) (is : w ≡ get_or ws i w) (booted : t ≡ boot_process s w) where
   pub processes_step : boot_processes t (drop (i + 1) ws) ≡ boot_processes s (drop i ws)

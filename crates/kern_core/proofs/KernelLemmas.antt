@@ -2,7 +2,7 @@
 use Rattle.std.specs.Prelude.{◌≡◌, refl, true, false, List, [], Option, Some, None, Result, Ok, Err, IfOk, OnOk}
 use Rattle.std.specs.Result.{is_err}
 use Rattle.std.specs.FinMap as map
-use Rattle.std.proofs.Common.{ap, sym, ◌∙◌, subst}
+use Rattle.std.proofs.Common.{ap, sym, ◌∙◌, subst, arith}
 use Rattle.std.proofs.Math.Bridge.{le_prop}
 use Rattle.std.proofs.Math.Logic.{∥∥₁_map, ∥∥₁_elim}
 use Rattle.std.proofs.lemmas.Bool.{true≢false}
@@ -72,6 +72,21 @@ where_no_error (Ok x) h e = h
 where_no_error (Err x) h e = absurd (true≢false e)
 
 -- ---- the first state
+-- is valid without its processes, since it is that of the world without them
+pub valid_furnished : (w : World) → IsWorld w → IsValid (furnished w)
+valid_furnished w is = valid_boot (record w { procs = [] }) (record {
+  first = is.first;
+  others = is.others;
+  objects_are = is.objects_are;
+  no_names = is.no_names;
+  root_body = is.root_body;
+  root_label = is.root_label;
+  others_placed = is.others_placed;
+  objects = is.objects;
+  procs = tt;
+  room = record { objects = is.room.objects; procs = λ l. omega arith };
+})
+
 -- is valid, by the parts that make it
 pub valid_started : (w : World) → IsWorld w → (made started : State) (ps : List WorldProc) → made ≡ furnished w → ps ≡ w.procs → started ≡ boot_processes made ps → IsValid started
 valid_started w h made started ps furnishes procs starts = subst IsValid (sym (starts ∙ (λ i. boot_processes (furnishes i) (procs i)))) (valid_boot w h)

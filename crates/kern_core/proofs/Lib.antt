@@ -1,9 +1,5 @@
 pub mod BootLemmas
 pub mod BuiltLaws
-pub mod CheckLemmas
-pub mod EnterLemmas
 pub mod KernelLemmas
 pub mod LendLemmas
-pub mod PlayLemmas
 pub mod StepLemmas
-pub mod WalkLemmas

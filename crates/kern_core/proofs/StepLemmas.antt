@@ -17,8 +17,9 @@ use Rattle.chk_rules.specs.CheckLog.{CheckLog, check_log, judge_from}
 use Rattle.chk_rules.specs.Ends.{EndsBy}
 use Rattle.chk_rules.specs.declared.stop.Stop.{Stop}
 use Rattle.chk_rules.specs.declared.stop.Stop.TheVariants as stop
-use Rattle.kern_core.specs.declared.outcome.Effect.{Effect}
-use Rattle.kern_core.specs.PlaysRow.{PlaysRow, Keeps, OutcomeOf}
+use Rattle.sys_lookup.specs.declared.effect.Effect.{Effect}
+use Rattle.sys_lookup.specs.PlaysRow.{PlaysRow, Keeps}
+use Rattle.kern_core.specs.Reports.{OutcomeOf}
 
 -- an equal call is played alike
 pub plays_same : (s : State) (who : Pid) (p : Process) (before : CheckLog) (c d : Call) → d ≡ c → (t u : State) → u ≡ t → (after then : CheckLog) → then ≡ after → (r q : Result Effect Stop) → q ≡ r → PlaysRow s before (row s who p c) r t after → PlaysRow s before (row s who p d) q u then

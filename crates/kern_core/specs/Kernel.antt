@@ -7,12 +7,12 @@ use Rattle.kern_model.specs.declared.calls.Reply.{Reply}
 use Rattle.kern_model.specs.declared.calls.Reply.TheVariants as reply
 use Rattle.kern_model.specs.declared.numbers.Pid.{Pid}
 use Rattle.kern_model.specs.State.{State}
+use Rattle.sys_lookup.specs.Shared as held
 use Rattle.kern_core.specs.declared.kernel.Kernel.{Kernel}
-use Rattle.kern_core.specs.Tables.{state_of_tables}
 
 -- the state of a kernel
 unfoldable pub state_of : Kernel → State
-state_of k = state_of_tables k.tables
+state_of k = held.state_of k.shared
 
 -- whether memory ran out in a call
 unfoldable pub has_failed : Kernel → Bool

@@ -1,6 +1,4 @@
 pub mod Built
 pub mod Kernel
-pub mod PlaysRow
+pub mod Reports
 pub mod Starts
-pub mod Tables
-pub mod Walks

@@ -9,22 +9,25 @@ ghost use Rattle.kern_model.specs.State.{Process};
 ghost use Rattle.kern_model.specs.Step.{IsPlayed};
 ghost use Rattle.kern_model.specs.Valid.{IsValid};
 ghost use Rattle.kern_model.specs.World.{IsWorld};
+ghost use Rattle.sys_lookup.specs.Shared as held;
 ghost use Rattle.kern_core.specs.Built.{is_built};
-ghost use Rattle.kern_core.specs.Tables.{state_of_tables};
 
-use crate::tables::Tables;
+use crate::boot::{boot_processes, furnish};
+use crate::calls::play;
 use cap_bits::CapState;
 use kern_model::{Call, NoMemory, Outcome, Pid, PidList, RecList, World};
 use lab_lattice::Label;
 use std::alloc::Global;
+use sys_lookup::Shared;
 
 /// A kernel. When memory runs out in a call it has failed, and it plays no further call. The state of a kernel that has not
 /// failed is valid.
 #[derive(Drop)]
 pub struct Kernel {
-    tables: Tables,
+    alloc: Global,
+    shared: Shared,
     failed: bool,
-    ghost valid: { failed ≡ false → ∥ IsValid (state_of_tables tables) ∥₁ },
+    ghost valid: { failed ≡ false → ∥ IsValid (held.state_of shared) ∥₁ },
 }
 
 impl Kernel {
@@ -39,10 +42,11 @@ impl Kernel {
         ensures valid { IfOk result (λ b. IsValid (state_of b.0)) }
         ensures sound { IfOk result (λ b. has_failed b.0 ≡ false) }
     {
-        let mut tables = Tables::furnish(alloc, world)?;
-        let recs = tables.boot_processes(world.procs.items())?;
+        let mut shared = furnish(alloc, world)?;
+        let recs = boot_processes(alloc, &mut shared, world.procs.items())?;
         let kernel = Kernel {
-            tables,
+            alloc,
+            shared,
             failed: false,
         };
         Ok((kernel, recs))
@@ -67,7 +71,7 @@ impl Kernel {
         if self.failed {
             return Err(NoMemory);
         }
-        let outcome = self.tables.call(who, call);
+        let outcome = play(self.alloc, &mut self.shared, who, call);
         self.failed = outcome.is_err();
         outcome
     }
@@ -85,7 +89,7 @@ impl Kernel {
     pub fn caps_of(&self, who: &Pid) -> Option<CapState>
         ensures { result ≡ option_map (λ (p : Process). p.caps) (map.get (state_of self.now).procs who.now) }
     {
-        let process = self.tables.procs.find(who)?;
+        let process = self.shared.procs.find(who)?;
         Some(process.creds.caps)
     }
 
@@ -94,7 +98,7 @@ impl Kernel {
     pub fn label_of(&self, who: &Pid) -> Option<Label>
         ensures { result ≡ option_map (λ (p : Process). p.label) (map.get (state_of self.now).procs who.now) }
     {
-        let process = self.tables.procs.find(who)?;
+        let process = self.shared.procs.find(who)?;
         Some(process.creds.label)
     }
 
@@ -103,6 +107,6 @@ impl Kernel {
     pub fn live(&self) -> Result<PidList, NoMemory>
         ensures { IfOk result (λ numbers. numbers ≡ map.keys (state_of self.now).procs) }
     {
-        self.tables.procs.live()
+        self.shared.procs.live()
     }
 }

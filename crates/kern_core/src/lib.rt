@@ -2,13 +2,11 @@
 #![tactic(auto)]
 
 mod boot;
-mod caller;
 mod calls;
 mod from_world;
 mod kernel;
+mod loading;
 mod outcome;
-mod tables;
-mod walk;
 
 pub use calls::built;
 pub use kern_model::NoMemory;

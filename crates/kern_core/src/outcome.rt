@@ -1,19 +1,13 @@
-// What a call's body gives, and what is reported of it.
+// What is reported of a call.
 ghost use Rattle.std.specs.Prelude.{◌≡◌, [], None, IfOk, IsOk};
 ghost use Rattle.kern_model.specs.declared.calls.Reply.TheVariants as reply;
 ghost use Rattle.kern_model.specs.declared.calls.Errno.TheVariants as errno;
-ghost use Rattle.kern_core.specs.PlaysRow.{LeavesNothing, OutcomeOf};
+ghost use Rattle.kern_core.specs.Reports.{LeavesNothing, OutcomeOf};
 
 use chk_rules::{Checks, Stop};
-use kern_model::{Answer, CallName, Errno, NoMemory, Outcome, Pid, Rec, RecList, Reply};
+use kern_model::{CallName, Errno, NoMemory, Outcome, Pid, Rec, RecList, Reply};
 use std::alloc::Global;
-
-/// What the body of a call gives: the answer, and the call's own record if it leaves one.
-#[derive(Debug, Drop)]
-pub struct Effect {
-    pub answer: Answer,
-    pub own: Option<Rec>,
-}
+use sys_lookup::Effect;
 
 /// The outcome where no living process has the number. No memory is taken.
 pub fn no_process(alloc: Global) -> Outcome

@@ -1,7 +1,7 @@
 use Rattle.std.proofs.Common.{◌∙◌, sym}
 use Rattle.std.proofs.lemmas.Result.{IfOk-weaker}
+use Rattle.sys_lookup.specs.Shared as held
 use Rattle.kern_core.specs.Kernel.{state_of}
-use Rattle.kern_core.specs.Tables.{state_of_tables}
 use Rattle.kern_core.proofs.KernelLemmas.{kept_played, named_played, valid_played, go_on_played, where_no_error}
 use Rattle.kern_core.proofs.kernel.Kernel.call.Goals as goal
 
@@ -9,25 +9,25 @@ pub invariant_of-self : goal.invariant_of-self
 unfolding state_of
 invariant_of-self c = record {
   valid = λ sound.
-      where_no_error c.call-outcome.result
-      (valid_played (state_of_tables c.args.self.now.tables) (state_of_tables c.call-outcome.new.self) c.args.who.now c.args.call.now c.call-outcome.result c.call-outcome.ensures.played c.requires.built c.requires.arguments (c.args.self.now.valid c.if-self.false))
+      where_no_error c.play-outcome.result
+      (valid_played (held.state_of c.args.self.now.shared) (held.state_of c.play-outcome.new.shared) c.args.who.now c.args.call.now c.play-outcome.result c.play-outcome.ensures.played c.requires.built c.requires.arguments (c.args.self.now.valid c.if-self.false))
       (sym c.is_err-self.ensures.value ∙ sound);
 }
 
 pub returns-clause-kept : goal.returns-clause-kept
 unfolding state_of
 returns-clause-kept c =
-    IfOk-weaker c.call-outcome.result _ _ (λ o is. kept_played (state_of_tables c.args.self.now.tables) (state_of_tables c.call-outcome.new.self) c.args.who.now c.args.call.now o is) c.call-outcome.ensures.played
+    IfOk-weaker c.play-outcome.result _ _ (λ o is. kept_played (held.state_of c.args.self.now.shared) (held.state_of c.play-outcome.new.shared) c.args.who.now c.args.call.now o is) c.play-outcome.ensures.played
 
 pub returns-clause-valid : goal.returns-clause-valid
 unfolding state_of
 returns-clause-valid c =
-    valid_played (state_of_tables c.args.self.now.tables) (state_of_tables c.call-outcome.new.self) c.args.who.now c.args.call.now c.call-outcome.result c.call-outcome.ensures.played c.requires.built c.requires.arguments (c.args.self.now.valid c.if-self.false)
+    valid_played (held.state_of c.args.self.now.shared) (held.state_of c.play-outcome.new.shared) c.args.who.now c.args.call.now c.play-outcome.result c.play-outcome.ensures.played c.requires.built c.requires.arguments (c.args.self.now.valid c.if-self.false)
 
 pub returns-clause-named : goal.returns-clause-named
-returns-clause-named c = named_played (state_of_tables c.args.self.now.tables) (state_of_tables c.call-outcome.new.self) c.args.who.now c.args.call.now c.call-outcome.result c.call-outcome.ensures.played
+returns-clause-named c = named_played (held.state_of c.args.self.now.shared) (held.state_of c.play-outcome.new.shared) c.args.who.now c.args.call.now c.play-outcome.result c.play-outcome.ensures.played
 
 pub returns-clause-numbers : goal.returns-clause-numbers
 unfolding state_of
 returns-clause-numbers c =
-    go_on_played (state_of_tables c.args.self.now.tables) (state_of_tables c.call-outcome.new.self) c.args.who.now c.args.call.now c.call-outcome.result c.call-outcome.ensures.played (c.args.self.now.valid c.if-self.false)
+    go_on_played (held.state_of c.args.self.now.shared) (held.state_of c.play-outcome.new.shared) c.args.who.now c.args.call.now c.play-outcome.result c.play-outcome.ensures.played (c.args.self.now.valid c.if-self.false)
