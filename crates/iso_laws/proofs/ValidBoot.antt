@@ -75,7 +75,7 @@ stream_few (body.File bytes) e = absurd (cc)
 stream_few body.Fifo e = omega arith
 stream_few body.Pipe e = omega arith
 
-pub pipe_alone : (b : Body) → kind_of b ≡ kind.Pipe → b ≡ body.Pipe
+pipe_alone : (b : Body) → kind_of b ≡ kind.Pipe → b ≡ body.Pipe
 pipe_alone body.Dir e = absurd (cc)
 pipe_alone (body.File bytes) e = absurd (cc)
 pipe_alone body.Fifo e = absurd (cc)
@@ -86,48 +86,48 @@ none_drawn l = get_or-absent _ l 0 (get-empty label_cmp l)
 
 -- ---- the objects
 -- an object is one of a world, and its number was drawn
-pub record IsMade (top : Label) (numbers : FinMap label_cmp ℕ) (id : Oid) (x : Object) : Type 0 where
-  pub line : WorldObject
-  pub is : x ≡ object_of line
-  pub world : IsWorldObject top line
-  pub number : IsDrawn id.n (drawn numbers id.label)
+record IsMade (top : Label) (numbers : FinMap label_cmp ℕ) (id : Oid) (x : Object) : Type 0 where
+  line : WorldObject
+  is : x ≡ object_of line
+  world : IsWorldObject top line
+  number : IsDrawn id.n (drawn numbers id.label)
 
 -- an object of a world is at these names
-pub record Stands (names_of : Oid → List Name) (objects : FinMap oid_cmp Object) (names : List Name) (o : WorldObject) : Type 0 where
-  pub id : Oid
-  pub named : names_of id ≡ names
-  pub is : map.get objects id ≡ Some (object_of o)
+record Stands (names_of : Oid → List Name) (objects : FinMap oid_cmp Object) (names : List Name) (o : WorldObject) : Type 0 where
+  id : Oid
+  named : names_of id ≡ names
+  is : map.get objects id ≡ Some (object_of o)
 
 -- what an entry leads to was given, with the names of its directory and its own
-pub record IsEntered (objects : FinMap oid_cmp Object) (before : List WorldObject) (names_of : Oid → List Name) (spot : Spot) (id : Oid) : Type 0 where
-  pub names : names_of id ≡ names_of spot.0 ++ spot.1 ∷ []
-  pub known : given before (names_of id) ≡ None → ⊥
-  pub name : is_name spot.1 ≡ true
-  pub dir : Object
-  pub dir_is : map.get objects spot.0 ≡ Some dir
-  pub is_dir : dir.kind ≡ kind.Dir
-  pub object : Object
-  pub object_is : map.get objects id ≡ Some object
-  pub order : dominates object.label dir.label ≡ true
+record IsEntered (objects : FinMap oid_cmp Object) (before : List WorldObject) (names_of : Oid → List Name) (spot : Spot) (id : Oid) : Type 0 where
+  names : names_of id ≡ names_of spot.0 ++ spot.1 ∷ []
+  known : given before (names_of id) ≡ None → ⊥
+  name : is_name spot.1 ≡ true
+  dir : Object
+  dir_is : map.get objects spot.0 ≡ Some dir
+  is_dir : dir.kind ≡ kind.Dir
+  object : Object
+  object_is : map.get objects id ≡ Some object
+  order : dominates object.label dir.label ≡ true
 
 -- a state that has these objects of a world and nothing else
-pub record IsBuilt (top : Label) (before : List WorldObject) (s : State) : Type 0 where
-  pub top_is : s.top ≡ top
-  pub root_is : IsRoot s.objects
-  pub made : (id : Oid) (x : Object) → map.get s.objects id ≡ Some x → IsMade top s.object_numbers id x
+record IsBuilt (top : Label) (before : List WorldObject) (s : State) : Type 0 where
+  top_is : s.top ≡ top
+  root_is : IsRoot s.objects
+  made : (id : Oid) (x : Object) → map.get s.objects id ≡ Some x → IsMade top s.object_numbers id x
   -- the names with which an object was given
-  pub names_of : Oid → List Name
-  pub root_names : names_of root ≡ []
-  pub root_given : given before [] ≡ None → ⊥
-  pub stands : (names : List Name) (o : WorldObject) → given before names ≡ Some o → Stands names_of s.objects names o
-  pub led : (id : Oid) (x : Object) → map.get s.objects id ≡ Some x → leads s root (names_of id) ≡ Some id
-  pub entered : (spot : Spot) (id : Oid) → map.get s.entries spot ≡ Some id → IsEntered s.objects before names_of spot id
-  pub below : (l : Label) → 1 ≤ drawn s.object_numbers l → dominates top l ≡ true
-  pub counted : (l : Label) → drawn s.object_numbers l ≤ objects_at l before
-  pub no_procs : s.procs ≡ map.empty
-  pub no_process_numbers : s.process_numbers ≡ map.empty
-  pub no_descriptions : s.descriptions ≡ map.empty
-  pub no_description_numbers : s.description_numbers ≡ map.empty
+  names_of : Oid → List Name
+  root_names : names_of root ≡ []
+  root_given : given before [] ≡ None → ⊥
+  stands : (names : List Name) (o : WorldObject) → given before names ≡ Some o → Stands names_of s.objects names o
+  led : (id : Oid) (x : Object) → map.get s.objects id ≡ Some x → leads s root (names_of id) ≡ Some id
+  entered : (spot : Spot) (id : Oid) → map.get s.entries spot ≡ Some id → IsEntered s.objects before names_of spot id
+  below : (l : Label) → 1 ≤ drawn s.object_numbers l → dominates top l ≡ true
+  counted : (l : Label) → drawn s.object_numbers l ≤ objects_at l before
+  no_procs : s.procs ≡ map.empty
+  no_process_numbers : s.process_numbers ≡ map.empty
+  no_descriptions : s.descriptions ≡ map.empty
+  no_description_numbers : s.description_numbers ≡ map.empty
 
 -- the state with the object, before its entry
 abbrev with_object : State → WorldObject → State
@@ -151,7 +151,7 @@ module _ (bound : CapSet) (top : Label) (o : WorldObject) (is_dir : o.body ≡ b
   only_first : (P : Oid → Object → Type 0) → P first_id (object_of o) → (id : Oid) (x : Object) → map.get first_state.objects id ≡ Some x → P id x
   only_first P h = each-insert oid_cmp_total oid_cmp_exact P map.empty (λ id x e. absurd (never_some _ x (get-empty oid_cmp id) e)) first_id (object_of o) h
 
-  pub built_first : o.path.names ≡ [] → IsBuilt top (o ∷ []) (boot_object (nothing bound top) o)
+  built_first : o.path.names ≡ [] → IsBuilt top (o ∷ []) (boot_object (nothing bound top) o)
   unfolding boot_object
   built_first no_names =
       subst (λ names. IsBuilt top (o ∷ []) (changed_by first_state (entry_for (nothing bound top) root names first_id))) (sym no_names) (record {
@@ -178,7 +178,7 @@ module _ (top : Label) (before : List WorldObject) (s : State) (built : IsBuilt 
   abbrev new : Oid
   new = next_object s o.label
 
-  pub absent : map.get s.objects new ≡ None
+  absent : map.get s.objects new ≡ None
   absent =
       elim (map.get s.objects new) as (λ w. map.get s.objects new ≡ w → w ≡ None) [
         | None ↦ λ _. refl
@@ -229,7 +229,7 @@ module _ (top : Label) (before : List WorldObject) (s : State) (built : IsBuilt 
     own_names : built.names_of dir.id ++ end.name ∷ [] ≡ o.path.names
     own_names = ap (λ ns. ns ++ end.name ∷ []) dir.named ∙ sym end.whole
 
-    pub free : map.get s.entries spot ≡ None
+    free : map.get s.entries spot ≡ None
     free =
         elim (map.get s.entries spot) as (λ w. map.get s.entries spot ≡ w → w ≡ None) [
           | None ↦ λ _. refl
@@ -239,7 +239,7 @@ module _ (top : Label) (before : List WorldObject) (s : State) (built : IsBuilt 
     leads_next : (names : List Name) (id : Oid) → leads s root names ≡ Some id → leads next_state root names ≡ Some id
     leads_next = leads_kept s next_state (get-insert_kept spot_cmp_total spot_cmp_exact s.entries spot new free) root
 
-    pub dir_led : leads s root (parent_names o.path.names) ≡ Some dir.id
+    dir_led : leads s root (parent_names o.path.names) ≡ Some dir.id
     dir_led = ap (leads s root) (sym dir.named) ∙ built.led dir.id (object_of placed.parent) dir.is
 
     new_led : leads next_state root o.path.names ≡ Some new
@@ -308,11 +308,11 @@ module _ (top : Label) (before : List WorldObject) (s : State) (built : IsBuilt 
     }
 
   -- names that were not given before have a last one
-  pub new_end : (names : List Name) → given before names ≡ None → IsEnd names
+  new_end : (names : List Name) → given before names ≡ None → IsEnd names
   new_end [] e = absurd (built.root_given e)
   new_end (name ∷ names) e = has_end name names
 
-  pub built_object : IsBuilt top (before ++ o ∷ []) (boot_object s o)
+  built_object : IsBuilt top (before ++ o ∷ []) (boot_object s o)
   unfolding boot_object
   built_object =
       let dir = built.stands (parent_names o.path.names) placed.parent placed.parent_given in

@@ -32,7 +32,7 @@ module _ (s : State) where
   unfolding holder any_entry
   no_holder id none = find_none (λ (e : Spot × Oid). same_oid e.1 id) (λ (e : Spot × Oid). e.0.0) (map.entries s.entries) none
 
-  pub held_by : (spot : Spot) (id : Oid) → map.get s.entries spot ≡ Some id → is_held s id ≡ true
+  held_by : (spot : Spot) (id : Oid) → map.get s.entries spot ≡ Some id → is_held s id ≡ true
   held_by spot id is = true_from_ne_false _ (λ none. never_same id id (none_passes spot_cmp_total spot_cmp_exact (λ (at : Spot) (to : Oid). same_oid to id) s.entries none spot id is) refl)
 
   -- an object to which one entry alone leads is held by the directory of that entry
