@@ -25,12 +25,7 @@ pub fn built(call: &Call) -> bool
 }
 
 /// Plays one call of a process, and returns the reply and the records that it leaves.
-pub fn play(
-    alloc: Global,
-    shared: &mut Shared,
-    who: &Pid,
-    call: &Call,
-) -> Result<Outcome, NoMemory>
+pub fn play(alloc: Global, shared: &mut Shared, who: &Pid, call: &Call) -> Result<Outcome, NoMemory>
     requires built { is_built call.now ≡ true }
     ensures played { IfOk result (λ outcome. IsPlayed (state_of shared.old) who.now call.now outcome (state_of shared.new)) }
     ensures ready { TakesNoMemory (state_of shared.old) who.now call.now → IsOk result }

@@ -9,11 +9,7 @@ use kern_model::{Answer, Path};
 use sys_lookup::{Caller, Effect, PathArgument};
 
 /// `mac_get_file`: the label of the object at the end of a path.
-pub fn mac_get_file(
-    caller: &Caller<'_>,
-    checks: &mut Checks,
-    path: &Path,
-) -> Result<Effect, Stop>
+pub fn mac_get_file(caller: &Caller<'_>, checks: &mut Checks, path: &Path) -> Result<Effect, Stop>
     ensures { (who : Pid) → PlaysRow (state_of caller.now.shared.now) checks.old (mac_get_file_row (state_of caller.now.shared.now) who caller.now.process.now path.now) result (state_of caller.now.shared.now) checks.new }
 {
     let (id, place) = caller.reach(checks, PathArgument::First, path)?;

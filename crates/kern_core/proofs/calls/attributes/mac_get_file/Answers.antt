@@ -1,8 +1,6 @@
-use Rattle.std.proofs.Common.{ap, refl, []}
+use Rattle.std.proofs.Common.{ap, refl, [], None}
 use Rattle.kern_model.specs.declared.calls.Answer.TheVariants.{Mark}
 use Rattle.kern_model.specs.AttrRows.{get_label}
-use Rattle.kern_model.specs.State.{object_at}
-use Rattle.std.specs.Prelude.{None}
 use Rattle.sys_lookup.specs.declared.shared.Metadata.{Metadata}
 use Rattle.sys_lookup.specs.Shared.{state_of}
 use Rattle.sys_lookup.proofs.PlayLemmas.{then_plays, stops_row, need_plays, need_stops_row, commits, equal_answer}

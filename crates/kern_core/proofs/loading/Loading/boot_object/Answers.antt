@@ -4,9 +4,8 @@ use Rattle.kern_model.specs.declared.numbers.Oid.{Oid}
 use Rattle.kern_model.specs.declared.objects.Body.{Body}
 use Rattle.kern_model.specs.Keys.{Spot}
 use Rattle.kern_model.specs.Kinds.{object_with}
-use Rattle.kern_model.specs.State.{State, drawn, next_object}
-use Rattle.kern_core.specs.Starts.{IsSpotOf}
-use Rattle.kern_core.specs.Starts.{state_loaded}
+use Rattle.kern_model.specs.State.{drawn, next_object}
+use Rattle.kern_core.specs.Starts.{IsSpotOf, state_loaded}
 use Rattle.kern_core.proofs.BootLemmas.{object_booted}
 use Rattle.kern_core.proofs.loading.Loading.boot_object.Goals as goal
 

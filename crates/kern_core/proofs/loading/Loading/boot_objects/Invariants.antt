@@ -1,7 +1,6 @@
 use Rattle.std.proofs.Common.{◌≡◌, drop}
 use Rattle.kern_model.specs.Boot.{boot_objects}
-use Rattle.kern_core.specs.Starts.{RoomForObjects}
-use Rattle.kern_core.specs.Starts.{state_loaded}
+use Rattle.kern_core.specs.Starts.{RoomForObjects, state_loaded}
 use Rattle.kern_core.proofs.loading.Loading.boot_objects.Given as goal
 
 -- what is left makes the state that all make, and there are numbers for what is left
