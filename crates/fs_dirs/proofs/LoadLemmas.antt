@@ -7,7 +7,7 @@ use Rattle.kern_model.specs.declared.numbers.Oid.{Oid}
 use Rattle.kern_model.specs.declared.objects.Kind.{Kind}
 use Rattle.kern_model.specs.declared.objects.Kind.TheVariants as kind
 use Rattle.kern_model.specs.declared.objects.Object.{Object}
-use Rattle.kern_model.specs.Keys.{Spot, oid_cmp, same_oid}
+use Rattle.kern_model.specs.Keys.{Spot, same_oid}
 use Rattle.kern_model.specs.Kinds.{is_dir}
 use Rattle.kern_model.specs.State.{State}
 use Rattle.kern_model.specs.Valid.{IsValid}
