@@ -1,6 +1,7 @@
 use Rattle.std.proofs.Common.{◌≡◌, ◌∙◌, ap, sym, not, true}
+use Rattle.std.proofs.lemmas.Bool.{not-false}
 use Rattle.kern_model.specs.Kinds.{is_dir}
-use Rattle.iso_laws.proofs.Sight.{dir_there, not_false}
+use Rattle.iso_laws.proofs.Sight.{dir_there}
 use Rattle.chk_rules.proofs.Steps.{need_goes, need_stops, refuse_goes, refuse_stops, equal_refusal}
 use Rattle.sys_lookup.specs.declared.shared.Metadata.{Metadata}
 use Rattle.sys_lookup.specs.Shared.{metadata_of, state_of}
@@ -27,5 +28,5 @@ returns-clause-dir c =
     let s = state_of c.args.self.now.shared.now in
     let log = c.mac_read.new.checks in
     let is : is_dir (metadata_of s c.args.dir.now).kind ≡ true =
-    ap (λ (m : Metadata). is_dir m.kind) (sym c.metadata-object.ensures) ∙ sym c.is_directory.ensures ∙ not_false c.is_directory.result (not_refused log log _ _ (c.in_ok-refuse_if.ensures log)) in
+    ap (λ (m : Metadata). is_dir m.kind) (sym c.metadata-object.ensures) ∙ sym c.is_directory.ensures ∙ not-false c.is_directory.result (not_refused log log _ _ (c.in_ok-refuse_if.ensures log)) in
     where_ok c.dac_search.result (dir_there s c.args.dir.now is)
