@@ -1,0 +1,146 @@
+-- What the rows that make and move entries ask beside their checks.
+use Rattle.std.specs.Prelude.{◌≡◌, ⊤, ℕ, ◌&&◌, ◌<◌, Bool, true, false, nat_le, [], Option, None, Some, Result, Ok, Err, cond, refl}
+use Rattle.std.specs.FinMap as map
+use Rattle.std.specs.FinMap.{FinMap}
+use Rattle.std.specs.Result.{IsErrAnd}
+use Rattle.std.proofs.Common.{ap, sym, ◌∙◌, subst, inl, inr, arith, leb-false}
+use Rattle.fs_path.specs.Path.{PathValue}
+use Rattle.lab_lattice.specs.Label.{Label}
+use Rattle.kern_model.specs.declared.limits.TheConstants.{MAX_LINKS}
+use Rattle.kern_model.specs.declared.calls.Answer.TheVariants.{Nothing}
+use Rattle.kern_model.specs.declared.calls.Errno.{Errno}
+use Rattle.kern_model.specs.declared.checks.Check.{Check}
+use Rattle.kern_model.specs.declared.checks.Place.{Place}
+use Rattle.kern_model.specs.declared.numbers.Oid.{Oid}
+use Rattle.kern_model.specs.declared.numbers.Pid.{Pid}
+use Rattle.kern_model.specs.declared.objects.Object.{Object}
+use Rattle.kern_model.specs.Create.{write_directory}
+use Rattle.kern_model.specs.Entries.{is_under, link_count}
+use Rattle.kern_model.specs.Keys.{oid_cmp}
+use Rattle.kern_model.specs.Kinds.{is_dir}
+use Rattle.kern_model.specs.Maps.{get_or}
+use Rattle.kern_model.specs.Row.{Row, Refuse, Commit, judge}
+use Rattle.kern_model.specs.Rules.{held_order}
+use Rattle.kern_model.specs.State.{State, Process, object_at, root, stub_object}
+use Rattle.kern_model.specs.TreeRows.{give_way}
+use Rattle.kern_model.specs.Valid.{IsDir, IsValid}
+use Rattle.kern_model.specs.Walk.{start_of}
+use Rattle.kern_model.proofs.MapLemmas.{get_or-found}
+use Rattle.chk_rules.specs.CheckLog.{CheckLog}
+use Rattle.chk_rules.specs.Ends.{EndsBy, GoesOn}
+use Rattle.chk_rules.specs.declared.stop.Stop.{Stop}
+use Rattle.chk_rules.specs.declared.stop.Stop.TheVariants as stop
+use Rattle.fs_dirs.specs.Tree.{MayBeAdded, TreeView, state_of_tree, would_loop}
+use Rattle.fs_dirs.proofs.SameEntries.{is_under-same}
+use Rattle.sys_lookup.specs.declared.effect.Effect.{Effect}
+use Rattle.sys_lookup.specs.declared.shared.Shared.{Shared}
+use Rattle.sys_lookup.specs.PlaysRow.{PlaysRow}
+use Rattle.sys_lookup.specs.Shared.{state_of}
+use Rattle.sys_lookup.specs.Walks.{IsLedTo}
+use Rattle.sys_lookup.proofs.PlayLemmas.{then_plays, stops_row}
+use Rattle.sys_tree.specs.Targets.{giving}
+use Rattle.sys_tree.specs.declared.renaming.Way.{Way}
+use Rattle.sys_tree.specs.declared.renaming.Way.TheVariants as way
+
+-- the state with the objects and entries of a tree
+abbrev pub with_tree : State → TreeView → State
+with_tree s t = record s { objects = t.nodes.table.objects; entries = t.entries; object_numbers = t.nodes.table.numbers }
+
+-- ---- refusals that the tree makes
+
+goes_past : (log : CheckLog) (errno : Errno) → GoesOn log (λ (rest : ⊤ → Row). Refuse errno false (rest tt)) (Ok tt) log
+unfolding judge
+goes_past log errno = record { continues = λ rest. refl; stops = tt; subject = refl }
+
+stops_by : (log : CheckLog) (errno : Errno) → GoesOn {X = ⊤} log (λ (rest : ⊤ → Row). Refuse errno true (rest tt)) (Err (stop.Refused errno)) log
+unfolding judge EndsBy
+stops_by log errno = record { continues = tt; stops = λ rest. refl; subject = refl }
+
+-- a refusal whose condition does not hold lets the row go on
+pub lets_on : {log : CheckLog} {errno : Errno} {holds : Bool} → holds ≡ false → GoesOn log (λ (rest : ⊤ → Row). Refuse errno holds (rest tt)) (Ok tt) log
+lets_on {log = log} {errno = errno} is = subst (λ h. GoesOn log (λ (rest : ⊤ → Row). Refuse errno h (rest tt)) (Ok tt) log) (sym is) (goes_past log errno)
+
+-- a refusal whose condition holds stops the row
+pub refuses : {log : CheckLog} {errno : Errno} {holds : Bool} → holds ≡ true → GoesOn {X = ⊤} log (λ (rest : ⊤ → Row). Refuse errno holds (rest tt)) (Err (stop.Refused errno)) log
+refuses {log = log} {errno = errno} is = subst (λ h. GoesOn {X = ⊤} log (λ (rest : ⊤ → Row). Refuse errno h (rest tt)) (Err (stop.Refused errno)) log) (sym is) (stops_by log errno)
+
+-- ---- the directory that gets an entry
+
+-- a directory is written for an entry, by an equal place and check
+pub equal_directory : (s : State) (p : Process) (id dir : Oid) {at place : Place} {order : Check} {a b : CheckLog} {r : Result ⊤ Stop} → at ≡ place → order ≡ held_order s id dir at
+    → GoesOn a (λ (rest : ⊤ → Row). write_directory s p dir at order (rest tt)) r b → GoesOn a (λ (rest : ⊤ → Row). write_directory s p dir place (held_order s id dir place) (rest tt)) r b
+equal_directory s p id dir {at = at} {a = a} {b = b} {r = r} same is step =
+    subst (λ (x : Place). GoesOn a (λ (rest : ⊤ → Row). write_directory s p dir x (held_order s id dir x) (rest tt)) r b) same
+    (subst (λ (o : Check). GoesOn a (λ (rest : ⊤ → Row). write_directory s p dir at o (rest tt)) r b) is step)
+
+-- ---- the object that gets one more name
+
+-- where a path starts is a directory
+start_is_dir : (s : State) → IsValid s → (who : Pid) (p : Process) → map.get s.procs who ≡ Some p → (path : PathValue) → IsDir s.objects (start_of p path)
+start_is_dir s valid who p there path =
+    let r = valid.root_is in
+    elim path.absolute as (λ b. IsDir s.objects (cond b root p.cwd)) [ true ↦ record { object = r.object; is = r.is; dir = r.root_dir } | false ↦ (valid.procs who p there).cwd ]
+
+reads_as_dir : (s : State) (id : Oid) → IsDir s.objects id → is_dir (object_at s id).kind ≡ true
+reads_as_dir s id dir = ap (λ (o : Object). is_dir o.kind) (get_or-found s.objects id (stub_object s.top) dir.object dir.is) ∙ ap is_dir dir.dir
+
+fewer : (n : ℕ) → nat_le MAX_LINKS n ≡ false → n < MAX_LINKS
+fewer n h = omega (arith, leb-false MAX_LINKS n h)
+
+-- what a path leads to may be added under another name where it is no directory and has few names
+pub may_be_added : (h : Shared) → IsValid (state_of h) → (who : Pid) (p : Process) → map.get (state_of h).procs who ≡ Some p → (path : PathValue) (id : Oid) → IsLedTo (state_of h) (start_of p path) id
+    → is_dir (object_at (state_of h) id).kind ≡ false → nat_le MAX_LINKS (link_count (state_of h) id) ≡ false → MayBeAdded h.tree id
+may_be_added h valid who p there path id (inl same) no_dir few =
+    let s = state_of h in
+    let no : true ≡ false = sym (reads_as_dir s id (subst (IsDir s.objects) (sym same) (start_is_dir s valid who p there path))) ∙ no_dir in
+    cc
+may_be_added h valid who p there path id (inr named) no_dir few =
+    let s = state_of h in
+    let entry = valid.entries (named.dir, named.name) id named.leads in
+    record {
+      object = entry.object;
+      is = entry.object_is;
+      few = fewer (link_count s id) few;
+      no_root = entry.no_root;
+      no_pipe = entry.no_pipe;
+      one = λ dir.
+          let no : true ≡ false = sym (reads_as_dir s id (record { object = entry.object; is = entry.object_is; dir = dir })) ∙ no_dir in
+          cc;
+    }
+
+-- ---- the entry that moves
+
+dir_whatever_stub : (m : FinMap oid_cmp Object) (id : Oid) (a b : Label) → is_dir (get_or m id (stub_object a)).kind ≡ is_dir (get_or m id (stub_object b)).kind
+unfolding get_or
+dir_whatever_stub m id a b =
+    elim (map.get m id) as (λ (w : Option Object). is_dir (elim w as (λ _. Object) [ None ↦ stub_object a | Some x ↦ x ]).kind ≡ is_dir (elim w as (λ _. Object) [ None ↦ stub_object b | Some x ↦ x ]).kind) [ None ↦ refl | Some o ↦ refl ]
+
+-- whether a directory would lie under itself is the same of the tree alone
+pub loops_same : (h : Shared) (id into : Oid) → would_loop (state_of h) id into ≡ would_loop (state_of_tree h.tree) id into
+loops_same h id into =
+    let s = state_of h in
+    let t = state_of_tree h.tree in
+    ap (λ b. b && is_under s into id) (dir_whatever_stub s.objects id s.top t.top) ∙ ap (λ b. is_dir (object_at t id).kind && b) (is_under-same s t refl into id)
+
+-- the row after what is at the target gave way or stays
+abbrev pub along : Row → Way → Row
+along row way.Stays = Commit [] Nothing None
+along row way.Moves = row
+
+give_way_along : (s : State) (p : Process) (id : Oid) (target : Option Oid) (place : Place) (row : Row) → give_way s p id target place row ≡ giving s p id target place (along row)
+give_way_along s p id None place row = refl
+give_way_along s p id (Some t) place row = refl
+
+module _ (s : State) (p : Process) (id : Oid) (target : Option Oid) {at place : Place} (row : Row) (same : at ≡ place) where
+  placed : {a c : CheckLog} {u t : State} {r : Result Effect Stop} → PlaysRow u a (giving s p id target at (along row)) r t c → PlaysRow u a (give_way s p id target place row) r t c
+  placed {a = a} {c = c} {u = u} {t = t} {r = r} plays =
+      subst (λ (x : Row). PlaysRow u a x r t c) (sym (give_way_along s p id target place row))
+      (subst (λ (x : Place). PlaysRow u a (giving s p id target x (along row)) r t c) same plays)
+
+  -- the row goes on from what became of the target
+  pub way_plays : {a b c : CheckLog} {u t : State} {w v : Way} {r : Result Effect Stop} → GoesOn a (giving s p id target at) (Ok w) b → w ≡ v → PlaysRow u b (along row v) r t c → PlaysRow u a (give_way s p id target place row) r t c
+  way_plays {b = b} {c = c} {u = u} {t = t} {r = r} step is plays = placed (then_plays {rest = along row} step (subst (λ (w : Way). PlaysRow u b (along row w) r t c) (sym is) plays))
+
+  -- the row ends there
+  pub way_stops : {a b : CheckLog} {u t : State} {how : Stop} (r : Result Effect Stop) → IsErrAnd r (λ e. e ≡ how) → t ≡ u → GoesOn a (giving s p id target at) (Err how) b → PlaysRow u a (give_way s p id target place row) r t b
+  way_stops r is still step = placed (stops_row {rest = along row} r is still step)

@@ -1,0 +1,17 @@
+//! The bodies of the calls on directories and names.
+#![tactic(auto)]
+
+mod linking;
+mod living;
+mod making;
+mod reading;
+mod removing;
+mod renaming;
+mod standing;
+
+pub use linking::link;
+pub use making::mkdir;
+pub use reading::{readdir, stat};
+pub use removing::{rmdir, unlink};
+pub use renaming::rename;
+pub use standing::chdir;
