@@ -4,6 +4,7 @@ use Rattle.std.specs.FinMap as map
 use Rattle.std.specs.FinMap.{FinMap}
 use Rattle.std.specs.Result.{IsErrAnd}
 use Rattle.std.proofs.Common.{ap, sym, ◌∙◌, subst, inl, inr, arith, leb-false}
+use Rattle.std.proofs.Math.Logic.{∥∥₁_map, ∥∥₁_elim}
 use Rattle.fs_path.specs.Path.{PathValue}
 use Rattle.lab_lattice.specs.Label.{Label}
 use Rattle.kern_model.specs.declared.limits.TheConstants.{MAX_LINKS}
@@ -25,7 +26,7 @@ use Rattle.kern_model.specs.State.{State, Process, object_at, root, stub_object}
 use Rattle.kern_model.specs.TreeRows.{give_way}
 use Rattle.kern_model.specs.Valid.{IsDir, IsValid}
 use Rattle.kern_model.specs.Walk.{start_of}
-use Rattle.kern_model.proofs.MapLemmas.{get_or-found}
+use Rattle.kern_model.proofs.MapLemmas.{get_or-found, never_some, some_same}
 use Rattle.chk_rules.specs.CheckLog.{CheckLog}
 use Rattle.chk_rules.specs.Ends.{EndsBy, GoesOn}
 use Rattle.chk_rules.specs.declared.stop.Stop.{Stop}
@@ -87,14 +88,14 @@ reads_as_dir s id dir = ap (λ (o : Object). is_dir o.kind) (get_or-found s.obje
 fewer : (n : ℕ) → nat_le MAX_LINKS n ≡ false → n < MAX_LINKS
 fewer n h = omega (arith, leb-false MAX_LINKS n h)
 
--- what a path leads to may be added under another name where it is no directory and has few names
-pub may_be_added : (h : Shared) → IsValid (state_of h) → (who : Pid) (p : Process) → map.get (state_of h).procs who ≡ Some p → (path : PathValue) (id : Oid) → IsLedTo (state_of h) (start_of p path) id
+-- so it is in a valid state
+added_in : (h : Shared) → IsValid (state_of h) → (who : Pid) (p : Process) → map.get (state_of h).procs who ≡ Some p → (path : PathValue) (id : Oid) → IsLedTo (state_of h) (start_of p path) id
     → is_dir (object_at (state_of h) id).kind ≡ false → nat_le MAX_LINKS (link_count (state_of h) id) ≡ false → MayBeAdded h.tree id
-may_be_added h valid who p there path id (inl same) no_dir few =
+added_in h valid who p there path id (inl same) no_dir few =
     let s = state_of h in
     let no : true ≡ false = sym (reads_as_dir s id (subst (IsDir s.objects) (sym same) (start_is_dir s valid who p there path))) ∙ no_dir in
     cc
-may_be_added h valid who p there path id (inr named) no_dir few =
+added_in h valid who p there path id (inr named) no_dir few =
     let s = state_of h in
     let entry = valid.entries (named.dir, named.name) id named.leads in
     record {
@@ -107,6 +108,26 @@ may_be_added h valid who p there path id (inr named) no_dir few =
           let no : true ≡ false = sym (reads_as_dir s id (record { object = entry.object; is = entry.object_is; dir = dir })) ∙ no_dir in
           cc;
     }
+
+-- what a path leads to may be added under another name where it is no directory and has few names
+pub may_be_added : (h : Shared) → ∥ IsValid (state_of h) ∥₁ → (who : Pid) (p : Process) → map.get (state_of h).procs who ≡ Some p → (path : PathValue) (id : Oid) → IsLedTo (state_of h) (start_of p path) id
+    → is_dir (object_at (state_of h) id).kind ≡ false → nat_le MAX_LINKS (link_count (state_of h) id) ≡ false → MayBeAdded h.tree id
+may_be_added h valid who p there path id led no_dir few =
+    let s = state_of h in
+    let known = ∥∥₁_map valid (λ v. added_in h v who p there path id led no_dir few) in
+    elim (map.get s.objects id) as (λ w. map.get s.objects id ≡ w → MayBeAdded h.tree id) [
+      | None ↦ λ e. absurd (∥∥₁_elim known (λ a b. absurd a) (λ m. never_some (map.get s.objects id) m.object e m.is))
+      | Some o ↦ λ e. record {
+        object = o;
+        is = e;
+        few = fewer (link_count s id) few;
+        no_root = λ r. ∥∥₁_elim known (λ a b. absurd a) (λ m. m.no_root r);
+        no_pipe = λ k. ∥∥₁_elim known (λ a b. absurd a) (λ m. m.no_pipe (ap (λ (x : Object). x.kind) (some_same m.object o (sym m.is ∙ e)) ∙ k));
+        one = λ dir.
+            let no : true ≡ false = sym (reads_as_dir s id (record { object = o; is = e; dir = dir })) ∙ no_dir in
+            cc;
+      }
+    ] refl
 
 -- ---- the entry that moves
 

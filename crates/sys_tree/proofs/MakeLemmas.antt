@@ -1,8 +1,9 @@
 -- A directory is made in a valid state.
-use Rattle.std.specs.Prelude.{◌≡◌, ⊤, Bool, not, true, false, [], None, Ok, refl}
+use Rattle.std.specs.Prelude.{◌≡◌, ⊤, Bool, not, true, false, [], Option, None, Some, Ok, refl}
 use Rattle.std.specs.FinMap as map
 use Rattle.std.specs.FinMap.{FinMap}
 use Rattle.std.proofs.Common.{ap, sym, ◌∙◌, subst, arith}
+use Rattle.std.proofs.Math.Logic.{∥∥₁_map, ∥∥₁_elim}
 use Rattle.std.proofs.lemmas.Bool.{not-false}
 use Rattle.cap_bits.specs.CapSet.{no_caps}
 use Rattle.lab_lattice.specs.Label.{Label, bottom}
@@ -49,8 +50,13 @@ not_full left goes =
     let log = check_log who bottom no_caps in
     not-false left (not_refused log log ENOSPC (not left) (goes log))
 
+-- what is known to be absent is
+absent_where : {X : Type 0} (o : Option X) → ∥ o ≡ None ∥₁ → o ≡ None
+absent_where None known = refl
+absent_where (Some x) known = absurd (∥∥₁_elim known (λ a b. absurd a) (λ e. never_some (Some x) x e refl))
+
 -- A new directory has the next number, and no entry yet.
-module _ (s : State) (valid : IsValid s) (label : Label) (attr : Attr) (u : TreeView) (objects_are : u.nodes.table.objects ≡ map.insert s.objects (next_object s label) (object_with label attr body.Dir)) (entries_are : u.entries ≡ s.entries) where
+module _ (s : State) (valid : ∥ IsValid s ∥₁) (label : Label) (attr : Attr) (u : TreeView) (objects_are : u.nodes.table.objects ≡ map.insert s.objects (next_object s label) (object_with label attr body.Dir)) (entries_are : u.entries ≡ s.entries) where
   abbrev new : Oid
   new = next_object s label
 
@@ -58,7 +64,7 @@ module _ (s : State) (valid : IsValid s) (label : Label) (attr : Attr) (u : Tree
   made = object_with label attr body.Dir
 
   none_there : map.get s.objects new ≡ None
-  none_there = next_absent s valid label
+  none_there = absent_where (map.get s.objects new) (∥∥₁_map valid (λ v. next_absent s v label))
 
   -- directories stay
   pub dir_stays : (dir : Oid) → IsDir s.objects dir → IsDir u.nodes.table.objects dir
@@ -67,8 +73,9 @@ module _ (s : State) (valid : IsValid s) (label : Label) (attr : Attr) (u : Tree
   unnamed : link_count s new ≡ 0
   unnamed =
       count_none spot_cmp_total spot_cmp_exact (λ (spot : Spot) (at : Oid). same_oid at new) s.entries (λ spot at e.
-      let entry = valid.entries spot at e in
-      not_true (same_oid at new) (λ same. never_some (map.get s.objects new) entry.object none_there (ap (map.get s.objects) (sym (same_key oid_cmp_exact at new same)) ∙ entry.object_is)))
+      not_true (same_oid at new) (λ same. ∥∥₁_elim valid (λ a b. absurd a) (λ v.
+      let entry = v.entries spot at e in
+      never_some (map.get s.objects new) entry.object none_there (ap (map.get s.objects) (sym (same_key oid_cmp_exact at new same)) ∙ entry.object_is))))
 
   -- it may get one
   pub may_be_added : (id : Oid) → id ≡ new → MayBeAdded u id
@@ -78,7 +85,7 @@ module _ (s : State) (valid : IsValid s) (label : Label) (attr : Attr) (u : Tree
         object = made;
         is = (λ i. map.get (objects_are i) (is i)) ∙ get-insert_same oid_cmp_total s.objects new made;
         few = omega (arith, none);
-        no_root = λ e. never_some (map.get s.objects new) valid.root_is.object none_there (ap (map.get s.objects) (sym is ∙ e) ∙ valid.root_is.is);
+        no_root = λ e. ∥∥₁_elim valid (λ a b. absurd a) (λ v. never_some (map.get s.objects new) v.root_is.object none_there (ap (map.get s.objects) (sym is ∙ e) ∙ v.root_is.is));
         no_pipe = λ (h : kind.Dir ≡ kind.Pipe). cc;
         one = λ _. none;
       }

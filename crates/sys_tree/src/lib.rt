@@ -4,6 +4,7 @@
 mod linking;
 mod living;
 mod making;
+mod playing;
 mod reading;
 mod removing;
 mod renaming;
@@ -11,6 +12,7 @@ mod standing;
 
 pub use linking::link;
 pub use making::mkdir;
+pub use playing::play;
 pub use reading::{readdir, stat};
 pub use removing::{rmdir, unlink};
 pub use renaming::rename;

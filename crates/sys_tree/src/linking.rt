@@ -1,6 +1,7 @@
 // The call `link`.
-ghost use Rattle.std.specs.Prelude.{◌≡◌, ◌∷◌, [], None, Some, IfOk, IsSome, false, nat_le};
+ghost use Rattle.std.specs.Prelude.{◌≡◌, ◌∷◌, [], None, Some, IfOk, IsSome, true, false, nat_le};
 ghost use Rattle.std.specs.FinMap as map;
+ghost use Rattle.kern_model.specs.Arguments.{are_names};
 ghost use Rattle.kern_model.specs.Create.{write_directory};
 ghost use Rattle.kern_model.specs.Entries.{is_removed, link_count};
 ghost use Rattle.kern_model.specs.Kinds.{is_dir};
@@ -35,10 +36,12 @@ pub fn link(
     path: &Path,
     to: &Path,
 ) -> Result<Effect, Stop>
-    requires valid { IsValid (state_of shared.old) }
+    requires valid { ∥ IsValid (state_of shared.old) ∥₁ }
     requires living { IsSome (map.get (state_of shared.old).procs who.now) }
-    ensures { (p : Process) → map.get (state_of shared.old).procs who.now ≡ Some p → PlaysRow (state_of shared.old) checks.old (link_row (state_of shared.old) who.now p path.now to.now) result (state_of shared.new) checks.new }
+    ensures played { (p : Process) → map.get (state_of shared.old).procs who.now ≡ Some p → PlaysRow (state_of shared.old) checks.old (link_row (state_of shared.old) who.now p path.now to.now) result (state_of shared.new) checks.new }
+    ensures names { are_names to.now ≡ true }
 {
+    let _names = to.components();
     let Some(process) = shared.procs.find(who) else {
         unreachable!();
     };

@@ -36,7 +36,7 @@ pub fn mkdir(
     path: &Path,
     mode: Mode,
 ) -> Result<Effect, Stop>
-    requires valid { IsValid (state_of shared.old) }
+    requires valid { ∥ IsValid (state_of shared.old) ∥₁ }
     requires living { IsSome (map.get (state_of shared.old).procs who.now) }
     ensures played { (p : Process) → map.get (state_of shared.old).procs who.now ≡ Some p → PlaysRow (state_of shared.old) checks.old (mkdir_row (state_of shared.old) who.now p path.now mode) result (state_of shared.new) checks.new }
     ensures names { are_names path.now ≡ true }
@@ -84,16 +84,13 @@ fn make_directory(
     label: Label,
     attr: Attr,
 ) -> Result<Effect, Stop>
-    requires valid { IsValid (state_of shared.old) }
+    requires valid { ∥ IsValid (state_of shared.old) ∥₁ }
     requires dir { IsDir (state_of shared.old).objects dir.now }
     requires stands { is_removed (state_of shared.old) dir.now ≡ false }
     requires absent { look (state_of shared.old) dir.now name.now ≡ None }
     ensures { (log : CheckLog) → PlaysRow (state_of shared.old) log (make_directory (state_of shared.old) label attr dir.now name.now) result (state_of shared.new) log }
 {
-    refuse_if(
-        !shared.tree.nodes().can_create(&label),
-        Errno::ENOSPC,
-    )?;
+    refuse_if(!shared.tree.nodes().can_create(&label), Errno::ENOSPC)?;
     let id = match shared.tree.create(label, attr, Body::Dir) {
         Ok(id) => id,
         Err(NodeError::Full) => unreachable!(),

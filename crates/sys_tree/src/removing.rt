@@ -72,10 +72,7 @@ fn entry_to_remove(
 {
     let (dir, name, object) = entry_to_leave(caller, checks, path)?;
     refuse_if(!object.is_directory(), Errno::ENOTDIR)?;
-    refuse_if(
-        !caller.shared.tree.is_empty(&object.id),
-        Errno::ENOTEMPTY,
-    )?;
+    refuse_if(!caller.shared.tree.is_empty(&object.id), Errno::ENOTEMPTY)?;
     Ok((dir, name))
 }
 

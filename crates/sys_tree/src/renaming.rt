@@ -1,6 +1,7 @@
 // The call `rename`.
-ghost use Rattle.std.specs.Prelude.{◌≡◌, ◌&&◌, None, Some, IfOk, IsSome, not};
+ghost use Rattle.std.specs.Prelude.{◌≡◌, ◌&&◌, None, Some, IfOk, IsSome, not, true};
 ghost use Rattle.std.specs.FinMap as map;
+ghost use Rattle.kern_model.specs.Arguments.{are_names};
 ghost use Rattle.kern_model.specs.Create.{write_directory};
 ghost use Rattle.kern_model.specs.Keys.{same_oid};
 ghost use Rattle.kern_model.specs.Rules.{held_order};
@@ -40,8 +41,10 @@ pub fn rename(
     to: &Path,
 ) -> Result<Effect, Stop>
     requires living { IsSome (map.get (state_of shared.old).procs who.now) }
-    ensures { (p : Process) → map.get (state_of shared.old).procs who.now ≡ Some p → PlaysRow (state_of shared.old) checks.old (rename_row (state_of shared.old) who.now p path.now to.now) result (state_of shared.new) checks.new }
+    ensures played { (p : Process) → map.get (state_of shared.old).procs who.now ≡ Some p → PlaysRow (state_of shared.old) checks.old (rename_row (state_of shared.old) who.now p path.now to.now) result (state_of shared.new) checks.new }
+    ensures names { are_names to.now ≡ true }
 {
+    let _names = to.components();
     let Some(process) = shared.procs.find(who) else {
         unreachable!();
     };

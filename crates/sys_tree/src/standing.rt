@@ -34,11 +34,7 @@ pub fn chdir(
 }
 
 // The directory that becomes the current one.
-fn directory_to_enter(
-    caller: &Caller<'_>,
-    checks: &mut Checks,
-    path: &Path,
-) -> Result<Oid, Stop>
+fn directory_to_enter(caller: &Caller<'_>, checks: &mut Checks, path: &Path) -> Result<Oid, Stop>
     ensures { GoesOn checks.old (λ rest. on_path (state_of caller.now.shared.now) caller.now.process.now path.now (λ id place. enter (state_of caller.now.shared.now) caller.now.process.now id place (rest id))) result checks.new }
 {
     let (id, place) = caller.reach(checks, PathArgument::First, path)?;

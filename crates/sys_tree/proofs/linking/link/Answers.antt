@@ -28,23 +28,23 @@ naming s p to id =
     enter_in s p dir (dir_place (λ n. Second n) to) (held_order s id dir (dir_place (λ n. Second n) to))
     (Commit (SetEntry (dir, name) id ∷ []) Nothing None)))
 
-pub returns-in_err-id : goal.returns-in_err-id
-returns-in_err-id c = λ p there.
+pub returns-in_err-id-clause-played : goal.returns-in_err-id-clause-played
+returns-in_err-id-clause-played c = λ p there.
     let s = state_of c.args.shared.now in
     let q = c.in-Some.process.now in
     caller_plays (λ x. link_row s c.args.who.now x c.args.path.now c.args.to.now) c.args.who.now q p c.in-Some.ensures there
     (stops_row {rest = naming s q c.args.to.now} c.from_residual.result c.from_residual.ensures.1 refl c.in_err-id.ensures.step)
 
-pub returns-in_err-dir : goal.returns-in_err-dir
-returns-in_err-dir c = λ p there.
+pub returns-in_err-dir-clause-played : goal.returns-in_err-dir-clause-played
+returns-in_err-dir-clause-played c = λ p there.
     let s = state_of c.args.shared.now in
     let q = c.in-Some.process.now in
     caller_plays (λ x. link_row s c.args.who.now x c.args.path.now c.args.to.now) c.args.who.now q p c.in-Some.ensures there
     (then_plays {rest = naming s q c.args.to.now} c.in_ok-id.ensures.step
     (stops_row {rest = adding s c.in_ok-id.id} c.from_residual-in_err-dir.result c.from_residual-in_err-dir.ensures.1 refl c.in_err-dir.ensures.step))
 
-pub returns : goal.returns
-returns c = λ p there.
+pub returns-clause-played : goal.returns-clause-played
+returns-clause-played c = λ p there.
     let s = state_of c.args.shared.now in
     let q = c.in-Some.process.now in
     caller_plays (λ x. link_row s c.args.who.now x c.args.path.now c.args.to.now) c.args.who.now q p c.in-Some.ensures there

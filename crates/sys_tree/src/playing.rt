@@ -1,0 +1,53 @@
+// The calls on directories and names, as one.
+ghost use Rattle.std.specs.Prelude.{◌≡◌, Some, IsSome, true};
+ghost use Rattle.std.specs.FinMap as map;
+ghost use Rattle.kern_model.specs.Arguments.{has_names};
+ghost use Rattle.kern_model.specs.State.{Process};
+ghost use Rattle.kern_model.specs.Table.{row};
+ghost use Rattle.kern_model.specs.Valid.{IsValid};
+ghost use Rattle.sys_lookup.specs.PlaysRow.{PlaysRow};
+ghost use Rattle.sys_lookup.specs.Shared.{state_of};
+ghost use Rattle.sys_tree.specs.Playing.{is_tree_call};
+
+use crate::linking::link;
+use crate::living::living;
+use crate::making::mkdir;
+use crate::reading::{readdir, stat};
+use crate::removing::{rmdir, unlink};
+use crate::renaming::rename;
+use crate::standing::chdir;
+use chk_rules::{Checks, Stop};
+use kern_model::{Call, Pid};
+use sys_lookup::{Caller, Effect, Shared};
+
+/// Plays a call of a living process on directories and names.
+pub fn play(
+    shared: &mut Shared,
+    checks: &mut Checks,
+    who: &Pid,
+    call: &Call,
+) -> Result<Effect, Stop>
+    requires call { is_tree_call call.now ≡ true }
+    requires valid { ∥ IsValid (state_of shared.old) ∥₁ }
+    requires living { IsSome (map.get (state_of shared.old).procs who.now) }
+    ensures played { (p : Process) → map.get (state_of shared.old).procs who.now ≡ Some p → PlaysRow (state_of shared.old) checks.old (row (state_of shared.old) who.now p call.now) result (state_of shared.new) checks.new }
+    ensures names { has_names call.now ≡ true }
+{
+    match call {
+        Call::Mkdir(path, mode) => mkdir(shared, checks, who, path, *mode),
+        Call::Rmdir(path) => rmdir(shared, checks, who, path),
+        Call::Link(path, to) => link(shared, checks, who, path, to),
+        Call::Unlink(path) => unlink(shared, checks, who, path),
+        Call::Rename(path, to) => rename(shared, checks, who, path, to),
+        Call::Chdir(path) => chdir(shared, checks, who, path),
+        Call::Readdir(path) => {
+            let process = living(&shared.procs, who);
+            readdir(&Caller { shared, process }, checks, path)
+        }
+        Call::Stat(path) => {
+            let process = living(&shared.procs, who);
+            stat(&Caller { shared, process }, checks, path)
+        }
+        _ => unreachable!(),
+    }
+}
