@@ -1,5 +1,5 @@
 -- What a step keeps.
-use Rattle.std.specs.Prelude.{◌≡◌, refl, true, false, List, [], Option, Some, None, Result, Ok, Err, IfOk, OnOk}
+use Rattle.std.specs.Prelude.{◌≡◌, refl, true, false, List, [], Option, Some, None, Result, Ok, Err, IfOk, OnOk, IsSome, is_some}
 use Rattle.std.specs.Result.{is_err}
 use Rattle.std.specs.FinMap as map
 use Rattle.std.proofs.Common.{ap, sym, ◌∙◌, subst, arith}
@@ -13,7 +13,7 @@ use Rattle.kern_model.specs.declared.numbers.Pid.{Pid}
 use Rattle.kern_model.specs.declared.records.Outcome as reported
 use Rattle.kern_model.specs.declared.world.World.{World}
 use Rattle.kern_model.specs.declared.world.WorldProc.{WorldProc}
-use Rattle.kern_model.specs.Arguments.{is_call}
+use Rattle.kern_model.specs.Arguments.{has_names, is_call}
 use Rattle.kern_model.specs.Boot.{boot_processes, furnished}
 use Rattle.kern_model.specs.Drawing.{NumbersGoOn}
 use Rattle.kern_model.specs.Names.{name_of}
@@ -27,7 +27,8 @@ use Rattle.kern_model.specs.World.{IsWorld}
 use Rattle.iso_laws.proofs.Laws.{refusals_are_named, numbers_step, valid_boot, valid_step}
 use Rattle.kern_core.specs.Built.{is_built}
 use Rattle.kern_core.specs.Kernel.{IsStopped}
-use Rattle.kern_core.proofs.BuiltLaws.{built_laws, built_names}
+use Rattle.kern_core.proofs.BuiltLaws.{built_laws}
+use Rattle.kern_core.proofs.StepLemmas.{no_process}
 
 -- ---- a call that stopped
 kept_at : (s : State) (who : Pid) (p : Process) (name : CallName) (j : CheckOutcome) → IsStopped (settled s who p name j).reply → (settled s who p name j).state ≡ s
@@ -57,9 +58,12 @@ module _ {E : Type 0} (s t : State) (who : Pid) (c : Call) (r : Result reported.
   named_played = IfOk-weaker r _ _ (λ o e. subst IsNamed (ap (λ (u : StepResult). u.reply) e) (refusals_are_named s who c)) is
 
   -- leaves a valid state valid
-  pub valid_played : is_built c ≡ true → is_call s.top c ≡ true → ∥ IsValid s ∥₁ → OnOk r (∥ IsValid t ∥₁)
-  valid_played built arguments valid =
-      let after : IsValid s → IsValid (step s who c).state = valid_step s who c (built_laws c built) arguments (built_names c built) in
+  pub valid_played : is_built c ≡ true → is_call s.top c ≡ true → (IsSome (map.get s.procs who) → has_names c ≡ true) → ∥ IsValid s ∥₁ → OnOk r (∥ IsValid t ∥₁)
+  valid_played built arguments names valid =
+      let after : IsValid s → IsValid (step s who c).state = λ v. elim (map.get s.procs who) as (λ w. map.get s.procs who ≡ w → IsValid (step s who c).state) [
+        | None ↦ λ none. subst IsValid (sym (ap (λ (u : StepResult). u.state) (no_process s who c none))) v
+        | Some p ↦ λ some. valid_step s who c (built_laws c built) arguments (names (ap is_some some)) v
+      ] refl in
       IfOk-weaker r _ _ (λ o e. ∥∥₁_map valid (λ v. subst IsValid (ap (λ (u : StepResult). u.state) e) (after v))) is
 
   -- lets numbers go on

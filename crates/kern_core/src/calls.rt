@@ -1,25 +1,44 @@
-// The calls. The body of each stands in the module of its family.
-ghost use Rattle.std.specs.Prelude.{◌≡◌, true, IfOk, IsOk};
+// The calls. The body of each stands in the module of its family, or in the crate of its family.
+ghost use Rattle.std.specs.Prelude.{◌≡◌, Some, true, IfOk, IsOk, IsSome};
+ghost use Rattle.std.specs.FinMap as map;
+ghost use Rattle.kern_model.specs.Arguments.{has_names};
+ghost use Rattle.kern_model.specs.State.{Process};
 ghost use Rattle.kern_model.specs.Step.{IsPlayed};
+ghost use Rattle.kern_model.specs.Table.{row};
+ghost use Rattle.kern_model.specs.Valid.{IsValid};
+ghost use Rattle.kern_model.specs.declared.calls.Call.TheVariants as call_name;
+ghost use Rattle.sys_lookup.specs.PlaysRow.{PlaysRow};
 ghost use Rattle.sys_lookup.specs.Shared.{state_of};
 ghost use Rattle.kern_core.specs.Built.{is_built};
 ghost use Rattle.kern_core.specs.Kernel.{TakesNoMemory};
+ghost use Rattle.kern_core.specs.Reports.{LeavesNothing};
 
 mod attributes;
 mod processes;
 
 use crate::outcome::{no_process, report};
-use chk_rules::Checks;
+use chk_rules::{Checks, Stop};
 use kern_model::{Call, NoMemory, Outcome, Pid};
 use std::alloc::Global;
-use sys_lookup::{Caller, Shared};
+use sys_lookup::{Caller, Effect, Shared};
+use sys_tree::living;
 
 /// Whether this kernel can play a call.
 pub fn built(call: &Call) -> bool
     ensures { result ≡ is_built call.now }
 {
     match call {
-        Call::MacGetFile(_) | Call::CapGetProc | Call::CapSetProc(_) => true,
+        Call::Mkdir(_, _)
+        | Call::Rmdir(_)
+        | Call::Link(_, _)
+        | Call::Unlink(_)
+        | Call::Rename(_, _)
+        | Call::Readdir(_)
+        | Call::Stat(_)
+        | Call::Chdir(_)
+        | Call::MacGetFile(_)
+        | Call::CapGetProc
+        | Call::CapSetProc(_) => true,
         _ => false,
     }
 }
@@ -27,7 +46,9 @@ pub fn built(call: &Call) -> bool
 /// Plays one call of a process, and returns the reply and the records that it leaves.
 pub fn play(alloc: Global, shared: &mut Shared, who: &Pid, call: &Call) -> Result<Outcome, NoMemory>
     requires built { is_built call.now ≡ true }
+    requires valid { ∥ IsValid (state_of shared.old) ∥₁ }
     ensures played { IfOk result (λ outcome. IsPlayed (state_of shared.old) who.now call.now outcome (state_of shared.new)) }
+    ensures names { IsSome (map.get (state_of shared.old).procs who.now) → has_names call.now ≡ true }
     ensures ready { TakesNoMemory (state_of shared.old) who.now call.now → IsOk result }
 {
     let Some(process) = shared.procs.find(who) else {
@@ -36,12 +57,39 @@ pub fn play(alloc: Global, shared: &mut Shared, who: &Pid, call: &Call) -> Resul
     let audited = process.audited;
     let creds = &process.creds;
     let mut checks = Checks::new(alloc, *who, creds.label, creds.caps.e);
-    let caller = Caller { shared, process };
-    let played = match call {
-        Call::MacGetFile(path) => attributes::mac_get_file(&caller, &mut checks, path),
-        Call::CapGetProc => Ok(processes::cap_get_proc(process)),
-        Call::CapSetProc(caps) => processes::cap_set_proc(shared, &mut checks, who, *caps),
-        _ => unreachable!(),
-    };
+    let played = play_body(shared, &mut checks, who, call);
     report(checks, who, audited, call.name(), played)
+}
+
+// Plays the body of a call of a living process.
+fn play_body(
+    shared: &mut Shared,
+    checks: &mut Checks,
+    who: &Pid,
+    call: &Call,
+) -> Result<Effect, Stop>
+    requires built { is_built call.now ≡ true }
+    requires valid { ∥ IsValid (state_of shared.old) ∥₁ }
+    requires living { IsSome (map.get (state_of shared.old).procs who.now) }
+    ensures played { (p : Process) → map.get (state_of shared.old).procs who.now ≡ Some p → PlaysRow (state_of shared.old) checks.old (row (state_of shared.old) who.now p call.now) result (state_of shared.new) checks.new }
+    ensures names { has_names call.now ≡ true }
+    ensures nothing { call.now ≡ call_name.CapGetProc → LeavesNothing result }
+{
+    match call {
+        Call::MacGetFile(path) => {
+            let process = living(&shared.procs, who);
+            attributes::mac_get_file(&Caller { shared, process }, checks, path)
+        }
+        Call::CapGetProc => Ok(processes::cap_get_proc(living(&shared.procs, who))),
+        Call::CapSetProc(caps) => processes::cap_set_proc(shared, checks, who, *caps),
+        Call::Mkdir(_, _)
+        | Call::Rmdir(_)
+        | Call::Link(_, _)
+        | Call::Unlink(_)
+        | Call::Rename(_, _)
+        | Call::Readdir(_)
+        | Call::Stat(_)
+        | Call::Chdir(_) => sys_tree::play(shared, checks, who, call),
+        _ => unreachable!(),
+    }
 }

@@ -1,8 +1,8 @@
 //! The bodies of the calls on directories and names.
 #![tactic(auto)]
 
+mod caller;
 mod linking;
-mod living;
 mod making;
 mod playing;
 mod reading;
@@ -10,6 +10,7 @@ mod removing;
 mod renaming;
 mod standing;
 
+pub use caller::living;
 pub use linking::link;
 pub use making::mkdir;
 pub use playing::play;

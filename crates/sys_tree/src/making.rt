@@ -17,7 +17,7 @@ ghost use Rattle.sys_lookup.specs.Walks.{IsEntry, place_in};
 ghost use Rattle.sys_lookup.specs.declared.argument.PathArgument.TheVariants as argument;
 ghost use Rattle.sys_tree.specs.Making.{make_directory};
 
-use crate::living::living;
+use crate::caller::living;
 use cap_bits::CapState;
 use chk_rules::{Checks, Stop, refuse_if};
 use fs_dirs::AddError;

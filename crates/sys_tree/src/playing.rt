@@ -9,8 +9,8 @@ ghost use Rattle.sys_lookup.specs.PlaysRow.{PlaysRow};
 ghost use Rattle.sys_lookup.specs.Shared.{state_of};
 ghost use Rattle.sys_tree.specs.Playing.{is_tree_call};
 
+use crate::caller::living;
 use crate::linking::link;
-use crate::living::living;
 use crate::making::mkdir;
 use crate::reading::{readdir, stat};
 use crate::removing::{rmdir, unlink};

@@ -15,7 +15,7 @@ ghost use Rattle.sys_lookup.specs.Shared.{metadata_of, state_of};
 ghost use Rattle.sys_lookup.specs.Walks.{IsEntry, place_in};
 ghost use Rattle.sys_lookup.specs.declared.argument.PathArgument.TheVariants as argument;
 
-use crate::living::living;
+use crate::caller::living;
 use chk_rules::{Checks, Stop, refuse_if};
 use fs_dirs::Absent;
 use kern_model::{Answer, Errno, Name, Oid, Path, Pid};

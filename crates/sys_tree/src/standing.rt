@@ -8,7 +8,7 @@ ghost use Rattle.chk_rules.specs.Ends.{GoesOn};
 ghost use Rattle.sys_lookup.specs.PlaysRow.{PlaysRow};
 ghost use Rattle.sys_lookup.specs.Shared.{state_of};
 
-use crate::living::living;
+use crate::caller::living;
 use chk_rules::{Checks, Stop};
 use kern_model::{Answer, Oid, Path, Pid};
 use sys_lookup::{Caller, Effect, PathArgument, Shared};

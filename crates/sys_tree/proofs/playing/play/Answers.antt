@@ -1,7 +1,5 @@
-use Rattle.std.proofs.Common.{◌≡◌, ◌∙◌, true, ap, sym, subst, refl}
+use Rattle.std.proofs.Common.{refl}
 use Rattle.kern_model.specs.Arguments.{has_names}
-use Rattle.kern_model.specs.declared.calls.Call.{Call}
-use Rattle.kern_model.specs.declared.calls.Call.TheVariants as call
 use Rattle.kern_model.specs.State.{Process}
 use Rattle.kern_model.specs.TreeRows.{readdir_row, stat_row}
 use Rattle.sys_lookup.specs.Shared.{state_of}
