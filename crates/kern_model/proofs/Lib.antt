@@ -3,5 +3,6 @@ pub mod KeyLaws
 pub mod MapLemmas
 pub mod NamedLaws
 pub mod RowLemmas
+pub mod StateLemmas
 pub mod TableLemmas
 pub mod WorldLemmas

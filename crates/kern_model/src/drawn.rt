@@ -1,5 +1,5 @@
 // The last number drawn of each label.
-ghost use Rattle.std.specs.Prelude.{◌≡◌, OnErr, OnOk};
+ghost use Rattle.std.specs.Prelude.{◌≡◌, ◌+◌, ◌<◌, ◌≤◌, MatchOption, OnErr, OnOk};
 ghost use Rattle.std.specs.FinMap as map;
 ghost use Rattle.kern_model.specs.State.{drawn};
 
@@ -51,6 +51,17 @@ impl Numbers {
         ensures { result ≡ drawn self.now label.now }
     {
         self.get(label).unwrap_or(0)
+    }
+
+    /// The next number of a label, or `None` where `most` are drawn.
+    pub fn next(&self, label: &Label, most: u16) -> Option<u16>
+        ensures { MatchOption result (most ≤ drawn self.now label.now) (λ n. (n ≡ drawn self.now label.now + 1) × (drawn self.now label.now < most)) }
+    {
+        let last = self.last(label);
+        if last >= most {
+            return None;
+        }
+        Some(last + 1)
     }
 
     /// Puts a number in place of what was there.

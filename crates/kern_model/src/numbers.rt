@@ -1,4 +1,7 @@
 // Numbers of processes, objects and open descriptions, of users and groups.
+ghost use Rattle.std.specs.Prelude.{◌≡◌};
+ghost use Rattle.kern_model.specs.Keys.{same_oid};
+
 use fs_path::List;
 use lab_lattice::Label;
 
@@ -14,6 +17,16 @@ pub struct Pid {
 pub struct Oid {
     pub label: Label,
     pub n: u16,
+}
+
+impl Oid {
+    /// Whether two numbers are one.
+    #[tactic(auto, unfolding(crate::specs::Keys::oid_cmp))]
+    pub fn is_same(&self, other: &Oid) -> bool
+        ensures { result ≡ same_oid self.now other.now }
+    {
+        self.cmp(other).is_eq()
+    }
 }
 
 /// The number of an open description: the label that it was drawn at, and the count of its draw from 1 on.
