@@ -21,14 +21,6 @@ use Rattle.sys_lookup.specs.declared.effect.Effect.{Effect}
 use Rattle.sys_lookup.specs.PlaysRow.{PlaysRow, Keeps}
 use Rattle.kern_core.specs.Reports.{OutcomeOf}
 
--- an equal call is played alike
-pub plays_same : (s : State) (who : Pid) (p : Process) (before : CheckLog) (c d : Call) → d ≡ c → (t u : State) → u ≡ t → (after then : CheckLog) → then ≡ after → (r q : Result Effect Stop) → q ≡ r → PlaysRow s before (row s who p c) r t after → PlaysRow s before (row s who p d) q u then
-plays_same s who p before c d call t u state after then log r q result plays =
-    subst (λ x. PlaysRow s before (row s who p x) q u then) (sym call)
-    (subst (λ x. PlaysRow s before (row s who p c) q x then) (sym state)
-    (subst (λ x. PlaysRow s before (row s who p c) q t x) (sym log)
-    (subst (λ x. PlaysRow s before (row s who p c) x t after) (sym result) plays)))
-
 module _ (s : State) (who : Pid) (c : Call) where
   -- the step where no living process has the number
   pub no_process : map.get s.procs who ≡ None → step s who c ≡ record { state = s; reply = reply.Refused errno.ESRCH; recs = [] }

@@ -20,8 +20,7 @@ use crate::outcome::{no_process, report};
 use chk_rules::{Checks, Stop};
 use kern_model::{Call, NoMemory, Outcome, Pid};
 use std::alloc::Global;
-use sys_lookup::{Caller, Effect, Shared};
-use sys_tree::living;
+use sys_lookup::{Caller, Effect, Shared, living};
 
 /// Whether this kernel can play a call.
 pub fn built(call: &Call) -> bool

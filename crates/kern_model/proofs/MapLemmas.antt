@@ -257,6 +257,11 @@ module _ {K X : Type 0} {R : K → K → Ordering} (o : IsTotalOrder R) (exact :
             omega (arith, step, few)
       ] refl
 
+  -- where no entry passes, there is none
+  pub count_entries-none : (m : FinMap R X) → ((k : K) (x : X) → map.get m k ≡ Some x → p k x ≡ false) → count_entries p m ≡ 0
+  unfolding count_entries
+  count_entries-none m fails = none_passing (map.entries m) (entries_sorted m) (λ q y f. fails q y (get-entries m q ∙ f))
+
   -- where all entries that pass have one key, there is at most one
   pub count_entries-one : (m : FinMap R X) → ((a b : K) (x y : X) → map.get m a ≡ Some x → map.get m b ≡ Some y → p a x ≡ true → p b y ≡ true → a ≡ b) → count_entries p m ≤ 1
   unfolding count_entries

@@ -1,5 +1,5 @@
 -- Checks that were passed.
-use Rattle.std.specs.Prelude.{◌≡◌, ⊤, Bool, true, false, None, [], Ok, cond, refl}
+use Rattle.std.specs.Prelude.{◌≡◌, ⊤, Bool, true, false, None, [], Result, Ok, Err, OnOk, cond, refl}
 use Rattle.std.proofs.Common.{ap, sym, ◌∙◌}
 use Rattle.kern_model.specs.declared.calls.Answer.TheVariants.{Nothing}
 use Rattle.kern_model.specs.declared.calls.Errno.{Errno}
@@ -11,6 +11,7 @@ use Rattle.kern_model.specs.Rules.{cap_of}
 use Rattle.kern_model.proofs.RowLemmas.{judge-stop, judge-fail}
 use Rattle.chk_rules.specs.CheckLog.{CheckLog}
 use Rattle.chk_rules.specs.Ends.{GoesOn}
+use Rattle.chk_rules.specs.declared.stop.Stop.{Stop}
 
 -- denied, where the rule fails and no capability helps
 denied : (a : Subject) (c : Check) → cap_of c.name ≡ None → c.holds ≡ false → Denied ≡ verdict_of a c
@@ -35,3 +36,8 @@ not_refused a b e false goes = refl
 not_refused a b e true goes =
     let ends : Refused e ≡ Done [] Nothing None = ap (λ j. j.end) (goes.continues (λ _. Commit [] Nothing None)) in
     cc
+
+-- the same of a refusal that may stop the row
+pub not_refused_where_ok : (a b : CheckLog) (e : Errno) (holds : Bool) (r : Result ⊤ Stop) → GoesOn a (λ (rest : ⊤ → Row). Refuse e holds (rest tt)) r b → OnOk r (holds ≡ false)
+not_refused_where_ok a b e holds (Ok tt) goes = not_refused a b e holds goes
+not_refused_where_ok a b e holds (Err how) goes = tt

@@ -1,5 +1,5 @@
 -- The body of a call along its row, step by step.
-use Rattle.std.specs.Prelude.{◌≡◌, Bool, List, Option, Some, Result, Ok, Err}
+use Rattle.std.specs.Prelude.{◌≡◌, Bool, List, Option, Some, Result, Ok, Err, IfErr, refl}
 use Rattle.std.specs.FinMap as map
 use Rattle.std.specs.Result.{IsErrAnd}
 use Rattle.std.specs.declared.alloc.AllocError.{AllocError}
@@ -28,6 +28,11 @@ keeps_same (stop.Denied name place) s t e = e
 keeps_same (stop.Refused n) s t e = e
 keeps_same (stop.NoMemory m) s t e = tt
 
+-- the same of what may have stopped it
+pub kept_same : {X : Type 0} (r : Result X Stop) (s : State) → IfErr r (λ how. Keeps how s s)
+kept_same (Ok x) s = tt
+kept_same (Err how) s = keeps_same how s s refl
+
 module _ {X : Type 0} {a b : CheckLog} {part : (X → Row) → Row} {s t : State} where
   -- a step goes on, and the rest of the row is played
   pub then_plays : {c : CheckLog} {x : X} {rest : X → Row} {r : Result Effect Stop} → GoesOn a part (Ok x) b → PlaysRow s b (rest x) r t c → PlaysRow s a (part rest) r t c
@@ -42,14 +47,18 @@ module _ {X : Type 0} {a b : CheckLog} {part : (X → Row) → Row} {s t : State
     keeps = plays.keeps;
   }
 
-  -- a step stops, and with it the body, which has changed nothing
-  pub stops_row : {rest : X → Row} {how : Stop} (r : Result Effect Stop) → IsErrAnd r (λ e. e ≡ how) → t ≡ s → GoesOn a part (Err how) b → PlaysRow s a (part rest) r t b
-  stops_row {rest = rest} (Ok effect) is same step = absurd is
-  stops_row {rest = rest} {how = how} (Err e) is same step = record {
+  -- a step stops, and with it the body, which keeps the state
+  pub stops_keeping : {rest : X → Row} {how : Stop} (r : Result Effect Stop) → IsErrAnd r (λ e. e ≡ how) → Keeps how s t → GoesOn a part (Err how) b → PlaysRow s a (part rest) r t b
+  stops_keeping {rest = rest} (Ok effect) is keeps step = absurd is
+  stops_keeping {rest = rest} {how = how} (Err e) is keeps step = record {
     completes = tt;
     ends = subst (EndsBy _ b) (sym is) (step.stops rest);
-    keeps = keeps_same e s t same;
+    keeps = subst (λ h. Keeps h s t) (sym is) keeps;
   }
+
+  -- the same of a body that has changed nothing
+  pub stops_row : {rest : X → Row} {how : Stop} (r : Result Effect Stop) → IsErrAnd r (λ e. e ≡ how) → t ≡ s → GoesOn a part (Err how) b → PlaysRow s a (part rest) r t b
+  stops_row {rest = rest} {how = how} r is same step = stops_keeping {rest = rest} r is (keeps_same how s t same) step
 
 -- An item of a row, as `Need check` or `Refuse errno holds`, is a step with one value.
 module _ {X : Type 0} {a b : CheckLog} (item : Row → Row) {y : X} {s t : State} {row : Row} where

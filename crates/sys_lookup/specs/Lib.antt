@@ -1,3 +1,4 @@
+pub mod Making
 pub mod PlaysRow
 pub mod Shared
 pub mod WalkStops

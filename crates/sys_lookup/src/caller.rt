@@ -1,5 +1,6 @@
 // The caller of a call, and the checks that are made of it.
-ghost use Rattle.std.specs.Prelude.{◌≡◌, None};
+ghost use Rattle.std.specs.Prelude.{◌≡◌, IsSome, None, Some};
+ghost use Rattle.std.specs.FinMap as map;
 ghost use Rattle.kern_model.specs.declared.numbers.Oid.{Oid};
 ghost use Rattle.kern_model.specs.Row.{Need};
 ghost use Rattle.kern_model.specs.Rules.{created_order, dac_read, dac_search, dac_write, held_order, link_dir, mac_read, mac_write, mode_allows as mode_lets, unlink_dir};
@@ -12,15 +13,26 @@ ghost use Rattle.sys_lookup.specs.Shared.{metadata_of, state_of};
 
 use crate::shared::{Metadata, Shared};
 use chk_rules::{Checks, Stop, Want, mac_read_ok, mac_write_ok, mode_allows, must};
-use kern_model::{Check, CheckName, Oid, Place, Thing};
+use kern_model::{Check, CheckName, Oid, Pid, Place, Thing};
 use lab_lattice::{Label, Lattice};
-use proc_table::Proc;
+use proc_table::{Proc, Procs};
 
 /// The process that makes a call, and the state in which its call looks things up.
 #[derive(Clone, Copy)]
 pub struct Caller<'a> {
     pub shared: &'a Shared,
     pub process: &'a Proc,
+}
+
+/// The living process with a number.
+pub fn living<'a>(procs: &'a Procs, who: &Pid) -> &'a Proc
+    requires { IsSome (map.get procs.now.procs who.now) }
+    ensures { Some result.now ≡ map.get procs.now.procs who.now }
+{
+    let Some(process) = procs.find(who) else {
+        unreachable!();
+    };
+    process
 }
 
 impl Caller<'_> {

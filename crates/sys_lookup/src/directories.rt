@@ -1,6 +1,7 @@
 // What rows ask of a directory that is written.
-ghost use Rattle.std.specs.Prelude.{◌≡◌, IfOk};
+ghost use Rattle.std.specs.Prelude.{◌≡◌, IfOk, OnOk, false};
 ghost use Rattle.kern_model.specs.Create.{enter_in, make_in, write_directory};
+ghost use Rattle.kern_model.specs.Entries.{is_removed};
 ghost use Rattle.kern_model.specs.Row.{Need};
 ghost use Rattle.kern_model.specs.Rules.{mac_read, mac_write};
 ghost use Rattle.kern_model.specs.TreeRows.{leave_from};
@@ -62,7 +63,8 @@ impl Caller<'_> {
         place: Place,
         order: &Check,
     ) -> Result<(), Stop>
-        ensures { GoesOn checks.old (λ rest. enter_in (state_of self.now.shared.now) self.now.process.now dir.now place order.now (rest tt)) result checks.new }
+        ensures stands { OnOk result (is_removed (state_of self.now.shared.now) dir.now ≡ false) }
+        ensures step { GoesOn checks.old (λ rest. enter_in (state_of self.now.shared.now) self.now.process.now dir.now place order.now (rest tt)) result checks.new }
     {
         self.write_directory(checks, dir, place, order)?;
         refuse_if(self.shared.tree.is_removed(dir), Errno::ENOENT)
@@ -70,7 +72,8 @@ impl Caller<'_> {
 
     /// Writes a directory in which the caller is to make an object.
     pub fn make_in(&self, checks: &mut Checks, dir: &Oid, place: Place) -> Result<(), Stop>
-        ensures { GoesOn checks.old (λ rest. make_in (state_of self.now.shared.now) self.now.process.now dir.now place (rest tt)) result checks.new }
+        ensures stands { OnOk result (is_removed (state_of self.now.shared.now) dir.now ≡ false) }
+        ensures step { GoesOn checks.old (λ rest. make_in (state_of self.now.shared.now) self.now.process.now dir.now place (rest tt)) result checks.new }
     {
         self.enter_in(checks, dir, place, &self.created_order(dir, place))
     }

@@ -7,14 +7,16 @@ mod caller;
 mod directories;
 mod effect;
 mod found;
+mod making;
 mod shared;
 mod walk_stop;
 mod walking;
 
 pub use argument::PathArgument;
-pub use caller::Caller;
+pub use caller::{Caller, living};
 pub use effect::Effect;
 pub use found::Found;
 pub use kern_model::NoMemory;
+pub use making::{create, make};
 pub use shared::{Metadata, Shared};
 pub use walk_stop::{WalkStop, walk};

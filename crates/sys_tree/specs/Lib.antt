@@ -1,3 +1,2 @@
-pub mod Making
 pub mod Playing
 pub mod Targets

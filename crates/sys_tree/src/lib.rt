@@ -1,7 +1,6 @@
 //! The bodies of the calls on directories and names.
 #![tactic(auto)]
 
-mod caller;
 mod linking;
 mod making;
 mod playing;
@@ -10,7 +9,6 @@ mod removing;
 mod renaming;
 mod standing;
 
-pub use caller::living;
 pub use linking::link;
 pub use making::mkdir;
 pub use playing::play;

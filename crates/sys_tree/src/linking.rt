@@ -26,7 +26,7 @@ use chk_rules::{Checks, Stop, refuse_if};
 use fs_dirs::AddError;
 use kern_model::limits::MAX_LINKS;
 use kern_model::{Answer, Errno, Name, Oid, Path, Pid};
-use sys_lookup::{Caller, Effect, PathArgument, Shared};
+use sys_lookup::{Caller, Effect, PathArgument, Shared, living};
 
 /// `link`: an object that is no directory gets one more name.
 pub fn link(
@@ -42,9 +42,7 @@ pub fn link(
     ensures names { are_names to.now ≡ true }
 {
     let _names = to.components();
-    let Some(process) = shared.procs.find(who) else {
-        unreachable!();
-    };
+    let process = living(&shared.procs, who);
     let caller = Caller { shared, process };
     let id = object_to_link(&caller, checks, path)?;
     let (dir, name) = new_spot(&caller, checks, &id, to)?;

@@ -9,7 +9,6 @@ ghost use Rattle.sys_lookup.specs.PlaysRow.{PlaysRow};
 ghost use Rattle.sys_lookup.specs.Shared.{state_of};
 ghost use Rattle.sys_tree.specs.Playing.{is_tree_call};
 
-use crate::caller::living;
 use crate::linking::link;
 use crate::making::mkdir;
 use crate::reading::{readdir, stat};
@@ -18,7 +17,7 @@ use crate::renaming::rename;
 use crate::standing::chdir;
 use chk_rules::{Checks, Stop};
 use kern_model::{Call, Pid};
-use sys_lookup::{Caller, Effect, Shared};
+use sys_lookup::{Caller, Effect, Shared, living};
 
 /// Plays a call of a living process on directories and names.
 pub fn play(

@@ -15,11 +15,10 @@ ghost use Rattle.sys_lookup.specs.Shared.{metadata_of, state_of};
 ghost use Rattle.sys_lookup.specs.Walks.{IsEntry, place_in};
 ghost use Rattle.sys_lookup.specs.declared.argument.PathArgument.TheVariants as argument;
 
-use crate::caller::living;
 use chk_rules::{Checks, Stop, refuse_if};
 use fs_dirs::Absent;
 use kern_model::{Answer, Errno, Name, Oid, Path, Pid};
-use sys_lookup::{Caller, Effect, Metadata, PathArgument, Shared};
+use sys_lookup::{Caller, Effect, Metadata, PathArgument, Shared, living};
 
 /// `rmdir`: the entry of an empty directory is taken away.
 pub fn rmdir(

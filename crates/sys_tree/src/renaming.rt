@@ -3,7 +3,6 @@ ghost use Rattle.std.specs.Prelude.{◌≡◌, ◌&&◌, None, Some, IfOk, IsSom
 ghost use Rattle.std.specs.FinMap as map;
 ghost use Rattle.kern_model.specs.Arguments.{are_names};
 ghost use Rattle.kern_model.specs.Create.{write_directory};
-ghost use Rattle.kern_model.specs.Keys.{same_oid};
 ghost use Rattle.kern_model.specs.Rules.{held_order};
 ghost use Rattle.kern_model.specs.State.{Process, look};
 ghost use Rattle.kern_model.specs.TreeRows.{leave_from, move_row, rename_row};
@@ -21,7 +20,7 @@ ghost use Rattle.sys_tree.specs.Targets.{giving, replacing};
 use chk_rules::{Checks, Stop, refuse_if};
 use fs_dirs::MoveError;
 use kern_model::{Answer, Errno, Name, Oid, Path, Pid, Place};
-use sys_lookup::{Caller, Effect, PathArgument, Shared};
+use sys_lookup::{Caller, Effect, PathArgument, Shared, living};
 
 /// What becomes of the entry that is to move.
 #[derive(Clone, Copy, Debug, PartialEq, Eq)]
@@ -45,9 +44,7 @@ pub fn rename(
     ensures names { are_names to.now ≡ true }
 {
     let _names = to.components();
-    let Some(process) = shared.procs.find(who) else {
-        unreachable!();
-    };
+    let process = living(&shared.procs, who);
     let caller = Caller { shared, process };
     let (dir, name, id) = entry_to_move(&caller, checks, path)?;
     let (into, new, target) = target_entry(&caller, checks, &id, to)?;
@@ -108,7 +105,7 @@ fn give_way(
         return Ok(Way::Moves);
     };
     caller.write_object(checks, &target, place)?;
-    if same(&target, id) {
+    if target.is_same(id) {
         return Ok(Way::Stays);
     }
     replace(caller.shared, id, &target)?;
@@ -132,14 +129,6 @@ fn only_first(a: bool, b: bool) -> bool
     ensures { result ≡ (a && not b) }
 {
     a && !b
-}
-
-// Whether two numbers are one.
-#[tactic(auto, unfolding(kern_model::specs::Keys::oid_cmp))]
-fn same(a: &Oid, b: &Oid) -> bool
-    ensures { result ≡ same_oid a.now b.now }
-{
-    a.cmp(b).is_eq()
 }
 
 // Moves an entry, unless a directory would come to lie under itself or the new directory is removed.

@@ -8,10 +8,9 @@ ghost use Rattle.chk_rules.specs.Ends.{GoesOn};
 ghost use Rattle.sys_lookup.specs.PlaysRow.{PlaysRow};
 ghost use Rattle.sys_lookup.specs.Shared.{state_of};
 
-use crate::caller::living;
 use chk_rules::{Checks, Stop};
 use kern_model::{Answer, Oid, Path, Pid};
-use sys_lookup::{Caller, Effect, PathArgument, Shared};
+use sys_lookup::{Caller, Effect, PathArgument, Shared, living};
 
 /// `chdir`: a directory becomes the caller's current one.
 pub fn chdir(

@@ -7,7 +7,7 @@ use Rattle.kern_model.specs.Entries.{link_count}
 use Rattle.kern_model.specs.Row.{Row, Need, Refuse}
 use Rattle.kern_model.specs.Rules.{link_dir, mac_write}
 use Rattle.kern_model.specs.State.{State, Process}
-use Rattle.iso_laws.proofs.tree.Changes.{not_true_false}
+use Rattle.std.proofs.lemmas.Bool.{not-true}
 use Rattle.chk_rules.proofs.Steps.{then_goes, stops_there, need_goes, need_stops, refuse_goes, refuse_stops, gives, equal_refusal}
 use Rattle.sys_lookup.specs.Shared.{state_of}
 use Rattle.sys_lookup.proofs.CheckLemmas.{holds_where_passed, not_refused}
@@ -52,7 +52,7 @@ returns-clause-step c =
 pub returns-clause-no_dir : goal.returns-clause-no_dir
 returns-clause-no_dir c =
     let s = state_of c.args.caller.now.shared.now in
-    not_true_false _ (holds_where_passed c.write_object.new.checks c.link_dir.new.checks (link_dir s c.in_ok-id.id c.in_ok-id.place) refl (c.in_ok-link_dir.ensures s c.in_ok-id.id c.in_ok-object.ensures.object))
+    not-true _ (holds_where_passed c.write_object.new.checks c.link_dir.new.checks (link_dir s c.in_ok-id.id c.in_ok-id.place) refl (c.in_ok-link_dir.ensures s c.in_ok-id.id c.in_ok-object.ensures.object))
 
 pub returns-clause-few : goal.returns-clause-few
 returns-clause-few c =

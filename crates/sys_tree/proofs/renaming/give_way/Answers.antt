@@ -23,15 +23,15 @@ returns-in_err-write_object c =
     subst (λ (o : Option Oid). GoesOn c.args.checks.now (giving s c.args.caller.now.process.now id o c.args.place) c.from_residual.result c.write_object.new.checks) (sym c.in-Some.is)
     (need_stops {part = deciding s id t (same_oid t id)} c.from_residual.result c.from_residual.ensures.1 c.in_err-write_object.ensures.step)
 
-pub returns-then-same : goal.returns-then-same
-returns-then-same c =
+pub returns-then-is_same : goal.returns-then-is_same
+returns-then-is_same c =
     let s = state_of c.args.caller.now.shared.now in
     let id = c.args.id.now in
     let t = c.in-Some.target in
     let log = c.write_object.new.checks in
     subst (λ (o : Option Oid). GoesOn c.args.checks.now (giving s c.args.caller.now.process.now id o c.args.place) (Ok Stays) log) (sym c.in-Some.is)
     (need_goes {part = deciding s id t (same_oid t id)} c.in_ok-write_object.ensures.step
-    (subst (λ (b : Bool). GoesOn log (deciding s id t b) (Ok Stays) log) (sym (sym c.same.ensures ∙ c.if-same.true)) (gives refl)))
+    (subst (λ (b : Bool). GoesOn log (deciding s id t b) (Ok Stays) log) (sym (sym c.is_same.ensures ∙ c.if-is_same.true)) (gives refl)))
 
 pub returns-in_err-replace : goal.returns-in_err-replace
 returns-in_err-replace c =
@@ -42,7 +42,7 @@ returns-in_err-replace c =
     let r = c.from_residual-in_err-replace.result in
     subst (λ (o : Option Oid). GoesOn c.args.checks.now (giving s c.args.caller.now.process.now id o c.args.place) r log) (sym c.in-Some.is)
     (need_goes {part = deciding s id t (same_oid t id)} c.in_ok-write_object.ensures.step
-    (subst (λ (b : Bool). GoesOn log (deciding s id t b) r log) (sym (sym c.same.ensures ∙ c.if-same.false))
+    (subst (λ (b : Bool). GoesOn log (deciding s id t b) r log) (sym (sym c.is_same.ensures ∙ c.if-is_same.false))
     (item_stops (replacing s id t) r c.from_residual-in_err-replace.ensures.1 (c.in_err-replace.ensures log))))
 
 pub returns : goal.returns
@@ -53,5 +53,5 @@ returns c =
     let log = c.write_object.new.checks in
     subst (λ (o : Option Oid). GoesOn c.args.checks.now (giving s c.args.caller.now.process.now id o c.args.place) (Ok Moves) log) (sym c.in-Some.is)
     (need_goes {part = deciding s id t (same_oid t id)} c.in_ok-write_object.ensures.step
-    (subst (λ (b : Bool). GoesOn log (deciding s id t b) (Ok Moves) log) (sym (sym c.same.ensures ∙ c.if-same.false))
+    (subst (λ (b : Bool). GoesOn log (deciding s id t b) (Ok Moves) log) (sym (sym c.is_same.ensures ∙ c.if-is_same.false))
     (item_goes (replacing s id t) (c.in_ok-replace.ensures log) (gives refl))))

@@ -1,7 +1,7 @@
 use Rattle.std.proofs.Common.{◌∙◌, ◌∷◌, [], None, Err, ap, refl}
 use Rattle.kern_model.specs.declared.calls.Answer.TheVariants.{Nothing}
 use Rattle.kern_model.specs.State.{SetEntry, DropEntry}
-use Rattle.iso_laws.proofs.Sight.{not_true}
+use Rattle.std.proofs.lemmas.Bool.{false_from_ne_true}
 use Rattle.fs_dirs.specs.Tree.{state_of_tree, would_loop}
 use Rattle.sys_lookup.proofs.PlayLemmas.{refuse_plays, refuse_stops_row, no_memory_row, commits}
 use Rattle.sys_lookup.specs.Shared.{state_of}
@@ -12,9 +12,9 @@ pub returns-in-Ok : goal.returns-in-Ok
 returns-in-Ok c = λ id log at.
     let h = c.args.shared.now in
     let s = state_of h in
-    let apart = not_true (would_loop (state_of_tree h.tree) id c.args.into.now) (λ loops. let no = (c.in-Ok.ensures.loops id at).1 loops in cc) in
+    let apart = false_from_ne_true (would_loop (state_of_tree h.tree) id c.args.into.now) (λ loops. let no = (c.in-Ok.ensures.loops id at).1 loops in cc) in
     refuse_plays (lets_on (loops_same h id c.args.into.now ∙ apart))
-    (refuse_plays (lets_on (not_true _ (λ gone. let no = (c.in-Ok.ensures.removed id at).1 (apart, gone) in cc)))
+    (refuse_plays (lets_on (false_from_ne_true _ (λ gone. let no = (c.in-Ok.ensures.removed id at).1 (apart, gone) in cc)))
     (commits s _ log (DropEntry (c.args.dir.now, c.args.name.now) ∷ SetEntry (c.args.into.now, c.args.new.now) id ∷ []) Nothing None (ap (with_tree s) (c.in-Ok.ensures.moved id at))))
 
 pub returns-in-Err-Loop : goal.returns-in-Err-Loop

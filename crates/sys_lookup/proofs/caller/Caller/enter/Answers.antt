@@ -1,7 +1,7 @@
 use Rattle.std.proofs.Common.{◌≡◌, ◌∙◌, ap, sym, not, true}
 use Rattle.std.proofs.lemmas.Bool.{not-false}
 use Rattle.kern_model.specs.Kinds.{is_dir}
-use Rattle.iso_laws.proofs.Sight.{dir_there}
+use Rattle.kern_model.proofs.StateLemmas.{dir_there}
 use Rattle.chk_rules.proofs.Steps.{need_goes, need_stops, refuse_goes, refuse_stops, equal_refusal}
 use Rattle.sys_lookup.specs.declared.shared.Metadata.{Metadata}
 use Rattle.sys_lookup.specs.Shared.{metadata_of, state_of}

@@ -1,47 +1,33 @@
--- A directory is made in a valid state.
-use Rattle.std.specs.Prelude.{◌≡◌, ⊤, Bool, not, true, false, [], Option, None, Some, Ok, refl}
+-- An object is made in a valid state.
+use Rattle.std.specs.Prelude.{◌≡◌, ⊤, Bool, not, true, Option, None, Some, Ok, refl}
 use Rattle.std.specs.FinMap as map
 use Rattle.std.specs.FinMap.{FinMap}
 use Rattle.std.proofs.Common.{ap, sym, ◌∙◌, subst, arith}
 use Rattle.std.proofs.Math.Logic.{∥∥₁_map, ∥∥₁_elim}
-use Rattle.std.proofs.lemmas.Bool.{not-false}
+use Rattle.std.proofs.lemmas.Bool.{false_from_ne_true, not-false}
 use Rattle.cap_bits.specs.CapSet.{no_caps}
 use Rattle.lab_lattice.specs.Label.{Label, bottom}
-use Rattle.kern_model.specs.declared.calls.Answer.TheVariants.{Nothing}
-use Rattle.kern_model.specs.declared.calls.Errno.TheVariants.{ENOENT, ENOSPC}
-use Rattle.kern_model.specs.declared.checks.Check.{Check}
-use Rattle.kern_model.specs.declared.checks.Place.{Place}
+use Rattle.kern_model.specs.declared.calls.Errno.TheVariants.{ENOSPC}
 use Rattle.kern_model.specs.declared.numbers.Oid.{Oid}
 use Rattle.kern_model.specs.declared.numbers.Pid.{Pid}
 use Rattle.kern_model.specs.declared.objects.Attr.{Attr}
-use Rattle.kern_model.specs.declared.objects.Body.TheVariants as body
+use Rattle.kern_model.specs.declared.objects.Body.{Body}
 use Rattle.kern_model.specs.declared.objects.Kind.TheVariants as kind
 use Rattle.kern_model.specs.declared.objects.Object.{Object}
-use Rattle.kern_model.specs.Create.{write_directory}
 use Rattle.kern_model.specs.Entries.{link_count}
 use Rattle.kern_model.specs.Keys.{Spot, oid_cmp, same_oid}
-use Rattle.kern_model.specs.Kinds.{object_with}
+use Rattle.kern_model.specs.Kinds.{kind_of, object_with}
 use Rattle.kern_model.specs.Maps.{count_entries}
-use Rattle.kern_model.specs.Row.{Row, Commit, Done, Fail, Refuse, Refused, judge}
-use Rattle.kern_model.specs.State.{State, Process, next_object}
+use Rattle.kern_model.specs.Row.{Row, Refuse}
+use Rattle.kern_model.specs.State.{State, next_object}
 use Rattle.kern_model.specs.Valid.{IsDir, IsValid}
 use Rattle.kern_model.proofs.KeyLaws.{oid_cmp_total, oid_cmp_exact, spot_cmp_total, spot_cmp_exact}
-use Rattle.kern_model.proofs.MapLemmas.{get-insert_kept, get-insert_same, never_some, same_key}
+use Rattle.kern_model.proofs.MapLemmas.{count_entries-none, get-insert_kept, get-insert_same, never_some, same_key}
+use Rattle.kern_model.proofs.StateLemmas.{next_absent}
 use Rattle.fs_dirs.specs.Tree.{MayBeAdded, TreeView, state_of_tree}
 use Rattle.chk_rules.specs.CheckLog.{CheckLog, check_log}
 use Rattle.chk_rules.specs.Ends.{GoesOn}
-use Rattle.iso_laws.proofs.Selections.{count_none}
-use Rattle.iso_laws.proofs.Sight.{not_true}
-use Rattle.iso_laws.proofs.tree.Changes.{next_absent}
 use Rattle.sys_lookup.proofs.CheckLemmas.{not_refused}
-
--- a directory that takes an entry is not removed
-pub not_removed : (a b : CheckLog) (s : State) (p : Process) (dir : Oid) (place : Place) (order : Check) (removed : Bool) → GoesOn a (λ (rest : ⊤ → Row). write_directory s p dir place order (Refuse ENOENT removed (rest tt))) (Ok tt) b → removed ≡ false
-unfolding judge
-not_removed a b s p dir place order false goes = refl
-not_removed a b s p dir place order true goes =
-    let ends : Done [] Nothing None ≡ Refused ENOENT = ap (λ j. j.end) (sym (goes.continues (λ _. Commit [] Nothing None)) ∙ goes.continues (λ _. Fail ENOENT)) in
-    absurd (cc)
 
 -- a number is left where a call is not refused for want of one
 pub not_full : (left : Bool) → ((log : CheckLog) → GoesOn log (λ (rest : ⊤ → Row). Refuse ENOSPC (not left) (rest tt)) (Ok tt) log) → left ≡ true
@@ -50,18 +36,18 @@ not_full left goes =
     let log = check_log who bottom no_caps in
     not-false left (not_refused log log ENOSPC (not left) (goes log))
 
--- what is known to be absent is
+-- An option that is known to be `None`, by a proof that gives nothing else, is `None`.
 absent_where : {X : Type 0} (o : Option X) → ∥ o ≡ None ∥₁ → o ≡ None
 absent_where None known = refl
 absent_where (Some x) known = absurd (∥∥₁_elim known (λ a b. absurd a) (λ e. never_some (Some x) x e refl))
 
--- A new directory has the next number, and no entry yet.
-module _ (s : State) (valid : ∥ IsValid s ∥₁) (label : Label) (attr : Attr) (u : TreeView) (objects_are : u.nodes.table.objects ≡ map.insert s.objects (next_object s label) (object_with label attr body.Dir)) (entries_are : u.entries ≡ s.entries) where
+-- A new object has the next number, and no entry yet.
+module _ (s : State) (valid : ∥ IsValid s ∥₁) (label : Label) (attr : Attr) (content : Body) (no_pipe : kind_of content ≡ kind.Pipe → ⊥) (u : TreeView) (objects_are : u.nodes.table.objects ≡ map.insert s.objects (next_object s label) (object_with label attr content)) (entries_are : u.entries ≡ s.entries) where
   abbrev new : Oid
   new = next_object s label
 
   abbrev made : Object
-  made = object_with label attr body.Dir
+  made = object_with label attr content
 
   none_there : map.get s.objects new ≡ None
   none_there = absent_where (map.get s.objects new) (∥∥₁_map valid (λ v. next_absent s v label))
@@ -72,8 +58,8 @@ module _ (s : State) (valid : ∥ IsValid s ∥₁) (label : Label) (attr : Attr
 
   unnamed : link_count s new ≡ 0
   unnamed =
-      count_none spot_cmp_total spot_cmp_exact (λ (spot : Spot) (at : Oid). same_oid at new) s.entries (λ spot at e.
-      not_true (same_oid at new) (λ same. ∥∥₁_elim valid (λ a b. absurd a) (λ v.
+      count_entries-none spot_cmp_total spot_cmp_exact (λ (spot : Spot) (at : Oid). same_oid at new) s.entries (λ spot at e.
+      false_from_ne_true (same_oid at new) (λ same. ∥∥₁_elim valid (λ a b. absurd a) (λ v.
       let entry = v.entries spot at e in
       never_some (map.get s.objects new) entry.object none_there (ap (map.get s.objects) (sym (same_key oid_cmp_exact at new same)) ∙ entry.object_is))))
 
@@ -86,6 +72,6 @@ module _ (s : State) (valid : ∥ IsValid s ∥₁) (label : Label) (attr : Attr
         is = (λ i. map.get (objects_are i) (is i)) ∙ get-insert_same oid_cmp_total s.objects new made;
         few = omega (arith, none);
         no_root = λ e. ∥∥₁_elim valid (λ a b. absurd a) (λ v. never_some (map.get s.objects new) v.root_is.object none_there (ap (map.get s.objects) (sym is ∙ e) ∙ v.root_is.is));
-        no_pipe = λ (h : kind.Dir ≡ kind.Pipe). cc;
+        no_pipe = no_pipe;
         one = λ _. none;
       }

@@ -3,9 +3,7 @@ use Rattle.fs_path.specs.Name.{Name}
 use Rattle.kern_model.specs.declared.checks.Place.{Place}
 use Rattle.kern_model.specs.declared.numbers.Oid.{Oid}
 use Rattle.kern_model.specs.Create.{make_in}
-use Rattle.kern_model.specs.Entries.{is_removed}
 use Rattle.kern_model.specs.Row.{Row}
-use Rattle.kern_model.specs.Rules.{created_order}
 use Rattle.kern_model.specs.State.{State, Process}
 use Rattle.kern_model.specs.Walk.{Found, dir_place, to_new_name}
 use Rattle.chk_rules.specs.Ends.{GoesOn}
@@ -13,8 +11,7 @@ use Rattle.chk_rules.proofs.Steps.{then_goes, stops_there, item_goes, item_stops
 use Rattle.sys_lookup.specs.Shared.{state_of}
 use Rattle.sys_lookup.specs.Walks.{place_in}
 use Rattle.sys_lookup.specs.declared.argument.PathArgument.TheVariants.{First}
-use Rattle.sys_tree.proofs.MakeLemmas.{not_removed}
-use Rattle.sys_tree.proofs.making.new_spot.Goals as goal
+use Rattle.sys_lookup.proofs.making.new_spot.Goals as goal
 
 -- the row after the new name is found
 abbrev entered : State → Process → Place → Oid × Name → (Oid × Name → Row) → Row
@@ -41,7 +38,7 @@ returns-in_err-make_in-clause-step c =
     then_goes {next = walked s p at} c.in_ok-walk.ensures.step
     (then_goes {next = entered s p at} (c.in_ok-dir.ensures.step c.walk.new.checks)
     (subst (λ place. GoesOn c.walk.new.checks (entered s p place (dir, c.in_ok-dir.name)) c.from_residual-in_err-make_in.result c.make_in.new.checks) c.dir_place.ensures
-    (item_stops (make_in s p dir c.dir_place.result) c.from_residual-in_err-make_in.result c.from_residual-in_err-make_in.ensures.1 c.in_err-make_in.ensures)))
+    (item_stops (make_in s p dir c.dir_place.result) c.from_residual-in_err-make_in.result c.from_residual-in_err-make_in.ensures.1 c.in_err-make_in.ensures.step)))
 
 pub returns-clause-step : goal.returns-clause-step
 returns-clause-step c =
@@ -53,15 +50,7 @@ returns-clause-step c =
     then_goes {next = walked s p at} c.in_ok-walk.ensures.step
     (then_goes {next = entered s p at} (c.in_ok-dir.ensures.step c.walk.new.checks)
     (subst (λ place. GoesOn c.walk.new.checks (entered s p place (dir, name)) (Ok (dir, name)) c.make_in.new.checks) c.dir_place.ensures
-    (item_goes (make_in s p dir c.dir_place.result) c.in_ok-make_in.ensures (gives refl))))
+    (item_goes (make_in s p dir c.dir_place.result) c.in_ok-make_in.ensures.step (gives refl))))
 
 pub returns-clause-entry : goal.returns-clause-entry
 returns-clause-entry c = c.in_ok-dir.ensures.entry (state_of c.args.caller.now.shared.now) _ c.in_ok-walk.ensures.found
-
-pub returns-clause-stands : goal.returns-clause-stands
-returns-clause-stands c =
-    let s = state_of c.args.caller.now.shared.now in
-    let p = c.args.caller.now.process.now in
-    let dir = c.in_ok-dir.dir in
-    let place = c.dir_place.result in
-    not_removed c.walk.new.checks c.make_in.new.checks s p dir place (created_order s p dir place) (is_removed s dir) c.in_ok-make_in.ensures
