@@ -15,7 +15,6 @@ use Rattle.kern_model.specs.declared.checks.Place.{Place}
 use Rattle.kern_model.specs.declared.numbers.Oid.{Oid}
 use Rattle.kern_model.specs.declared.numbers.Pid.{Pid}
 use Rattle.kern_model.specs.declared.objects.Object.{Object}
-use Rattle.kern_model.specs.Create.{write_directory}
 use Rattle.kern_model.specs.Entries.{is_under, link_count}
 use Rattle.kern_model.specs.Keys.{oid_cmp}
 use Rattle.kern_model.specs.Kinds.{is_dir}
@@ -67,12 +66,12 @@ refuses {log = log} {errno = errno} is = subst (λ h. GoesOn {X = ⊤} log (λ (
 
 -- ---- the directory that gets an entry
 
--- a directory is written for an entry, by an equal place and check
-pub equal_directory : (s : State) (p : Process) (id dir : Oid) {at place : Place} {order : Check} {a b : CheckLog} {r : Result ⊤ Stop} → at ≡ place → order ≡ held_order s id dir at
-    → GoesOn a (λ (rest : ⊤ → Row). write_directory s p dir at order (rest tt)) r b → GoesOn a (λ (rest : ⊤ → Row). write_directory s p dir place (held_order s id dir place) (rest tt)) r b
-equal_directory s p id dir {at = at} {a = a} {b = b} {r = r} same is step =
-    subst (λ (x : Place). GoesOn a (λ (rest : ⊤ → Row). write_directory s p dir x (held_order s id dir x) (rest tt)) r b) same
-    (subst (λ (o : Check). GoesOn a (λ (rest : ⊤ → Row). write_directory s p dir at o (rest tt)) r b) is step)
+-- a part of a row that has the place of a directory and the order of labels there, by an equal place and check
+pub equal_directory : (part : Place → Check → Row → Row) (s : State) (id dir : Oid) {at place : Place} {order : Check} {a b : CheckLog} {r : Result ⊤ Stop} → at ≡ place → order ≡ held_order s id dir at
+    → GoesOn a (λ (rest : ⊤ → Row). part at order (rest tt)) r b → GoesOn a (λ (rest : ⊤ → Row). part place (held_order s id dir place) (rest tt)) r b
+equal_directory part s id dir {at = at} {a = a} {b = b} {r = r} same is step =
+    subst (λ (x : Place). GoesOn a (λ (rest : ⊤ → Row). part x (held_order s id dir x) (rest tt)) r b) same
+    (subst (λ (o : Check). GoesOn a (λ (rest : ⊤ → Row). part at o (rest tt)) r b) is step)
 
 -- ---- the object that gets one more name
 
@@ -88,7 +87,7 @@ reads_as_dir s id dir = ap (λ (o : Object). is_dir o.kind) (get_or-found s.obje
 fewer : (n : ℕ) → nat_le MAX_LINKS n ≡ false → n < MAX_LINKS
 fewer n h = omega (arith, leb-false MAX_LINKS n h)
 
--- so it is in a valid state
+-- the same where the proof that the state is valid is at hand
 added_in : (h : Shared) → IsValid (state_of h) → (who : Pid) (p : Process) → map.get (state_of h).procs who ≡ Some p → (path : PathValue) (id : Oid) → IsLedTo (state_of h) (start_of p path) id
     → is_dir (object_at (state_of h) id).kind ≡ false → nat_le MAX_LINKS (link_count (state_of h) id) ≡ false → MayBeAdded h.tree id
 added_in h valid who p there path id (inl same) no_dir few =

@@ -2,7 +2,7 @@
 ghost use Rattle.std.specs.Prelude.{◌≡◌, ◌∷◌, [], None, Some, IfOk, IsSome, true, false, nat_le};
 ghost use Rattle.std.specs.FinMap as map;
 ghost use Rattle.kern_model.specs.Arguments.{are_names};
-ghost use Rattle.kern_model.specs.Create.{write_directory};
+ghost use Rattle.kern_model.specs.Create.{enter_in};
 ghost use Rattle.kern_model.specs.Entries.{is_removed, link_count};
 ghost use Rattle.kern_model.specs.Kinds.{is_dir};
 ghost use Rattle.kern_model.specs.Row.{Commit, Need, Refuse};
@@ -64,38 +64,39 @@ fn object_to_link(caller: &Caller<'_>, checks: &mut Checks, path: &Path) -> Resu
     Ok(id)
 }
 
-// The directory and the name of an entry that is to be made for an object. The directory may be removed.
+// The directory and the name of an entry that is to be made for an object.
 fn new_spot(
     caller: &Caller<'_>,
     checks: &mut Checks,
     id: &Oid,
     to: &Path,
 ) -> Result<(Oid, Name), Stop>
-    ensures step { GoesOn checks.old (λ rest. walk (state_of caller.now.shared.now) caller.now.process.now (place_in argument.Second) to.now (λ found. to_new_name found (λ dir name. write_directory (state_of caller.now.shared.now) caller.now.process.now dir (dir_place (place_in argument.Second) to.now) (held_order (state_of caller.now.shared.now) id.now dir (dir_place (place_in argument.Second) to.now)) (rest (dir, name))))) result checks.new }
+    ensures step { GoesOn checks.old (λ rest. walk (state_of caller.now.shared.now) caller.now.process.now (place_in argument.Second) to.now (λ found. to_new_name found (λ dir name. enter_in (state_of caller.now.shared.now) caller.now.process.now dir (dir_place (place_in argument.Second) to.now) (held_order (state_of caller.now.shared.now) id.now dir (dir_place (place_in argument.Second) to.now)) (rest (dir, name))))) result checks.new }
     ensures entry { IfOk result (λ e. IsEntry (state_of caller.now.shared.now) e.0 e.1 None) }
+    ensures stands { IfOk result (λ e. is_removed (state_of caller.now.shared.now) e.0 ≡ false) }
 {
     let (dir, name) = caller
         .walk(checks, PathArgument::Second, to)?
         .into_new_name()?;
     let place = PathArgument::Second.dir_place(to);
-    caller.write_directory(checks, &dir, place, &caller.held_order(id, &dir, place))?;
+    caller.enter_in(checks, &dir, place, &caller.held_order(id, &dir, place))?;
     Ok((dir, name))
 }
 
-// Has a new name lead to an object, unless the directory is removed.
+// Has a new name lead to an object.
 fn add_entry(shared: &mut Shared, dir: &Oid, name: &Name, id: &Oid) -> Result<Effect, Stop>
     requires dir { IsDir (state_of shared.old).objects dir.now }
     requires may { MayBeAdded shared.old.tree id.now }
     requires absent { look (state_of shared.old) dir.now name.now ≡ None }
-    ensures { (log : CheckLog) → PlaysRow (state_of shared.old) log (Refuse errno.ENOENT (is_removed (state_of shared.old) dir.now) (Commit (SetEntry (dir.now, name.now) id.now ∷ []) answer.Nothing None)) result (state_of shared.new) log }
+    requires stands { is_removed (state_of shared.old) dir.now ≡ false }
+    ensures { (log : CheckLog) → PlaysRow (state_of shared.old) log (Commit (SetEntry (dir.now, name.now) id.now ∷ []) answer.Nothing None) result (state_of shared.new) log }
 {
     match shared.tree.add(dir, name, id) {
         Ok(()) => Ok(Effect {
             answer: Answer::Nothing,
             own: None,
         }),
-        Err(AddError::Removed) => Err(Stop::Refused(Errno::ENOENT)),
         Err(AddError::NoMemory(e)) => Err(Stop::NoMemory(e)),
-        Err(AddError::Exists) => unreachable!(),
+        Err(AddError::Exists | AddError::Removed) => unreachable!(),
     }
 }

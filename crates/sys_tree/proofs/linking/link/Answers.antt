@@ -2,12 +2,10 @@ use Rattle.std.proofs.Common.{◌∷◌, [], None, refl, sym}
 use Rattle.fs_path.specs.Name.{Name}
 use Rattle.fs_path.specs.Path.{PathValue}
 use Rattle.kern_model.specs.declared.calls.Answer.TheVariants.{Nothing}
-use Rattle.kern_model.specs.declared.calls.Errno.TheVariants.{ENOENT}
 use Rattle.kern_model.specs.declared.checks.Place.TheVariants.{Second}
 use Rattle.kern_model.specs.declared.numbers.Oid.{Oid}
 use Rattle.kern_model.specs.Create.{enter_in}
-use Rattle.kern_model.specs.Entries.{is_removed}
-use Rattle.kern_model.specs.Row.{Row, Refuse, Commit}
+use Rattle.kern_model.specs.Row.{Row, Commit}
 use Rattle.kern_model.specs.Rules.{held_order}
 use Rattle.kern_model.specs.State.{State, Process, SetEntry}
 use Rattle.kern_model.specs.TreeRows.{link_row}
@@ -18,8 +16,8 @@ use Rattle.sys_tree.proofs.EntryLemmas.{may_be_added}
 use Rattle.sys_tree.proofs.linking.link.Goals as goal
 
 -- the row after its checks
-abbrev adding : State → Oid → Oid × Name → Row
-adding s id e = Refuse ENOENT (is_removed s e.0) (Commit (SetEntry (e.0, e.1) id ∷ []) Nothing None)
+abbrev adding : Oid → Oid × Name → Row
+adding id e = Commit (SetEntry (e.0, e.1) id ∷ []) Nothing None
 
 -- the row after the object is found
 abbrev naming : State → Process → PathValue → Oid → Row
@@ -41,7 +39,7 @@ returns-in_err-dir-clause-played c = λ p there.
     let q = c.living-process.result.now in
     caller_plays (λ x. link_row s c.args.who.now x c.args.path.now c.args.to.now) c.args.who.now q p c.living-process.ensures there
     (then_plays {rest = naming s q c.args.to.now} c.in_ok-id.ensures.step
-    (stops_row {rest = adding s c.in_ok-id.id} c.from_residual-in_err-dir.result c.from_residual-in_err-dir.ensures.1 refl c.in_err-dir.ensures.step))
+    (stops_row {rest = adding c.in_ok-id.id} c.from_residual-in_err-dir.result c.from_residual-in_err-dir.ensures.1 refl c.in_err-dir.ensures.step))
 
 pub returns-clause-played : goal.returns-clause-played
 returns-clause-played c = λ p there.
@@ -49,7 +47,7 @@ returns-clause-played c = λ p there.
     let q = c.living-process.result.now in
     caller_plays (λ x. link_row s c.args.who.now x c.args.path.now c.args.to.now) c.args.who.now q p c.living-process.ensures there
     (then_plays {rest = naming s q c.args.to.now} c.in_ok-id.ensures.step
-    (then_plays {rest = adding s c.in_ok-id.id} c.in_ok-dir.ensures.step (c.add_entry.ensures c.new_spot.new.checks)))
+    (then_plays {rest = adding c.in_ok-id.id} c.in_ok-dir.ensures.step (c.add_entry.ensures c.new_spot.new.checks)))
 
 pub add_entry-requires-clause-dir : goal.add_entry-requires-clause-dir
 add_entry-requires-clause-dir c = c.in_ok-dir.ensures.entry.is_dir
@@ -60,3 +58,6 @@ add_entry-requires-clause-may c =
 
 pub add_entry-requires-clause-absent : goal.add_entry-requires-clause-absent
 add_entry-requires-clause-absent c = c.in_ok-dir.ensures.entry.leads
+
+pub add_entry-requires-clause-stands : goal.add_entry-requires-clause-stands
+add_entry-requires-clause-stands c = c.in_ok-dir.ensures.stands

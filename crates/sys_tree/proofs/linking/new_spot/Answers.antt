@@ -3,7 +3,7 @@ use Rattle.fs_path.specs.Name.{Name}
 use Rattle.fs_path.specs.Path.{PathValue}
 use Rattle.kern_model.specs.declared.checks.Place.TheVariants.{Second}
 use Rattle.kern_model.specs.declared.numbers.Oid.{Oid}
-use Rattle.kern_model.specs.Create.{write_directory}
+use Rattle.kern_model.specs.Create.{enter_in}
 use Rattle.kern_model.specs.Row.{Row}
 use Rattle.kern_model.specs.Rules.{held_order}
 use Rattle.kern_model.specs.State.{State, Process}
@@ -15,7 +15,7 @@ use Rattle.sys_tree.proofs.linking.new_spot.Goals as goal
 
 -- a directory is written for an entry of the object
 abbrev holding : State → Process → Oid → PathValue → Oid → Row → Row
-holding s p id to dir rest = write_directory s p dir (dir_place (λ n. Second n) to) (held_order s id dir (dir_place (λ n. Second n) to)) rest
+holding s p id to dir rest = enter_in s p dir (dir_place (λ n. Second n) to) (held_order s id dir (dir_place (λ n. Second n) to)) rest
 
 -- the row after the spot is found
 abbrev entering : State → Process → Oid → PathValue → Oid × Name → (Oid × Name → Row) → Row
@@ -32,14 +32,14 @@ returns-in_err-dir-clause-step c =
     then_goes {next = walked s p c.args.id.now c.args.to.now} c.in_ok-walk.ensures.step
     (stops_there {next = entering s p c.args.id.now c.args.to.now} c.from_residual-in_err-dir.result c.from_residual-in_err-dir.ensures.1 (c.in_err-dir.ensures.step c.walk.new.checks))
 
-pub returns-in_err-write_directory-clause-step : goal.returns-in_err-write_directory-clause-step
-returns-in_err-write_directory-clause-step c =
+pub returns-in_err-enter_in-clause-step : goal.returns-in_err-enter_in-clause-step
+returns-in_err-enter_in-clause-step c =
     let s = state_of c.args.caller.now.shared.now in
     let p = c.args.caller.now.process.now in
     then_goes {next = walked s p c.args.id.now c.args.to.now} c.in_ok-walk.ensures.step
     (then_goes {next = entering s p c.args.id.now c.args.to.now} (c.in_ok-dir.ensures.step c.walk.new.checks)
-    (item_stops (holding s p c.args.id.now c.args.to.now c.in_ok-dir.dir) c.from_residual-in_err-write_directory.result c.from_residual-in_err-write_directory.ensures.1
-    (equal_directory s p c.args.id.now c.in_ok-dir.dir c.dir_place-place.ensures c.held_order.ensures c.in_err-write_directory.ensures)))
+    (item_stops (holding s p c.args.id.now c.args.to.now c.in_ok-dir.dir) c.from_residual-in_err-enter_in.result c.from_residual-in_err-enter_in.ensures.1
+    (equal_directory (enter_in s p c.in_ok-dir.dir) s c.args.id.now c.in_ok-dir.dir c.dir_place-place.ensures c.held_order.ensures c.in_err-enter_in.ensures.step)))
 
 pub returns-clause-step : goal.returns-clause-step
 returns-clause-step c =
@@ -48,7 +48,7 @@ returns-clause-step c =
     then_goes {next = walked s p c.args.id.now c.args.to.now} c.in_ok-walk.ensures.step
     (then_goes {next = entering s p c.args.id.now c.args.to.now} (c.in_ok-dir.ensures.step c.walk.new.checks)
     (item_goes (holding s p c.args.id.now c.args.to.now c.in_ok-dir.dir)
-    (equal_directory s p c.args.id.now c.in_ok-dir.dir c.dir_place-place.ensures c.held_order.ensures c.in_ok-write_directory.ensures) (gives refl)))
+    (equal_directory (enter_in s p c.in_ok-dir.dir) s c.args.id.now c.in_ok-dir.dir c.dir_place-place.ensures c.held_order.ensures c.in_ok-enter_in.ensures.step) (gives refl)))
 
 pub returns-clause-entry : goal.returns-clause-entry
 returns-clause-entry c = c.in_ok-dir.ensures.entry (state_of c.args.caller.now.shared.now) _ c.in_ok-walk.ensures.found

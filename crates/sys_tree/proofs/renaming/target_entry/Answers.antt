@@ -39,7 +39,7 @@ returns-in_err-write_directory-clause-step c =
     then_goes {next = walked s p c.args.id.now c.args.to.now} c.in_ok-walk.ensures.step
     (then_goes {next = entering s p c.args.id.now c.args.to.now} (c.in_ok-dir.ensures.step c.walk.new.checks)
     (item_stops (holding s p c.args.id.now c.args.to.now c.in_ok-dir.dir) c.from_residual-in_err-write_directory.result c.from_residual-in_err-write_directory.ensures.1
-    (equal_directory s p c.args.id.now c.in_ok-dir.dir c.dir_place-place.ensures c.held_order.ensures c.in_err-write_directory.ensures)))
+    (equal_directory (write_directory s p c.in_ok-dir.dir) s c.args.id.now c.in_ok-dir.dir c.dir_place-place.ensures c.held_order.ensures c.in_err-write_directory.ensures)))
 
 pub returns-clause-step : goal.returns-clause-step
 returns-clause-step c =
@@ -48,7 +48,7 @@ returns-clause-step c =
     then_goes {next = walked s p c.args.id.now c.args.to.now} c.in_ok-walk.ensures.step
     (then_goes {next = entering s p c.args.id.now c.args.to.now} (c.in_ok-dir.ensures.step c.walk.new.checks)
     (item_goes (holding s p c.args.id.now c.args.to.now c.in_ok-dir.dir)
-    (equal_directory s p c.args.id.now c.in_ok-dir.dir c.dir_place-place.ensures c.held_order.ensures c.in_ok-write_directory.ensures) (gives refl)))
+    (equal_directory (write_directory s p c.in_ok-dir.dir) s c.args.id.now c.in_ok-dir.dir c.dir_place-place.ensures c.held_order.ensures c.in_ok-write_directory.ensures) (gives refl)))
 
 pub returns-clause-entry : goal.returns-clause-entry
 returns-clause-entry c = c.in_ok-dir.ensures.entry (state_of c.args.caller.now.shared.now) _ c.in_ok-walk.ensures.found
