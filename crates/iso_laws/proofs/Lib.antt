@@ -1,6 +1,5 @@
 pub mod AllLemmas
 pub mod PrefixLemmas
-pub mod Selections
 pub mod Part
 pub mod Rows
 pub mod Sight

@@ -3,6 +3,7 @@ pub mod KeyLaws
 pub mod MapLemmas
 pub mod NamedLaws
 pub mod RowLemmas
+pub mod Selections
 pub mod StateLemmas
 pub mod TableLemmas
 pub mod WorldLemmas

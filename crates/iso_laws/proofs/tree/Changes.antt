@@ -31,7 +31,7 @@ use Rattle.kern_model.proofs.MapLemmas.{same_key, some_same, never_some, each-re
 use Rattle.kern_model.proofs.TableLemmas.{each_set_at}
 use Rattle.iso_laws.proofs.Leading.{leads_step, leads_kept, leads_on}
 use Rattle.iso_laws.proofs.Sight.{not_true}
-use Rattle.iso_laws.proofs.Selections.{none_passes, none_pass, count_none, count_remove, count_insert, count_insert_other, get-remove_same, get-remove_other}
+use Rattle.kern_model.proofs.Selections.{none_passes, none_pass, count_none, count_remove, count_insert, count_insert_other, get-remove_same, get-remove_other}
 use Rattle.iso_laws.proofs.ValidLemmas.{still_drawn, next_drawn, still_below}
 
 pub not_true_false : (b : Bool) → not b ≡ true → b ≡ false

@@ -17,7 +17,7 @@ use Rattle.kern_model.specs.Valid.{IsValid, IsThere}
 use Rattle.kern_model.proofs.KeyLaws.{oid_cmp_exact, spot_cmp_total, spot_cmp_exact}
 use Rattle.kern_model.proofs.MapLemmas.{same_key}
 use Rattle.iso_laws.proofs.Part.{by_number, shown, low_spot}
-use Rattle.iso_laws.proofs.Selections.{test_after, list_after, any_entry-select, count_entries-select, flat_map-select}
+use Rattle.kern_model.proofs.Selections.{test_after, list_after, any_entry-select, count_entries-select, flat_map-select}
 use Rattle.iso_laws.proofs.Sight.{low_below, not_true, object_low}
 
 pub true_is_not_false : true ≡ false → ⊥

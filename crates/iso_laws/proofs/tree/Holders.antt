@@ -21,7 +21,7 @@ use Rattle.kern_model.specs.Valid.{IsValid, IsDir, leads}
 use Rattle.kern_model.proofs.KeyLaws.{oid_cmp_total, oid_cmp_exact, spot_cmp_total, spot_cmp_exact}
 use Rattle.kern_model.proofs.MapLemmas.{same_key, some_same, never_some, each-remove, each-entries, get_or-found}
 use Rattle.iso_laws.proofs.Part.{by_number, shown, low_spot}
-use Rattle.iso_laws.proofs.Selections.{test_after, find_none, find_only, find-select, count_entries-select, none_passes, none_pass, count_removed, count_at_most, get-remove_other}
+use Rattle.kern_model.proofs.Selections.{test_after, find_none, find_only, find-select, count_entries-select, none_passes, none_pass, count_removed, count_at_most, get-remove_other}
 use Rattle.iso_laws.proofs.Sight.{not_true}
 use Rattle.iso_laws.proofs.tree.Changes.{never_same, not_true_false}
 use Rattle.iso_laws.proofs.tree.Entries.{leads_to, holder_low}

@@ -20,7 +20,7 @@ use Rattle.kern_model.proofs.KeyLaws.{oid_cmp_exact, spot_cmp_total, spot_cmp_ex
 use Rattle.kern_model.proofs.MapLemmas.{same_key, some_same, never_some, each-remove, each-insert, get-insert_same, get-insert_kept, get_or-found}
 use Rattle.iso_laws.proofs.Leading.{leads_step, leads_kept, leads_on, leads_append}
 use Rattle.iso_laws.proofs.Sight.{not_true}
-use Rattle.iso_laws.proofs.Selections.{none_passes, none_pass, count_remove, count_removed, count_insert, count_insert_other, get-remove_same, get-remove_other, get-remove_none, insert-over_removed}
+use Rattle.kern_model.proofs.Selections.{none_passes, none_pass, count_remove, count_removed, count_insert, count_insert_other, get-remove_same, get-remove_other, get-remove_none, insert-over_removed}
 use Rattle.iso_laws.proofs.tree.Changes.{with_tree, tree_object, tree_entry, valid_tree, valid_drop, standing_reached, distinct, never_same, none_in, not_true_false}
 
 -- an entry may move to a spot of a directory that is neither removed nor below what moves; what is there is another thing, without entries

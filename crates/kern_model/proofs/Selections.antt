@@ -6,6 +6,7 @@ use Rattle.std.specs.Option.{option_map, option_and_then}
 use Rattle.std.specs.List.{AllByRecursion, list_any, flat_map, find as find_in}
 use Rattle.std.specs.Cmp.{IsTotalOrder}
 use Rattle.std.specs.FinMap as map
+use Rattle.std.specs.Map.{keys_of}
 use Rattle.std.specs.FinMap.{FinMap, IsAntisymmetric, find, is_sorted, get-from_entries, get-entries, entries_sorted, same_map, get-insert, get-remove, from_sorted, from_entries, entries-from_sorted, get-from_sorted}
 use Rattle.std.specs.FinMap.Entries.{below_all}
 use Rattle.std.proofs.Common.{sym, ◌∙◌, ap, arith, T}
@@ -305,3 +306,33 @@ module _ {K X : Type 0} {R : K → K → Ordering} (o : IsTotalOrder R) (exact :
           | false ↦ λ _. refl
         ] refl) in
         omega (arith, split (map.insert m k x), without, none)
+
+-- ---- a selection that keeps each entry, with another value
+module _ {K X Y : Type 0} {R : K → K → Ordering} (o : IsTotalOrder R) (exact : IsAntisymmetric R) (g : K → X → Y) where
+  abbrev each : K → X → Option Y
+  each k x = Some (g k x)
+
+  keys-selected : (es : List (K × X)) → keys_of (selected each es) ≡ keys_of es
+  keys-selected [] = refl
+  keys-selected (e ∷ es) = ap (λ (ks : List K). e.0 ∷ ks) (keys-selected es)
+
+  -- has the same keys
+  pub keys-select_each : (m : FinMap R X) → map.keys (select each m) ≡ map.keys m
+  keys-select_each m = ap keys_of (entries-select o exact each m) ∙ keys-selected (map.entries m)
+
+  mapped : (q : K) (w : Option X) → option_and_then (each q) w ≡ option_map (g q) w
+  mapped q None = refl
+  mapped q (Some x) = refl
+
+  pub get-select_each : (m : FinMap R X) (q : K) → map.get (select each m) q ≡ option_map (g q) (map.get m q)
+  get-select_each m q = get-select exact each o m q ∙ mapped q (map.get m q)
+
+  pub select-insert_each : (m : FinMap R X) (k : K) (x : X) → select each (map.insert m k x) ≡ map.insert (select each m) k (g k x)
+  select-insert_each m k x = same_map o exact _ _ (λ q.
+      get-select_each (map.insert m k x) q ∙ ap (option_map (g q)) (get-insert o m k x q)
+      ∙ elim (eq_by_cmp R q k) as (λ b. eq_by_cmp R q k ≡ b → option_map (g q) (cond b (Some x) (map.get m q)) ≡ cond b (Some (g k x)) (option_map (g q) (map.get m q))) [
+        | true ↦ λ t. ap (λ j. Some (g j x)) (same_key exact q k t)
+        | false ↦ λ _. refl
+      ] refl
+      ∙ ap (λ w. cond (eq_by_cmp R q k) (Some (g k x)) w) (sym (get-select_each m q))
+      ∙ sym (get-insert o (select each m) k (g k x) q))
