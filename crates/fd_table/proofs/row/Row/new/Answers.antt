@@ -1,0 +1,7 @@
+use Rattle.std.proofs.Common.{refl}
+use Rattle.fd_table.specs.Rows.{fds_in}
+use Rattle.fd_table.proofs.Slots.{no_fds}
+use Rattle.fd_table.proofs.row.Row.new.Goals as goal
+
+pub returns : goal.returns
+returns c = no_fds _ refl

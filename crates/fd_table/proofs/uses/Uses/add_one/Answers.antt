@@ -1,0 +1,12 @@
+use Rattle.std.specs.Prelude.{◌≡◌, ◌+◌, cond}
+use Rattle.std.specs.FinMap.{FinMap}
+use Rattle.std.proofs.Common.{ap, sym, ◌∙◌, subst, ℕ}
+use Rattle.kern_model.specs.declared.numbers.Oid.{Oid}
+use Rattle.kern_model.specs.Keys.{oid_cmp, same_oid}
+use Rattle.kern_model.specs.Maps.{get_or}
+use Rattle.fd_table.proofs.Counting.{on_ok, one_more}
+use Rattle.fd_table.proofs.uses.Uses.add_one.Goals as goal
+
+pub returns-clause-ok : goal.returns-clause-ok
+returns-clause-ok c = on_ok c.set.result
+    (λ e q. ap (λ (m : FinMap oid_cmp ℕ). get_or m q 0) e ∙ one_more c.args.self.now c.args.id.now c.count-count.result c.count-count.ensures q) c.set.ensures.ok

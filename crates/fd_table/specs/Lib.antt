@@ -1,0 +1,4 @@
+pub mod Descriptions
+pub mod Fifo
+pub mod Files
+pub mod Rows

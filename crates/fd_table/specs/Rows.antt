@@ -1,0 +1,43 @@
+-- The descriptors of processes.
+use Rattle.std.specs.Prelude.{ℕ, ◌+◌, List, [], ◌∷◌, Option, None, Some, length, sum_by}
+use Rattle.std.specs.Ordering.{nat_cmp}
+use Rattle.std.specs.FinMap as map
+use Rattle.std.specs.FinMap.{FinMap}
+use Rattle.kern_model.specs.declared.numbers.Did.{Did}
+use Rattle.kern_model.specs.declared.numbers.Pid.{Pid}
+use Rattle.kern_model.specs.Keys.{pid_cmp, same_did}
+use Rattle.kern_model.specs.Maps.{count_entries, get_or}
+
+-- the descriptors of one process, and the description to which each refers
+abbrev pub Fds : Type 0
+Fds = FinMap nat_cmp Did
+
+-- the descriptors of each process
+abbrev pub AllFds : Type 0
+AllFds = FinMap pid_cmp Fds
+
+-- the descriptors in a list of slots, which are numbered from n on
+abbrev pub in_slots : ℕ → List (Option Did) → List (ℕ × Did)
+in_slots n [] = []
+in_slots n (None ∷ slots) = in_slots (n + 1) slots
+in_slots n (Some did ∷ slots) = (n, did) ∷ in_slots (n + 1) slots
+
+-- the descriptors of a process, by its slots
+unfoldable pub fds_in : List (Option Did) → Fds
+fds_in slots = map.from_sorted (in_slots 0 slots)
+
+-- how many descriptors there are
+abbrev pub fd_count : Fds → ℕ
+fd_count fds = length (map.entries fds)
+
+-- the descriptors of a process; none where it has no row
+abbrev pub row_of : AllFds → Pid → Fds
+row_of rows who = get_or rows who map.empty
+
+-- how many of these descriptors refer to a description
+abbrev pub holders_in : Fds → Did → ℕ
+holders_in fds did = count_entries (λ fd d. same_did d did) fds
+
+-- how many descriptors of all processes refer to a description
+unfoldable pub holders : AllFds → Did → ℕ
+holders rows did = sum_by (λ (row : Pid × Fds). holders_in row.1 did) (map.entries rows)

@@ -1,0 +1,14 @@
+//! The descriptors of processes, and the open descriptions that they share.
+#![tactic(auto)]
+
+mod descriptions;
+mod fifo;
+mod row;
+mod rows;
+mod shared;
+mod table;
+mod uses;
+
+pub use kern_model::NoMemory;
+pub use shared::How;
+pub use table::FdError;
