@@ -6,6 +6,7 @@ ghost use Rattle.kern_model.specs.declared.records.Rec.TheVariants as rec;
 ghost use Rattle.kern_model.specs.State.{drawn, next_process};
 ghost use Rattle.kern_model.specs.Boot.{boot_process, boot_processes, furnished, started};
 ghost use Rattle.kern_model.specs.World.{IsWorld};
+ghost use Rattle.fd_table.specs.Files.{no_files};
 ghost use Rattle.sys_lookup.specs.Shared.{state_of};
 ghost use Rattle.kern_core.specs.Starts.{CanStart};
 
@@ -20,7 +21,8 @@ use sys_lookup::Shared;
 /// The state that has the objects of a world, and no process.
 pub fn furnish(alloc: Global, world: &World) -> Result<Shared, NoMemory>
     requires { IsWorld world.now }
-    ensures { IfOk result (λ shared. state_of shared ≡ furnished world.now) }
+    ensures state { IfOk result (λ shared. state_of shared ≡ furnished world.now) }
+    ensures fds { IfOk result (λ shared. shared.fds ≡ no_files) }
 {
     let mut loading = Loading::new(alloc, world.bound, world.top)?;
     loading.boot_objects(world.objects.items())?;
@@ -33,7 +35,8 @@ pub fn boot_processes(
     shared: &mut Shared,
     procs: &[WorldProc],
 ) -> Result<RecList, NoMemory>
-    requires { CanStart shared.old.procs.numbers procs.now }
+    requires start { CanStart shared.old.procs.numbers procs.now }
+    requires fds { shared.old.fds ≡ no_files }
     ensures state { OnOk result (state_of shared.new ≡ boot_processes (state_of shared.old) procs.now) }
     ensures recs { IfOk result (λ recs. recs ≡ started (state_of shared.old) procs.now) }
 {
@@ -49,6 +52,8 @@ pub fn boot_processes(
 fn boot_process(shared: &mut Shared, process: &WorldProc) -> Result<Pid, NoMemory>
     requires number { drawn shared.old.procs.numbers process.now.label < MAX_PROCS }
     requires within { is_within process.now.caps.e process.now.caps.p ≡ true }
+    requires fds { shared.old.fds ≡ no_files }
+    ensures fds { shared.new.fds ≡ shared.old.fds }
     ensures state { OnOk result (state_of shared.new ≡ boot_process (state_of shared.old) process.now) }
     ensures number { IfOk result (λ who. who ≡ next_process (state_of shared.old) process.now.label) }
 {

@@ -76,10 +76,14 @@ fn play_body(
 {
     match call {
         Call::MacGetFile(path) => {
-            let process = living(&shared.procs, who);
-            attributes::mac_get_file(&Caller { shared, process }, checks, path)
+            let process = living(shared, who);
+            attributes::mac_get_file(&Caller {
+                shared,
+                who: *who,
+                process,
+            }, checks, path)
         }
-        Call::CapGetProc => Ok(processes::cap_get_proc(living(&shared.procs, who))),
+        Call::CapGetProc => Ok(processes::cap_get_proc(living(shared, who))),
         Call::CapSetProc(caps) => processes::cap_set_proc(shared, checks, who, *caps),
         Call::Mkdir(_, _)
         | Call::Rmdir(_)

@@ -3,12 +3,14 @@ ghost use Rattle.std.specs.Prelude.{◌≡◌, ◌<◌, IfOk, OnOk};
 ghost use Rattle.kern_model.specs.declared.limits.TheConstants.{MAX_OBJECTS};
 ghost use Rattle.kern_model.specs.State.{drawn};
 ghost use Rattle.kern_model.specs.Boot.{boot_object, boot_objects, nothing};
+ghost use Rattle.fd_table.specs.Files.{no_files};
 ghost use Rattle.fs_dirs.specs.Tree.{AreEntries};
 ghost use Rattle.sys_lookup.specs.Shared.{state_of};
 ghost use Rattle.kern_core.specs.Starts.{IsSpotOf, RoomForObjects, state_loaded};
 
 use crate::from_world::copy_body;
 use cap_bits::CapSet;
+use fd_table::FdTable;
 use fs_dirs::{Spot, Spots, Tree, root_directory};
 use fs_nodes::{NodeError, Nodes};
 use kern_model::{Name, NoMemory, Oid, WorldObject};
@@ -54,7 +56,8 @@ impl Loading {
     /// The state with all entries in their directories, and without processes.
     pub fn load(self, alloc: Global) -> Result<Shared, NoMemory>
         requires { AreEntries self.nodes.table self.spots }
-        ensures { IfOk result (λ shared. state_of shared ≡ state_loaded self) }
+        ensures state { IfOk result (λ shared. state_of shared ≡ state_loaded self) }
+        ensures fds { IfOk result (λ shared. shared.fds ≡ no_files) }
     {
         let Loading {
             nodes,
@@ -64,6 +67,7 @@ impl Loading {
         } = self;
         Ok(Shared {
             tree: Tree::load(alloc, nodes, spots)?,
+            fds: FdTable::new(alloc),
             procs: Procs::new(alloc),
             bound,
             top,

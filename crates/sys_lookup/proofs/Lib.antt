@@ -1,4 +1,5 @@
 pub mod CheckLemmas
+pub mod FdLemmas
 pub mod MakeLemmas
 pub mod PlayLemmas
 pub mod StopLemmas

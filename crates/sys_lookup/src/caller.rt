@@ -9,27 +9,29 @@ ghost use Rattle.kern_model.specs.declared.checks.Thing.TheVariants as thing;
 ghost use Rattle.lab_lattice.specs.Label.{dominates};
 ghost use Rattle.kern_model.specs.State.{State};
 ghost use Rattle.chk_rules.specs.Ends.{GoesOn};
-ghost use Rattle.sys_lookup.specs.Shared.{metadata_of, state_of};
+ghost use Rattle.sys_lookup.specs.Shared.{holding, metadata_of, process_of, state_of};
 
 use crate::shared::{Metadata, Shared};
 use chk_rules::{Checks, Stop, Want, mac_read_ok, mac_write_ok, mode_allows, must};
 use kern_model::{Check, CheckName, Oid, Pid, Place, Thing};
 use lab_lattice::{Label, Lattice};
-use proc_table::{Proc, Procs};
+use proc_table::Proc;
 
 /// The process that makes a call, and the state in which its call looks things up.
 #[derive(Clone, Copy)]
 pub struct Caller<'a> {
     pub shared: &'a Shared,
+    pub who: Pid,
     pub process: &'a Proc,
 }
 
 /// The living process with a number.
-pub fn living<'a>(procs: &'a Procs, who: &Pid) -> &'a Proc
-    requires { IsSome (map.get procs.now.procs who.now) }
-    ensures { Some result.now ≡ map.get procs.now.procs who.now }
+pub fn living<'a>(shared: &'a Shared, who: &Pid) -> &'a Proc
+    requires { IsSome (map.get (state_of shared.now).procs who.now) }
+    ensures there { map.get shared.now.procs.procs who.now ≡ Some result.now }
+    ensures found { Some (holding shared.now.fds.rows who.now result.now) ≡ map.get (state_of shared.now).procs who.now }
 {
-    let Some(process) = procs.find(who) else {
+    let Some(process) = shared.procs.find(who) else {
         unreachable!();
     };
     process
@@ -38,7 +40,7 @@ pub fn living<'a>(procs: &'a Procs, who: &Pid) -> &'a Proc
 impl Caller<'_> {
     /// Checks that the caller may read an object.
     pub fn mac_read(&self, checks: &mut Checks, object: &Metadata, place: Place) -> Result<(), Stop>
-        ensures { (s : State) (id : Oid) → object.now ≡ metadata_of s id → GoesOn checks.old (λ rest. Need (mac_read s self.now.process.now id place) (rest tt)) result checks.new }
+        ensures { (s : State) (id : Oid) → object.now ≡ metadata_of s id → GoesOn checks.old (λ rest. Need (mac_read s (process_of self.now) id place) (rest tt)) result checks.new }
     {
         let process = self.process;
         let holds = mac_read_ok(&process.creds.label, &object.label);
@@ -52,7 +54,7 @@ impl Caller<'_> {
         object: &Metadata,
         place: Place,
     ) -> Result<(), Stop>
-        ensures { (s : State) (id : Oid) → object.now ≡ metadata_of s id → GoesOn checks.old (λ rest. Need (mac_write s self.now.process.now id place) (rest tt)) result checks.new }
+        ensures { (s : State) (id : Oid) → object.now ≡ metadata_of s id → GoesOn checks.old (λ rest. Need (mac_write s (process_of self.now) id place) (rest tt)) result checks.new }
     {
         let process = self.process;
         let holds = mac_write_ok(&process.creds.label, &object.label);
@@ -61,7 +63,7 @@ impl Caller<'_> {
 
     /// Checks that the mode of an object lets the caller read it.
     pub fn dac_read(&self, checks: &mut Checks, object: &Metadata, place: Place) -> Result<(), Stop>
-        ensures { (s : State) (id : Oid) → object.now ≡ metadata_of s id → GoesOn checks.old (λ rest. Need (dac_read s self.now.process.now id place) (rest tt)) result checks.new }
+        ensures { (s : State) (id : Oid) → object.now ≡ metadata_of s id → GoesOn checks.old (λ rest. Need (dac_read s (process_of self.now) id place) (rest tt)) result checks.new }
     {
         let holds = self.mode_lets(object, Want::Read);
         must(checks, &check_of(CheckName::DacRead, holds, object, place))
@@ -74,7 +76,7 @@ impl Caller<'_> {
         object: &Metadata,
         place: Place,
     ) -> Result<(), Stop>
-        ensures { (s : State) (id : Oid) → object.now ≡ metadata_of s id → GoesOn checks.old (λ rest. Need (dac_write s self.now.process.now id place) (rest tt)) result checks.new }
+        ensures { (s : State) (id : Oid) → object.now ≡ metadata_of s id → GoesOn checks.old (λ rest. Need (dac_write s (process_of self.now) id place) (rest tt)) result checks.new }
     {
         let holds = self.mode_lets(object, Want::Write);
         must(checks, &check_of(CheckName::DacWrite, holds, object, place))
@@ -82,7 +84,7 @@ impl Caller<'_> {
 
     /// Checks that the caller may search a directory.
     pub fn dac_search(&self, checks: &mut Checks, dir: &Metadata, place: Place) -> Result<(), Stop>
-        ensures { (s : State) (id : Oid) → dir.now ≡ metadata_of s id → GoesOn checks.old (λ rest. Need (dac_search s self.now.process.now id place) (rest tt)) result checks.new }
+        ensures { (s : State) (id : Oid) → dir.now ≡ metadata_of s id → GoesOn checks.old (λ rest. Need (dac_search s (process_of self.now) id place) (rest tt)) result checks.new }
     {
         let holds = self.mode_lets(dir, Want::Execute);
         must(checks, &check_of(CheckName::DacSearch, holds, dir, place))
@@ -114,7 +116,7 @@ impl Caller<'_> {
 
     /// The check of a directory in which the caller makes an object: the order of labels holds.
     pub fn created_order(&self, dir: &Oid, place: Place) -> Check
-        ensures { result ≡ created_order (state_of self.now.shared.now) self.now.process.now dir.now place }
+        ensures { result ≡ created_order (state_of self.now.shared.now) (process_of self.now) dir.now place }
     {
         let process = self.process;
         label_order(&process.creds.label, &self.shared.metadata(dir), place)
@@ -130,7 +132,7 @@ impl Caller<'_> {
 
     // Whether the mode of an object lets the caller do what is wanted.
     fn mode_lets(&self, object: &Metadata, want: Want) -> bool
-        ensures { result ≡ mode_lets object.now.attr self.now.process.now.ids want }
+        ensures { result ≡ mode_lets object.now.attr (process_of self.now).ids want }
     {
         let process = self.process;
         mode_allows(&object.attr, &process.creds.ids, want)

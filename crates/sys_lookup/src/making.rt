@@ -17,7 +17,7 @@ ghost use Rattle.chk_rules.specs.CheckLog.{CheckLog};
 ghost use Rattle.chk_rules.specs.Ends.{GoesOn};
 ghost use Rattle.sys_lookup.specs.Making.{making};
 ghost use Rattle.sys_lookup.specs.PlaysRow.{Keeps, PlaysRow};
-ghost use Rattle.sys_lookup.specs.Shared.{state_of};
+ghost use Rattle.sys_lookup.specs.Shared.{process_of, state_of};
 ghost use Rattle.sys_lookup.specs.Walks.{IsEntry, place_in};
 ghost use Rattle.sys_lookup.specs.declared.argument.PathArgument.TheVariants as argument;
 
@@ -50,8 +50,12 @@ pub fn make(
     ensures names { are_names path.now ≡ true }
 {
     let _names = path.components();
-    let process = living(&shared.procs, who);
-    let caller = Caller { shared, process };
+    let process = living(shared, who);
+    let caller = Caller {
+        shared,
+        who: *who,
+        process,
+    };
     let (dir, name) = new_spot(&caller, checks, path)?;
     let label = process.creds.label;
     let attr = caller.new_attr(mode);
@@ -96,7 +100,7 @@ pub fn create(
 
 // The directory and the name of what is to be made.
 fn new_spot(caller: &Caller<'_>, checks: &mut Checks, path: &Path) -> Result<(Oid, Name), Stop>
-    ensures step { GoesOn checks.old (λ rest. walk (state_of caller.now.shared.now) caller.now.process.now (place_in argument.First) path.now (λ found. to_new_name found (λ dir name. make_in (state_of caller.now.shared.now) caller.now.process.now dir (dir_place (place_in argument.First) path.now) (rest (dir, name))))) result checks.new }
+    ensures step { GoesOn checks.old (λ rest. walk (state_of caller.now.shared.now) (process_of caller.now) (place_in argument.First) path.now (λ found. to_new_name found (λ dir name. make_in (state_of caller.now.shared.now) (process_of caller.now) dir (dir_place (place_in argument.First) path.now) (rest (dir, name))))) result checks.new }
     ensures entry { IfOk result (λ e. IsEntry (state_of caller.now.shared.now) e.0 e.1 None) }
     ensures stands { IfOk result (λ e. is_removed (state_of caller.now.shared.now) e.0 ≡ false) }
 {
@@ -111,7 +115,7 @@ impl Caller<'_> {
     /// The attributes of what the caller makes with a mode: it is its effective user's and group's, without the bits of its
     /// umask and without capabilities.
     pub fn new_attr(&self, mode: Mode) -> Attr
-        ensures { result ≡ attr_of self.now.process.now (masked mode self.now.process.now.umask) }
+        ensures { result ≡ attr_of (process_of self.now) (masked mode (process_of self.now).umask) }
     {
         let process = self.process;
         let creds = &process.creds;

@@ -4,15 +4,17 @@ ghost use Rattle.kern_model.specs.Kinds.{is_dir};
 ghost use Rattle.sys_lookup.specs.Shared.{metadata_of, state_of};
 
 use cap_bits::{CapSet, CapState};
+use fd_table::FdTable;
 use fs_dirs::Tree;
 use kern_model::{Attr, Kind, Oid};
 use lab_lattice::Label;
 use proc_table::Procs;
 
-/// The tree and the processes, the bound of capabilities over exec, and the highest label.
+/// The tree, the open files and the processes, the bound of capabilities over exec, and the highest label.
 #[derive(Drop)]
 pub struct Shared {
     pub tree: Tree,
+    pub fds: FdTable,
     pub procs: Procs,
     pub bound: CapSet,
     pub top: Label,

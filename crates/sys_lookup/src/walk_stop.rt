@@ -1,8 +1,7 @@
 // The walk of a path of a process, and how it stops.
-ghost use Rattle.std.specs.Prelude.{◌≡◌, Some, IfOk};
+ghost use Rattle.std.specs.Prelude.{◌≡◌, Some, IfOk, IsSome};
 ghost use Rattle.std.specs.FinMap as map;
 ghost use Rattle.kern_model.specs.State.{Process};
-ghost use Rattle.kern_model.specs.Valid.{IsThere};
 ghost use Rattle.kern_model.specs.Walk.{start_of, walk};
 ghost use Rattle.chk_rules.specs.Ends.{GoesOn};
 ghost use Rattle.sys_lookup.specs.Shared.{state_of};
@@ -10,7 +9,7 @@ ghost use Rattle.sys_lookup.specs.Walks.{IsFound, found_by, place_in};
 ghost use Rattle.sys_lookup.specs.WalkStops.{IsWalkStop, argument_of, stop_of, stopped_by};
 
 use crate::argument::PathArgument;
-use crate::caller::Caller;
+use crate::caller::{Caller, living};
 use crate::found::Found;
 use crate::shared::Shared;
 use chk_rules::{Checks, Stop};
@@ -77,14 +76,16 @@ pub fn walk(
     path: &Path,
     second: bool,
 ) -> Result<Found, WalkStop>
-    requires living { IsThere (state_of shared.now).procs who.now }
+    requires living { IsSome (map.get (state_of shared.now).procs who.now) }
     ensures step { (p : Process) → map.get (state_of shared.now).procs who.now ≡ Some p → GoesOn checks.old (walk (state_of shared.now) p (place_in (argument_of second)) path.now) (found_by (stopped_by result)) checks.new }
     ensures found { (p : Process) → map.get (state_of shared.now).procs who.now ≡ Some p → IfOk result (IsFound (state_of shared.now) (start_of p path.now)) }
 {
-    let Some(process) = shared.procs.find(who) else {
-        unreachable!();
+    let process = living(shared, who);
+    let caller = Caller {
+        shared,
+        who: *who,
+        process,
     };
-    let caller = Caller { shared, process };
     match caller.walk(checks, argument(second), path) {
         Ok(found) => Ok(found),
         Err(stop) => Err(walk_stop(stop)),

@@ -4,7 +4,7 @@ ghost use Rattle.kern_model.specs.Walk.{enter, last_place, reach, start_of, walk
 ghost use Rattle.kern_model.specs.Valid.{IsDir};
 ghost use Rattle.kern_model.specs.declared.numbers.Oid.{Oid as Number};
 ghost use Rattle.chk_rules.specs.Ends.{GoesOn};
-ghost use Rattle.sys_lookup.specs.Shared.{state_of};
+ghost use Rattle.sys_lookup.specs.Shared.{process_of, state_of};
 ghost use Rattle.sys_lookup.specs.Walks.{IsFound, IsLedTo, find_name, found_by, pass_name, place_in};
 
 use crate::argument::PathArgument;
@@ -22,8 +22,8 @@ impl Caller<'_> {
         which: PathArgument,
         path: &Path,
     ) -> Result<(Oid, Place), Stop>
-        ensures step { GoesOn checks.old (λ rest. reach (state_of self.now.shared.now) self.now.process.now (place_in which) path.now (λ id. rest (id, last_place (place_in which) path.now))) result checks.new }
-        ensures led { IfOk result (λ r. IsLedTo (state_of self.now.shared.now) (start_of self.now.process.now path.now) r.0) }
+        ensures step { GoesOn checks.old (λ rest. reach (state_of self.now.shared.now) (process_of self.now) (place_in which) path.now (λ id. rest (id, last_place (place_in which) path.now))) result checks.new }
+        ensures led { IfOk result (λ r. IsLedTo (state_of self.now.shared.now) (start_of (process_of self.now) path.now) r.0) }
     {
         let found = self.walk(checks, which, path)?;
         let id = found.to_object()?;
@@ -32,8 +32,8 @@ impl Caller<'_> {
 
     /// Walks a path from where it starts. Its last name may be absent.
     pub fn walk(&self, checks: &mut Checks, which: PathArgument, path: &Path) -> Result<Found, Stop>
-        ensures step { GoesOn checks.old (walk (state_of self.now.shared.now) self.now.process.now (place_in which) path.now) (found_by result) checks.new }
-        ensures found { IfOk result (IsFound (state_of self.now.shared.now) (start_of self.now.process.now path.now)) }
+        ensures step { GoesOn checks.old (walk (state_of self.now.shared.now) (process_of self.now) (place_in which) path.now) (found_by result) checks.new }
+        ensures found { IfOk result (IsFound (state_of self.now.shared.now) (start_of (process_of self.now) path.now)) }
     {
         let process = self.process;
         let start = if path.absolute {
@@ -49,7 +49,7 @@ impl Caller<'_> {
 
     /// Enters a directory: it may be read, is a directory, and may be searched.
     pub fn enter(&self, checks: &mut Checks, dir: &Oid, place: Place) -> Result<(), Stop>
-        ensures step { GoesOn checks.old (λ rest. enter (state_of self.now.shared.now) self.now.process.now dir.now place (rest tt)) result checks.new }
+        ensures step { GoesOn checks.old (λ rest. enter (state_of self.now.shared.now) (process_of self.now) dir.now place (rest tt)) result checks.new }
         ensures dir { OnOk result (IsDir (state_of self.now.shared.now).objects dir.now) }
     {
         let object = self.shared.metadata(dir);
@@ -69,7 +69,7 @@ impl Caller<'_> {
         rest: &[Name],
     ) -> Result<Found, Stop>
         requires { at + length rest.now ≤ 31 }
-        ensures step { GoesOn checks.old (walk_from (state_of self.now.shared.now) self.now.process.now (place_in which) at dir (name.now ∷ rest.now)) (found_by result) checks.new }
+        ensures step { GoesOn checks.old (walk_from (state_of self.now.shared.now) (process_of self.now) (place_in which) at dir (name.now ∷ rest.now)) (found_by result) checks.new }
         ensures found { (start : Number) → IfOk result (IsFound (state_of self.now.shared.now) start) }
     {
         match rest {
@@ -84,7 +84,7 @@ impl Caller<'_> {
     // Looks up the last name of a walk, which may be absent.
     #[tactic(auto, unfolding(chk_rules::specs::Ends::EndsBy))]
     fn find(&self, checks: &mut Checks, place: Place, dir: Oid, name: &Name) -> Result<Found, Stop>
-        ensures step { GoesOn checks.old (find_name (state_of self.now.shared.now) self.now.process.now place dir name.now) (found_by result) checks.new }
+        ensures step { GoesOn checks.old (find_name (state_of self.now.shared.now) (process_of self.now) place dir name.now) (found_by result) checks.new }
         ensures found { (start : Number) → IfOk result (IsFound (state_of self.now.shared.now) start) }
     {
         self.enter(checks, &dir, place)?;
@@ -94,7 +94,7 @@ impl Caller<'_> {
 
     // Looks up a name that is not the last: it leads to where the walk goes on.
     fn pass(&self, checks: &mut Checks, place: Place, dir: Oid, name: &Name) -> Result<Oid, Stop>
-        ensures { GoesOn checks.old (pass_name (state_of self.now.shared.now) self.now.process.now place dir name.now) result checks.new }
+        ensures { GoesOn checks.old (pass_name (state_of self.now.shared.now) (process_of self.now) place dir name.now) result checks.new }
     {
         self.enter(checks, &dir, place)?;
         present(self.shared.tree.look(&dir, name))

@@ -18,7 +18,7 @@ ghost use Rattle.chk_rules.specs.CheckLog.{CheckLog};
 ghost use Rattle.chk_rules.specs.Ends.{GoesOn};
 ghost use Rattle.fs_dirs.specs.Tree.{MayBeAdded};
 ghost use Rattle.sys_lookup.specs.PlaysRow.{PlaysRow};
-ghost use Rattle.sys_lookup.specs.Shared.{state_of};
+ghost use Rattle.sys_lookup.specs.Shared.{process_of, state_of};
 ghost use Rattle.sys_lookup.specs.Walks.{IsEntry, IsLedTo, place_in};
 ghost use Rattle.sys_lookup.specs.declared.argument.PathArgument.TheVariants as argument;
 
@@ -42,8 +42,12 @@ pub fn link(
     ensures names { are_names to.now ≡ true }
 {
     let _names = to.components();
-    let process = living(&shared.procs, who);
-    let caller = Caller { shared, process };
+    let process = living(shared, who);
+    let caller = Caller {
+        shared,
+        who: *who,
+        process,
+    };
     let id = object_to_link(&caller, checks, path)?;
     let (dir, name) = new_spot(&caller, checks, &id, to)?;
     add_entry(shared, &dir, &name, &id)
@@ -51,8 +55,8 @@ pub fn link(
 
 // The object that gets one more name.
 fn object_to_link(caller: &Caller<'_>, checks: &mut Checks, path: &Path) -> Result<Oid, Stop>
-    ensures step { GoesOn checks.old (λ rest. on_path (state_of caller.now.shared.now) caller.now.process.now path.now (λ id place. Need (mac_write (state_of caller.now.shared.now) caller.now.process.now id place) (Need (link_dir (state_of caller.now.shared.now) id place) (Refuse errno.EMLINK (nat_le MAX_LINKS (link_count (state_of caller.now.shared.now) id)) (rest id))))) result checks.new }
-    ensures led { IfOk result (IsLedTo (state_of caller.now.shared.now) (start_of caller.now.process.now path.now)) }
+    ensures step { GoesOn checks.old (λ rest. on_path (state_of caller.now.shared.now) (process_of caller.now) path.now (λ id place. Need (mac_write (state_of caller.now.shared.now) (process_of caller.now) id place) (Need (link_dir (state_of caller.now.shared.now) id place) (Refuse errno.EMLINK (nat_le MAX_LINKS (link_count (state_of caller.now.shared.now) id)) (rest id))))) result checks.new }
+    ensures led { IfOk result (IsLedTo (state_of caller.now.shared.now) (start_of (process_of caller.now) path.now)) }
     ensures no_dir { IfOk result (λ id. is_dir (object_at (state_of caller.now.shared.now) id).kind ≡ false) }
     ensures few { IfOk result (λ id. nat_le MAX_LINKS (link_count (state_of caller.now.shared.now) id) ≡ false) }
 {
@@ -71,7 +75,7 @@ fn new_spot(
     id: &Oid,
     to: &Path,
 ) -> Result<(Oid, Name), Stop>
-    ensures step { GoesOn checks.old (λ rest. walk (state_of caller.now.shared.now) caller.now.process.now (place_in argument.Second) to.now (λ found. to_new_name found (λ dir name. enter_in (state_of caller.now.shared.now) caller.now.process.now dir (dir_place (place_in argument.Second) to.now) (held_order (state_of caller.now.shared.now) id.now dir (dir_place (place_in argument.Second) to.now)) (rest (dir, name))))) result checks.new }
+    ensures step { GoesOn checks.old (λ rest. walk (state_of caller.now.shared.now) (process_of caller.now) (place_in argument.Second) to.now (λ found. to_new_name found (λ dir name. enter_in (state_of caller.now.shared.now) (process_of caller.now) dir (dir_place (place_in argument.Second) to.now) (held_order (state_of caller.now.shared.now) id.now dir (dir_place (place_in argument.Second) to.now)) (rest (dir, name))))) result checks.new }
     ensures entry { IfOk result (λ e. IsEntry (state_of caller.now.shared.now) e.0 e.1 None) }
     ensures stands { IfOk result (λ e. is_removed (state_of caller.now.shared.now) e.0 ≡ false) }
 {

@@ -40,12 +40,20 @@ pub fn play(
         Call::Rename(path, to) => rename(shared, checks, who, path, to),
         Call::Chdir(path) => chdir(shared, checks, who, path),
         Call::Readdir(path) => {
-            let process = living(&shared.procs, who);
-            readdir(&Caller { shared, process }, checks, path)
+            let process = living(shared, who);
+            readdir(&Caller {
+        shared,
+        who: *who,
+        process,
+    }, checks, path)
         }
         Call::Stat(path) => {
-            let process = living(&shared.procs, who);
-            stat(&Caller { shared, process }, checks, path)
+            let process = living(shared, who);
+            stat(&Caller {
+        shared,
+        who: *who,
+        process,
+    }, checks, path)
         }
         _ => unreachable!(),
     }

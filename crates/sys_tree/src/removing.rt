@@ -11,7 +11,7 @@ ghost use Rattle.kern_model.specs.Walk.{last_place, to_entry_of_object, walk};
 ghost use Rattle.kern_model.specs.declared.calls.Errno.TheVariants as errno;
 ghost use Rattle.chk_rules.specs.Ends.{GoesOn};
 ghost use Rattle.sys_lookup.specs.PlaysRow.{PlaysRow};
-ghost use Rattle.sys_lookup.specs.Shared.{metadata_of, state_of};
+ghost use Rattle.sys_lookup.specs.Shared.{metadata_of, process_of, state_of};
 ghost use Rattle.sys_lookup.specs.Walks.{IsEntry, place_in};
 ghost use Rattle.sys_lookup.specs.declared.argument.PathArgument.TheVariants as argument;
 
@@ -30,8 +30,12 @@ pub fn rmdir(
     requires living { IsSome (map.get (state_of shared.old).procs who.now) }
     ensures { (p : Process) → map.get (state_of shared.old).procs who.now ≡ Some p → PlaysRow (state_of shared.old) checks.old (rmdir_row (state_of shared.old) who.now p path.now) result (state_of shared.new) checks.new }
 {
-    let process = living(&shared.procs, who);
-    let caller = Caller { shared, process };
+    let process = living(shared, who);
+    let caller = Caller {
+        shared,
+        who: *who,
+        process,
+    };
     let (dir, name) = entry_to_remove(&caller, checks, path)?;
     take_away(shared, &dir, &name);
     Ok(Effect {
@@ -50,8 +54,12 @@ pub fn unlink(
     requires living { IsSome (map.get (state_of shared.old).procs who.now) }
     ensures { (p : Process) → map.get (state_of shared.old).procs who.now ≡ Some p → PlaysRow (state_of shared.old) checks.old (unlink_row (state_of shared.old) who.now p path.now) result (state_of shared.new) checks.new }
 {
-    let process = living(&shared.procs, who);
-    let caller = Caller { shared, process };
+    let process = living(shared, who);
+    let caller = Caller {
+        shared,
+        who: *who,
+        process,
+    };
     let (dir, name) = entry_to_unlink(&caller, checks, path)?;
     take_away(shared, &dir, &name);
     Ok(Effect {
@@ -66,7 +74,7 @@ fn entry_to_remove(
     checks: &mut Checks,
     path: &Path,
 ) -> Result<(Oid, Name), Stop>
-    ensures step { GoesOn checks.old (λ rest. walk (state_of caller.now.shared.now) caller.now.process.now (place_in argument.First) path.now (λ found. to_entry_of_object found (λ dir name id. leave_from (state_of caller.now.shared.now) caller.now.process.now path.now dir id (Refuse errno.ENOTDIR (not (is_dir (object_at (state_of caller.now.shared.now) id).kind)) (Refuse errno.ENOTEMPTY (not (is_empty (state_of caller.now.shared.now) id)) (rest (dir, name))))))) result checks.new }
+    ensures step { GoesOn checks.old (λ rest. walk (state_of caller.now.shared.now) (process_of caller.now) (place_in argument.First) path.now (λ found. to_entry_of_object found (λ dir name id. leave_from (state_of caller.now.shared.now) (process_of caller.now) path.now dir id (Refuse errno.ENOTDIR (not (is_dir (object_at (state_of caller.now.shared.now) id).kind)) (Refuse errno.ENOTEMPTY (not (is_empty (state_of caller.now.shared.now) id)) (rest (dir, name))))))) result checks.new }
     ensures there { IfOk result (λ e. IsSome (look (state_of caller.now.shared.now) e.0 e.1)) }
 {
     let (dir, name, object) = entry_to_leave(caller, checks, path)?;
@@ -81,7 +89,7 @@ fn entry_to_unlink(
     checks: &mut Checks,
     path: &Path,
 ) -> Result<(Oid, Name), Stop>
-    ensures step { GoesOn checks.old (λ rest. walk (state_of caller.now.shared.now) caller.now.process.now (place_in argument.First) path.now (λ found. to_entry_of_object found (λ dir name id. leave_from (state_of caller.now.shared.now) caller.now.process.now path.now dir id (Need (unlink_dir (state_of caller.now.shared.now) id (last_place (place_in argument.First) path.now)) (rest (dir, name)))))) result checks.new }
+    ensures step { GoesOn checks.old (λ rest. walk (state_of caller.now.shared.now) (process_of caller.now) (place_in argument.First) path.now (λ found. to_entry_of_object found (λ dir name id. leave_from (state_of caller.now.shared.now) (process_of caller.now) path.now dir id (Need (unlink_dir (state_of caller.now.shared.now) id (last_place (place_in argument.First) path.now)) (rest (dir, name)))))) result checks.new }
     ensures there { IfOk result (λ e. IsSome (look (state_of caller.now.shared.now) e.0 e.1)) }
 {
     let (dir, name, object) = entry_to_leave(caller, checks, path)?;
@@ -95,7 +103,7 @@ fn entry_to_leave(
     checks: &mut Checks,
     path: &Path,
 ) -> Result<(Oid, Name, Metadata), Stop>
-    ensures step { GoesOn checks.old (λ rest. walk (state_of caller.now.shared.now) caller.now.process.now (place_in argument.First) path.now (λ found. to_entry_of_object found (λ dir name id. leave_from (state_of caller.now.shared.now) caller.now.process.now path.now dir id (rest (dir, name, metadata_of (state_of caller.now.shared.now) id))))) result checks.new }
+    ensures step { GoesOn checks.old (λ rest. walk (state_of caller.now.shared.now) (process_of caller.now) (place_in argument.First) path.now (λ found. to_entry_of_object found (λ dir name id. leave_from (state_of caller.now.shared.now) (process_of caller.now) path.now dir id (rest (dir, name, metadata_of (state_of caller.now.shared.now) id))))) result checks.new }
     ensures there { IfOk result (λ e. IsSome (look (state_of caller.now.shared.now) e.0 e.1)) }
     ensures object { IfOk result (λ e. e.2 ≡ metadata_of (state_of caller.now.shared.now) e.2.id) }
 {

@@ -12,7 +12,7 @@ ghost use Rattle.kern_model.specs.declared.numbers.Oid.{Oid as Number};
 ghost use Rattle.chk_rules.specs.CheckLog.{CheckLog};
 ghost use Rattle.chk_rules.specs.Ends.{GoesOn};
 ghost use Rattle.sys_lookup.specs.PlaysRow.{PlaysRow};
-ghost use Rattle.sys_lookup.specs.Shared.{state_of};
+ghost use Rattle.sys_lookup.specs.Shared.{process_of, state_of};
 ghost use Rattle.sys_lookup.specs.Walks.{IsEntry, place_in};
 ghost use Rattle.sys_lookup.specs.declared.argument.PathArgument.TheVariants as argument;
 ghost use Rattle.sys_tree.specs.Targets.{giving, replacing};
@@ -44,8 +44,12 @@ pub fn rename(
     ensures names { are_names to.now ≡ true }
 {
     let _names = to.components();
-    let process = living(&shared.procs, who);
-    let caller = Caller { shared, process };
+    let process = living(shared, who);
+    let caller = Caller {
+        shared,
+        who: *who,
+        process,
+    };
     let (dir, name, id) = entry_to_move(&caller, checks, path)?;
     let (into, new, target) = target_entry(&caller, checks, &id, to)?;
     let place = PathArgument::Second.last_place(to);
@@ -65,7 +69,7 @@ fn entry_to_move(
     checks: &mut Checks,
     path: &Path,
 ) -> Result<(Oid, Name, Oid), Stop>
-    ensures step { GoesOn checks.old (λ rest. walk (state_of caller.now.shared.now) caller.now.process.now (place_in argument.First) path.now (λ found. to_entry_of_object found (λ dir name id. leave_from (state_of caller.now.shared.now) caller.now.process.now path.now dir id (rest (dir, name, id))))) result checks.new }
+    ensures step { GoesOn checks.old (λ rest. walk (state_of caller.now.shared.now) (process_of caller.now) (place_in argument.First) path.now (λ found. to_entry_of_object found (λ dir name id. leave_from (state_of caller.now.shared.now) (process_of caller.now) path.now dir id (rest (dir, name, id))))) result checks.new }
     ensures entry { IfOk result (λ e. IsEntry (state_of caller.now.shared.now) e.0 e.1 (Some e.2)) }
 {
     let (dir, name, id) = caller
@@ -82,7 +86,7 @@ fn target_entry(
     id: &Oid,
     to: &Path,
 ) -> Result<(Oid, Name, Option<Oid>), Stop>
-    ensures step { GoesOn checks.old (λ rest. walk (state_of caller.now.shared.now) caller.now.process.now (place_in argument.Second) to.now (λ found. to_entry found (λ dir name at. write_directory (state_of caller.now.shared.now) caller.now.process.now dir (dir_place (place_in argument.Second) to.now) (held_order (state_of caller.now.shared.now) id.now dir (dir_place (place_in argument.Second) to.now)) (rest (dir, name, at))))) result checks.new }
+    ensures step { GoesOn checks.old (λ rest. walk (state_of caller.now.shared.now) (process_of caller.now) (place_in argument.Second) to.now (λ found. to_entry found (λ dir name at. write_directory (state_of caller.now.shared.now) (process_of caller.now) dir (dir_place (place_in argument.Second) to.now) (held_order (state_of caller.now.shared.now) id.now dir (dir_place (place_in argument.Second) to.now)) (rest (dir, name, at))))) result checks.new }
     ensures entry { IfOk result (λ e. IsEntry (state_of caller.now.shared.now) e.0 e.1 e.2) }
 {
     let (dir, name, target) = caller.walk(checks, PathArgument::Second, to)?.into_entry()?;
@@ -99,7 +103,7 @@ fn give_way(
     target: Option<Oid>,
     place: Place,
 ) -> Result<Way, Stop>
-    ensures { GoesOn checks.old (giving (state_of caller.now.shared.now) caller.now.process.now id.now target place) result checks.new }
+    ensures { GoesOn checks.old (giving (state_of caller.now.shared.now) (process_of caller.now) id.now target place) result checks.new }
 {
     let Some(target) = target else {
         return Ok(Way::Moves);

@@ -1,12 +1,29 @@
-use Rattle.std.proofs.Common.{◌∙◌}
-use Rattle.proc_table.specs.Procs.{starting}
-use Rattle.sys_lookup.specs.Shared.{state_of}
+use Rattle.std.proofs.Common.{◌≡◌, ◌∙◌, ap}
+use Rattle.std.specs.FinMap as map
+use Rattle.kern_model.specs.State.{Process}
+use Rattle.fd_table.specs.Files.{OpenFiles}
+use Rattle.fd_table.specs.Rows.{Fds}
+use Rattle.proc_table.specs.Procs.{next_in, starting}
+use Rattle.sys_lookup.specs.Shared.{state_of, with_fds}
+use Rattle.sys_lookup.proofs.FdLemmas.{no_row, with_fds-process}
 use Rattle.kern_core.proofs.BootLemmas.{process_booted}
 use Rattle.kern_core.proofs.boot.boot_process.Goals as goal
 
 pub returns-in-Ok-clause-state : goal.returns-in-Ok-clause-state
 returns-in-Ok-clause-state c =
-    let s = state_of c.args.shared.now in
+    let h = c.args.shared.now in
+    let s = state_of h in
     let made = c.in-Ok.ensures.made in
-    (λ i. record s { procs = (made i).procs; process_numbers = (made i).numbers })
-    ∙ process_booted s c.args.process.now (starting c.in_ok-creds_from.field-0 c.root_directory.result) (λ i. starting (c.in_ok-creds_from.ensures i) (c.root_directory.ensures i))
+    let p = starting c.in_ok-creds_from.field-0 c.root_directory.result in
+    let who = next_in h.procs p.label in
+    let none = no_row h.fds.rows (ap (λ (t : OpenFiles). t.rows) c.requires.fds) who in
+    (λ i. record s { procs = with_fds (made i).procs h.fds.rows; process_numbers = (made i).numbers })
+    ∙ (λ i. record s {
+      procs = with_fds-process h.procs.procs h.fds.rows who p i;
+      process_numbers = map.insert h.procs.numbers p.label who.n;
+    })
+    ∙ (λ i. record s {
+      procs = map.insert s.procs who (record p { fds = none i });
+      process_numbers = map.insert h.procs.numbers p.label who.n;
+    })
+    ∙ process_booted s c.args.process.now p (λ i. starting (c.in_ok-creds_from.ensures i) (c.root_directory.ensures i))

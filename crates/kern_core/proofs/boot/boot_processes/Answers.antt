@@ -13,6 +13,9 @@ pub boot_process-requires-clause-within : goal.boot_process-requires-clause-with
 boot_process-requires-clause-within c =
     (can_first (state_of c.loop-process.shared) c.args.procs.now c.loop-process.process-index c.process-item.result c.loop-process-test.true c.process-item.is c.loop-process.invariant.can).within.0
 
+pub boot_process-requires-clause-fds : goal.boot_process-requires-clause-fds
+boot_process-requires-clause-fds c = c.loop-process.invariant.fds
+
 pub loop-process-preserved : goal.loop-process-preserved
 loop-process-preserved c =
     let s = state_of c.loop-process.shared in
@@ -26,4 +29,5 @@ loop-process-preserved c =
           ∙ started_step s t procs index c.process-item.result c.loop-process-test.true c.process-item.is c.in_ok-who.ensures.state c.in_ok-who.who c.in_ok-who.ensures.number recs
           ∙ c.loop-process.invariant.recs;
       can = processes_can s t procs index c.process-item.result c.loop-process-test.true c.process-item.is c.in_ok-who.ensures.state c.loop-process.invariant.can;
+      fds = c.boot_process.ensures.fds ∙ c.loop-process.invariant.fds;
     }

@@ -17,7 +17,7 @@ use Rattle.chk_rules.specs.declared.stop.Stop.{Stop}
 use Rattle.sys_lookup.specs.declared.effect.Effect.{Effect}
 use Rattle.sys_lookup.specs.Making.{making}
 use Rattle.sys_lookup.specs.PlaysRow.{PlaysRow}
-use Rattle.sys_lookup.specs.Shared.{state_of}
+use Rattle.sys_lookup.specs.Shared.{holding, state_of}
 use Rattle.sys_lookup.proofs.making.make.Goals as goal
 
 -- the object is made, and a name leads to it
@@ -35,14 +35,14 @@ creating_by s p mode body e = creating s p.label (attr_of p (masked mode p.umask
 pub returns-in_err-dir-clause-played : goal.returns-in_err-dir-clause-played
 returns-in_err-dir-clause-played c = λ p there.
     let s = state_of c.args.shared.now in
-    let q = c.living-process.result.now in
-    caller_plays (λ x. make_row s c.args.who.now x c.args.path.now c.args.mode c.args.body) c.args.who.now q p c.living-process.ensures there
+    let q = holding c.args.shared.now.fds.rows c.args.who.now c.living-process.result.now in
+    caller_plays (λ x. make_row s c.args.who.now x c.args.path.now c.args.mode c.args.body) c.args.who.now q p c.living-process.ensures.found there
     (stops_row {rest = creating_by s q c.args.mode c.args.body} c.from_residual.result c.from_residual.ensures.1 refl c.in_err-dir.ensures.step)
 
 pub returns-in_err-create-clause-played : goal.returns-in_err-create-clause-played
 returns-in_err-create-clause-played c = λ p there.
     let s = state_of c.args.shared.now in
-    let q = c.living-process.result.now in
+    let q = holding c.args.shared.now.fds.rows c.args.who.now c.living-process.result.now in
     let log = c.new_spot.new.checks in
     let body = c.args.body in
     let e : Oid × Name = (c.in_ok-dir.dir, c.in_ok-dir.name) in
@@ -50,7 +50,7 @@ returns-in_err-create-clause-played c = λ p there.
     let label_is : label ≡ q.label = (λ i. (c.process-inside.view_is i).creds.label) ∙ (λ i. (c.process.view_is i).label) in
     let t = state_of c.create.new.shared in
     let r = c.from_residual-in_err-create.result in
-    caller_plays (λ x. make_row s c.args.who.now x c.args.path.now c.args.mode body) c.args.who.now q p c.living-process.ensures there
+    caller_plays (λ x. make_row s c.args.who.now x c.args.path.now c.args.mode body) c.args.who.now q p c.living-process.ensures.found there
     (then_plays {rest = creating_by s q c.args.mode body} c.in_ok-dir.ensures.step
     (subst (λ (l : Label). PlaysRow s log (creating s l (attr_of q (masked c.args.mode q.umask)) body e) r t log) label_is
     (subst (λ (attr : Attr). PlaysRow s log (creating s label attr body e) r t log) c.new_attr-attr.ensures
@@ -59,7 +59,7 @@ returns-in_err-create-clause-played c = λ p there.
 pub returns-clause-played : goal.returns-clause-played
 returns-clause-played c = λ p there.
     let s = state_of c.args.shared.now in
-    let q = c.living-process.result.now in
+    let q = holding c.args.shared.now.fds.rows c.args.who.now c.living-process.result.now in
     let log = c.new_spot.new.checks in
     let body = c.args.body in
     let e : Oid × Name = (c.in_ok-dir.dir, c.in_ok-dir.name) in
@@ -67,7 +67,7 @@ returns-clause-played c = λ p there.
     let label_is : label ≡ q.label = (λ i. (c.process-inside.view_is i).creds.label) ∙ (λ i. (c.process.view_is i).label) in
     let t = state_of c.create.new.shared in
     let r : Result Effect Stop = Ok (record { answer = Nothing; own = None }) in
-    caller_plays (λ x. make_row s c.args.who.now x c.args.path.now c.args.mode body) c.args.who.now q p c.living-process.ensures there
+    caller_plays (λ x. make_row s c.args.who.now x c.args.path.now c.args.mode body) c.args.who.now q p c.living-process.ensures.found there
     (then_plays {rest = creating_by s q c.args.mode body} c.in_ok-dir.ensures.step
     (subst (λ (l : Label). PlaysRow s log (creating s l (attr_of q (masked c.args.mode q.umask)) body e) r t log) label_is
     (subst (λ (attr : Attr). PlaysRow s log (creating s label attr body e) r t log) c.new_attr-attr.ensures

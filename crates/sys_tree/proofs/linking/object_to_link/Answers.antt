@@ -9,7 +9,7 @@ use Rattle.kern_model.specs.Rules.{link_dir, mac_write}
 use Rattle.kern_model.specs.State.{State, Process}
 use Rattle.std.proofs.lemmas.Bool.{not-true}
 use Rattle.chk_rules.proofs.Steps.{then_goes, stops_there, need_goes, need_stops, refuse_goes, refuse_stops, gives, equal_refusal}
-use Rattle.sys_lookup.specs.Shared.{state_of}
+use Rattle.sys_lookup.specs.Shared.{process_of, state_of}
 use Rattle.sys_lookup.proofs.CheckLemmas.{holds_where_passed, not_refused}
 use Rattle.sys_tree.proofs.linking.object_to_link.Goals as goal
 
@@ -19,24 +19,24 @@ linking s p r rest = Need (mac_write s p r.0 r.1) (Need (link_dir s r.0 r.1) (Re
 
 pub returns-in_err-id-clause-step : goal.returns-in_err-id-clause-step
 returns-in_err-id-clause-step c =
-    stops_there {next = linking (state_of c.args.caller.now.shared.now) c.args.caller.now.process.now} c.from_residual.result c.from_residual.ensures.1 c.in_err-id.ensures.step
+    stops_there {next = linking (state_of c.args.caller.now.shared.now) (process_of c.args.caller.now)} c.from_residual.result c.from_residual.ensures.1 c.in_err-id.ensures.step
 
 pub returns-in_err-object-clause-step : goal.returns-in_err-object-clause-step
 returns-in_err-object-clause-step c =
-    then_goes {next = linking (state_of c.args.caller.now.shared.now) c.args.caller.now.process.now} c.in_ok-id.ensures.step
+    then_goes {next = linking (state_of c.args.caller.now.shared.now) (process_of c.args.caller.now)} c.in_ok-id.ensures.step
     (need_stops c.from_residual-in_err-object.result c.from_residual-in_err-object.ensures.1 c.in_err-object.ensures.step)
 
 pub returns-in_err-link_dir-clause-step : goal.returns-in_err-link_dir-clause-step
 returns-in_err-link_dir-clause-step c =
     let s = state_of c.args.caller.now.shared.now in
-    then_goes {next = linking s c.args.caller.now.process.now} c.in_ok-id.ensures.step
+    then_goes {next = linking s (process_of c.args.caller.now)} c.in_ok-id.ensures.step
     (need_goes c.in_ok-object.ensures.step
     (need_stops c.from_residual-in_err-link_dir.result c.from_residual-in_err-link_dir.ensures.1 (c.in_err-link_dir.ensures s c.in_ok-id.id c.in_ok-object.ensures.object)))
 
 pub returns-in_err-refuse_if-clause-step : goal.returns-in_err-refuse_if-clause-step
 returns-in_err-refuse_if-clause-step c =
     let s = state_of c.args.caller.now.shared.now in
-    then_goes {next = linking s c.args.caller.now.process.now} c.in_ok-id.ensures.step
+    then_goes {next = linking s (process_of c.args.caller.now)} c.in_ok-id.ensures.step
     (need_goes c.in_ok-object.ensures.step
     (need_goes (c.in_ok-link_dir.ensures s c.in_ok-id.id c.in_ok-object.ensures.object)
     (refuse_stops c.from_residual-in_err-refuse_if.result c.from_residual-in_err-refuse_if.ensures.1 (equal_refusal (ap (nat_le MAX_LINKS) c.name_count-names.ensures) (c.in_err-refuse_if.ensures c.link_dir.new.checks)))))
@@ -44,7 +44,7 @@ returns-in_err-refuse_if-clause-step c =
 pub returns-clause-step : goal.returns-clause-step
 returns-clause-step c =
     let s = state_of c.args.caller.now.shared.now in
-    then_goes {next = linking s c.args.caller.now.process.now} c.in_ok-id.ensures.step
+    then_goes {next = linking s (process_of c.args.caller.now)} c.in_ok-id.ensures.step
     (need_goes c.in_ok-object.ensures.step
     (need_goes (c.in_ok-link_dir.ensures s c.in_ok-id.id c.in_ok-object.ensures.object)
     (refuse_goes (equal_refusal (ap (nat_le MAX_LINKS) c.name_count-names.ensures) (c.in_ok-refuse_if.ensures c.link_dir.new.checks)) (gives refl))))

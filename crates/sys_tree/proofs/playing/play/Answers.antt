@@ -2,7 +2,7 @@ use Rattle.std.proofs.Common.{refl}
 use Rattle.kern_model.specs.Arguments.{has_names}
 use Rattle.kern_model.specs.State.{Process}
 use Rattle.kern_model.specs.TreeRows.{readdir_row, stat_row}
-use Rattle.sys_lookup.specs.Shared.{state_of}
+use Rattle.sys_lookup.specs.Shared.{holding, state_of}
 use Rattle.sys_lookup.proofs.PlayLemmas.{caller_plays}
 use Rattle.sys_tree.proofs.PlayingLemmas.{plays_as, names_as}
 use Rattle.sys_tree.proofs.playing.play.Goals as goal
@@ -53,7 +53,7 @@ pub returns-in-Readdir-clause-played : goal.returns-in-Readdir-clause-played
 returns-in-Readdir-clause-played c p there =
     let s = state_of c.args.shared.now in
     plays_as s c.args.who.now p c.in-Readdir.is
-    (caller_plays (λ (x : Process). readdir_row s c.args.who.now x c.in-Readdir.path) c.args.who.now c.living-process.result.now p c.living-process.ensures there (c.readdir.ensures c.args.who.now))
+    (caller_plays (λ (x : Process). readdir_row s c.args.who.now x c.in-Readdir.path) c.args.who.now (holding c.args.shared.now.fds.rows c.args.who.now c.living-process.result.now) p c.living-process.ensures.found there (c.readdir.ensures c.args.who.now))
 
 pub returns-in-Readdir-clause-names : goal.returns-in-Readdir-clause-names
 unfolding has_names
@@ -63,7 +63,7 @@ pub returns-in-Stat-clause-played : goal.returns-in-Stat-clause-played
 returns-in-Stat-clause-played c p there =
     let s = state_of c.args.shared.now in
     plays_as s c.args.who.now p c.in-Stat.is
-    (caller_plays (λ (x : Process). stat_row s c.args.who.now x c.in-Stat.path) c.args.who.now c.living-process-in-Stat.result.now p c.living-process-in-Stat.ensures there (c.stat.ensures c.args.who.now))
+    (caller_plays (λ (x : Process). stat_row s c.args.who.now x c.in-Stat.path) c.args.who.now (holding c.args.shared.now.fds.rows c.args.who.now c.living-process-in-Stat.result.now) p c.living-process-in-Stat.ensures.found there (c.stat.ensures c.args.who.now))
 
 pub returns-in-Stat-clause-names : goal.returns-in-Stat-clause-names
 unfolding has_names

@@ -7,7 +7,7 @@ use Rattle.kern_model.specs.State.{State, Process}
 use Rattle.kern_model.specs.TreeRows.{leave_from}
 use Rattle.kern_model.specs.Walk.{Found, to_entry_of_object}
 use Rattle.chk_rules.proofs.Steps.{then_goes, stops_there, item_goes, item_stops, gives}
-use Rattle.sys_lookup.specs.Shared.{state_of}
+use Rattle.sys_lookup.specs.Shared.{process_of, state_of}
 use Rattle.sys_tree.proofs.renaming.entry_to_move.Goals as goal
 
 -- the row after the entry is found
@@ -21,14 +21,14 @@ walked s p path found rest = to_entry_of_object found (λ dir name id. leaving s
 pub returns-in_err-dir-clause-step : goal.returns-in_err-dir-clause-step
 returns-in_err-dir-clause-step c =
     let s = state_of c.args.caller.now.shared.now in
-    let p = c.args.caller.now.process.now in
+    let p = process_of c.args.caller.now in
     then_goes {next = walked s p c.args.path.now} c.in_ok-walk.ensures.step
     (stops_there {next = leaving s p c.args.path.now} c.from_residual-in_err-dir.result c.from_residual-in_err-dir.ensures.1 (c.in_err-dir.ensures.step c.walk.new.checks))
 
 pub returns-in_err-leave_from-clause-step : goal.returns-in_err-leave_from-clause-step
 returns-in_err-leave_from-clause-step c =
     let s = state_of c.args.caller.now.shared.now in
-    let p = c.args.caller.now.process.now in
+    let p = process_of c.args.caller.now in
     then_goes {next = walked s p c.args.path.now} c.in_ok-walk.ensures.step
     (then_goes {next = leaving s p c.args.path.now} (c.in_ok-dir.ensures.step c.walk.new.checks)
     (item_stops (leave_from s p c.args.path.now c.in_ok-dir.dir c.in_ok-dir.id) c.from_residual-in_err-leave_from.result c.from_residual-in_err-leave_from.ensures.1 c.in_err-leave_from.ensures.step))
@@ -36,7 +36,7 @@ returns-in_err-leave_from-clause-step c =
 pub returns-clause-step : goal.returns-clause-step
 returns-clause-step c =
     let s = state_of c.args.caller.now.shared.now in
-    let p = c.args.caller.now.process.now in
+    let p = process_of c.args.caller.now in
     then_goes {next = walked s p c.args.path.now} c.in_ok-walk.ensures.step
     (then_goes {next = leaving s p c.args.path.now} (c.in_ok-dir.ensures.step c.walk.new.checks)
     (item_goes (leave_from s p c.args.path.now c.in_ok-dir.dir c.in_ok-dir.id) c.in_ok-leave_from.ensures.step (gives refl)))

@@ -11,7 +11,7 @@ use Rattle.kern_model.specs.State.{State, Process}
 use Rattle.kern_model.specs.TreeRows.{give_way, move_row, rename_row}
 use Rattle.kern_model.specs.Walk.{dir_place, last_place, to_entry, walk}
 use Rattle.sys_lookup.proofs.PlayLemmas.{caller_plays, then_plays, stops_row, commits}
-use Rattle.sys_lookup.specs.Shared.{state_of}
+use Rattle.sys_lookup.specs.Shared.{holding, state_of}
 use Rattle.sys_tree.proofs.EntryLemmas.{way_plays, way_stops}
 use Rattle.sys_tree.proofs.renaming.rename.Goals as goal
 
@@ -29,25 +29,25 @@ targeting s p to e =
 pub returns-in_err-dir-clause-played : goal.returns-in_err-dir-clause-played
 returns-in_err-dir-clause-played c = λ p there.
     let s = state_of c.args.shared.now in
-    let q = c.living-process.result.now in
-    caller_plays (λ x. rename_row s c.args.who.now x c.args.path.now c.args.to.now) c.args.who.now q p c.living-process.ensures there
+    let q = holding c.args.shared.now.fds.rows c.args.who.now c.living-process.result.now in
+    caller_plays (λ x. rename_row s c.args.who.now x c.args.path.now c.args.to.now) c.args.who.now q p c.living-process.ensures.found there
     (stops_row {rest = targeting s q c.args.to.now} c.from_residual.result c.from_residual.ensures.1 refl c.in_err-dir.ensures.step)
 
 pub returns-in_err-into-clause-played : goal.returns-in_err-into-clause-played
 returns-in_err-into-clause-played c = λ p there.
     let s = state_of c.args.shared.now in
-    let q = c.living-process.result.now in
+    let q = holding c.args.shared.now.fds.rows c.args.who.now c.living-process.result.now in
     let e : Oid × Name × Oid = (c.in_ok-dir.dir, c.in_ok-dir.name, c.in_ok-dir.id) in
-    caller_plays (λ x. rename_row s c.args.who.now x c.args.path.now c.args.to.now) c.args.who.now q p c.living-process.ensures there
+    caller_plays (λ x. rename_row s c.args.who.now x c.args.path.now c.args.to.now) c.args.who.now q p c.living-process.ensures.found there
     (then_plays {rest = targeting s q c.args.to.now} c.in_ok-dir.ensures.step
     (stops_row {rest = moving s q c.args.to.now e} c.from_residual-in_err-into.result c.from_residual-in_err-into.ensures.1 refl c.in_err-into.ensures.step))
 
 pub returns-in_err-way-clause-played : goal.returns-in_err-way-clause-played
 returns-in_err-way-clause-played c = λ p there.
     let s = state_of c.args.shared.now in
-    let q = c.living-process.result.now in
+    let q = holding c.args.shared.now.fds.rows c.args.who.now c.living-process.result.now in
     let e : Oid × Name × Oid = (c.in_ok-dir.dir, c.in_ok-dir.name, c.in_ok-dir.id) in
-    caller_plays (λ x. rename_row s c.args.who.now x c.args.path.now c.args.to.now) c.args.who.now q p c.living-process.ensures there
+    caller_plays (λ x. rename_row s c.args.who.now x c.args.path.now c.args.to.now) c.args.who.now q p c.living-process.ensures.found there
     (then_plays {rest = targeting s q c.args.to.now} c.in_ok-dir.ensures.step
     (then_plays {rest = moving s q c.args.to.now e} c.in_ok-into.ensures.step
     (way_stops s q e.2 c.in_ok-into.target (move_row s e.0 e.1 e.2 c.in_ok-into.into c.in_ok-into.new) c.last_place-place.ensures c.from_residual-in_err-way.result c.from_residual-in_err-way.ensures.1 refl c.in_err-way.ensures)))
@@ -55,9 +55,9 @@ returns-in_err-way-clause-played c = λ p there.
 pub returns-in-Stays-clause-played : goal.returns-in-Stays-clause-played
 returns-in-Stays-clause-played c = λ p there.
     let s = state_of c.args.shared.now in
-    let q = c.living-process.result.now in
+    let q = holding c.args.shared.now.fds.rows c.args.who.now c.living-process.result.now in
     let e : Oid × Name × Oid = (c.in_ok-dir.dir, c.in_ok-dir.name, c.in_ok-dir.id) in
-    caller_plays (λ x. rename_row s c.args.who.now x c.args.path.now c.args.to.now) c.args.who.now q p c.living-process.ensures there
+    caller_plays (λ x. rename_row s c.args.who.now x c.args.path.now c.args.to.now) c.args.who.now q p c.living-process.ensures.found there
     (then_plays {rest = targeting s q c.args.to.now} c.in_ok-dir.ensures.step
     (then_plays {rest = moving s q c.args.to.now e} c.in_ok-into.ensures.step
     (way_plays s q e.2 c.in_ok-into.target (move_row s e.0 e.1 e.2 c.in_ok-into.into c.in_ok-into.new) c.last_place-place.ensures c.in_ok-way.ensures c.in-Stays.is (commits s s c.give_way.new.checks [] Nothing None refl))))
@@ -65,9 +65,9 @@ returns-in-Stays-clause-played c = λ p there.
 pub returns-clause-played : goal.returns-clause-played
 returns-clause-played c = λ p there.
     let s = state_of c.args.shared.now in
-    let q = c.living-process.result.now in
+    let q = holding c.args.shared.now.fds.rows c.args.who.now c.living-process.result.now in
     let e : Oid × Name × Oid = (c.in_ok-dir.dir, c.in_ok-dir.name, c.in_ok-dir.id) in
-    caller_plays (λ x. rename_row s c.args.who.now x c.args.path.now c.args.to.now) c.args.who.now q p c.living-process.ensures there
+    caller_plays (λ x. rename_row s c.args.who.now x c.args.path.now c.args.to.now) c.args.who.now q p c.living-process.ensures.found there
     (then_plays {rest = targeting s q c.args.to.now} c.in_ok-dir.ensures.step
     (then_plays {rest = moving s q c.args.to.now e} c.in_ok-into.ensures.step
     (way_plays s q e.2 c.in_ok-into.target (move_row s e.0 e.1 e.2 c.in_ok-into.into c.in_ok-into.new) c.last_place-place.ensures c.in_ok-way.ensures c.in-Moves.is (c.move_entry.ensures c.in_ok-dir.id c.give_way.new.checks c.in_ok-dir.ensures.entry.leads))))

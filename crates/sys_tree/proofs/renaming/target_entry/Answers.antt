@@ -9,7 +9,7 @@ use Rattle.kern_model.specs.Rules.{held_order}
 use Rattle.kern_model.specs.State.{State, Process}
 use Rattle.kern_model.specs.Walk.{Found, dir_place, to_entry}
 use Rattle.chk_rules.proofs.Steps.{then_goes, stops_there, item_goes, item_stops, gives}
-use Rattle.sys_lookup.specs.Shared.{state_of}
+use Rattle.sys_lookup.specs.Shared.{process_of, state_of}
 use Rattle.sys_tree.proofs.EntryLemmas.{equal_directory}
 use Rattle.sys_tree.proofs.renaming.target_entry.Goals as goal
 
@@ -28,14 +28,14 @@ walked s p id to found rest = to_entry found (λ dir name at. entering s p id to
 pub returns-in_err-dir-clause-step : goal.returns-in_err-dir-clause-step
 returns-in_err-dir-clause-step c =
     let s = state_of c.args.caller.now.shared.now in
-    let p = c.args.caller.now.process.now in
+    let p = process_of c.args.caller.now in
     then_goes {next = walked s p c.args.id.now c.args.to.now} c.in_ok-walk.ensures.step
     (stops_there {next = entering s p c.args.id.now c.args.to.now} c.from_residual-in_err-dir.result c.from_residual-in_err-dir.ensures.1 (c.in_err-dir.ensures.step c.walk.new.checks))
 
 pub returns-in_err-write_directory-clause-step : goal.returns-in_err-write_directory-clause-step
 returns-in_err-write_directory-clause-step c =
     let s = state_of c.args.caller.now.shared.now in
-    let p = c.args.caller.now.process.now in
+    let p = process_of c.args.caller.now in
     then_goes {next = walked s p c.args.id.now c.args.to.now} c.in_ok-walk.ensures.step
     (then_goes {next = entering s p c.args.id.now c.args.to.now} (c.in_ok-dir.ensures.step c.walk.new.checks)
     (item_stops (holding s p c.args.id.now c.args.to.now c.in_ok-dir.dir) c.from_residual-in_err-write_directory.result c.from_residual-in_err-write_directory.ensures.1
@@ -44,7 +44,7 @@ returns-in_err-write_directory-clause-step c =
 pub returns-clause-step : goal.returns-clause-step
 returns-clause-step c =
     let s = state_of c.args.caller.now.shared.now in
-    let p = c.args.caller.now.process.now in
+    let p = process_of c.args.caller.now in
     then_goes {next = walked s p c.args.id.now c.args.to.now} c.in_ok-walk.ensures.step
     (then_goes {next = entering s p c.args.id.now c.args.to.now} (c.in_ok-dir.ensures.step c.walk.new.checks)
     (item_goes (holding s p c.args.id.now c.args.to.now c.in_ok-dir.dir)
