@@ -11,4 +11,4 @@ mod uses;
 
 pub use kern_model::NoMemory;
 pub use shared::How;
-pub use table::FdError;
+pub use table::{FdError, FdTable};

@@ -1,0 +1,34 @@
+use Rattle.std.specs.Prelude.{◌≡◌, ◌==◌, ◌+◌, ◌-◌, Option, Some, None, cond, refl}
+use Rattle.std.specs.FinMap as map
+use Rattle.std.specs.FinMap.{FinMap}
+use Rattle.std.proofs.Common.{ap, sym, ◌∙◌, subst, ℕ, arith}
+use Rattle.kern_model.specs.declared.numbers.Oid.{Oid}
+use Rattle.kern_model.specs.Keys.{did_cmp, oid_cmp}
+use Rattle.kern_model.specs.Maps.{get_or}
+use Rattle.fd_table.specs.declared.shared.Shared.{Shared}
+use Rattle.fd_table.specs.Descriptions.{AreCounted, SharedTable, made_for, uses_of}
+use Rattle.kern_model.proofs.KeyLaws.{did_cmp_total, did_cmp_exact}
+use Rattle.kern_model.proofs.MapLemmas.{remove-insert}
+use Rattle.fd_table.proofs.UseLemmas.{counted-insert}
+use Rattle.fd_table.proofs.descriptions.Descriptions.insert.Goals as goal
+
+pub invariant_of-self-in-Err : goal.invariant_of-self-in-Err
+invariant_of-self-in-Err c =
+    let shared = c.self.inside.shared in
+    let none : map.get shared c.args.did.now ≡ None = ap (λ (m : SharedTable). map.get m c.args.did.now) c.self.view_is ∙ c.requires in
+    let same : c.remove.new.self ≡ shared =
+    c.remove.ensures ∙ ap (λ (m : SharedTable). map.remove m c.args.did.now) c.in_ok-set.ensures.ok ∙ remove-insert did_cmp_total did_cmp_exact shared c.args.did.now (made_for c.args.object c.args.how) none in
+    subst (λ (m : SharedTable). AreCounted m c.add_one.new.self) (sym same) (subst (λ (m : FinMap oid_cmp ℕ). AreCounted shared m) (sym c.in-Err.ensures.err) c.self.invariant)
+
+pub returns-in-Err-clause-err : goal.returns-in-Err-clause-err
+returns-in-Err-clause-err c =
+    let shared = c.self.inside.shared in
+    let none : map.get shared c.args.did.now ≡ None = ap (λ (m : SharedTable). map.get m c.args.did.now) c.self.view_is ∙ c.requires in
+    c.remove.ensures ∙ ap (λ (m : SharedTable). map.remove m c.args.did.now) c.in_ok-set.ensures.ok ∙ remove-insert did_cmp_total did_cmp_exact shared c.args.did.now (made_for c.args.object c.args.how) none ∙ c.self.view_is
+
+pub invariant_of-self-in_default : goal.invariant_of-self-in_default
+invariant_of-self-in_default c =
+    let shared = c.self.inside.shared in
+    let none : map.get shared c.args.did.now ≡ None = ap (λ (m : SharedTable). map.get m c.args.did.now) c.self.view_is ∙ c.requires in
+    subst (λ (m : SharedTable). AreCounted m c.add_one.new.self) (sym c.in_ok-set.ensures.ok)
+    (counted-insert shared c.self.inside.uses c.self.invariant c.args.did.now (made_for c.args.object c.args.how) none c.add_one.new.self c.in_default.ensures.ok)

@@ -1,0 +1,18 @@
+use Rattle.std.specs.Prelude.{◌≡◌, ◌==◌, ◌+◌, ◌-◌, Option, Some, None, cond, refl}
+use Rattle.std.specs.FinMap as map
+use Rattle.std.specs.FinMap.{FinMap}
+use Rattle.std.proofs.Common.{ap, sym, ◌∙◌, subst, ℕ, arith}
+use Rattle.kern_model.specs.declared.numbers.Oid.{Oid}
+use Rattle.kern_model.specs.Keys.{did_cmp, oid_cmp}
+use Rattle.kern_model.specs.Maps.{get_or}
+use Rattle.fd_table.specs.declared.shared.Shared.{Shared}
+use Rattle.fd_table.specs.Descriptions.{AreCounted, SharedTable, made_for, uses_of}
+use Rattle.std.specs.FinMap.{get-empty}
+use Rattle.kern_model.proofs.MapLemmas.{get_or-absent}
+use Rattle.fd_table.proofs.UseLemmas.{none_used}
+use Rattle.fd_table.proofs.descriptions.Descriptions.new.Goals as goal
+
+pub invariant_of-result : goal.invariant_of-result
+invariant_of-result c = λ id.
+    ap (λ (m : FinMap oid_cmp ℕ). get_or m id 0) c.new-2.ensures ∙ get_or-absent map.empty id 0 (get-empty oid_cmp id)
+    ∙ sym (ap (λ (m : SharedTable). uses_of m id) c.new.ensures ∙ none_used id)
