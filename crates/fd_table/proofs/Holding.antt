@@ -103,7 +103,7 @@ few_sorted a (e ∷ es) h few all =
           | true ↦ λ t. subst (λ j. j < 32) (sym (same_key nat_cmp-IsAntisymmetric q e.0 t)) high
           | false ↦ λ t. (all q y (ap (λ b. cond b (Some e.1) (find nat_cmp q es)) t ∙ f)).1
         ] refl) in
-    let rest = few_sorted (e.0 + 1) es (tail_T _ _ h) (omega (arith, high)) later in
+    let rest : length es + (e.0 + 1) ≤ 32 = few_sorted (e.0 + 1) es (tail_T _ _ h) (omega (arith, high)) later in
     omega (arith, rest, low)
 
 pub row_few : (fds : Fds) → ((fd : ℕ) (did : Did) → map.get fds fd ≡ Some did → fd < MAX_DESCRIPTORS) → fd_count fds ≤ 32

@@ -77,8 +77,8 @@ description_is shared did s d is at = some_same (description_of s) d (sym (get-d
 same_tests : (b c : Bool) → (b ≡ false → c ≡ false) → (c ≡ false → b ≡ false) → b ≡ c
 same_tests true true f g = refl
 same_tests false false f g = refl
-same_tests true false f g = sym (g refl)
-same_tests false true f g = f refl
+same_tests true false f g = g refl
+same_tests false true f g = sym (f refl)
 
 module _ {K X : Type 0} {R : K → K → Ordering} (o : IsTotalOrder R) (exact : IsAntisymmetric R) (p : K → X → Bool) where
   none_found : (es : List (K × X)) → list_any (λ (e : K × X). p e.0 e.1) es ≡ false → (k : K) (x : X) → find R k es ≡ Some x → p k x ≡ false

@@ -1,5 +1,5 @@
 // The descriptors of all processes, and the open descriptions.
-ghost use Rattle.std.specs.Prelude.{◌≡◌, ◌+◌, ◌<◌, ◌≤◌, ℕ, true, false, None, Some, Err, IfErr, IfOk, IsOk, IsSome, Ok, OnErr, OnOk, option_map, unsigned_abs};
+ghost use Rattle.std.specs.Prelude.{◌≡◌, ◌+◌, ◌<◌, ◌≤◌, ℕ, true, false, None, Some, Err, IfErr, IfOk, IsOk, IsSome, Ok, OnErr, OnOk, cond, option_map, unsigned_abs};
 ghost use Rattle.std.specs.FinMap as map;
 ghost use Rattle.kern_model.specs.Descriptors.{lowest_free};
 ghost use Rattle.kern_model.specs.State.{Description, drawn};
@@ -68,6 +68,16 @@ impl Model for FdTable {
     ghost view = { λ t. record { rows = t.rows; descriptions = descriptions_of t.descriptions; numbers = t.numbers } };
 
     ghost invariant = { λ t. AreHeld t.rows t.descriptions t.numbers };
+}
+
+// An offset as a number of bytes, where it is within so many.
+fn offset_within(to: i64, size: u32) -> Option<u32>
+    ensures { result ≡ cond (is_past to size) None (Some (unsigned_abs to)) }
+{
+    if to < 0 || to > i64::from(size) {
+        return None;
+    }
+    Some(to as u32)
 }
 
 impl FdTable {
@@ -262,10 +272,7 @@ impl FdTable {
         ensures err { OnErr result (self.new ≡ self.old) }
     {
         let did = self.did(who, fd).ok_or(FdError::NotOpen)?;
-        if to < 0 || to > i64::from(size) {
-            return Err(FdError::PastEnd);
-        }
-        let offset = to as u32;
+        let offset = offset_within(to, size).ok_or(FdError::PastEnd)?;
         self.descriptions.set_offset(&did, offset);
         Ok(offset)
     }
