@@ -1,26 +1,26 @@
 -- The descriptions that are left where descriptors close, and the FIFOs that lose their last one.
-use Rattle.std.specs.Prelude.{◌≡◌, ◌==◌, ◌||◌, ◌&&◌, not, ℕ, ◌+◌, ◌-◌, ◌≤◌, nat_le, Bool, true, false, List, [], ◌∷◌, Option, Some, None, cond, refl}
-use Rattle.std.specs.Ordering.{nat_cmp, eq_by_cmp, is_eq}
+use Rattle.std.specs.Prelude.{◌≡◌, ◌==◌, ◌||◌, ◌&&◌, not, ℕ, ◌-◌, nat_le, Bool, true, false, List, [], ◌∷◌, Option, Some, None, cond, refl}
+use Rattle.std.specs.Ordering.{eq_by_cmp}
 use Rattle.std.specs.Option.{option_and_then, option_map}
 use Rattle.std.specs.List.{AllByRecursion, list_any}
 use Rattle.std.specs.declared.cmp.Ordering.{Ordering}
 use Rattle.std.specs.Cmp.{IsTotalOrder, eq_by_cmp_equiv}
 use Rattle.std.specs.FinMap as map
-use Rattle.std.specs.FinMap.{FinMap, IsAntisymmetric, find, get-entries, get-empty, get-insert, get-remove, same_map}
-use Rattle.std.proofs.Common.{ap, sym, ◌∙◌, subst, arith}
+use Rattle.std.specs.FinMap.{FinMap, IsAntisymmetric, find, get-entries, get-empty, get-insert, same_map}
+use Rattle.std.proofs.Common.{ap, sym, ◌∙◌, arith}
 use Rattle.std.proofs.lemmas.Bool.{true≢false}
 use Rattle.std.proofs.lemmas.Bool.Decides.{nat_tests}
 use Rattle.kern_model.specs.declared.numbers.Did.{Did}
 use Rattle.kern_model.specs.declared.numbers.Oid.{Oid}
 use Rattle.kern_model.specs.declared.numbers.Pid.{Pid}
 use Rattle.kern_model.specs.declared.objects.Object.{Object}
-use Rattle.kern_model.specs.Keys.{did_cmp, oid_cmp, pid_cmp, same_did, same_oid}
+use Rattle.kern_model.specs.Keys.{did_cmp, oid_cmp, same_did, same_oid}
 use Rattle.kern_model.specs.Kinds.{is_fifo}
 use Rattle.kern_model.specs.Maps.{any_entry, count_entries, select, where_key}
 use Rattle.kern_model.specs.State.{Description}
 use Rattle.kern_model.specs.Valid.{IsThere}
 use Rattle.kern_model.proofs.KeyLaws.{did_cmp_total, did_cmp_exact, oid_cmp_total, oid_cmp_exact}
-use Rattle.kern_model.proofs.MapLemmas.{each-entries, get-select, get-select_dropped, get-select_kept, select-insert_kept, select-remove_kept, same_key, some_same, never_some}
+use Rattle.kern_model.proofs.MapLemmas.{each-entries, get-select, get-select_dropped, get-select_kept, select-insert_kept, same_key, some_same, never_some}
 use Rattle.fd_table.specs.declared.shared.Shared.{Shared}
 use Rattle.fd_table.specs.Descriptions.{SharedTable, description_of, descriptions_of, holders_kept, uses_of, with_one_less}
 use Rattle.fd_table.specs.Files.{AreHeld, drained, emptied_if, is_held, is_open, is_unused}
@@ -118,10 +118,10 @@ of_object id did d = same_oid d.object id
 open_alike : (shared : SharedTable) (id : Oid) → any_entry (on_object id) shared ≡ is_open (descriptions_of shared) id
 open_alike shared id = same_tests (any_entry (on_object id) shared) (is_open (descriptions_of shared) id)
     (λ no. none_pass did_cmp_total did_cmp_exact (of_object id) (descriptions_of shared) (λ k d e.
-        elim (map.get shared k) as (λ w. map.get shared k ≡ w → option_map description_of w ≡ Some d → same_oid d.object id ≡ false) [
-          | None ↦ λ _ f. absurd (never_some None d refl f)
-          | Some s ↦ λ is f. ap (λ (x : Description). same_oid x.object id) (sym (some_same (description_of s) d f)) ∙ none_passes did_cmp_total did_cmp_exact (on_object id) shared no k s is
-        ] refl (sym (get-descriptions shared k) ∙ e)))
+    elim (map.get shared k) as (λ w. map.get shared k ≡ w → option_map description_of w ≡ Some d → same_oid d.object id ≡ false) [
+      | None ↦ λ _ f. absurd (never_some None d refl f)
+      | Some s ↦ λ is f. ap (λ (x : Description). same_oid x.object id) (sym (some_same (description_of s) d f)) ∙ none_passes did_cmp_total did_cmp_exact (on_object id) shared no k s is
+    ] refl (sym (get-descriptions shared k) ∙ e)))
     (λ no. none_pass did_cmp_total did_cmp_exact (on_object id) shared (λ k s e. none_passes did_cmp_total did_cmp_exact (of_object id) (descriptions_of shared) no k (description_of s) (get-descriptions shared k ∙ ap (option_map description_of) e)))
 
 -- an object has a description where their number is not 0
@@ -243,6 +243,7 @@ module _ (shared : SharedTable) (did : Did) (s : Shared) (is : map.get shared di
       twice : (b : Bool) → not (not b) ≡ b
       twice true = refl
       twice false = refl
+
       never : (b : Bool) → (not b && not (not b)) ≡ false
       never true = refl
       never false = refl

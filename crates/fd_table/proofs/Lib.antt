@@ -1,4 +1,5 @@
 pub mod Counting
+pub mod Dropping
 pub mod Holding
 pub mod Leaving
 pub mod Looking

@@ -1,18 +1,20 @@
 -- The descriptors that are copied or closed so far, one after another.
-use Rattle.std.specs.Prelude.{◌≡◌, ◌==◌, ◌&&◌, ◌||◌, not, ℕ, ◌+◌, ◌<◌, ◌≤◌, nat_le, nat_lt, Bool, true, false, Option, Some, None, cond, refl}
-use Rattle.std.specs.Ordering.{nat_cmp, eq_by_cmp, is_eq}
+use Rattle.std.specs.Prelude.{◌≡◌, ◌==◌, ℕ, ◌+◌, ◌<◌, nat_le, nat_lt, Bool, true, false, Option, Some, None, cond, refl}
+use Rattle.std.specs.Ordering.{nat_cmp, eq_by_cmp}
 use Rattle.std.specs.declared.cmp.Ordering.{Ordering}
-use Rattle.std.specs.declared.cmp.Ordering.TheVariants.{Equal}
 use Rattle.std.specs.Cmp.{IsTotalOrder, nat_cmp_total, unsigned_tied}
 use Rattle.std.specs.FinMap as map
 use Rattle.std.specs.FinMap.{FinMap, IsAntisymmetric, get-empty, get-insert, get-remove, get-retain_keys, nat_cmp-IsAntisymmetric, same_map}
-use Rattle.std.proofs.Common.{ap, sym, ◌∙◌, subst, arith}
-use Rattle.std.proofs.lemmas.Bool.{true≢false}
+use Rattle.std.proofs.Common.{ap, sym, ◌∙◌, arith}
 use Rattle.std.proofs.lemmas.Bool.Decides.{nat_tests}
 use Rattle.kern_model.specs.declared.limits.TheConstants.{MAX_DESCRIPTORS}
 use Rattle.kern_model.specs.declared.numbers.Did.{Did}
-use Rattle.kern_model.proofs.MapLemmas.{never_some, same_key}
-use Rattle.fd_table.specs.Rows.{Fds}
+use Rattle.kern_model.proofs.MapLemmas.{get-insert_kept, get-insert_same, get_or-found, get_or-same, same_key}
+use Rattle.kern_model.specs.declared.numbers.Pid.{Pid}
+use Rattle.kern_model.specs.Valid.{IsThere}
+use Rattle.kern_model.proofs.KeyLaws.{pid_cmp_total, pid_cmp_exact}
+use Rattle.fd_table.specs.Files.{OpenFiles, with_row}
+use Rattle.fd_table.specs.Rows.{AllFds, Fds, row_of}
 use Rattle.fd_table.proofs.Sums.{remove_absent}
 
 -- the descriptors below n
@@ -125,3 +127,20 @@ set_twice {R = R} o exact m k x y = same_map o exact _ _ (λ q.
     get-insert o (map.insert m k x) k y q ∙ ap (cond (eq_by_cmp R q k) (Some y)) (get-insert o m k x q)
     ∙ elim (eq_by_cmp R q k) as (λ b. cond b (Some y) (cond b (Some x) (map.get m q)) ≡ cond b (Some y) (map.get m q)) [ true ↦ refl | false ↦ refl ]
     ∙ sym (get-insert o m k y q))
+
+-- ---- rows
+module _ (rows : AllFds) (who : Pid) (fds : Fds) where
+  pub row_set : row_of (map.insert rows who fds) who ≡ fds
+  row_set = get_or-found (map.insert rows who fds) who map.empty fds (get-insert_same pid_cmp_total rows who fds)
+
+  -- another process keeps its row
+  pub row_other : map.get rows who ≡ None → (q : Pid) → IsThere rows q → row_of (map.insert rows who fds) q ≡ row_of rows q
+  row_other none q there = get_or-same (map.insert rows who fds) rows q map.empty (get-insert_kept pid_cmp_total pid_cmp_exact rows who fds none q there.value there.is ∙ sym there.is)
+
+-- one descriptor more is copied
+pub copied : (t0 t : OpenFiles) (to : Pid) (fds : Fds) (n : ℕ) (did : Did) → t ≡ with_row t0 to (below n fds) → map.get fds n ≡ Some did → with_row t to (map.insert (row_of t.rows to) n did) ≡ with_row t0 to (below (n + 1) fds)
+copied t0 t to fds n did is at =
+    ap (λ (t : OpenFiles). with_row t to (map.insert (row_of t.rows to) n did)) is
+    ∙ ap (λ (fs : Fds). with_row (with_row t0 to (below n fds)) to (map.insert fs n did)) (row_set t0.rows to (below n fds))
+    ∙ ap (λ (fs : Fds). with_row (with_row t0 to (below n fds)) to fs) (below-next fds n did at)
+    ∙ ap (λ (m : AllFds). record t0 { rows = m }) (set_twice pid_cmp_total pid_cmp_exact t0.rows to (below n fds) (below (n + 1) fds))

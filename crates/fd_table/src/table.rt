@@ -215,12 +215,7 @@ impl FdTable {
     /// # Errors
     ///
     /// `NotOpen` where the descriptor is not open.
-    pub fn close<B: Buffers>(
-        &mut self,
-        who: &Pid,
-        fd: Fd,
-        buffers: &mut B,
-    ) -> Result<(), FdError>
+    pub fn close<B: Buffers>(&mut self, who: &Pid, fd: Fd, buffers: &mut B) -> Result<(), FdError>
         requires { IsThere self.old.rows who.now }
         ensures not_open { did_at self.old who.now fd ≡ None → result ≡ Err FdError.NotOpen }
         ensures open { IsSome (did_at self.old who.now fd) → IsOk result }

@@ -1,21 +1,10 @@
-use Rattle.std.specs.Prelude.{◌≡◌, ◌==◌, ◌+◌, ◌-◌, ◌<◌, Option, Some, None, cond, refl}
+use Rattle.std.specs.Prelude.{◌≡◌, ◌==◌, Some, None, cond}
 use Rattle.std.specs.FinMap as map
-use Rattle.std.specs.FinMap.{FinMap}
-use Rattle.std.specs.Option.{option_and_then, option_map}
-use Rattle.std.proofs.Common.{ap, sym, ◌∙◌, subst, ℕ, arith}
-use Rattle.lab_lattice.specs.Label.{label_cmp}
-use Rattle.kern_model.specs.declared.numbers.Did.{Did}
-use Rattle.kern_model.specs.declared.numbers.Oid.{Oid}
-use Rattle.kern_model.specs.declared.numbers.Pid.{Pid}
-use Rattle.kern_model.specs.Keys.{did_cmp, oid_cmp, pid_cmp}
-use Rattle.kern_model.specs.Maps.{get_or}
-use Rattle.kern_model.specs.State.{Description}
+use Rattle.std.proofs.Common.{ap, sym, ◌∙◌, subst}
 use Rattle.kern_model.specs.Valid.{IsThere}
-use Rattle.fd_table.specs.declared.shared.Shared.{Shared}
-use Rattle.fd_table.specs.Descriptions.{SharedTable, description_of, descriptions_of, made_for}
-use Rattle.fd_table.specs.Files.{AreHeld, OpenFiles, did_at, with_row}
-use Rattle.fd_table.specs.Rows.{AllFds, Fds, row_of}
-use Rattle.kern_model.specs.declared.objects.Object.{Object}
+use Rattle.fd_table.specs.Descriptions.{SharedTable, descriptions_of}
+use Rattle.fd_table.specs.Files.{AreHeld, OpenFiles, did_at}
+use Rattle.fd_table.specs.Rows.{AllFds, row_of}
 use Rattle.fd_table.specs.Descriptions.{uses_of, with_one_less}
 use Rattle.fd_table.specs.Files.{drained, is_held, left_with}
 use Rattle.fd_table.specs.Fifo.{without_bytes}
@@ -60,7 +49,7 @@ returns-clause-left g c =
     let descriptions : descriptions_of c.release-unused.new.self ≡ select (where_key (is_held rows') (λ d. d)) (descriptions_of shared) =
     ap descriptions_of (c.release-unused.ensures.left there.value there.is) ∙ left_held rows' shared less c.self.inside.numbers are (less_same shared did there.value there.is) in
     let all : ◌≡◌ {A = OpenFiles} (record { rows = c.free.new.self; descriptions = descriptions_of c.release-unused.new.self; numbers = c.self.inside.numbers })
-        (left_with (record { rows = rows; descriptions = descriptions_of shared; numbers = c.self.inside.numbers }) rows') = (λ i. record { rows = c.free.ensures i; descriptions = descriptions i; numbers = c.self.inside.numbers }) in
+    (left_with (record { rows = rows; descriptions = descriptions_of shared; numbers = c.self.inside.numbers }) rows') = (λ i. record { rows = c.free.ensures i; descriptions = descriptions i; numbers = c.self.inside.numbers }) in
     all ∙ ap (λ (t : OpenFiles). left_with t (map.insert t.rows who (map.remove (row_of t.rows who) c.args.fd))) c.self.view_is
 
 pub returns-clause-drained : goal.returns-clause-drained

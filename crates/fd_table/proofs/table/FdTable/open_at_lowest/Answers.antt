@@ -1,24 +1,15 @@
-use Rattle.std.specs.Prelude.{◌≡◌, ◌==◌, ◌+◌, ◌-◌, ◌<◌, Option, Some, None, cond, refl}
+use Rattle.std.specs.Prelude.{◌≡◌, ◌+◌, Some, refl}
 use Rattle.std.specs.FinMap as map
 use Rattle.std.specs.FinMap.{FinMap}
-use Rattle.std.specs.Option.{option_and_then, option_map}
-use Rattle.std.proofs.Common.{ap, sym, ◌∙◌, subst, ℕ, arith}
+use Rattle.std.proofs.Common.{ap, sym, ◌∙◌, subst, ℕ}
 use Rattle.lab_lattice.specs.Label.{label_cmp}
 use Rattle.kern_model.specs.declared.numbers.Did.{Did}
-use Rattle.kern_model.specs.declared.numbers.Oid.{Oid}
-use Rattle.kern_model.specs.declared.numbers.Pid.{Pid}
-use Rattle.kern_model.specs.Keys.{did_cmp, oid_cmp, pid_cmp}
-use Rattle.kern_model.specs.Maps.{get_or}
-use Rattle.kern_model.specs.State.{Description}
 use Rattle.kern_model.specs.Valid.{IsThere}
-use Rattle.fd_table.specs.declared.shared.Shared.{Shared}
-use Rattle.fd_table.specs.Descriptions.{SharedTable, description_of, descriptions_of, made_for}
-use Rattle.fd_table.specs.Files.{AreHeld, OpenFiles, did_at, with_row}
-use Rattle.fd_table.specs.Rows.{AllFds, Fds, row_of}
-use Rattle.lab_lattice.specs.Label.{Label}
+use Rattle.fd_table.specs.Descriptions.{SharedTable, descriptions_of, made_for}
+use Rattle.fd_table.specs.Files.{AreHeld, OpenFiles}
+use Rattle.fd_table.specs.Rows.{AllFds, row_of}
 use Rattle.kern_model.proofs.KeyLaws.{did_cmp_total, did_cmp_exact}
 use Rattle.kern_model.proofs.MapLemmas.{get-insert_same, remove-insert}
-use Rattle.kern_model.specs.Descriptors.{lowest_free}
 use Rattle.kern_model.specs.State.{drawn}
 use Rattle.fd_table.specs.Files.{next_in, opened_for, with_opened}
 use Rattle.fd_table.proofs.Holding.{fresh, held-new, row_is}
@@ -87,7 +78,7 @@ returns-clause-opened c =
     let next : did ≡ first = c.next-did.ensures ∙ ap (λ (t : OpenFiles). next_in t label) (sym c.self.view_is) in
     let descriptions : descriptions_of c.insert.new.self ≡ map.insert (descriptions_of shared) did (opened_for c.args.id c.args.how) = ap descriptions_of c.in_ok-insert.ensures.ok ∙ descriptions-insert shared did new in
     let all : ◌≡◌ {A = OpenFiles} (record { rows = c.set-2.new.self; descriptions = descriptions_of c.insert.new.self; numbers = c.set.new.self })
-        (record { rows = map.insert rows who (map.insert (row_of rows who) fd did); descriptions = map.insert (descriptions_of shared) did (opened_for c.args.id c.args.how); numbers = map.insert numbers label did.n }) =
+    (record { rows = map.insert rows who (map.insert (row_of rows who) fd did); descriptions = map.insert (descriptions_of shared) did (opened_for c.args.id c.args.how); numbers = map.insert numbers label did.n }) =
     (λ i. record { rows = c.set-2.ensures i; descriptions = descriptions i; numbers = c.in_default-set.ensures.ok i }) in
     all
     ∙ ap (λ (d : Did). record { rows = map.insert rows who (map.insert (row_of rows who) fd d); descriptions = map.insert (descriptions_of shared) d (opened_for c.args.id c.args.how); numbers = map.insert numbers label d.n }) next

@@ -1,21 +1,14 @@
-use Rattle.std.specs.Prelude.{◌≡◌, ◌==◌, ◌+◌, ◌-◌, ◌<◌, Option, Some, None, cond, refl}
+use Rattle.std.specs.Prelude.{◌≡◌, Option, Some, None, cond, refl}
 use Rattle.std.specs.FinMap as map
-use Rattle.std.specs.FinMap.{FinMap}
-use Rattle.std.specs.Option.{option_and_then, option_map}
-use Rattle.std.proofs.Common.{ap, sym, ◌∙◌, subst, ℕ, arith}
-use Rattle.lab_lattice.specs.Label.{label_cmp}
+use Rattle.std.proofs.Common.{ap, sym, ◌∙◌, subst, ℕ, rules}
 use Rattle.kern_model.specs.declared.numbers.Did.{Did}
-use Rattle.kern_model.specs.declared.numbers.Oid.{Oid}
-use Rattle.kern_model.specs.declared.numbers.Pid.{Pid}
-use Rattle.kern_model.specs.Keys.{did_cmp, oid_cmp, pid_cmp}
-use Rattle.kern_model.specs.Maps.{get_or}
 use Rattle.kern_model.specs.State.{Description}
 use Rattle.kern_model.specs.Valid.{IsThere}
-use Rattle.fd_table.specs.declared.shared.Shared.{Shared}
-use Rattle.fd_table.specs.Descriptions.{SharedTable, description_of, descriptions_of, made_for}
-use Rattle.fd_table.specs.Files.{AreHeld, OpenFiles, did_at, with_row}
-use Rattle.fd_table.specs.Rows.{AllFds, Fds, row_of}
-use Rattle.std.specs.Prelude.{Bool, true, false, unsigned_abs}
+use Rattle.fd_table.specs.Descriptions.{SharedTable, description_of, descriptions_of}
+use Rattle.fd_table.specs.Files.{AreHeld, OpenFiles}
+use Rattle.std.specs.Prelude.{Bool, true, false, unsigned_abs, ℤ}
+use Rattle.std.specs.Int.{w64}
+use Rattle.std.proofs.lemmas.Int.{to_z-of_z}
 use Rattle.kern_model.proofs.MapLemmas.{never_some, some_same}
 use Rattle.fd_table.specs.Files.{is_past, with_offset}
 use Rattle.fd_table.proofs.Holding.{held-moved}
@@ -45,7 +38,7 @@ returns-clause-moved c did d at is =
     let here = c.in_ok-did.did in
     let there = there_with shared here (subst (λ (t : OpenFiles). IsThere t.descriptions here) (sym c.self.view_is) (c.did.ensures.there here c.in_ok-did.ensures.ok_part)) in
     let same : here ≡ did = some_same here did (sym c.in_ok-did.ensures.ok_part ∙ c.did.ensures.did ∙ at) in
-    let offset : c.in_ok-offset.offset ≡ unsigned_abs c.args.to = offset_is (is_past c.args.to c.args.size) c.in_ok-offset.offset (unsigned_abs c.args.to) (sym c.in_ok-offset.ensures.ok_part ∙ c.offset_within.ensures) in
+    let offset : c.in_ok-offset.offset ≡ unsigned_abs c.args.to = offset_is (is_past c.args.to c.args.size) c.in_ok-offset.offset (unsigned_abs c.args.to) (sym c.in_ok-offset.ensures.ok_part ∙ c.offset_within.ensures ∙ ap (λ (z : ℤ). cond {A = Option ℕ} (is_past z c.args.size) None (Some (unsigned_abs z))) (to_z-of_z w64 c.args.to (search rules))) in
     let described : description_of there.value ≡ d =
     description_is shared here there.value d there.is (ap (λ (t : OpenFiles). map.get t.descriptions here) c.self.view_is ∙ ap (map.get c.args.self.now.descriptions) same ∙ is) in
     let descriptions : descriptions_of c.set_offset.new.self ≡ map.insert (descriptions_of shared) did (record d { offset = unsigned_abs c.args.to }) =
@@ -54,5 +47,5 @@ returns-clause-moved c did d at is =
     ∙ ap (λ (x : Description). map.insert (descriptions_of shared) here (record x { offset = unsigned_abs c.args.to })) described
     ∙ ap (λ (q : Did). map.insert (descriptions_of shared) q (record d { offset = unsigned_abs c.args.to })) same in
     let all : ◌≡◌ {A = OpenFiles} (record { rows = c.self.inside.rows; descriptions = descriptions_of c.set_offset.new.self; numbers = c.self.inside.numbers })
-        (record { rows = c.self.inside.rows; descriptions = map.insert (descriptions_of shared) did (record d { offset = unsigned_abs c.args.to }); numbers = c.self.inside.numbers }) = (λ i. record { rows = c.self.inside.rows; descriptions = descriptions i; numbers = c.self.inside.numbers }) in
+    (record { rows = c.self.inside.rows; descriptions = map.insert (descriptions_of shared) did (record d { offset = unsigned_abs c.args.to }); numbers = c.self.inside.numbers }) = (λ i. record { rows = c.self.inside.rows; descriptions = descriptions i; numbers = c.self.inside.numbers }) in
     all ∙ ap (λ (t : OpenFiles). with_offset t did d (unsigned_abs c.args.to)) c.self.view_is

@@ -1,21 +1,10 @@
-use Rattle.std.specs.Prelude.{◌≡◌, ◌==◌, ◌+◌, ◌-◌, ◌<◌, Option, Some, None, cond, refl}
+use Rattle.std.specs.Prelude.{◌≡◌, ◌+◌, None, refl}
 use Rattle.std.specs.FinMap as map
-use Rattle.std.specs.FinMap.{FinMap}
-use Rattle.std.specs.Option.{option_and_then, option_map}
-use Rattle.std.proofs.Common.{ap, sym, ◌∙◌, subst, ℕ, arith}
-use Rattle.lab_lattice.specs.Label.{label_cmp}
-use Rattle.kern_model.specs.declared.numbers.Did.{Did}
-use Rattle.kern_model.specs.declared.numbers.Oid.{Oid}
-use Rattle.kern_model.specs.declared.numbers.Pid.{Pid}
-use Rattle.kern_model.specs.Keys.{did_cmp, oid_cmp, pid_cmp}
-use Rattle.kern_model.specs.Maps.{get_or}
-use Rattle.kern_model.specs.State.{Description}
+use Rattle.std.proofs.Common.{ap, sym, ◌∙◌, subst}
 use Rattle.kern_model.specs.Valid.{IsThere}
-use Rattle.fd_table.specs.declared.shared.Shared.{Shared}
-use Rattle.fd_table.specs.Descriptions.{SharedTable, description_of, descriptions_of, made_for}
+use Rattle.fd_table.specs.Descriptions.{SharedTable, descriptions_of}
 use Rattle.fd_table.specs.Files.{AreHeld, OpenFiles, did_at, with_row}
-use Rattle.fd_table.specs.Rows.{AllFds, Fds, row_of}
-use Rattle.kern_model.proofs.MapLemmas.{get_or-found}
+use Rattle.fd_table.specs.Rows.{AllFds, row_of}
 use Rattle.fd_table.proofs.Holding.{few_more, held-set, row_is}
 use Rattle.fd_table.proofs.Leaving.{descriptions-count, there_with}
 use Rattle.fd_table.proofs.table.FdTable.set.Goals as goal
@@ -46,6 +35,6 @@ returns c =
     let descriptions : descriptions_of c.hold.new.self ≡ descriptions_of shared =
     ap descriptions_of (c.hold.ensures there.value there.is) ∙ descriptions-count shared c.args.did there.value (record there.value { holders = there.value.holders + 1 }) there.is refl in
     let both : ◌≡◌ {A = OpenFiles} (record { rows = c.set.new.self; descriptions = descriptions_of c.hold.new.self; numbers = c.self.inside.numbers })
-        (record { rows = map.insert rows c.args.who.now (map.insert (row_of rows c.args.who.now) c.args.fd c.args.did); descriptions = descriptions_of shared; numbers = c.self.inside.numbers }) =
+    (record { rows = map.insert rows c.args.who.now (map.insert (row_of rows c.args.who.now) c.args.fd c.args.did); descriptions = descriptions_of shared; numbers = c.self.inside.numbers }) =
     (λ i. record { rows = c.set.ensures i; descriptions = descriptions i; numbers = c.self.inside.numbers }) in
     both ∙ ap (λ (t : OpenFiles). with_row t c.args.who.now (map.insert (row_of t.rows c.args.who.now) c.args.fd c.args.did)) c.self.view_is
