@@ -1,11 +1,10 @@
 -- How many descriptions each object has, after one is made or goes.
-use Rattle.std.specs.Prelude.{◌≡◌, ◌==◌, not, ℕ, ◌+◌, ◌-◌, ◌≤◌, Bool, true, false, Option, Some, None, IsOk, IsSome, OnOk, Result, Ok, Err, cond, is_err, refl}
-use Rattle.std.specs.declared.cmp.Ordering.{Ordering}
-use Rattle.std.specs.Ordering.{is_eq, eq_by_cmp}
-use Rattle.std.specs.Cmp.{IsTotalOrder, eq_by_cmp_equiv}
+use Rattle.std.specs.Prelude.{◌≡◌, ℕ, ◌+◌, ◌≤◌, Bool, true, false, Option, Some, None, IsOk, IsSome, OnErr, OnOk, Result, Ok, Err, cond, is_err, refl}
+use Rattle.std.specs.Ordering.{is_eq}
+use Rattle.std.specs.Cmp.{eq_by_cmp_equiv}
 use Rattle.std.specs.FinMap as map
 use Rattle.std.specs.FinMap.{FinMap, get-insert, get-remove}
-use Rattle.std.proofs.Common.{ap, sym, ◌∙◌, subst, arith}
+use Rattle.std.proofs.Common.{ap, sym, ◌∙◌, arith}
 use Rattle.std.proofs.lemmas.Bool.{true≢false}
 use Rattle.std.proofs.lemmas.Cmp.{tied_itself}
 use Rattle.kern_model.specs.declared.numbers.Oid.{Oid}
@@ -26,6 +25,11 @@ where_ok (Err x) e h = absurd (true≢false e)
 pub on_ok : {X E P Q : Type 0} (r : Result X E) → (P → Q) → OnOk r P → OnOk r Q
 on_ok (Ok x) f h = f h
 on_ok (Err e) f h = tt
+
+-- what follows from either answer
+pub either_way : {X E A A' B P : Type 0} (r : Result X E) → (A → A' → P) → (B → P) → OnOk r A → OnOk r A' → OnErr r B → P
+either_way (Ok x) f g a a' b = f a a'
+either_way (Err e) f g a a' b = g b
 
 -- ---- a table of counts
 abbrev kept : Option ℕ → ℕ

@@ -1,14 +1,13 @@
 -- How many descriptors refer to each description, after one of them is opened or closed.
-use Rattle.std.specs.Prelude.{◌≡◌, ℕ, ◌+◌, ◌-◌, ◌*◌, ◌<◌, ◌≤◌, nat_le, Bool, true, false, List, [], ◌∷◌, Option, Some, None, cond, is_some, length, count_by, refl}
+use Rattle.std.specs.Prelude.{◌≡◌, ℕ, ◌+◌, ◌-◌, ◌*◌, ◌<◌, ◌≤◌, nat_le, Bool, true, false, List, [], ◌∷◌, Option, Some, None, cond, is_some, length, refl}
 use Rattle.std.specs.Ordering.{nat_cmp, eq_by_cmp, is_eq, is_lt}
-use Rattle.std.specs.List.{AllByRecursion}
 use Rattle.std.specs.Cmp.{eq_by_cmp_equiv, nat_cmp_is, nat_cmp_total}
 use Rattle.std.specs.declared.cmp.Ordering.TheVariants.{Equal, Greater}
 use Rattle.std.specs.FinMap as map
 use Rattle.std.specs.FinMap.{FinMap, find, is_sorted, entries_sorted, get-empty, get-entries, get-insert, get-remove, len-empty, len-entries, len-insert, len-remove, nat_cmp-IsAntisymmetric}
 use Rattle.std.specs.FinMap.Entries.{below_all}
 use Rattle.std.proofs.Common.{ap, sym, ◌∙◌, subst, arith, T, inl, inr}
-use Rattle.std.proofs.lemmas.Bool.{cases_lt, true≢false}
+use Rattle.std.proofs.lemmas.Bool.{cases_lt}
 use Rattle.std.proofs.lemmas.Bool.Decides.{nat_tests}
 use Rattle.std.proofs.lemmas.Cmp.{tied_itself}
 use Rattle.std.proofs.lemmas.List.Sums.{count_by-le-length}
@@ -18,11 +17,11 @@ use Rattle.kern_model.specs.declared.limits.TheConstants.{MAX_DESCRIPTORS}
 use Rattle.kern_model.specs.declared.numbers.Did.{Did}
 use Rattle.kern_model.specs.declared.numbers.Pid.{Pid}
 use Rattle.kern_model.specs.Keys.{did_cmp, pid_cmp, same_did}
-use Rattle.kern_model.specs.Maps.{count_entries, get_or}
+use Rattle.kern_model.specs.Maps.{count_entries}
 use Rattle.kern_model.specs.State.{drawn}
 use Rattle.kern_model.specs.Valid.{IsThere}
 use Rattle.kern_model.proofs.KeyLaws.{did_cmp_total, did_cmp_exact, pid_cmp_total, pid_cmp_exact}
-use Rattle.kern_model.proofs.MapLemmas.{each-entries, each-insert, each-remove, get-insert_same, get_or-absent, get_or-found, head_T, never_some, same_key, some_same, tail_T}
+use Rattle.kern_model.proofs.MapLemmas.{each-entries, each-insert, each-remove, get-insert_same, get_or-absent, get_or-found, head_T, never_some, same_key, tail_T}
 use Rattle.kern_model.proofs.TableLemmas.{each_set_at}
 use Rattle.fd_table.specs.declared.rows.TheConstants.{MAX_ROWS}
 use Rattle.fd_table.specs.declared.shared.Shared.{Shared}
@@ -97,13 +96,14 @@ few_sorted a (e ∷ es) h few all =
     let low : a ≤ e.0 = here.0 in
     let high : e.0 < 32 = here.1 in
     let later : (q : ℕ) (y : Did) → find nat_cmp q es ≡ Some y → (e.0 + 1 ≤ q) × (q < 32) =
-    λ q y f. let above = above_found e.0 es (head_T _ _ h) q y f in
-        (omega (arith, above),
-        elim (eq_by_cmp nat_cmp q e.0) as (λ b. eq_by_cmp nat_cmp q e.0 ≡ b → q < 32) [
-          | true ↦ λ t. subst (λ j. j < 32) (sym (same_key nat_cmp-IsAntisymmetric q e.0 t)) high
-          | false ↦ λ t. (all q y (ap (λ b. cond b (Some e.1) (find nat_cmp q es)) t ∙ f)).1
-        ] refl) in
-    let rest = few_sorted (e.0 + 1) es (tail_T _ _ h) (omega (arith, high)) later in
+    λ q y f. let above = above_found e.0 es (head_T _ _ h) q y f in (
+      omega (arith, above),
+      elim (eq_by_cmp nat_cmp q e.0) as (λ b. eq_by_cmp nat_cmp q e.0 ≡ b → q < 32) [
+        | true ↦ λ t. subst (λ j. j < 32) (sym (same_key nat_cmp-IsAntisymmetric q e.0 t)) high
+        | false ↦ λ t. (all q y (ap (λ b. cond b (Some e.1) (find nat_cmp q es)) t ∙ f)).1
+      ] refl,
+    ) in
+    let rest : length es + (e.0 + 1) ≤ 32 = few_sorted (e.0 + 1) es (tail_T _ _ h) (omega (arith, high)) later in
     omega (arith, rest, low)
 
 pub row_few : (fds : Fds) → ((fd : ℕ) (did : Did) → map.get fds fd ≡ Some did → fd < MAX_DESCRIPTORS) → fd_count fds ≤ 32
@@ -232,8 +232,8 @@ module _ (rows : AllFds) (shared : SharedTable) (numbers : FinMap label_cmp ℕ)
         counted = λ q. counted_at shared (map.insert shared did s) did (Some s) (get-insert did_cmp_total shared did s) q (same_did did q) refl
             ∙ one_more (same_did did q) (holders rows q) s.holders (holders_kept (map.get shared q)) (holders (map.insert rows who (map.insert fds fd did)) q) (counted_more none q)
             (λ t.
-                let nothing : 0 ≡ holders rows q = ap holders_kept (sym (fresh did label next)) ∙ are.counted did ∙ ap (holders rows) (same_key did_cmp_exact did q t) in
-                omega (arith, nothing, one)) (are.counted q);
+            let nothing : 0 ≡ holders rows q = ap holders_kept (sym (fresh did label next)) ∙ are.counted did ∙ ap (holders rows) (same_key did_cmp_exact did q t) in
+            omega (arith, nothing, one)) (are.counted q);
         held = each-insert did_cmp_total did_cmp_exact (λ (q : Did) (x : Shared). 1 ≤ x.holders) shared are.held did s (omega (arith, one));
         below = row_below (map.insert fds fd did) (row_more low);
         few = let size = same_size (map.insert fds fd did) in let room = are.few in omega (arith, size, room);
@@ -244,6 +244,7 @@ module _ (rows : AllFds) (shared : SharedTable) (numbers : FinMap label_cmp ℕ)
         where
           rises : (label : Label) → did.n ≡ drawn numbers label + 1 → (l : Label) → drawn numbers l ≤ drawn (map.insert numbers label did.n) l
           rises label next = each_set_at label_cmp_total label_cmp_exact (λ l n. drawn numbers l ≤ n) 0 numbers label did.n (omega (arith, next)) (λ l. omega arith)
+
           now_drawn : (label : Label) → drawn (map.insert numbers label did.n) label ≡ did.n
           now_drawn label = get_or-found (map.insert numbers label did.n) label 0 did.n (get-insert_same label_cmp_total numbers label did.n)
 
@@ -265,6 +266,7 @@ module _ (rows : AllFds) (shared : SharedTable) (numbers : FinMap label_cmp ℕ)
           still_held false t =
               let many : 1 < s.holders = grind (arith, nat_tests) in
               each-insert did_cmp_total did_cmp_exact (λ (q : Did) (x : Shared). 1 ≤ x.holders) shared are.held did (record s { holders = s.holders - 1 }) (omega (arith, many))
+
           still_drawn : (b : Bool) → (q : Did) (x : Shared) → map.get (cond b (map.remove shared did) (map.insert shared did (record s { holders = s.holders - 1 }))) q ≡ Some x → q.n ≤ drawn numbers q.label
           still_drawn true = each-remove did_cmp_total did_cmp_exact (λ (q : Did) (x : Shared). q.n ≤ drawn numbers q.label) shared are.drawn_already did
           still_drawn false = each-insert did_cmp_total did_cmp_exact (λ (q : Did) (x : Shared). q.n ≤ drawn numbers q.label) shared are.drawn_already did (record s { holders = s.holders - 1 }) (are.drawn_already did s is)

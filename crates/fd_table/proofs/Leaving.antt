@@ -1,29 +1,35 @@
 -- The descriptions that are left where descriptors close, and the FIFOs that lose their last one.
-use Rattle.std.specs.Prelude.{◌≡◌, ◌==◌, ◌||◌, ◌&&◌, not, ℕ, ◌+◌, ◌≤◌, Bool, true, false, List, [], ◌∷◌, Option, Some, None, cond, refl}
-use Rattle.std.specs.Ordering.{nat_cmp, eq_by_cmp, is_eq}
+use Rattle.std.specs.Prelude.{◌≡◌, ◌==◌, ◌||◌, ◌&&◌, not, ℕ, ◌-◌, nat_le, Bool, true, false, List, [], ◌∷◌, Option, Some, None, cond, refl}
+use Rattle.std.specs.Ordering.{eq_by_cmp}
 use Rattle.std.specs.Option.{option_and_then, option_map}
-use Rattle.std.specs.List.{list_any}
+use Rattle.std.specs.List.{AllByRecursion, list_any}
+use Rattle.std.specs.declared.cmp.Ordering.{Ordering}
+use Rattle.std.specs.Cmp.{IsTotalOrder, eq_by_cmp_equiv}
 use Rattle.std.specs.FinMap as map
-use Rattle.std.specs.FinMap.{FinMap, get-empty, get-insert, get-remove, same_map}
-use Rattle.std.proofs.Common.{ap, sym, ◌∙◌, subst, arith}
+use Rattle.std.specs.FinMap.{FinMap, IsAntisymmetric, find, get-entries, get-empty, get-insert, same_map}
+use Rattle.std.proofs.Common.{ap, sym, ◌∙◌, arith}
 use Rattle.std.proofs.lemmas.Bool.{true≢false}
 use Rattle.std.proofs.lemmas.Bool.Decides.{nat_tests}
 use Rattle.kern_model.specs.declared.numbers.Did.{Did}
 use Rattle.kern_model.specs.declared.numbers.Oid.{Oid}
 use Rattle.kern_model.specs.declared.numbers.Pid.{Pid}
 use Rattle.kern_model.specs.declared.objects.Object.{Object}
-use Rattle.kern_model.specs.Keys.{did_cmp, oid_cmp, pid_cmp, same_did, same_oid}
+use Rattle.kern_model.specs.Keys.{did_cmp, oid_cmp, same_did, same_oid}
 use Rattle.kern_model.specs.Kinds.{is_fifo}
 use Rattle.kern_model.specs.Maps.{any_entry, count_entries, select, where_key}
 use Rattle.kern_model.specs.State.{Description}
+use Rattle.kern_model.specs.Valid.{IsThere}
 use Rattle.kern_model.proofs.KeyLaws.{did_cmp_total, did_cmp_exact, oid_cmp_total, oid_cmp_exact}
-use Rattle.kern_model.proofs.MapLemmas.{get-select, get-select_kept, select-insert_kept, select-remove_kept, same_key, some_same, never_some}
+use Rattle.kern_model.proofs.MapLemmas.{each-entries, get-select, get-select_dropped, get-select_kept, select-insert_kept, same_key, some_same, never_some}
 use Rattle.fd_table.specs.declared.shared.Shared.{Shared}
 use Rattle.fd_table.specs.Descriptions.{SharedTable, description_of, descriptions_of, holders_kept, uses_of, with_one_less}
 use Rattle.fd_table.specs.Files.{AreHeld, drained, emptied_if, is_held, is_open, is_unused}
 use Rattle.fd_table.specs.Fifo.{fifo_emptied, without_bytes}
 use Rattle.fd_table.specs.Rows.{AllFds, Fds, holders, holders_in}
-use Rattle.fd_table.proofs.Sums.{any-sum}
+use Rattle.fd_table.proofs.Holding.{get-less, less}
+use Rattle.fd_table.proofs.Sums.{any-sum, set_again}
+use Rattle.fd_table.proofs.UseLemmas.{uses-remove, uses-replace, uses_some}
+use Rattle.lab_lattice.specs.Label.{label_cmp}
 
 -- ---- descriptions without their counts
 pub get-descriptions : (shared : SharedTable) (did : Did) → map.get (descriptions_of shared) did ≡ option_map description_of (map.get shared did)
@@ -46,3 +52,198 @@ held-count rows did = any-sum (λ (row : Pid × Fds). list_any (λ (e : ℕ × D
     once : (b : Bool) → b ≡ not (cond b 1 0 == 0)
     once true = refl
     once false = refl
+
+-- ---- what is there with its count and without
+pub there_without : (shared : SharedTable) (did : Did) → IsThere shared did → IsThere (descriptions_of shared) did
+there_without shared did there = record { value = description_of there.value; is = get-descriptions shared did ∙ ap (option_map description_of) there.is }
+
+pub there_with : (shared : SharedTable) (did : Did) → IsThere (descriptions_of shared) did → IsThere shared did
+there_with shared did there = elim (map.get shared did) as (λ w. map.get shared did ≡ w → IsThere shared did) [
+  | None ↦ λ none. absurd (never_some (map.get (descriptions_of shared) did) there.value (get-descriptions shared did ∙ ap (option_map description_of) none) there.is)
+  | Some s ↦ λ is. record { value = s; is = is }
+] refl
+
+-- another count leaves the description as it is
+pub descriptions-count : (shared : SharedTable) (did : Did) (s new : Shared) → map.get shared did ≡ Some s → description_of new ≡ description_of s → descriptions_of (map.insert shared did new) ≡ descriptions_of shared
+descriptions-count shared did s new is same =
+    descriptions-insert shared did new ∙ ap (map.insert (descriptions_of shared) did) same
+    ∙ set_again did_cmp_total did_cmp_exact (descriptions_of shared) did (description_of s) (get-descriptions shared did ∙ ap (option_map description_of) is)
+
+-- the description that is there
+pub description_is : (shared : SharedTable) (did : Did) (s : Shared) (d : Description) → map.get shared did ≡ Some s → map.get (descriptions_of shared) did ≡ Some d → description_of s ≡ d
+description_is shared did s d is at = some_same (description_of s) d (sym (get-descriptions shared did ∙ ap (option_map description_of) is) ∙ at)
+
+-- ---- whether some entry passes a test
+same_tests : (b c : Bool) → (b ≡ false → c ≡ false) → (c ≡ false → b ≡ false) → b ≡ c
+same_tests true true f g = refl
+same_tests false false f g = refl
+same_tests true false f g = g refl
+same_tests false true f g = sym (f refl)
+
+module _ {K X : Type 0} {R : K → K → Ordering} (o : IsTotalOrder R) (exact : IsAntisymmetric R) (p : K → X → Bool) where
+  none_found : (es : List (K × X)) → list_any (λ (e : K × X). p e.0 e.1) es ≡ false → (k : K) (x : X) → find R k es ≡ Some x → p k x ≡ false
+  none_found [] h k x f = absurd (never_some None x refl f)
+  none_found (e ∷ es) h k x f =
+      let both = neither (p e.0 e.1) (list_any (λ (e : K × X). p e.0 e.1) es) h in
+      elim (eq_by_cmp R k e.0) as (λ b. eq_by_cmp R k e.0 ≡ b → cond b (Some e.1) (find R k es) ≡ Some x → p k x ≡ false) [
+        | true ↦ λ t g. ap (λ j. p j x) (same_key exact k e.0 t) ∙ ap (p e.0) (sym (some_same e.1 x g)) ∙ both.0
+        | false ↦ λ _ g. none_found es both.1 k x g
+      ] refl f
+    where
+      neither : (a b : Bool) → (a || b) ≡ false → (a ≡ false) × (b ≡ false)
+      neither true b e = absurd (true≢false e)
+      neither false b e = (refl, e)
+
+  -- where none passes, each entry does not
+  pub none_passes : (m : FinMap R X) → any_entry p m ≡ false → (k : K) (x : X) → map.get m k ≡ Some x → p k x ≡ false
+  unfolding any_entry
+  none_passes m h k x is = none_found (map.entries m) h k x (sym (get-entries m k) ∙ is)
+
+  all_fail : (es : List (K × X)) → AllByRecursion (λ (e : K × X). p e.0 e.1 ≡ false) es → list_any (λ (e : K × X). p e.0 e.1) es ≡ false
+  all_fail [] h = refl
+  all_fail (e ∷ es) h = ap (λ b. b || list_any (λ (e : K × X). p e.0 e.1) es) h.0 ∙ all_fail es h.1
+
+  -- and where each does not, none passes
+  pub none_pass : (m : FinMap R X) → ((k : K) (x : X) → map.get m k ≡ Some x → p k x ≡ false) → any_entry p m ≡ false
+  unfolding any_entry
+  none_pass m h = all_fail (map.entries m) (each-entries o exact (λ (k : K) (x : X). p k x ≡ false) m h)
+
+-- ---- which objects have descriptions
+abbrev on_object : Oid → Did → Shared → Bool
+on_object id did s = same_oid s.object id
+
+abbrev of_object : Oid → Did → Description → Bool
+of_object id did d = same_oid d.object id
+
+open_alike : (shared : SharedTable) (id : Oid) → any_entry (on_object id) shared ≡ is_open (descriptions_of shared) id
+open_alike shared id = same_tests (any_entry (on_object id) shared) (is_open (descriptions_of shared) id)
+    (λ no. none_pass did_cmp_total did_cmp_exact (of_object id) (descriptions_of shared) (λ k d e.
+    elim (map.get shared k) as (λ w. map.get shared k ≡ w → option_map description_of w ≡ Some d → same_oid d.object id ≡ false) [
+      | None ↦ λ _ f. absurd (never_some None d refl f)
+      | Some s ↦ λ is f. ap (λ (x : Description). same_oid x.object id) (sym (some_same (description_of s) d f)) ∙ none_passes did_cmp_total did_cmp_exact (on_object id) shared no k s is
+    ] refl (sym (get-descriptions shared k) ∙ e)))
+    (λ no. none_pass did_cmp_total did_cmp_exact (on_object id) shared (λ k s e. none_passes did_cmp_total did_cmp_exact (of_object id) (descriptions_of shared) no k (description_of s) (get-descriptions shared k ∙ ap (option_map description_of) e)))
+
+-- an object has a description where their number is not 0
+pub open-count : (shared : SharedTable) (id : Oid) → is_open (descriptions_of shared) id ≡ not (uses_of shared id == 0)
+unfolding any_entry count_entries
+open-count shared id = sym (open_alike shared id) ∙ any-sum (λ (e : Did × Shared). same_oid e.1.object id) (λ (e : Did × Shared). cond (same_oid e.1.object id) 1 0) (λ e. once (same_oid e.1.object id)) (map.entries shared)
+  where
+    once : (b : Bool) → b ≡ not (cond b 1 0 == 0)
+    once true = refl
+    once false = refl
+
+-- ---- the descriptions that are left
+pub left_held : (rows : AllFds) (shared new : SharedTable) (numbers : FinMap label_cmp ℕ) → AreHeld rows new numbers → ((q : Did) (s : Shared) → map.get new q ≡ Some s → map.get (descriptions_of shared) q ≡ Some (description_of s))
+    → descriptions_of new ≡ select (where_key (is_held rows) (λ d. d)) (descriptions_of shared)
+left_held rows shared new numbers are same = same_map did_cmp_total did_cmp_exact _ _ (λ q.
+    get-descriptions new q
+    ∙ elim (map.get new q) as (λ w. map.get new q ≡ w → option_map description_of w ≡ map.get (select (where_key (is_held rows) (λ d. d)) (descriptions_of shared)) q) [
+      | None ↦ λ none.
+          let nothing : 0 ≡ holders rows q = ap holders_kept (sym none) ∙ are.counted q in
+          sym (get-select_dropped did_cmp_total did_cmp_exact (is_held rows) (λ d. d) (descriptions_of shared) q (held-count rows q ∙ ap (λ n. not (n == 0)) (sym nothing)))
+      | Some s ↦ λ is.
+          let all : s.holders ≡ holders rows q = ap holders_kept (sym is) ∙ are.counted q in
+          let one = are.held q s is in
+          let more : (holders rows q == 0) ≡ false = grind (arith, nat_tests) in
+          sym (get-select_kept did_cmp_total did_cmp_exact (is_held rows) (λ d. d) (descriptions_of shared) q (held-count rows q ∙ ap not more) ∙ ap (option_map (λ d. d)) (same q s is))
+    ] refl)
+
+-- what one descriptor less leaves of each description
+pub less_same : (shared : SharedTable) (did : Did) (s : Shared) → map.get shared did ≡ Some s → (q : Did) (x : Shared) → map.get (with_one_less shared did s) q ≡ Some x → map.get (descriptions_of shared) q ≡ Some (description_of x)
+less_same shared did s is q x e =
+    get-descriptions shared q
+    ∙ elim (same_did q did) as (λ b. same_did q did ≡ b → cond b (less s) (map.get shared q) ≡ Some x → option_map description_of (map.get shared q) ≡ Some (description_of x)) [
+      | true ↦ λ t f. ap (λ (d : Did). option_map description_of (map.get shared d)) (same_key did_cmp_exact q did t) ∙ ap (option_map description_of) is ∙ lessened s x f
+      | false ↦ λ _ f. ap (option_map description_of) f
+    ] refl (sym (get-less shared did s q) ∙ e)
+  where
+    lessened : (s x : Shared) → less s ≡ Some x → ◌≡◌ {A = Option Description} (Some (description_of s)) (Some (description_of x))
+    lessened s x = elim (nat_le s.holders 1) as (λ b. cond b None (Some (record s { holders = s.holders - 1 })) ≡ Some x → ◌≡◌ {A = Option Description} (Some (description_of s)) (Some (description_of x))) [
+      | true ↦ λ f. absurd (never_some None x refl f)
+      | false ↦ λ f. ap (λ (y : Shared). Some (description_of y)) (some_same (record s { holders = s.holders - 1 }) x f)
+    ]
+
+-- ---- FIFOs that lose their last description
+module _ (old new : FinMap did_cmp Description) (objects : FinMap oid_cmp Object) where
+  pub get-drained : (q : Oid) → map.get (drained old new objects) q ≡ option_map (λ (o : Object). emptied_if (is_fifo o.kind && is_unused old new q) o) (map.get objects q)
+  unfolding drained
+  get-drained q = get-select oid_cmp_exact (λ (id : Oid) (o : Object). Some (emptied_if (is_fifo o.kind && is_unused old new id) o)) oid_cmp_total objects q
+      ∙ elim (map.get objects q) as (λ w. option_and_then (λ (o : Object). Some (emptied_if (is_fifo o.kind && is_unused old new q) o)) w ≡ option_map (λ (o : Object). emptied_if (is_fifo o.kind && is_unused old new q) o) w) [ None ↦ refl | Some o ↦ refl ]
+
+untouched : (w : Option Object) → option_map (λ (o : Object). emptied_if (is_fifo o.kind && false) o) w ≡ w
+untouched None = refl
+untouched (Some o) = elim (is_fifo o.kind) as (λ b. ◌≡◌ {A = Option Object} (Some (emptied_if (b && false) o)) (Some o)) [ true ↦ refl | false ↦ refl ]
+
+get-emptied : (objects : FinMap oid_cmp Object) (id : Oid) (w : Option Object) → map.get objects id ≡ w → (q : Oid) → map.get (fifo_emptied objects id w) q ≡ option_map (λ (o : Object). emptied_if (is_fifo o.kind && same_oid id q) o) (map.get objects q)
+get-emptied objects id w is q =
+    elim (same_oid q id) as (λ b. same_oid q id ≡ b → map.get (fifo_emptied objects id w) q ≡ option_map (λ (o : Object). emptied_if (is_fifo o.kind && same_oid id q) o) (map.get objects q)) [
+      | true ↦ λ t. here w is t
+      | false ↦ λ t. there w t ∙ sym (ap (λ b. option_map (λ (o : Object). emptied_if (is_fifo o.kind && b) o) (map.get objects q)) (turn ∙ t) ∙ untouched (map.get objects q))
+    ] refl
+  where
+    turn : same_oid id q ≡ same_oid q id
+    turn = (eq_by_cmp_equiv oid_cmp_total).symm id q
+
+    there : (w : Option Object) → same_oid q id ≡ false → map.get (fifo_emptied objects id w) q ≡ map.get objects q
+    there None t = refl
+    there (Some o) t = elim (is_fifo o.kind) as (λ b. map.get (cond b (map.insert objects id (record o { bytes = [] })) objects) q ≡ map.get objects q) [
+      | true ↦ get-insert oid_cmp_total objects id (record o { bytes = [] }) q ∙ ap (λ b. cond b (Some (record o { bytes = [] })) (map.get objects q)) t
+      | false ↦ refl
+    ]
+
+    here : (w : Option Object) → map.get objects id ≡ w → same_oid q id ≡ true → map.get (fifo_emptied objects id w) q ≡ option_map (λ (o : Object). emptied_if (is_fifo o.kind && same_oid id q) o) (map.get objects q)
+    here None is t = let none : map.get objects q ≡ None = ap (map.get objects) (same_key oid_cmp_exact q id t) ∙ is in none ∙ sym (ap (option_map (λ (o : Object). emptied_if (is_fifo o.kind && same_oid id q) o)) none)
+    here (Some o) is t =
+        let at : map.get objects q ≡ Some o = ap (map.get objects) (same_key oid_cmp_exact q id t) ∙ is in
+        elim (is_fifo o.kind) as (λ b. map.get (cond b (map.insert objects id (record o { bytes = [] })) objects) q ≡ Some (emptied_if (b && true) o)) [
+          | true ↦ get-insert oid_cmp_total objects id (record o { bytes = [] }) q ∙ ap (λ b. cond b (Some (record o { bytes = [] })) (map.get objects q)) t
+          | false ↦ at
+        ]
+        ∙ ap (λ b. Some (emptied_if (is_fifo o.kind && b) o)) (sym (turn ∙ t))
+        ∙ sym (ap (option_map (λ (o : Object). emptied_if (is_fifo o.kind && same_oid id q) o)) at)
+
+-- where one object alone may have lost its last description
+pub drained_one : (old new : FinMap did_cmp Description) (objects : FinMap oid_cmp Object) (id : Oid) (b : Bool) → ((q : Oid) → is_unused old new q ≡ (same_oid id q && b)) → drained old new objects ≡ without_bytes objects (cond b (Some id) None)
+drained_one old new objects id true h = same_map oid_cmp_total oid_cmp_exact _ _ (λ q.
+    get-drained old new objects q ∙ ap (λ b. option_map (λ (o : Object). emptied_if (is_fifo o.kind && b) o) (map.get objects q)) (h q ∙ with_true (same_oid id q))
+    ∙ sym (get-emptied objects id (map.get objects id) refl q))
+  where
+    with_true : (b : Bool) → (b && true) ≡ b
+    with_true true = refl
+    with_true false = refl
+drained_one old new objects id false h = same_map oid_cmp_total oid_cmp_exact _ _ (λ q.
+    get-drained old new objects q ∙ ap (λ b. option_map (λ (o : Object). emptied_if (is_fifo o.kind && b) o) (map.get objects q)) (h q ∙ with_false (same_oid id q))
+    ∙ untouched (map.get objects q))
+  where
+    with_false : (b : Bool) → (b && false) ≡ false
+    with_false true = refl
+    with_false false = refl
+
+-- the object of the description with one descriptor less
+module _ (shared : SharedTable) (did : Did) (s : Shared) (is : map.get shared did ≡ Some s) where
+  uses_less : (q : Oid) → same_oid s.object q ≡ false → uses_of (with_one_less shared did s) q ≡ uses_of shared q
+  uses_less q apart = elim (nat_le s.holders 1) as (λ b. uses_of (cond b (map.remove shared did) (map.insert shared did (record s { holders = s.holders - 1 }))) q ≡ uses_of shared q) [
+    | true ↦ let gone = uses-remove shared did s q is in let none : ◌≡◌ {A = ℕ} (cond (same_oid s.object q) 1 0) 0 = ap (λ b. cond {A = ℕ} b 1 0) apart in omega (arith, gone, none)
+    | false ↦ uses-replace shared did s q is (record s { holders = s.holders - 1 }) refl
+  ]
+
+  pub unused_one : (q : Oid) → is_unused (descriptions_of shared) (descriptions_of (with_one_less shared did s)) q ≡ (same_oid s.object q && (uses_of (with_one_less shared did s) s.object == 0))
+  unused_one q =
+      ap (λ b. b && not (is_open (descriptions_of (with_one_less shared did s)) q)) (open-count shared q) ∙ ap (λ b. not (uses_of shared q == 0) && not b) (open-count (with_one_less shared did s) q)
+      ∙ elim (same_oid s.object q) as (λ b. same_oid s.object q ≡ b → (not (uses_of shared q == 0) && not (not (uses_of (with_one_less shared did s) q == 0))) ≡ (b && (uses_of (with_one_less shared did s) s.object == 0))) [
+        | true ↦ λ t.
+            let same : s.object ≡ q = same_key oid_cmp_exact s.object q t in
+            let some = uses_some shared did s q is (sym same) in
+            let more : (uses_of shared q == 0) ≡ false = grind (arith, nat_tests) in
+            ap (λ b. not b && not (not (uses_of (with_one_less shared did s) q == 0))) more ∙ twice (uses_of (with_one_less shared did s) q == 0) ∙ ap (λ (i : Oid). uses_of (with_one_less shared did s) i == 0) (sym same)
+        | false ↦ λ t. ap (λ n. not (uses_of shared q == 0) && not (not (n == 0))) (uses_less q t) ∙ never (uses_of shared q == 0)
+      ] refl
+    where
+      twice : (b : Bool) → not (not b) ≡ b
+      twice true = refl
+      twice false = refl
+
+      never : (b : Bool) → (not b && not (not b)) ≡ false
+      never true = refl
+      never false = refl

@@ -1,7 +1,9 @@
 pub mod Counting
+pub mod Dropping
 pub mod Holding
 pub mod Leaving
 pub mod Looking
+pub mod Loops
 pub mod Slots
 pub mod Sums
 pub mod UseLemmas

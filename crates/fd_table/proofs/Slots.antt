@@ -1,12 +1,11 @@
 -- The slots of a row, seen as its descriptors.
-use Rattle.std.specs.Prelude.{◌≡◌, ℕ, zero, suc, ◌+◌, ◌-◌, ◌<◌, ◌≤◌, ◌==◌, not, Bool, true, false, List, [], ◌∷◌, Option, None, Some, cond, count_by, is_none, is_some, length, map, nat_lt, position, refl}
+use Rattle.std.specs.Prelude.{◌≡◌, ℕ, zero, suc, ◌+◌, ◌<◌, ◌≤◌, ◌==◌, Bool, true, false, List, [], ◌∷◌, Option, None, Some, cond, count_by, is_none, is_some, length, map, nat_lt, position, refl}
 use Rattle.std.specs.Option.{option_flatten}
-use Rattle.std.specs.List.{slice_get, position_or_len, prefix_len}
-use Rattle.std.specs.Ordering.{nat_cmp, is_eq, is_lt, eq_by_cmp}
+use Rattle.std.specs.List.{slice_get, position_or_len}
+use Rattle.std.specs.Ordering.{nat_cmp, is_lt, eq_by_cmp}
 use Rattle.std.specs.Cmp.{nat_cmp_total, nat_cmp_is, unsigned_tied}
 use Rattle.std.specs.declared.cmp.Ordering.TheVariants.{Less}
 use Rattle.std.proofs.Math.ListN.{set}
-use Rattle.std.proofs.lemmas.List.{length-set}
 use Rattle.std.specs.FinMap as table
 use Rattle.std.specs.FinMap.{find, is_sorted, empty_of_len, len-entries, entries-from_sorted, get-from_sorted, get-insert, get-remove, same_map, nat_cmp-IsAntisymmetric}
 use Rattle.std.specs.FinMap.Entries.{below_all}
@@ -17,7 +16,7 @@ use Rattle.kern_model.specs.declared.numbers.Did.{Did}
 use Rattle.kern_model.specs.Descriptors.{first_gap, lowest_free}
 use Rattle.kern_model.proofs.MapLemmas.{never_some, some_same}
 use Rattle.kern_model.proofs.TableLemmas.{both_T}
-use Rattle.fd_table.specs.Rows.{Fds, fd_count, fds_in, in_slots}
+use Rattle.fd_table.specs.Rows.{fd_count, fds_in, in_slots}
 
 less : (a b : ℕ) → a < b → T (is_lt (nat_cmp a b))
 less a b h = subst (λ r. T (is_lt r)) (nat_cmp_is a b Less h) tt

@@ -1,5 +1,5 @@
 // The descriptors of all processes, and the open descriptions.
-ghost use Rattle.std.specs.Prelude.{◌≡◌, ◌+◌, ◌<◌, ◌≤◌, ℕ, true, false, None, Some, Err, IfErr, IfOk, IsOk, IsSome, Ok, OnErr, OnOk, option_map, unsigned_abs};
+ghost use Rattle.std.specs.Prelude.{◌≡◌, ◌+◌, ◌<◌, ◌≤◌, ℕ, true, false, None, Some, Err, IfErr, IfOk, IsOk, IsSome, Ok, OnErr, OnOk, cond, option_map, unsigned_abs};
 ghost use Rattle.std.specs.FinMap as map;
 ghost use Rattle.kern_model.specs.Descriptors.{lowest_free};
 ghost use Rattle.kern_model.specs.State.{Description, drawn};
@@ -70,6 +70,16 @@ impl Model for FdTable {
     ghost invariant = { λ t. AreHeld t.rows t.descriptions t.numbers };
 }
 
+// An offset as a number of bytes, where it is within so many.
+fn offset_within(to: i64, size: u32) -> Option<u32>
+    ensures { result ≡ cond (is_past to size) None (Some (unsigned_abs to)) }
+{
+    if to < 0 || to > i64::from(size) {
+        return None;
+    }
+    Some(to as u32)
+}
+
 impl FdTable {
     /// No row and no description, and no number drawn.
     pub fn new(alloc: Global) -> Self
@@ -80,5 +90,214 @@ impl FdTable {
             descriptions: Descriptions::new(alloc),
             numbers: Numbers::new(alloc),
         }
+    }
+
+    /// Adds a row without descriptors for a process.
+    pub fn add_process(&mut self, who: &Pid) -> Result<(), NoMemory>
+        requires { map.get self.old.rows who.now ≡ None }
+        ensures ok { OnOk result (self.new ≡ with_row self.old who.now map.empty) }
+        ensures err { OnErr result (self.new ≡ self.old) }
+    {
+        self.rows.add(who)
+    }
+
+    /// Adds a row for a process, whose descriptors refer to the same descriptions as those of another process.
+    pub fn copy_process(&mut self, from: &Pid, to: &Pid) -> Result<(), NoMemory>
+        requires from { IsThere self.old.rows from.now }
+        requires to { map.get self.old.rows to.now ≡ None }
+        ensures ok { OnOk result (self.new ≡ with_row self.old to.now (row_of self.old.rows from.now)) }
+        ensures err { OnErr result (self.new ≡ self.old) }
+    {
+        self.rows.add(to)?;
+        for fd in 0..MAX_DESCRIPTORS as Fd {
+            if let Some(did) = self.did(from, fd) {
+                self.set(to, fd, did);
+            }
+        }
+        Ok(())
+    }
+
+    /// Closes all descriptors of a process and removes its row. It takes no memory.
+    pub fn drop_process<B: Buffers>(&mut self, who: &Pid, buffers: &mut B)
+        requires { IsThere self.old.rows who.now }
+        ensures left { self.new ≡ left_with self.old (map.remove self.old.rows who.now) }
+        ensures drained { B.objects buffers.new ≡ drained self.old.descriptions self.new.descriptions (B.objects buffers.old) }
+        ensures rest { B.rest_same buffers.old buffers.new }
+    {
+        for fd in 0..MAX_DESCRIPTORS as Fd {
+            // A descriptor that is not open needs no closing.
+            let _closed = self.close(who, fd, buffers);
+        }
+        self.rows.remove(who);
+    }
+
+    /// Why `n` descriptions are not opened, if so.
+    pub fn open_refusal(&self, who: &Pid, label: &Label, n: u32) -> Option<FdError>
+        ensures { result ≡ open_refusal self.now who.now label.now n }
+    {
+        if self.rows.count(who) + n as usize > MAX_DESCRIPTORS {
+            return Some(FdError::TooMany);
+        }
+        if self.numbers.last(label) as usize + n as usize > MAX_DESCRIPTIONS {
+            return Some(FdError::Full);
+        }
+        None
+    }
+
+    /// Opens an object under the next number of a label, at the lowest free descriptor of a process, which it returns.
+    ///
+    /// # Errors
+    ///
+    /// `TooMany` where all descriptors are open, else `Full` where all numbers of the label are drawn.
+    pub fn open_at_lowest(
+        &mut self,
+        who: &Pid,
+        label: &Label,
+        id: Oid,
+        how: How,
+    ) -> Result<Fd, FdError>
+        requires { IsThere self.old.rows who.now }
+        ensures refused { (e : FdError) → open_refusal self.old who.now label.now 1 ≡ Some e → result ≡ Err e }
+        ensures memory { open_refusal self.old who.now label.now 1 ≡ None → IfErr result (λ e. is_no_memory e ≡ true) }
+        ensures fd { IfOk result (λ fd. fd ≡ lowest_free (row_of self.old.rows who.now)) }
+        ensures opened { OnOk result (self.new ≡ with_opened self.old who.now label.now (opened_for id how)) }
+        ensures err { OnErr result (self.new ≡ self.old) }
+    {
+        if let Some(refusal) = self.open_refusal(who, label, 1) {
+            return Err(refusal);
+        }
+        let fd = self.rows.lowest(who);
+        let did = self.next(label);
+        self.descriptions.insert(&did, id, how)?;
+        if let Err(e) = self.numbers.set(*label, did.n) {
+            self.descriptions.release(&did);
+            return Err(e.into());
+        }
+        self.rows.set(who, fd, did);
+        Ok(fd)
+    }
+
+    // The number of the next description at a label.
+    fn next(&self, label: &Label) -> Did
+        requires { drawn self.now.numbers label.now < MAX_DESCRIPTIONS }
+        ensures { result ≡ next_in self.now label.now }
+    {
+        let n = self.numbers.last(label) + 1;
+        Did { label: *label, n }
+    }
+
+    /// Has the lowest free descriptor of a process, which it returns, refer to the description to which another refers. It
+    /// takes no memory.
+    ///
+    /// # Errors
+    ///
+    /// `NotOpen` where the descriptor is not open, else `TooMany` where all descriptors are open.
+    pub fn dup(&mut self, who: &Pid, fd: Fd) -> Result<Fd, FdError>
+        requires { IsThere self.old.rows who.now }
+        ensures not_open { did_at self.old who.now fd ≡ None → result ≡ Err FdError.NotOpen }
+        ensures too_many { IsSome (did_at self.old who.now fd) → MAX_DESCRIPTORS ≤ fd_count (row_of self.old.rows who.now) → result ≡ Err FdError.TooMany }
+        ensures fd { IsSome (did_at self.old who.now fd) → fd_count (row_of self.old.rows who.now) < MAX_DESCRIPTORS → result ≡ Ok (lowest_free (row_of self.old.rows who.now)) }
+        ensures made { (did : Number) → did_at self.old who.now fd ≡ Some did → OnOk result (self.new ≡ with_row self.old who.now (with_lowest (row_of self.old.rows who.now) did)) }
+        ensures err { OnErr result (self.new ≡ self.old) }
+    {
+        let did = self.did(who, fd).ok_or(FdError::NotOpen)?;
+        if self.rows.count(who) >= MAX_DESCRIPTORS {
+            return Err(FdError::TooMany);
+        }
+        let lowest = self.rows.lowest(who);
+        self.set(who, lowest, did);
+        Ok(lowest)
+    }
+
+    /// Closes a descriptor of a process. A description to which no descriptor refers any more goes, and with the last one of a
+    /// FIFO its bytes. It takes no memory.
+    ///
+    /// # Errors
+    ///
+    /// `NotOpen` where the descriptor is not open.
+    pub fn close<B: Buffers>(&mut self, who: &Pid, fd: Fd, buffers: &mut B) -> Result<(), FdError>
+        requires { IsThere self.old.rows who.now }
+        ensures not_open { did_at self.old who.now fd ≡ None → result ≡ Err FdError.NotOpen }
+        ensures open { IsSome (did_at self.old who.now fd) → IsOk result }
+        ensures left { OnOk result (self.new ≡ left_with self.old (map.insert self.old.rows who.now (map.remove (row_of self.old.rows who.now) fd))) }
+        ensures drained { OnOk result (B.objects buffers.new ≡ drained self.old.descriptions self.new.descriptions (B.objects buffers.old)) }
+        ensures err { OnErr result (self.new ≡ self.old) }
+        ensures untouched { OnErr result (B.objects buffers.new ≡ B.objects buffers.old) }
+        ensures rest { B.rest_same buffers.old buffers.new }
+    {
+        let did = self.did(who, fd).ok_or(FdError::NotOpen)?;
+        self.rows.free(who, fd);
+        let unused = self.descriptions.release(&did);
+        drop_fifo(buffers, &unused);
+        Ok(())
+    }
+
+    /// The object on which a descriptor is open, if it is open.
+    pub fn object(&self, who: &Pid, fd: Fd) -> Option<Oid>
+        ensures { result ≡ option_map (λ (d : Description). d.object) (description_at self.now who.now fd) }
+    {
+        Some(self.shared(who, fd)?.object)
+    }
+
+    /// What a descriptor is open for, if it is open.
+    pub fn how(&self, who: &Pid, fd: Fd) -> Option<How>
+        ensures { result ≡ option_map how_of (description_at self.now who.now fd) }
+    {
+        Some(self.shared(who, fd)?.how)
+    }
+
+    /// The offset of a descriptor in bytes, if it is open.
+    pub fn offset(&self, who: &Pid, fd: Fd) -> Option<u32>
+        ensures { result ≡ option_map (λ (d : Description). d.offset) (description_at self.now who.now fd) }
+    {
+        Some(self.shared(who, fd)?.offset)
+    }
+
+    /// Sets the offset of a descriptor on a file of `size` bytes, and returns it. It takes no memory.
+    ///
+    /// # Errors
+    ///
+    /// `NotOpen` where the descriptor is not open, else `PastEnd` where the offset is negative or above the size.
+    pub fn seek(&mut self, who: &Pid, fd: Fd, to: i64, size: u32) -> Result<u32, FdError>
+        requires { IsThere self.old.rows who.now }
+        ensures not_open { did_at self.old who.now fd ≡ None → result ≡ Err FdError.NotOpen }
+        ensures past_end { IsSome (did_at self.old who.now fd) → is_past to size ≡ true → result ≡ Err FdError.PastEnd }
+        ensures offset { IsSome (did_at self.old who.now fd) → is_past to size ≡ false → result ≡ Ok (unsigned_abs to) }
+        ensures moved { (did : Number) (d : Description) → did_at self.old who.now fd ≡ Some did → map.get self.old.descriptions did ≡ Some d → OnOk result (self.new ≡ with_offset self.old did d (unsigned_abs to)) }
+        ensures err { OnErr result (self.new ≡ self.old) }
+    {
+        let did = self.did(who, fd).ok_or(FdError::NotOpen)?;
+        let offset = offset_within(to, size).ok_or(FdError::PastEnd)?;
+        self.descriptions.set_offset(&did, offset);
+        Ok(offset)
+    }
+
+    // The description to which a descriptor refers, if it is open.
+    fn did(&self, who: &Pid, fd: Fd) -> Option<Did>
+        ensures did { result ≡ did_at self.now who.now fd }
+        ensures below { (did : Number) → result ≡ Some did → fd < MAX_DESCRIPTORS }
+        ensures there { (did : Number) → result ≡ Some did → IsThere self.now.descriptions did }
+    {
+        self.rows.did(who, fd)
+    }
+
+    // The same, with what is kept of it.
+    fn shared(&self, who: &Pid, fd: Fd) -> Option<Shared>
+        ensures { option_map description_of result ≡ description_at self.now who.now fd }
+    {
+        let did = self.did(who, fd)?;
+        self.descriptions.get(&did)
+    }
+
+    // Has a descriptor that is free refer to a description. It takes no memory.
+    fn set(&mut self, who: &Pid, fd: Fd, did: Did)
+        requires row { IsThere self.old.rows who.now }
+        requires free { did_at self.old who.now fd ≡ None }
+        requires below { fd < MAX_DESCRIPTORS }
+        requires there { IsThere self.old.descriptions did }
+        ensures { self.new ≡ with_row self.old who.now (map.insert (row_of self.old.rows who.now) fd did) }
+    {
+        self.descriptions.hold(&did);
+        self.rows.set(who, fd, did);
     }
 }

@@ -1,12 +1,9 @@
-use Rattle.std.specs.Prelude.{◌≡◌, ◌==◌, ◌+◌, ◌-◌, Option, Some, None, cond, refl}
+use Rattle.std.specs.Prelude.{◌≡◌, None}
 use Rattle.std.specs.FinMap as map
 use Rattle.std.specs.FinMap.{FinMap}
-use Rattle.std.proofs.Common.{ap, sym, ◌∙◌, subst, ℕ, arith}
-use Rattle.kern_model.specs.declared.numbers.Oid.{Oid}
-use Rattle.kern_model.specs.Keys.{did_cmp, oid_cmp}
-use Rattle.kern_model.specs.Maps.{get_or}
-use Rattle.fd_table.specs.declared.shared.Shared.{Shared}
-use Rattle.fd_table.specs.Descriptions.{AreCounted, SharedTable, made_for, uses_of}
+use Rattle.std.proofs.Common.{ap, sym, ◌∙◌, subst, ℕ}
+use Rattle.kern_model.specs.Keys.{oid_cmp}
+use Rattle.fd_table.specs.Descriptions.{AreCounted, SharedTable, made_for}
 use Rattle.kern_model.proofs.KeyLaws.{did_cmp_total, did_cmp_exact}
 use Rattle.kern_model.proofs.MapLemmas.{remove-insert}
 use Rattle.fd_table.proofs.UseLemmas.{counted-insert}

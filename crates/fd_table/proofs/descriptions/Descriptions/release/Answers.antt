@@ -1,12 +1,9 @@
-use Rattle.std.specs.Prelude.{◌≡◌, ◌==◌, ◌+◌, ◌-◌, Option, Some, None, cond, refl}
+use Rattle.std.specs.Prelude.{◌≡◌, ◌==◌, ◌-◌, Option, Some, None, cond, refl}
 use Rattle.std.specs.FinMap as map
-use Rattle.std.specs.FinMap.{FinMap}
-use Rattle.std.proofs.Common.{ap, sym, ◌∙◌, subst, ℕ, arith}
+use Rattle.std.proofs.Common.{ap, sym, ◌∙◌, subst}
 use Rattle.kern_model.specs.declared.numbers.Oid.{Oid}
-use Rattle.kern_model.specs.Keys.{did_cmp, oid_cmp}
-use Rattle.kern_model.specs.Maps.{get_or}
 use Rattle.fd_table.specs.declared.shared.Shared.{Shared}
-use Rattle.fd_table.specs.Descriptions.{AreCounted, SharedTable, made_for, uses_of}
+use Rattle.fd_table.specs.Descriptions.{AreCounted, SharedTable, uses_of}
 use Rattle.kern_model.proofs.MapLemmas.{some_same}
 use Rattle.fd_table.proofs.UseLemmas.{counted-remove, counted-replace, counted_some, not_unused}
 use Rattle.fd_table.proofs.descriptions.Descriptions.release.Goals as goal

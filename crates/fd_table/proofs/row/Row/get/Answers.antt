@@ -1,6 +1,6 @@
 use Rattle.std.specs.Option.{option_flatten}
 use Rattle.std.specs.FinMap as map
-use Rattle.std.proofs.Common.{ap, sym, ◌∙◌, arith}
+use Rattle.std.proofs.Common.{ap, sym, ◌∙◌}
 use Rattle.std.proofs.lemmas.Option.{slice_get_past, slice_get-get_or}
 use Rattle.fd_table.proofs.Slots.{get-fds}
 use Rattle.fd_table.specs.Rows.{Fds}

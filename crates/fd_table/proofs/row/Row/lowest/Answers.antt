@@ -1,4 +1,4 @@
-use Rattle.std.specs.Prelude.{◌≡◌, ◌<◌, count_by, is_some, length}
+use Rattle.std.specs.Prelude.{◌<◌, count_by, is_some, length}
 use Rattle.std.specs.FinMap as map
 use Rattle.std.specs.Option.{option_flatten}
 use Rattle.std.specs.List.{slice_get}

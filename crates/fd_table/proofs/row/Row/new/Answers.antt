@@ -1,5 +1,4 @@
 use Rattle.std.proofs.Common.{refl}
-use Rattle.fd_table.specs.Rows.{fds_in}
 use Rattle.fd_table.proofs.Slots.{no_fds}
 use Rattle.fd_table.proofs.row.Row.new.Goals as goal
 

@@ -1,12 +1,11 @@
-use Rattle.std.specs.Prelude.{◌≡◌, ℕ, List}
+use Rattle.std.specs.Prelude.{◌≡◌}
 use Rattle.std.specs.FinMap as map
 use Rattle.std.specs.FinMap.{len-entries}
 use Rattle.std.proofs.Common.{ap, sym, ◌∙◌, arith, length}
-use Rattle.kern_model.specs.declared.numbers.Pid.{Pid}
 use Rattle.kern_model.specs.Keys.{pid_cmp}
 use Rattle.kern_model.proofs.KeyLaws.{pid_cmp_total, pid_cmp_exact}
 use Rattle.kern_model.proofs.TableLemmas.{entries_view}
-use Rattle.fd_table.specs.Rows.{AllFds, Fds}
+use Rattle.fd_table.specs.Rows.{AllFds}
 use Rattle.fd_table.proofs.Looking.{row_set}
 use Rattle.fd_table.proofs.rows.Rows.add.Goals as goal
 

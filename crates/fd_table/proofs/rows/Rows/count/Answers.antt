@@ -1,12 +1,7 @@
 use Rattle.std.proofs.Common.{ap, sym, ◌∙◌}
 use Rattle.std.specs.Option.{option_copied}
-use Rattle.std.specs.FinMap as map
-use Rattle.std.specs.FinMap.{get-empty, len-empty, len-entries}
-use Rattle.std.specs.Ordering.{nat_cmp}
-use Rattle.kern_model.specs.declared.numbers.Did.{Did}
-use Rattle.kern_model.specs.Descriptors.{lowest_free}
 use Rattle.kern_model.specs.Keys.{pid_cmp}
-use Rattle.fd_table.specs.Rows.{Fds, fd_count}
+use Rattle.fd_table.specs.Rows.{fd_count}
 use Rattle.fd_table.proofs.Looking.{row_there, row_absent}
 use Rattle.fd_table.proofs.Looking.{none_counted}
 use Rattle.fd_table.proofs.rows.Rows.count.Goals as goal

@@ -1,9 +1,8 @@
-use Rattle.std.proofs.Common.{ap, sym, ◌∙◌, arith, subst}
+use Rattle.std.proofs.Common.{ap, sym, ◌∙◌, subst}
 use Rattle.std.specs.Option.{option_copied}
 use Rattle.std.specs.FinMap as map
-use Rattle.std.specs.FinMap.{get-empty, len-empty, len-entries}
+use Rattle.std.specs.FinMap.{get-empty}
 use Rattle.std.specs.Ordering.{nat_cmp}
-use Rattle.kern_model.specs.declared.numbers.Did.{Did}
 use Rattle.kern_model.specs.Descriptors.{lowest_free}
 use Rattle.kern_model.specs.Keys.{pid_cmp}
 use Rattle.fd_table.specs.Rows.{Fds, fd_count}

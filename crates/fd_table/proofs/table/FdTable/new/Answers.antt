@@ -3,10 +3,8 @@ use Rattle.std.specs.FinMap as map
 use Rattle.std.specs.FinMap.{FinMap}
 use Rattle.std.proofs.Common.{ap, sym, ◌∙◌, subst, ℕ}
 use Rattle.lab_lattice.specs.Label.{label_cmp}
-use Rattle.kern_model.specs.Keys.{did_cmp}
-use Rattle.kern_model.specs.State.{Description}
 use Rattle.fd_table.specs.Descriptions.{SharedTable, descriptions_of}
-use Rattle.fd_table.specs.Files.{AreHeld, OpenFiles}
+use Rattle.fd_table.specs.Files.{AreHeld}
 use Rattle.fd_table.specs.Rows.{AllFds}
 use Rattle.fd_table.proofs.Holding.{none_held}
 use Rattle.fd_table.proofs.Leaving.{descriptions-empty}

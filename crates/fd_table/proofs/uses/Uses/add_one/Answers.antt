@@ -1,8 +1,6 @@
-use Rattle.std.specs.Prelude.{◌≡◌, ◌+◌, cond}
 use Rattle.std.specs.FinMap.{FinMap}
-use Rattle.std.proofs.Common.{ap, sym, ◌∙◌, subst, ℕ}
-use Rattle.kern_model.specs.declared.numbers.Oid.{Oid}
-use Rattle.kern_model.specs.Keys.{oid_cmp, same_oid}
+use Rattle.std.proofs.Common.{ap, ◌∙◌, ℕ}
+use Rattle.kern_model.specs.Keys.{oid_cmp}
 use Rattle.kern_model.specs.Maps.{get_or}
 use Rattle.fd_table.proofs.Counting.{on_ok, one_more}
 use Rattle.fd_table.proofs.uses.Uses.add_one.Goals as goal

@@ -1,7 +1,6 @@
-use Rattle.std.specs.Prelude.{◌≡◌, ◌+◌, ◌-◌, cond}
+use Rattle.std.specs.Prelude.{◌+◌, ◌-◌, cond}
 use Rattle.std.specs.FinMap.{FinMap}
 use Rattle.std.proofs.Common.{ap, sym, ◌∙◌, ℕ, arith}
-use Rattle.kern_model.specs.declared.numbers.Oid.{Oid}
 use Rattle.kern_model.specs.Keys.{oid_cmp, same_oid}
 use Rattle.kern_model.specs.Maps.{get_or}
 use Rattle.fd_table.proofs.Counting.{kept_there, never_err, none_left, one_less, where_ok}
