@@ -1,5 +1,5 @@
 -- How many descriptors refer to each description, after one of them is opened or closed.
-use Rattle.std.specs.Prelude.{◌≡◌, ℕ, ◌+◌, ◌-◌, ◌*◌, ◌<◌, ◌≤◌, nat_le, Bool, true, false, List, [], ◌∷◌, Option, Some, None, cond, is_some, length, refl}
+use Rattle.std.specs.Prelude.{◌≡◌, ℕ, ◌+◌, ◌-◌, ◌*◌, ◌<◌, ◌≤◌, nat_le, Bool, true, false, List, [], ◌∷◌, Option, Some, None, Result, Ok, Err, OnOk, OnErr, cond, is_some, length, refl}
 use Rattle.std.specs.Ordering.{nat_cmp, eq_by_cmp, is_eq, is_lt}
 use Rattle.std.specs.Cmp.{eq_by_cmp_equiv, nat_cmp_is, nat_cmp_total}
 use Rattle.std.specs.declared.cmp.Ordering.TheVariants.{Equal, Greater}
@@ -21,7 +21,7 @@ use Rattle.kern_model.specs.Maps.{count_entries}
 use Rattle.kern_model.specs.State.{drawn}
 use Rattle.kern_model.specs.Valid.{IsThere}
 use Rattle.kern_model.proofs.KeyLaws.{did_cmp_total, did_cmp_exact, pid_cmp_total, pid_cmp_exact}
-use Rattle.kern_model.proofs.MapLemmas.{each-entries, each-insert, each-remove, get-insert_same, get_or-absent, get_or-found, head_T, never_some, same_key, tail_T}
+use Rattle.kern_model.proofs.MapLemmas.{each-entries, each-insert, each-remove, get-insert_same, get_or-absent, get_or-found, get_or-same, head_T, never_some, same_key, tail_T}
 use Rattle.kern_model.proofs.TableLemmas.{each_set_at}
 use Rattle.fd_table.specs.declared.rows.TheConstants.{MAX_ROWS}
 use Rattle.fd_table.specs.declared.shared.Shared.{Shared}
@@ -70,6 +70,45 @@ module _ (rows : AllFds) (who : Pid) (did : Did) where
 -- the row of a process that has one
 pub row_is : (rows : AllFds) (who : Pid) → IsThere rows who → map.get rows who ≡ Some (row_of rows who)
 row_is rows who there = there.is ∙ ap Some (sym (get_or-found rows who map.empty there.value there.is))
+
+-- a process with a descriptor has a row
+pub has_row : (rows : AllFds) (who : Pid) (fd : ℕ) (did : Did) → map.get (row_of rows who) fd ≡ Some did → IsThere rows who
+has_row rows who fd did is =
+    elim (map.get rows who) as (λ w. map.get rows who ≡ w → IsThere rows who) [
+      | None ↦ λ e. absurd (never_some (map.get (row_of rows who) fd) did (ap (λ (fds : Fds). map.get fds fd) (get_or-absent rows who map.empty e) ∙ get-empty {X = Did} nat_cmp fd) is)
+      | Some fds ↦ λ e. record { value = fds; is = e }
+    ] refl
+
+pub there_if : (rows : AllFds) (who : Pid) → is_some (map.get rows who) ≡ true → IsThere rows who
+there_if rows who has =
+    elim (map.get rows who) as (λ w. map.get rows who ≡ w → is_some w ≡ true → IsThere rows who) [
+      | None ↦ λ e (no : false ≡ true). absurd (cc)
+      | Some fds ↦ λ e _. record { value = fds; is = e }
+    ] refl has
+
+pub none_if : (rows : AllFds) (who : Pid) → is_some (map.get rows who) ≡ false → map.get rows who ≡ None
+none_if rows who has =
+    elim (map.get rows who) as (λ w. is_some w ≡ false → w ≡ None) [
+      | None ↦ λ _. refl
+      | Some fds ↦ λ (no : true ≡ false). absurd (cc)
+    ] has
+
+-- a row without descriptors is as none
+module _ (rows : AllFds) (who : Pid) (absent : map.get rows who ≡ None) where
+  pub row_with : (q : Pid) → row_of (map.insert rows who map.empty) q ≡ row_of rows q
+  row_with q =
+      elim (eq_by_cmp pid_cmp q who) as (λ b. eq_by_cmp pid_cmp q who ≡ b → row_of (map.insert rows who map.empty) q ≡ row_of rows q) [
+        | true ↦ λ t.
+            let same = same_key pid_cmp_exact q who t in
+            ap (row_of (map.insert rows who map.empty)) same
+            ∙ get_or-found (map.insert rows who map.empty) who map.empty map.empty (get-insert_same pid_cmp_total rows who map.empty)
+            ∙ sym (ap (row_of rows) same ∙ get_or-absent rows who map.empty absent)
+        | false ↦ λ t. get_or-same (map.insert rows who map.empty) rows q map.empty (get-insert pid_cmp_total rows who map.empty q ∙ ap (λ b. cond b (Some map.empty) (map.get rows q)) t)
+      ] refl
+
+  pub row_as_before : {X E : Type 0} (r : Result X E) (new : AllFds) → OnOk r (new ≡ map.insert rows who map.empty) → OnErr r (new ≡ rows) → (q : Pid) → row_of new q ≡ row_of rows q
+  row_as_before (Ok x) new is same q = ap (λ (m : AllFds). row_of m q) is ∙ row_with q
+  row_as_before (Err e) new is same q = ap (λ (m : AllFds). row_of m q) same
 
 -- ---- a row has few descriptors
 more_than : (k e : ℕ) → T (is_lt (nat_cmp k e)) → k < e

@@ -1,7 +1,7 @@
 -- The descriptors of all processes, and the open descriptions that they share.
 use Rattle.std.specs.Prelude.{◌≡◌, ◌+◌, ◌≤◌, ◌<◌, ◌||◌, ◌&&◌, not, nat_le, int_lt, ℕ, ℤ, pos, Bool, true, false, [], Option, None, Some, cond, refl}
 use Rattle.std.specs.Ordering.{nat_cmp}
-use Rattle.std.specs.Option.{option_and_then}
+use Rattle.std.specs.Option.{option_and_then, option_map}
 use Rattle.std.specs.FinMap as map
 use Rattle.std.specs.FinMap.{FinMap}
 use Rattle.std.specs.Coded.{Coded, code_by, coded×, coded_ℕ}
@@ -11,7 +11,7 @@ use Rattle.kern_model.specs.declared.numbers.Did.{Did}
 use Rattle.kern_model.specs.declared.numbers.Oid.{Oid}
 use Rattle.kern_model.specs.declared.numbers.Pid.{Pid}
 use Rattle.kern_model.specs.declared.objects.Object.{Object}
-use Rattle.kern_model.specs.Descriptors.{lowest_free}
+use Rattle.kern_model.specs.Descriptors.{Opened, lowest_free}
 use Rattle.kern_model.specs.Keys.{did_cmp, oid_cmp, same_did, same_oid}
 use Rattle.kern_model.specs.Kinds.{is_fifo}
 use Rattle.kern_model.specs.Maps.{any_entry, select, where_key}
@@ -49,6 +49,10 @@ did_at t who fd = map.get (row_of t.rows who) fd
 
 abbrev pub description_at : OpenFiles → Pid → ℕ → Option Description
 description_at t who fd = option_and_then (λ did. map.get t.descriptions did) (did_at t who fd)
+
+-- what an open descriptor refers to
+abbrev pub opened_at : OpenFiles → Pid → ℕ → Option Opened
+opened_at t who fd = option_and_then (λ did. option_map (λ d. record { did = did; description = d }) (map.get t.descriptions did)) (did_at t who fd)
 
 -- what a description is open for
 abbrev pub how_of : Description → How

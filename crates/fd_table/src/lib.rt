@@ -3,6 +3,7 @@
 
 mod descriptions;
 mod fifo;
+mod opened;
 mod row;
 mod rows;
 mod shared;
@@ -10,5 +11,6 @@ mod table;
 mod uses;
 
 pub use kern_model::NoMemory;
+pub use opened::Opened;
 pub use shared::How;
 pub use table::{FdError, FdTable};

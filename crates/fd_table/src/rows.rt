@@ -1,5 +1,5 @@
 // The descriptors of each process.
-ghost use Rattle.std.specs.Prelude.{◌≡◌, ◌<◌, ◌≤◌, ℕ, None, Some, OnErr, OnOk, option_copied};
+ghost use Rattle.std.specs.Prelude.{◌≡◌, ◌<◌, ◌≤◌, ℕ, None, Some, OnErr, OnOk, is_some, option_copied};
 ghost use Rattle.std.specs.FinMap as map;
 ghost use Rattle.kern_model.specs.Descriptors.{lowest_free};
 ghost use Rattle.kern_model.specs.Valid.{IsThere};
@@ -61,6 +61,20 @@ impl Rows {
         }
         self.kept.insert(*who, Row::new())?;
         Ok(())
+    }
+
+    /// Whether a process has a row.
+    pub fn has(&self, who: &Pid) -> bool
+        ensures { result ≡ is_some (map.get self.now who.now) }
+    {
+        self.row(who).is_some()
+    }
+
+    // The row of a process, if it has one.
+    fn row(&self, who: &Pid) -> Option<&Row>
+        ensures { option_copied result ≡ map.get self.now who.now }
+    {
+        self.kept.get(who)
     }
 
     /// Removes a row.

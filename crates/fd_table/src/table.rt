@@ -6,12 +6,14 @@ ghost use Rattle.kern_model.specs.State.{Description, drawn};
 ghost use Rattle.kern_model.specs.Valid.{IsThere};
 ghost use Rattle.kern_model.specs.declared.limits.TheConstants.{MAX_DESCRIPTIONS, MAX_DESCRIPTORS};
 ghost use Rattle.kern_model.specs.declared.numbers.Did.{Did as Number};
-ghost use Rattle.fd_table.specs.Files.{description_at, did_at, drained, how_of, is_no_memory, is_past, left_with, next_in, no_files, open_refusal, opened_for, with_lowest, with_offset, with_opened, with_row};
+ghost use Rattle.kern_model.specs.declared.numbers.Pid.{Pid as Process};
+ghost use Rattle.fd_table.specs.Files.{description_at, did_at, drained, how_of, is_no_memory, is_past, left_with, next_in, no_files, open_refusal, opened_at, opened_for, with_lowest, with_offset, with_opened, with_row};
 ghost use Rattle.fd_table.specs.Descriptions.{description_of};
 ghost use Rattle.fd_table.specs.Rows.{fd_count, row_of};
 
 use crate::descriptions::Descriptions;
 use crate::fifo::drop_fifo;
+use crate::opened::Opened;
 use crate::rows::Rows;
 use crate::shared::{How, Shared};
 use fs_nodes::Buffers;
@@ -99,6 +101,19 @@ impl FdTable {
         ensures err { OnErr result (self.new ≡ self.old) }
     {
         self.rows.add(who)
+    }
+
+    /// Adds a row without descriptors for a process that has none.
+    pub fn reserve(&mut self, who: &Pid) -> Result<(), NoMemory>
+        ensures row { OnOk result (IsThere self.new.rows who.now) }
+        ensures same { (q : Process) → row_of self.new.rows q ≡ row_of self.old.rows q }
+        ensures descriptions { self.new.descriptions ≡ self.old.descriptions }
+        ensures numbers { self.new.numbers ≡ self.old.numbers }
+    {
+        if self.rows.has(who) {
+            return Ok(());
+        }
+        self.add_process(who)
     }
 
     /// Adds a row for a process, whose descriptors refer to the same descriptions as those of another process.
@@ -193,7 +208,6 @@ impl FdTable {
     ///
     /// `NotOpen` where the descriptor is not open, else `TooMany` where all descriptors are open.
     pub fn dup(&mut self, who: &Pid, fd: Fd) -> Result<Fd, FdError>
-        requires { IsThere self.old.rows who.now }
         ensures not_open { did_at self.old who.now fd ≡ None → result ≡ Err FdError.NotOpen }
         ensures too_many { IsSome (did_at self.old who.now fd) → MAX_DESCRIPTORS ≤ fd_count (row_of self.old.rows who.now) → result ≡ Err FdError.TooMany }
         ensures fd { IsSome (did_at self.old who.now fd) → fd_count (row_of self.old.rows who.now) < MAX_DESCRIPTORS → result ≡ Ok (lowest_free (row_of self.old.rows who.now)) }
@@ -216,7 +230,6 @@ impl FdTable {
     ///
     /// `NotOpen` where the descriptor is not open.
     pub fn close<B: Buffers>(&mut self, who: &Pid, fd: Fd, buffers: &mut B) -> Result<(), FdError>
-        requires { IsThere self.old.rows who.now }
         ensures not_open { did_at self.old who.now fd ≡ None → result ≡ Err FdError.NotOpen }
         ensures open { IsSome (did_at self.old who.now fd) → IsOk result }
         ensures left { OnOk result (self.new ≡ left_with self.old (map.insert self.old.rows who.now (map.remove (row_of self.old.rows who.now) fd))) }
@@ -230,6 +243,20 @@ impl FdTable {
         let unused = self.descriptions.release(&did);
         drop_fifo(buffers, &unused);
         Ok(())
+    }
+
+    /// What a descriptor refers to, if it is open.
+    pub fn opened(&self, who: &Pid, fd: Fd) -> Option<Opened>
+        ensures { result ≡ opened_at self.now who.now fd }
+    {
+        let did = self.did(who, fd)?;
+        let shared = self.descriptions.get(&did)?;
+        Some(Opened {
+            did,
+            object: shared.object,
+            how: shared.how,
+            offset: shared.offset,
+        })
     }
 
     /// The object on which a descriptor is open, if it is open.
@@ -259,7 +286,6 @@ impl FdTable {
     ///
     /// `NotOpen` where the descriptor is not open, else `PastEnd` where the offset is negative or above the size.
     pub fn seek(&mut self, who: &Pid, fd: Fd, to: i64, size: u32) -> Result<u32, FdError>
-        requires { IsThere self.old.rows who.now }
         ensures not_open { did_at self.old who.now fd ≡ None → result ≡ Err FdError.NotOpen }
         ensures past_end { IsSome (did_at self.old who.now fd) → is_past to size ≡ true → result ≡ Err FdError.PastEnd }
         ensures offset { IsSome (did_at self.old who.now fd) → is_past to size ≡ false → result ≡ Ok (unsigned_abs to) }
@@ -276,6 +302,7 @@ impl FdTable {
     fn did(&self, who: &Pid, fd: Fd) -> Option<Did>
         ensures did { result ≡ did_at self.now who.now fd }
         ensures below { (did : Number) → result ≡ Some did → fd < MAX_DESCRIPTORS }
+        ensures row { (did : Number) → result ≡ Some did → IsThere self.now.rows who.now }
         ensures there { (did : Number) → result ≡ Some did → IsThere self.now.descriptions did }
     {
         self.rows.did(who, fd)

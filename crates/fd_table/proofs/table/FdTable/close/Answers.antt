@@ -13,6 +13,9 @@ use Rattle.fd_table.proofs.Holding.{held-free, row_is}
 use Rattle.fd_table.proofs.Leaving.{drained_one, left_held, less_same, there_with, unused_one}
 use Rattle.fd_table.proofs.table.FdTable.close.Goals as goal
 
+pub free-requires-clause-row : goal.free-requires-clause-row
+free-requires-clause-row g c = subst (λ (t : OpenFiles). IsThere t.rows c.args.who.now) (sym c.self.view_is) (c.did.ensures.row c.in_ok-did.did c.in_ok-did.ensures.ok_part)
+
 pub free-requires-clause-below : goal.free-requires-clause-below
 free-requires-clause-below g c = c.did.ensures.below c.in_ok-did.did c.in_ok-did.ensures.ok_part
 
@@ -28,7 +31,7 @@ invariant_of-self g c =
     let did = c.in_ok-did.did in
     let who = c.args.who.now in
     let there = there_with shared did (subst (λ (t : OpenFiles). IsThere t.descriptions did) (sym c.self.view_is) (c.did.ensures.there did c.in_ok-did.ensures.ok_part)) in
-    let row = row_is rows who (subst (λ (t : OpenFiles). IsThere t.rows who) (sym c.self.view_is) c.requires) in
+    let row = row_is rows who (subst (λ (t : OpenFiles). IsThere t.rows who) (sym c.self.view_is) (c.did.ensures.row c.in_ok-did.did c.in_ok-did.ensures.ok_part)) in
     let at : map.get (row_of rows who) c.args.fd ≡ Some did = ap (λ (t : OpenFiles). did_at t who c.args.fd) c.self.view_is ∙ sym c.did.ensures.did ∙ c.in_ok-did.ensures.ok_part in
     subst (λ (m : AllFds). AreHeld m c.release-unused.new.self c.self.inside.numbers) (sym c.free.ensures)
     (subst (λ (m : SharedTable). AreHeld (map.insert rows who (map.remove (row_of rows who) c.args.fd)) m c.self.inside.numbers) (sym (c.release-unused.ensures.left there.value there.is))
@@ -41,7 +44,7 @@ returns-clause-left g c =
     let did = c.in_ok-did.did in
     let who = c.args.who.now in
     let there = there_with shared did (subst (λ (t : OpenFiles). IsThere t.descriptions did) (sym c.self.view_is) (c.did.ensures.there did c.in_ok-did.ensures.ok_part)) in
-    let row = row_is rows who (subst (λ (t : OpenFiles). IsThere t.rows who) (sym c.self.view_is) c.requires) in
+    let row = row_is rows who (subst (λ (t : OpenFiles). IsThere t.rows who) (sym c.self.view_is) (c.did.ensures.row c.in_ok-did.did c.in_ok-did.ensures.ok_part)) in
     let at : map.get (row_of rows who) c.args.fd ≡ Some did = ap (λ (t : OpenFiles). did_at t who c.args.fd) c.self.view_is ∙ sym c.did.ensures.did ∙ c.in_ok-did.ensures.ok_part in
     let less = with_one_less shared did there.value in
     let rows' : AllFds = map.insert rows who (map.remove (row_of rows who) c.args.fd) in

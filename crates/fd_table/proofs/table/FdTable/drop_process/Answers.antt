@@ -7,7 +7,7 @@ use Rattle.fd_table.specs.Files.{AreHeld, OpenFiles}
 use Rattle.fd_table.specs.Rows.{AllFds, Fds, row_of}
 use Rattle.kern_model.proofs.KeyLaws.{pid_cmp_total}
 use Rattle.kern_model.proofs.MapLemmas.{get-insert_same}
-use Rattle.fd_table.proofs.Dropping.{closed_step, held_by, none_closed, remove_set, row_there}
+use Rattle.fd_table.proofs.Dropping.{closed_step, held_by, none_closed, remove_set}
 use Rattle.fd_table.proofs.Holding.{held-drop}
 use Rattle.fd_table.proofs.Leaving.{get-descriptions, left_held}
 use Rattle.fd_table.proofs.Loops.{from, from-none}
@@ -15,9 +15,6 @@ use Rattle.fd_table.proofs.table.FdTable.drop_process.Goals as goal
 
 pub loop-fd-init : goal.loop-fd-init
 loop-fd-init g c = record { closed = none_closed c.args.self.now c.args.who.now (g.B.Buffers.objects c.args.buffers.now) c.requires; rest = search rules }
-
-pub close-closed-requires : goal.close-closed-requires
-close-closed-requires g c = row_there c.args.self.now c.args.who.now c.loop-fd.fd c.loop-fd.self (g.B.Buffers.objects c.args.buffers.now) (g.B.Buffers.objects c.loop-fd.buffers) c.loop-fd.invariant.closed
 
 pub loop-fd-preserved : goal.loop-fd-preserved
 loop-fd-preserved g c = record {

@@ -1,0 +1,25 @@
+use Rattle.std.specs.Prelude.{is_some}
+use Rattle.std.specs.FinMap as map
+use Rattle.std.proofs.Common.{ap, sym, ◌∙◌}
+use Rattle.kern_model.proofs.KeyLaws.{pid_cmp_total}
+use Rattle.kern_model.proofs.MapLemmas.{get-insert_same}
+use Rattle.fd_table.specs.Files.{OpenFiles}
+use Rattle.std.proofs.lemmas.Result.{on_err_weaker, on_ok_weaker}
+use Rattle.fd_table.proofs.Holding.{none_if, row_as_before, there_if}
+use Rattle.fd_table.proofs.table.FdTable.reserve.Goals as goal
+
+pub returns-then-has-clause-row : goal.returns-then-has-clause-row
+returns-then-has-clause-row c = there_if c.args.self.now.rows c.args.who.now (sym (c.has.ensures ∙ ap (λ (t : OpenFiles). is_some (map.get t.rows c.args.who.now)) c.self.view_is) ∙ c.if-has.true)
+
+pub returns-clause-row : goal.returns-clause-row
+returns-clause-row c =
+    let t = c.args.self.now in
+    let who = c.args.who.now in
+    on_ok_weaker c.add_process.result (λ e. record { value = map.empty; is = ap (λ (u : OpenFiles). map.get u.rows who) e ∙ get-insert_same pid_cmp_total t.rows who map.empty }) c.add_process.ensures.ok
+
+pub returns-clause-same : goal.returns-clause-same
+returns-clause-same c q =
+    let t = c.args.self.now in
+    let who = c.args.who.now in
+    let absent = none_if t.rows who (sym (c.has.ensures ∙ ap (λ (u : OpenFiles). is_some (map.get u.rows who)) c.self.view_is) ∙ c.if-has.false) in
+    row_as_before t.rows who absent c.add_process.result c.add_process.new.self.rows (on_ok_weaker c.add_process.result (ap (λ (u : OpenFiles). u.rows)) c.add_process.ensures.ok) (on_err_weaker c.add_process.result (ap (λ (u : OpenFiles). u.rows)) c.add_process.ensures.err) q
