@@ -1,6 +1,6 @@
 // The checks of a call: their verdicts, and the exercises that they leave.
-ghost use Rattle.std.specs.Prelude.{◌≡◌, IfOk, OnErr};
-ghost use Rattle.kern_model.specs.Row.{verdict_of, Need, Refuse};
+ghost use Rattle.std.specs.Prelude.{◌≡◌, IfOk, OnErr, false, true};
+ghost use Rattle.kern_model.specs.Row.{verdict_of, Need, Refuse, Soft};
 ghost use Rattle.chk_rules.specs.CheckLog.{CheckLog, check_log, noting};
 ghost use Rattle.chk_rules.specs.Ends.{GoesOn};
 
@@ -105,6 +105,17 @@ pub fn must(checks: &mut Checks, check: &Check) -> Result<(), Stop>
     match checks.need(check)? {
         Verdict::Passed | Verdict::Exercised => Ok(()),
         Verdict::Denied => Err(Stop::Denied(check.name, check.place)),
+    }
+}
+
+/// Makes a check that stops nothing, and returns whether it lets the call go on in full.
+#[tactic(auto, unfolding(kern_model::specs::Row::judge, crate::specs::Ends::EndsBy))]
+pub fn prefer(checks: &mut Checks, check: &Check) -> Result<bool, Stop>
+    ensures { GoesOn checks.old (λ rest. Soft check.now (rest true) (rest false)) result checks.new }
+{
+    match checks.need(check)? {
+        Verdict::Passed | Verdict::Exercised => Ok(true),
+        Verdict::Denied => Ok(false),
     }
 }
 

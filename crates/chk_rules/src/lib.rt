@@ -5,7 +5,7 @@ mod checks;
 mod rules;
 mod stop;
 
-pub use checks::{Checks, must, refuse_if};
+pub use checks::{Checks, must, prefer, refuse_if};
 pub use kern_model::{Check, NoMemory, Verdict, Want};
 pub use rules::{mac_read_ok, mac_write_ok, mode_allows};
 pub use stop::Stop;

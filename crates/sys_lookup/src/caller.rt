@@ -1,9 +1,9 @@
 // The caller of a call, and the checks that are made of it.
-ghost use Rattle.std.specs.Prelude.{◌≡◌, IsSome, None, Some};
+ghost use Rattle.std.specs.Prelude.{◌≡◌, IsSome, None, Some, false, true};
 ghost use Rattle.std.specs.FinMap as map;
 ghost use Rattle.kern_model.specs.declared.numbers.Oid.{Oid};
-ghost use Rattle.kern_model.specs.Row.{Need};
-ghost use Rattle.kern_model.specs.Rules.{created_order, dac_read, dac_search, dac_write, held_order, link_dir, mac_read, mac_write, mode_allows as mode_lets, unlink_dir};
+ghost use Rattle.kern_model.specs.Row.{Need, Soft};
+ghost use Rattle.kern_model.specs.Rules.{created_order, dac_read, dac_search, dac_write, fsetid, held_order, link_dir, mac_read, mac_write, mode_allows as mode_lets, unlink_dir};
 ghost use Rattle.kern_model.specs.declared.checks.CheckName.TheVariants as check;
 ghost use Rattle.kern_model.specs.declared.checks.Thing.TheVariants as thing;
 ghost use Rattle.lab_lattice.specs.Label.{dominates};
@@ -12,7 +12,7 @@ ghost use Rattle.chk_rules.specs.Ends.{GoesOn};
 ghost use Rattle.sys_lookup.specs.Shared.{holding, metadata_of, process_of, state_of};
 
 use crate::shared::{Metadata, Shared};
-use chk_rules::{Checks, Stop, Want, mac_read_ok, mac_write_ok, mode_allows, must};
+use chk_rules::{Checks, Stop, Want, mac_read_ok, mac_write_ok, mode_allows, must, prefer};
 use kern_model::{Check, CheckName, Oid, Pid, Place, Thing};
 use lab_lattice::{Label, Lattice};
 use proc_table::Proc;
@@ -112,6 +112,19 @@ impl Caller<'_> {
             checks,
             &check_of(CheckName::UnlinkDir, holds, object, place),
         )
+    }
+
+    /// Asks whether the set-id bits and capabilities of an object, if it has some, may stay: they may where `plain` holds.
+    pub fn fsetid(
+        &self,
+        checks: &mut Checks,
+        object: &Metadata,
+        plain: bool,
+        place: Place,
+    ) -> Result<bool, Stop>
+        ensures { (s : State) (id : Oid) → object.now ≡ metadata_of s id → GoesOn checks.old (λ rest. Soft (fsetid s plain id place) (rest true) (rest false)) result checks.new }
+    {
+        prefer(checks, &check_of(CheckName::Fsetid, plain, object, place))
     }
 
     /// The check of a directory in which the caller makes an object: the order of labels holds.

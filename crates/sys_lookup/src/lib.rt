@@ -4,10 +4,12 @@
 
 mod argument;
 mod caller;
+mod descriptors;
 mod directories;
 mod effect;
 mod found;
 mod making;
+mod reporting;
 mod shared;
 mod walk_stop;
 mod walking;
