@@ -1,36 +1,50 @@
 -- Properties of the changes of a row: one holds of each row where it holds of each kind of effect.
-use Rattle.std.specs.Prelude.{◌≡◌, ℕ, ◌+◌, ◌≤◌, length, Bool, true, false, not, List, [], ◌∷◌, Option, None, Some, refl}
+use Rattle.std.specs.Prelude.{◌≡◌, ℕ, ◌+◌, ◌≤◌, ◌&&◌, length, Bool, true, false, not, List, [], ◌∷◌, Option, None, Some, refl}
 use Rattle.std.proofs.Common.{sym, ◌∙◌, ap, subst}
+use Rattle.std.proofs.lemmas.Bool.{true≢false, and_from}
+use Rattle.std.proofs.lemmas.Cmp.{tied_itself}
+use Rattle.std.specs.Cmp.{nat_cmp_total}
+use Rattle.std.specs.Ordering.{is_eq}
 use Rattle.std.specs.FinMap as map
+use Rattle.std.specs.FinMap.{FinMap, nat_cmp-IsAntisymmetric}
 use Rattle.cap_bits.specs.declared.cap.Cap.TheVariants as cap
 use Rattle.cap_bits.specs.CapSet.{is_within}
 use Rattle.cap_bits.specs.declared.state.CapState.{CapState}
 use Rattle.fs_path.specs.Name.{Name, is_name}
 use Rattle.fs_path.specs.Path.{PathValue}
 use Rattle.lab_lattice.specs.Label.{Label, dominates}
-use Rattle.kern_model.specs.declared.limits.TheConstants.{MAX_GROUPS, MAX_LINKS}
+use Rattle.kern_model.specs.declared.limits.TheConstants.{MAX_DESCRIPTORS, MAX_FILE_BYTES, MAX_GROUPS, MAX_LINKS, MAX_PIPE_BYTES}
 use Rattle.kern_model.specs.declared.numbers.Ids.{Ids}
+use Rattle.kern_model.specs.declared.numbers.Did.{Did}
 use Rattle.kern_model.specs.declared.numbers.Oid.{Oid}
 use Rattle.kern_model.specs.declared.numbers.Pid.{Pid}
 use Rattle.kern_model.specs.declared.checks.Place.{Place}
 use Rattle.kern_model.specs.declared.checks.Place.TheVariants.{First}
+use Rattle.kern_model.specs.declared.objects.Attr.{Attr}
+use Rattle.kern_model.specs.declared.objects.Kind.TheVariants as kind
 use Rattle.kern_model.specs.declared.objects.Object.{Object}
 use Rattle.kern_model.specs.declared.records.Rec.{Rec}
 use Rattle.kern_model.specs.Create.{made, has_object_number}
+use Rattle.kern_model.specs.Descriptors.{Opened, open_count, lowest_free, with_descriptor}
+use Rattle.kern_model.specs.FileRows.{open_object, moved, with_bytes}
+use Rattle.kern_model.specs.Keys.{did_cmp, same_oid}
 use Rattle.kern_model.specs.Entries.{is_empty, is_removed, link_count}
-use Rattle.kern_model.specs.Kinds.{is_dir as dir_kind, is_permission}
+use Rattle.kern_model.specs.Kinds.{is_dir as dir_kind, is_file, is_fifo, is_mode, is_permission, is_stream}
 use Rattle.kern_model.specs.Rules.{same_label, mac_read, mac_write, mac_subject}
 use Rattle.kern_model.specs.Row.{Row}
-use Rattle.kern_model.specs.State.{State, Process, Change, SetObject, SetProcess, SetEntry, DropEntry, changed, changed_by, next_object, object_at, look}
+use Rattle.kern_model.specs.State.{State, Process, Description, Change, SetObject, SetProcess, SetEntry, DropEntry, changed, changed_by, next_object, object_at, look}
 use Rattle.kern_model.specs.Step.{subject}
 use Rattle.kern_model.specs.Walk.{on_path, read_object, last_place}
 use Rattle.kern_model.specs.Isolation.{low, crosses, Kept}
-use Rattle.kern_model.specs.Valid.{IsValid, IsDir, IsValidProcess}
-use Rattle.kern_model.proofs.MapLemmas.{some_same, never_some}
+use Rattle.kern_model.specs.Valid.{IsValid, IsDir, IsThere, IsValidProcess}
+use Rattle.kern_model.proofs.MapLemmas.{some_same, never_some, each-insert}
+use Rattle.kern_model.proofs.KeyLaws.{oid_cmp_total, did_cmp_total, did_cmp_exact}
 use Rattle.iso_laws.proofs.Part.{part_changes, part_of_high}
 use Rattle.iso_laws.proofs.Rows.{Ends, Passes, Gives, ends_given}
-use Rattle.iso_laws.proofs.Sight.{IsNamed, same_side, ends_reach, new_side, read_low, write_side}
-use Rattle.iso_laws.proofs.Changes.{KeptProcess, kept_of, kept_process, kept_object, kept_beside, valid_process}
+use Rattle.iso_laws.proofs.Sight.{IsNamed, IsOpen, open_object_is, open_no_dir, same_side, ends_reach, new_side, read_low, write_side}
+use Rattle.iso_laws.proofs.Changes.{KeptProcess, kept_of, kept_process, kept_object, kept_description, kept_beside, valid_process}
+use Rattle.iso_laws.proofs.Selections.{one_passes}
+use Rattle.iso_laws.proofs.files.Changes.{valid_moved, valid_content, valid_shared}
 use Rattle.iso_laws.proofs.tree.Changes.{IsFresh, next_absent, not_true_false, valid_drop, valid_link, valid_made}
 use Rattle.iso_laws.proofs.tree.Moves.{IsMove, valid_move}
 
@@ -55,6 +69,15 @@ pub record Cases (bad : Rec → Bool) (s : State) (who : Pid) (p : Process) (fit
   -- an object is made, where none was, in a directory whose mac_write passed and that is not removed
   pub make : (dir : Oid) (name : Name) (o : Object) (place : Place) → Passes bad (subject who p) (mac_write s p dir place) → (is_dir : IsDir s.objects dir) → look s dir name ≡ None → is_removed s dir ≡ false
       → IsFresh p o → has_object_number s p ≡ true → dominates p.label is_dir.object.label ≡ true → (fit → is_name name ≡ true) → P (made s p dir name o)
+  -- the caller gets a further descriptor, of what another one refers to
+  pub share : (fd : ℕ) (f : Opened) → IsOpen s p fd f → open_count p + 1 ≤ MAX_DESCRIPTORS → P (SetProcess who (with_descriptor p f.did) ∷ [])
+  -- a descriptor of the caller gets another offset
+  pub seek : (fd : ℕ) (f : Opened) (offset : ℕ) → IsOpen s p fd f → P (moved f offset ∷ [])
+  -- a pipe or FIFO of a descriptor, whose mac_write passed, gets other bytes
+  pub pass : (fd : ℕ) (f : Opened) (bytes : List ℕ) (place : Place) → IsOpen s p fd f → Passes bad (subject who p) (mac_write s p f.description.object place) → is_stream (open_object s f).kind ≡ true → length bytes ≤ MAX_PIPE_BYTES → P (with_bytes s f.description.object bytes ∷ [])
+  -- a file of a descriptor, whose mac_write passed, gets other bytes and attributes, and the descriptor another offset
+  pub write : (fd : ℕ) (f : Opened) (attr : Attr) (bytes : List ℕ) (place : Place) (offset : ℕ) → IsOpen s p fd f → Passes bad (subject who p) (mac_write s p f.description.object place) → (open_object s f).kind ≡ kind.File → is_mode attr.mode ≡ true → length bytes ≤ MAX_FILE_BYTES
+      → P (SetObject f.description.object (record (open_object s f) { attr = attr; bytes = bytes }) ∷ moved f offset ∷ [])
 
 -- ---- what the rows of every process share
 -- a property of changes, whatever the own record is
@@ -80,11 +103,16 @@ module _ (bad : Rec → Bool) (s : State) (valid : IsValid s) (who : Pid) (p : P
 
 -- ---- the laws
 -- a process that is not Low changes nothing in the part
-pub hidden_cases : (l : Label) (s : State) → Kept l s → (who : Pid) (p : Process) (fit : Type 0) → map.get s.procs who ≡ Some p → low l who.label ≡ false → Cases (crosses l) s who p fit (λ cs. part_changes l s.top cs ≡ [])
-hidden_cases l s kept who p fit is high =
+pub hidden_cases : (l : Label) (s : State) → Kept l s → IsValid s → (who : Pid) (p : Process) (fit : Type 0) → map.get s.procs who ≡ Some p → low l who.label ≡ false → Cases (crosses l) s who p fit (λ cs. part_changes l s.top cs ≡ [])
+hidden_cases l s kept valid who p fit is high =
     let mine : low l p.label ≡ false = sym (kept.procs who p is) ∙ high in
+    let wrote_there : (id : Oid) (place : Place) → Passes (crosses l) (subject who p) (mac_write s p id place) → IsThere s.objects id → low l id.label ≡ false =
+    λ id place written there. sym (write_side l s kept who p id there place written) ∙ mine in
     let wrote : (id : Oid) (place : Place) → Passes (crosses l) (subject who p) (mac_write s p id place) → IsDir s.objects id → low l id.label ≡ false =
-    λ id place written dir. sym (write_side l s kept who p id (record { value = dir.object; is = dir.is }) place written) ∙ mine in
+    λ id place written dir. wrote_there id place written (record { value = dir.object; is = dir.is }) in
+    let wrote_open : (fd : ℕ) (f : Opened) (place : Place) → IsOpen s p fd f → Passes (crosses l) (subject who p) (mac_write s p f.description.object place) → low l f.description.object.label ≡ false =
+    λ fd f place open_is written. wrote_there f.description.object place written (record { value = open_object s f; is = open_object_is s valid p fd f open_is }) in
+    let described : (fd : ℕ) (f : Opened) → IsOpen s p fd f → low l f.did.label ≡ false = λ fd f open_is. kept.fds who p fd f.did is open_is.fd_is ∙ high in
     let unseen : (q : Process) → part_changes l s.top (SetProcess who q ∷ []) ≡ [] = λ q. part_of_high l s.top (SetProcess who q ∷ []) (high, tt) in
     record {
       none = refl;
@@ -95,6 +123,10 @@ hidden_cases l s kept who p fit is high =
       enter = λ dir name id place written is_dir free standing named no_dir few order fits. part_of_high l s.top (SetEntry (dir, name) id ∷ []) (wrote dir place written is_dir, tt);
       move = λ dir name id into new place there_place written is_dir written_there move fits. part_of_high l s.top (DropEntry (dir, name) ∷ SetEntry (into, new) id ∷ []) (wrote dir place written is_dir, (wrote into there_place written_there move.into_is, tt));
       make = λ dir name o place written is_dir free standing fresh left order fits. part_of_high l s.top (made s p dir name o) (mine, (mine, (wrote dir place written is_dir, tt)));
+      share = λ fd f open_is room. unseen _;
+      seek = λ fd f offset open_is. part_of_high l s.top (moved f offset ∷ []) (described fd f open_is, tt);
+      pass = λ fd f bytes place open_is written stream few. part_of_high l s.top (with_bytes s f.description.object bytes ∷ []) (wrote_open fd f place open_is written, tt);
+      write = λ fd f attr bytes place offset open_is written file mode few. part_of_high l s.top (SetObject f.description.object _ ∷ moved f offset ∷ []) (wrote_open fd f place open_is written, (described fd f open_is, tt));
     }
 
 -- a label that a check allowed the caller is on the same side as its own
@@ -109,6 +141,14 @@ given_side l who p new passes =
 pub kept_cases : (l : Label) (s : State) → Kept l s → IsValid s → (who : Pid) (p : Process) (fit : Type 0) → map.get s.procs who ≡ Some p → Cases (crosses l) s who p fit (λ cs. Kept l (changed_by s cs))
 kept_cases l s kept valid who p fit is =
     let own : KeptProcess l who p = kept_of l s kept who p is in
+    let moved_to : (t : State) → Kept l t → t.descriptions ≡ s.descriptions → (fd : ℕ) (f : Opened) (offset : ℕ) → IsOpen s p fd f → Kept l (changed t (moved f offset)) =
+    λ t kept_t same fd f offset open_is.
+    let there : map.get t.descriptions f.did ≡ Some f.description = ap (λ (m : FinMap did_cmp Description). map.get m f.did) same ∙ open_is.is in
+    kept_description l t kept_t f.did (record f.description { offset = offset }) (kept_t.descriptions f.did f.description there) (λ o. kept_t.streams f.did f.description o there) in
+    let rewritten_as : (fd : ℕ) (f : Opened) (attr : Attr) (bytes : List ℕ) → IsOpen s p fd f → Kept l (changed s (SetObject f.description.object (record (open_object s f) { attr = attr; bytes = bytes }))) =
+    λ fd f attr bytes open_is.
+    let there = open_object_is s valid p fd f open_is in
+    kept_object l s kept f.description.object _ (kept.objects f.description.object (open_object s f) there) (λ did d e at stream. kept.streams did d (open_object s f) e (ap (map.get s.objects) at ∙ there) stream) in
     record {
       none = kept;
       self = λ ids caps umask audited groups within fits. kept_process l s kept who _ (record { label = own.label; parent = own.parent; ended = own.ended; fds = own.fds; cwd = own.cwd });
@@ -132,6 +172,17 @@ kept_cases l s kept valid who p fit is =
           let described = valid.descriptions did d e in
           absurd (never_some (map.get s.objects new) described.object (next_absent s valid p.label) (ap (map.get s.objects) (sym at) ∙ described.object_is))))
           _ _ s.process_numbers s.description_numbers;
+      share = λ fd f open_is room.
+          kept_process l s kept who _ (record {
+            label = own.label;
+            parent = own.parent;
+            ended = own.ended;
+            fds = each-insert nat_cmp_total nat_cmp-IsAntisymmetric (λ (n : ℕ) (did : Did). low l did.label ≡ low l who.label) p.fds own.fds (lowest_free p.fds) f.did (own.fds fd f.did open_is.fd_is);
+            cwd = own.cwd;
+          });
+      seek = moved_to s kept refl;
+      pass = λ fd f bytes place open_is written stream few. rewritten_as fd f (open_object s f).attr bytes open_is;
+      write = λ fd f attr bytes place offset open_is written file mode few. moved_to _ (rewritten_as fd f attr bytes open_is) refl fd f offset open_is;
     }
 
 -- a valid state stays valid, whatever crosses
@@ -181,4 +232,33 @@ valid_cases bad s valid who p is =
       enter = λ dir name id place written is_dir free standing named no_dir few order fits. valid_link s valid dir name id is_dir free standing named.object named.is (not_true_false _ no_dir) named.no_pipe few order (fits tt);
       move = λ dir name id into new place there_place written is_dir written_there move fits. valid_move s valid dir name id into new move (fits tt);
       make = λ dir name o place written is_dir free standing fresh left order fits. valid_made s valid p dir name o fresh is_dir free standing own.below left order (fits tt);
+      share = λ fd f open_is room. valid_shared s valid who p is f.did (record { value = f.description; is = open_is.is }) room;
+      seek = λ fd f offset open_is. valid_moved s valid f.did f.description (record f.description { offset = offset }) open_is.is refl;
+      pass = λ fd f bytes place open_is written stream few.
+          let id : Oid = f.description.object in
+          let there = open_object_is s valid p fd f open_is in
+          let old = valid.objects id (open_object s f) there in
+          valid_content s valid id (open_object s f) (record (open_object s f) { bytes = bytes }) there refl refl
+          (record {
+            mode = old.mode;
+            only_files = old.only_files;
+            dir_bytes = λ dir. absurd (open_no_dir s valid p fd f open_is dir);
+            file_bytes = λ file. absurd (true≢false (sym stream ∙ ap is_stream file));
+            stream_bytes = λ _. few;
+          })
+          (λ _ none. absurd (true≢false (sym (one_passes did_cmp_total did_cmp_exact (λ (did : Did) (d : Description). same_oid d.object id && true) s.descriptions f.did f.description open_is.is (and_from _ _ (ap is_eq (tied_itself oid_cmp_total id)) refl)) ∙ none)));
+      write = λ fd f attr bytes place offset open_is written file mode few.
+          let there = open_object_is s valid p fd f open_is in
+          let new : Object = record (open_object s f) { attr = attr; bytes = bytes } in
+          valid_moved (changed s (SetObject f.description.object new))
+          (valid_content s valid f.description.object (open_object s f) new there refl refl
+          (record {
+            mode = mode;
+            only_files = λ other. absurd (true≢false (ap is_file (sym file) ∙ other));
+            dir_bytes = λ dir. absurd (open_no_dir s valid p fd f open_is dir);
+            file_bytes = λ _. few;
+            stream_bytes = λ stream. absurd (true≢false (sym stream ∙ ap is_stream file));
+          })
+          (λ fifo _. absurd (true≢false (ap is_fifo (sym fifo) ∙ ap is_fifo file))))
+          f.did f.description (record f.description { offset = offset }) open_is.is refl;
     }

@@ -17,6 +17,7 @@ use Rattle.iso_laws.specs.LawCalls.{has_laws}
 use Rattle.iso_laws.proofs.Cases.{Cases, Meets}
 use Rattle.iso_laws.proofs.LowRows.{Same}
 use Rattle.iso_laws.proofs.Part.{by_number}
+use Rattle.iso_laws.proofs.files.Isolation as files
 use Rattle.iso_laws.proofs.tree.Isolation as tree
 use Rattle.iso_laws.proofs.attributes.Isolation as attributes
 use Rattle.iso_laws.proofs.processes.Isolation as processes
@@ -25,6 +26,11 @@ use Rattle.iso_laws.proofs.audit.Isolation as audit
 -- each row of a Low process ends in the part as in the state
 module _ (l : Label) (s : State) (kept : Kept l s) (valid : IsValid s) (who : Pid) (p : Process) (is : map.get s.procs who ≡ Some p) (is_low : low l p.label ≡ true) where
   pub low_row : (c : Call) → has_laws c ≡ true → Same l s who p (row s who p c) (row (by_number l s) who p c)
+  low_row (call.Read fd n) _ = files.read_low l s kept valid who p is is_low fd n
+  low_row (call.Write fd bytes) _ = files.write_low l s kept valid who p is is_low fd bytes
+  low_row (call.Lseek fd from offset) _ = files.lseek_low l s kept valid who p is is_low fd from offset
+  low_row (call.Dup fd) _ = files.dup_low l s kept valid who p is is_low fd
+  low_row (call.Fstat fd) _ = files.fstat_low l s kept valid who p is is_low fd
   low_row (call.Mkfifo path mode) _ = tree.mkfifo_low l s kept valid who p is is_low path mode
   low_row (call.Mkdir path mode) _ = tree.mkdir_low l s kept valid who p is is_low path mode
   low_row (call.Link path to) _ = tree.link_low l s kept valid who p is is_low path to
@@ -57,6 +63,11 @@ module _ (l : Label) (s : State) (kept : Kept l s) (valid : IsValid s) (who : Pi
 module _ (bad : Rec → Bool) (s : State) (valid : IsValid s) (who : Pid) (p : Process) (is : map.get s.procs who ≡ Some p) (fit : Type 0) (P : List Change → Type 0) (cases : Cases bad s who p fit P) where
   pub row_meets : (c : Call) → (fit → is_call s.top c ≡ true) → (fit → has_names c ≡ true) → has_laws c ≡ true → Meets bad who p P (row s who p c)
   unfolding is_call has_names
+  row_meets (call.Read fd n) _ _ _ = files.read_meets bad s valid who p is fit P cases fd n
+  row_meets (call.Write fd bytes) _ _ _ = files.write_meets bad s valid who p is fit P cases fd bytes
+  row_meets (call.Lseek fd from offset) _ _ _ = files.lseek_meets bad s valid who p is fit P cases fd from offset
+  row_meets (call.Dup fd) _ _ _ = files.dup_meets bad s valid who p is fit P cases fd
+  row_meets (call.Fstat fd) _ _ _ = files.fstat_meets bad s valid who p is fit P cases fd
   row_meets (call.Mkfifo path mode) _ names _ = tree.mkfifo_meets bad s valid who p is fit P cases path mode names
   row_meets (call.Mkdir path mode) _ names _ = tree.mkdir_meets bad s valid who p is fit P cases path mode names
   row_meets (call.Link path to) _ names _ = tree.link_meets bad s valid who p is fit P cases path to names

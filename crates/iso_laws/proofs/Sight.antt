@@ -225,12 +225,16 @@ module _ (l : Label) (s : State) where
   unfolding by_number
   drawn_low label h = get_or-same _ _ label 0 (get-select_kept label_cmp_total label_cmp_exact (low l) same s.object_numbers label h ∙ same_map _)
 
+  pub descriptions_drawn_low : (label : Label) → low l label ≡ true → drawn (by_number l s).description_numbers label ≡ drawn s.description_numbers label
+  unfolding by_number
+  descriptions_drawn_low label h = get_or-same _ _ label 0 (get-select_kept label_cmp_total label_cmp_exact (low l) same s.description_numbers label h ∙ same_map _)
+
   -- the process of a Low number is the same in the part
   pub get_process : (q : Pid) → low l q.label ≡ true → map.get (by_number l s).procs q ≡ map.get s.procs q
   unfolding by_number
   get_process q h = get-select_kept pid_cmp_total pid_cmp_exact (low_pid l) same s.procs q h ∙ same_map _
 
-  get_description : (did : Did) → low l did.label ≡ true → map.get (by_number l s).descriptions did ≡ map.get s.descriptions did
+  pub get_description : (did : Did) → low l did.label ≡ true → map.get (by_number l s).descriptions did ≡ map.get s.descriptions did
   unfolding by_number
   get_description did h = get-select_kept did_cmp_total did_cmp_exact (low_did l) same s.descriptions did h ∙ same_map _
 
@@ -420,6 +424,21 @@ module _ (l : Label) (s : State) (kept : Kept l s) (who : Pid) (p : Process) (is
         | Some did ↦ λ at. ap (option_map (λ (d : Description). record { did = did; description = d })) (get_description l s did (fd_low did at))
       ] refl
 
+  -- its description has a Low number
+  pub open_did_low : (f : Opened) → IsOpen s p fd f → low l f.did.label ≡ true
+  open_did_low f held = fd_low f.did held.fd_is
+
   -- a descriptor of a Low process refers to a Low object
   pub open_object_low : (f : Opened) → opened s p fd ≡ Some f → low l f.description.object.label ≡ true
   open_object_low f e = let held = is_open s p fd f e in kept.descriptions f.did f.description held.is (fd_low f.did held.fd_is)
+
+-- what an open descriptor refers to is there, and is no directory
+pub open_object_is : (s : State) → IsValid s → (p : Process) (fd : ℕ) (f : Opened) → IsOpen s p fd f → map.get s.objects f.description.object ≡ Some (object_at s f.description.object)
+open_object_is s valid p fd f is =
+    let described = valid.descriptions f.did f.description is.is in
+    described.object_is ∙ ap (λ (o : Object). Some o) (sym (get_or-found s.objects f.description.object (stub_object s.top) described.object described.object_is))
+
+pub open_no_dir : (s : State) → IsValid s → (p : Process) (fd : ℕ) (f : Opened) → IsOpen s p fd f → (object_at s f.description.object).kind ≡ kind.Dir → ⊥
+open_no_dir s valid p fd f is dir =
+    let described = valid.descriptions f.did f.description is.is in
+    described.no_dir (ap (λ (o : Object). o.kind) (sym (get_or-found s.objects f.description.object (stub_object s.top) described.object described.object_is)) ∙ dir)

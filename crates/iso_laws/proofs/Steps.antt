@@ -64,7 +64,7 @@ other_step l s who c laws valid kept high = by_process s who c (λ o. (crossing 
     (λ p is k h.
     part_by_number l _ (k h)
     ∙ by_number-changed_by l s (changes_of (judged_row s who c p).end)
-    ∙ ap (changed_by (by_number l s)) (met l s who c laws (λ cs. part_changes l s.top cs ≡ []) valid p is (hidden_cases l s kept who p _ is high) h)
+    ∙ ap (changed_by (by_number l s)) (met l s who c laws (λ cs. part_changes l s.top cs ≡ []) valid p is (hidden_cases l s kept valid who p _ is high) h)
     ∙ sym (part_by_number l s kept))
     (kept_step l s who c laws valid kept)
 

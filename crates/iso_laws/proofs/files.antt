@@ -1,2 +1,5 @@
+pub mod Descriptors
+pub mod Changes
+pub mod Isolation
 pub mod Records
 pub mod Numbers

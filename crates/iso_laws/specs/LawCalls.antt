@@ -5,8 +5,13 @@ use Rattle.kern_model.specs.declared.calls.Call.{Call}
 use Rattle.kern_model.specs.declared.calls.Call.TheVariants as call
 use Rattle.kern_model.specs.declared.world.ScriptItem.{ScriptItem}
 
--- whether they are proved for a call: one that reports or sets what its caller is, that reports what an object is or what a directory contains, or that makes an entry, moves one or takes one away
+-- whether they are proved for a call: one that reports or sets what its caller is, that reports what an object is or what a directory contains, that makes an entry, moves one or takes one away, or that reads, writes or duplicates a descriptor
 abbrev pub has_laws : Call → Bool
+has_laws (call.Read fd n) = true
+has_laws (call.Write fd bytes) = true
+has_laws (call.Lseek fd from offset) = true
+has_laws (call.Dup fd) = true
+has_laws (call.Fstat fd) = true
 has_laws (call.Mkfifo path mode) = true
 has_laws (call.Mkdir path mode) = true
 has_laws (call.Link path to) = true
