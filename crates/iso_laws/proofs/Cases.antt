@@ -1,7 +1,7 @@
 -- Properties of the changes of a row: one holds of each row where it holds of each kind of effect.
 use Rattle.std.specs.Prelude.{◌≡◌, ℕ, ◌+◌, ◌≤◌, ◌&&◌, length, Bool, true, false, not, List, [], ◌∷◌, Option, None, Some, refl}
 use Rattle.std.proofs.Common.{sym, ◌∙◌, ap, subst}
-use Rattle.std.proofs.lemmas.Bool.{true≢false, and_from}
+use Rattle.std.proofs.lemmas.Bool.{true≢false, and_from, and_parts}
 use Rattle.std.proofs.lemmas.Cmp.{tied_itself}
 use Rattle.std.specs.Cmp.{nat_cmp_total}
 use Rattle.std.specs.Ordering.{is_eq}
@@ -25,7 +25,7 @@ use Rattle.kern_model.specs.declared.objects.Kind.TheVariants as kind
 use Rattle.kern_model.specs.declared.objects.Object.{Object}
 use Rattle.kern_model.specs.declared.records.Rec.{Rec}
 use Rattle.kern_model.specs.Create.{made, has_object_number}
-use Rattle.kern_model.specs.Descriptors.{Opened, open_count, lowest_free, with_descriptor}
+use Rattle.kern_model.specs.Descriptors.{Opened, closing, open_count, lowest_free, with_descriptor}
 use Rattle.kern_model.specs.FileRows.{open_object, moved, with_bytes}
 use Rattle.kern_model.specs.Keys.{did_cmp, same_oid}
 use Rattle.kern_model.specs.Entries.{is_empty, is_removed, link_count}
@@ -37,14 +37,15 @@ use Rattle.kern_model.specs.Step.{subject}
 use Rattle.kern_model.specs.Walk.{on_path, read_object, last_place}
 use Rattle.kern_model.specs.Isolation.{low, crosses, Kept}
 use Rattle.kern_model.specs.Valid.{IsValid, IsDir, IsThere, IsValidProcess}
-use Rattle.kern_model.proofs.MapLemmas.{some_same, never_some, each-insert}
-use Rattle.kern_model.proofs.KeyLaws.{oid_cmp_total, did_cmp_total, did_cmp_exact}
-use Rattle.iso_laws.proofs.Part.{part_changes, part_of_high}
+use Rattle.kern_model.proofs.MapLemmas.{some_same, never_some, same_key, each-insert, each-remove}
+use Rattle.kern_model.proofs.KeyLaws.{oid_cmp_total, pid_cmp_exact, did_cmp_total, did_cmp_exact}
+use Rattle.iso_laws.proofs.Part.{part_changes, first_high, part_of_high}
 use Rattle.iso_laws.proofs.Rows.{Ends, Passes, Gives, ends_given}
 use Rattle.iso_laws.proofs.Sight.{IsNamed, IsOpen, open_object_is, open_no_dir, same_side, ends_reach, new_side, read_low, write_side}
 use Rattle.iso_laws.proofs.Changes.{KeptProcess, kept_of, kept_process, kept_object, kept_description, kept_beside, valid_process}
 use Rattle.iso_laws.proofs.Selections.{one_passes}
 use Rattle.iso_laws.proofs.files.Changes.{valid_moved, valid_content, valid_shared}
+use Rattle.iso_laws.proofs.files.Closing.{has_fd, without_fd, closing_hidden, kept_closed, valid_close}
 use Rattle.iso_laws.proofs.tree.Changes.{IsFresh, next_absent, not_true_false, valid_drop, valid_link, valid_made}
 use Rattle.iso_laws.proofs.tree.Moves.{IsMove, valid_move}
 
@@ -78,6 +79,8 @@ pub record Cases (bad : Rec → Bool) (s : State) (who : Pid) (p : Process) (fit
   -- a file of a descriptor, whose mac_write passed, gets other bytes and attributes, and the descriptor another offset
   pub write : (fd : ℕ) (f : Opened) (attr : Attr) (bytes : List ℕ) (place : Place) (offset : ℕ) → IsOpen s p fd f → Passes bad (subject who p) (mac_write s p f.description.object place) → (open_object s f).kind ≡ kind.File → is_mode attr.mode ≡ true → length bytes ≤ MAX_FILE_BYTES
       → P (SetObject f.description.object (record (open_object s f) { attr = attr; bytes = bytes }) ∷ moved f offset ∷ [])
+  -- a descriptor of the caller closes
+  pub close : (fd : ℕ) → P (SetProcess who (without_fd p fd) ∷ closing s (has_fd who fd))
 
 -- ---- what the rows of every process share
 -- a property of changes, whatever the own record is
@@ -127,6 +130,9 @@ hidden_cases l s kept valid who p fit is high =
       seek = λ fd f offset open_is. part_of_high l s.top (moved f offset ∷ []) (described fd f open_is, tt);
       pass = λ fd f bytes place open_is written stream few. part_of_high l s.top (with_bytes s f.description.object bytes ∷ []) (wrote_open fd f place open_is written, tt);
       write = λ fd f attr bytes place offset open_is written file mode few. part_of_high l s.top (SetObject f.description.object _ ∷ moved f offset ∷ []) (wrote_open fd f place open_is written, (described fd f open_is, tt));
+      close = λ fd.
+          first_high l s.top (SetProcess who (without_fd p fd)) (closing s (has_fd who fd)) high
+          ∙ closing_hidden l s kept valid (has_fd who fd) (λ d of gone. ap (λ (q : Pid). low l q.label) (same_key pid_cmp_exact d.who who (and_parts _ _ gone).0) ∙ high);
     }
 
 -- a label that a check allowed the caller is on the same side as its own
@@ -183,6 +189,15 @@ kept_cases l s kept valid who p fit is =
       seek = moved_to s kept refl;
       pass = λ fd f bytes place open_is written stream few. rewritten_as fd f (open_object s f).attr bytes open_is;
       write = λ fd f attr bytes place offset open_is written file mode few. moved_to _ (rewritten_as fd f attr bytes open_is) refl fd f offset open_is;
+      close = λ fd.
+          kept_closed l s kept valid (has_fd who fd) (changed s (SetProcess who (without_fd p fd)))
+          (kept_process l s kept who _ (record {
+            label = own.label;
+            parent = own.parent;
+            ended = own.ended;
+            fds = each-remove nat_cmp_total nat_cmp-IsAntisymmetric (λ (n : ℕ) (did : Did). low l did.label ≡ low l who.label) p.fds own.fds fd;
+            cwd = own.cwd;
+          })) refl;
     }
 
 -- a valid state stays valid, whatever crosses
@@ -261,4 +276,5 @@ valid_cases bad s valid who p is =
           })
           (λ fifo _. absurd (true≢false (ap is_fifo (sym fifo) ∙ ap is_fifo file))))
           f.did f.description (record f.description { offset = offset }) open_is.is refl;
+      close = λ fd. valid_close s who p is fd valid;
     }

@@ -18,10 +18,10 @@ use Rattle.kern_model.specs.declared.objects.Object.{Object}
 use Rattle.kern_model.specs.Keys.{Spot, pid_cmp, spot_cmp}
 use Rattle.kern_model.proofs.KeyLaws.{oid_cmp_total, oid_cmp_exact, pid_cmp_total, pid_cmp_exact, did_cmp_total, did_cmp_exact}
 use Rattle.kern_model.specs.Kinds.{is_stream}
-use Rattle.kern_model.specs.State.{State, Process, Description, SetObject, SetProcess, SetDescription, changed, look, root}
+use Rattle.kern_model.specs.State.{State, Process, Description, SetObject, SetProcess, SetDescription, DropDescription, changed, look, root}
 use Rattle.kern_model.specs.Isolation.{low, Kept}
 use Rattle.kern_model.specs.Valid.{IsValid, IsThere, IsReached, IsHeld, IsValidObject, IsValidEntry, IsValidEnd, IsValidProcess, IsValidDescription, leads}
-use Rattle.kern_model.proofs.MapLemmas.{each-insert, same_key}
+use Rattle.kern_model.proofs.MapLemmas.{each-insert, each-remove, same_key}
 
 -- ---- numbers and labels stay on one side
 -- what `Kept` says of one process
@@ -88,6 +88,21 @@ module _ (l : Label) (s : State) (kept : Kept l s) where
     streams = λ q x o is at. each-insert did_cmp_total did_cmp_exact (λ (z : Did) (y : Description). map.get s.objects y.object ≡ Some o → is_stream o.kind ≡ true → low l z.label ≡ low l y.object.label) s.descriptions
         (λ z y e at. kept.streams z y o e at) did d (stream o) q x is at;
   }
+
+  -- a state stays kept where a description goes
+  pub kept_dropped : (did : Did) → Kept l (changed s (DropDescription did))
+  kept_dropped did =
+      let was : (q : Did) (x : Description) → map.get (map.remove s.descriptions did) q ≡ Some x → map.get s.descriptions q ≡ Some x = each-remove did_cmp_total did_cmp_exact (λ (q : Did) (x : Description). map.get s.descriptions q ≡ Some x) s.descriptions (λ q x e. e) did in
+      record {
+        objects = kept.objects;
+        procs = kept.procs;
+        parents = kept.parents;
+        ended = kept.ended;
+        fds = kept.fds;
+        cwd = kept.cwd;
+        descriptions = λ q x e. kept.descriptions q x (was q x e);
+        streams = λ q x o e. kept.streams q x o (was q x e);
+      }
 
   -- whether a state is kept depends neither on entries nor on drawn numbers
   pub kept_beside : (entries : FinMap spot_cmp Oid) (object_numbers process_numbers description_numbers : FinMap label_cmp ℕ)

@@ -1,5 +1,6 @@
 pub mod Descriptors
 pub mod Changes
+pub mod Closing
 pub mod Isolation
 pub mod Records
 pub mod Numbers

@@ -18,21 +18,22 @@ use Rattle.kern_model.specs.declared.objects.Kind.{Kind}
 use Rattle.kern_model.specs.declared.objects.Kind.TheVariants as kind
 use Rattle.kern_model.specs.declared.objects.Object.{Object}
 use Rattle.kern_model.specs.declared.records.Rec.{Rec}
-use Rattle.kern_model.specs.Descriptors.{Opened, opened, open_count, any_open}
-use Rattle.kern_model.specs.FileRows.{dup_row, fstat_row, lseek_row, read_row, write_row, on_descriptor, open_object, moved, base_of, putting, writing, cleared, place_in, written_over}
+use Rattle.kern_model.specs.Descriptors.{Opened, opened, open_count, any_open, closing}
+use Rattle.kern_model.specs.FileRows.{close_row, dup_row, fstat_row, lseek_row, read_row, write_row, on_descriptor, open_object, moved, base_of, putting, writing, cleared, place_in, written_over}
 use Rattle.kern_model.specs.Isolation.{low, crosses, Kept}
 use Rattle.kern_model.specs.Kinds.{is_stream}
 use Rattle.kern_model.specs.Row.{Row, Need, Soft, Refuse, Commit}
 use Rattle.kern_model.specs.Rules.{of_object, same_label, is_plain, mac_read, mac_write}
-use Rattle.kern_model.specs.State.{State, Process, Change, SetObject, object_at}
+use Rattle.kern_model.specs.State.{State, Process, Change, SetObject, SetProcess, object_at}
 use Rattle.kern_model.specs.Stat.{stat_of}
 use Rattle.kern_model.specs.Step.{subject}
 use Rattle.kern_model.specs.Valid.{IsValid, IsValidObject}
 use Rattle.iso_laws.proofs.Cases.{Cases, Meets, OfChanges, meets_given}
 use Rattle.iso_laws.proofs.LowRows.{Same, AreSeen, seen_self, low_itself, low_by, low_check, low_answer, low_descriptor}
-use Rattle.iso_laws.proofs.Part.{by_number, part_of_low}
-use Rattle.iso_laws.proofs.Rows.{Gives, Passes, alike_cond, alike_need_if, alike_refuse, ends_cond, ends_give, ends_need, ends_need_if, ends_open, ends_refuse, ends_soft, gives_cond}
+use Rattle.iso_laws.proofs.Part.{by_number, first_low, part_of_low}
+use Rattle.iso_laws.proofs.Rows.{Gives, Passes, alike_cond, alike_give, alike_need_if, alike_refuse, ends_cond, ends_give, ends_need, ends_need_if, ends_open, ends_refuse, ends_soft, gives_cond}
 use Rattle.iso_laws.proofs.Sight.{IsOpen, is_open, object_low, open_object_is, open_no_dir}
+use Rattle.iso_laws.proofs.files.Closing.{has_fd, without_fd, closing_low}
 use Rattle.iso_laws.proofs.files.Descriptors.{any_open_low}
 use Rattle.iso_laws.proofs.tree.Entries.{stat_of_low}
 use Rattle.iso_laws.proofs.tree.Isolation.{permissions_are_mode}
@@ -57,6 +58,12 @@ module _ (l : Label) (s : State) (kept : Kept l s) (valid : IsValid s) (who : Pi
 
   pub dup_low : (fd : ℕ) → Same l s who p (dup_row s who p fd) (dup_row part_s who p fd)
   dup_low fd = low_descriptor l s kept valid who p is is_low fd _ _ (λ f _ _ _. low_itself l s kept valid who p is is_low _ (refl, seen_self l s kept valid who p is is_low _))
+
+  pub close_low : (fd : ℕ) → Same l s who p (close_row s who p fd) (close_row part_s who p fd)
+  close_low fd = low_descriptor l s kept valid who p is is_low fd _ _ (λ f _ _ _.
+      let gone : Change = SetProcess who (without_fd p fd) in
+      alike_give (crosses l) l s.top (subject who p) _ _ answer.Nothing None
+      (ap (λ cs. gone ∷ cs) (closing_low l s kept valid (has_fd who fd)) ∙ sym (first_low l s.top gone (closing s (has_fd who fd)) (kept.procs who p is ∙ is_low))))
 
   same_base : (f : Opened) → low l f.description.object.label ≡ true → (from : Whence) → base_of part_s f from ≡ base_of s f from
   same_base f h whence.Set = refl
@@ -163,6 +170,9 @@ module _ (bad : Rec → Bool) (s : State) (valid : IsValid s) (who : Pid) (p : P
   dup_meets fd = meets_descriptor fd _ (λ f open_is.
       ends_refuse bad (subject who p) P cases.none _ _ _ (λ full.
       ends_give bad (subject who p) P cases.none _ _ _ (cases.share fd f open_is (leb-true (open_count p + 1) MAX_DESCRIPTORS (not-false _ full)))))
+
+  pub close_meets : (fd : ℕ) → Meets bad who p P (close_row s who p fd)
+  close_meets fd = meets_descriptor fd _ (λ f _. given (cases.close fd))
 
   pub lseek_meets : (fd : ℕ) (from : Whence) (offset : ℤ) → Meets bad who p P (lseek_row s who p fd from offset)
   lseek_meets fd from offset = meets_descriptor fd _ (λ f open_is. given (refl, (refl, cases.seek fd f _ open_is)))
