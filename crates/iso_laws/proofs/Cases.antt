@@ -1,7 +1,7 @@
 -- Properties of the changes of a row: one holds of each row where it holds of each kind of effect.
-use Rattle.std.specs.Prelude.{◌≡◌, ℕ, ◌+◌, ◌≤◌, ◌&&◌, length, Bool, true, false, not, List, [], ◌∷◌, Option, None, Some, refl}
-use Rattle.std.proofs.Common.{sym, ◌∙◌, ap, subst}
-use Rattle.std.proofs.lemmas.Bool.{true≢false, and_from, and_parts}
+use Rattle.std.specs.Prelude.{◌≡◌, ℕ, ◌+◌, ◌≤◌, ◌&&◌, ◌||◌, ◌++◌, length, Bool, true, false, not, List, [], ◌∷◌, Option, None, Some, refl}
+use Rattle.std.proofs.Common.{sym, ◌∙◌, ap, subst, arith, inl, inr}
+use Rattle.std.proofs.lemmas.Bool.{true≢false, and_from, and_parts, or_cases}
 use Rattle.std.proofs.lemmas.Cmp.{tied_itself}
 use Rattle.std.specs.Cmp.{nat_cmp_total}
 use Rattle.std.specs.Ordering.{is_eq}
@@ -13,7 +13,8 @@ use Rattle.cap_bits.specs.declared.state.CapState.{CapState}
 use Rattle.fs_path.specs.Name.{Name, is_name}
 use Rattle.fs_path.specs.Path.{PathValue}
 use Rattle.lab_lattice.specs.Label.{Label, dominates}
-use Rattle.kern_model.specs.declared.limits.TheConstants.{MAX_DESCRIPTORS, MAX_FILE_BYTES, MAX_GROUPS, MAX_LINKS, MAX_PIPE_BYTES}
+use Rattle.kern_model.specs.declared.calls.OpenFlags.{OpenFlags}
+use Rattle.kern_model.specs.declared.limits.TheConstants.{MAX_DESCRIPTIONS, MAX_DESCRIPTORS, MAX_FILE_BYTES, MAX_GROUPS, MAX_LINKS, MAX_PIPE_BYTES}
 use Rattle.kern_model.specs.declared.numbers.Ids.{Ids}
 use Rattle.kern_model.specs.declared.numbers.Did.{Did}
 use Rattle.kern_model.specs.declared.numbers.Oid.{Oid}
@@ -21,33 +22,61 @@ use Rattle.kern_model.specs.declared.numbers.Pid.{Pid}
 use Rattle.kern_model.specs.declared.checks.Place.{Place}
 use Rattle.kern_model.specs.declared.checks.Place.TheVariants.{First}
 use Rattle.kern_model.specs.declared.objects.Attr.{Attr}
+use Rattle.kern_model.specs.declared.objects.Kind.{Kind}
 use Rattle.kern_model.specs.declared.objects.Kind.TheVariants as kind
 use Rattle.kern_model.specs.declared.objects.Object.{Object}
 use Rattle.kern_model.specs.declared.records.Rec.{Rec}
 use Rattle.kern_model.specs.Create.{made, has_object_number}
 use Rattle.kern_model.specs.Descriptors.{Opened, closing, open_count, lowest_free, with_descriptor}
-use Rattle.kern_model.specs.FileRows.{open_object, moved, with_bytes}
+use Rattle.kern_model.specs.FileRows.{open_object, opening, moved, with_bytes}
 use Rattle.kern_model.specs.Keys.{did_cmp, same_oid}
 use Rattle.kern_model.specs.Entries.{is_empty, is_removed, link_count}
 use Rattle.kern_model.specs.Kinds.{is_dir as dir_kind, is_file, is_fifo, is_mode, is_permission, is_stream}
 use Rattle.kern_model.specs.Rules.{same_label, mac_read, mac_write, mac_subject}
 use Rattle.kern_model.specs.Row.{Row}
-use Rattle.kern_model.specs.State.{State, Process, Description, Change, SetObject, SetProcess, SetEntry, DropEntry, changed, changed_by, next_object, object_at, look}
+use Rattle.kern_model.specs.State.{State, Process, Description, Change, SetObject, SetProcess, SetEntry, DropEntry, SetDescription, DrawDescription, changed, changed_by, drawn, next_object, next_description, object_at, stub_object, look}
 use Rattle.kern_model.specs.Step.{subject}
 use Rattle.kern_model.specs.Walk.{on_path, read_object, last_place}
 use Rattle.kern_model.specs.Isolation.{low, crosses, Kept}
 use Rattle.kern_model.specs.Valid.{IsValid, IsDir, IsThere, IsValidProcess}
-use Rattle.kern_model.proofs.MapLemmas.{some_same, never_some, same_key, each-insert, each-remove}
+use Rattle.kern_model.proofs.MapLemmas.{some_same, never_some, same_key, get-insert_same, get_or-found, each-insert, each-remove}
 use Rattle.kern_model.proofs.KeyLaws.{oid_cmp_total, pid_cmp_exact, did_cmp_total, did_cmp_exact}
 use Rattle.iso_laws.proofs.Part.{part_changes, first_high, part_of_high}
 use Rattle.iso_laws.proofs.Rows.{Ends, Passes, Gives, ends_given}
 use Rattle.iso_laws.proofs.Sight.{IsNamed, IsOpen, open_object_is, open_no_dir, same_side, ends_reach, new_side, read_low, write_side}
 use Rattle.iso_laws.proofs.Changes.{KeptProcess, kept_of, kept_process, kept_object, kept_description, kept_beside, valid_process}
 use Rattle.iso_laws.proofs.Selections.{one_passes}
-use Rattle.iso_laws.proofs.files.Changes.{valid_moved, valid_content, valid_shared}
+use Rattle.iso_laws.proofs.files.Changes.{valid_moved, valid_content, valid_shared, valid_opened}
 use Rattle.iso_laws.proofs.files.Closing.{has_fd, without_fd, closing_hidden, kept_closed, valid_close}
-use Rattle.iso_laws.proofs.tree.Changes.{IsFresh, next_absent, not_true_false, valid_drop, valid_link, valid_made}
+use Rattle.iso_laws.proofs.tree.Changes.{IsFresh, no_dir_is, next_absent, not_true_false, valid_drop, valid_link, valid_made}
 use Rattle.iso_laws.proofs.tree.Moves.{IsMove, valid_move}
+
+-- an object may be made, where none was, in a directory whose mac_write passed and that is not removed
+pub record IsMaking (bad : Rec → Bool) (s : State) (who : Pid) (p : Process) (fit : Type 0) (dir : Oid) (name : Name) (o : Object) (place : Place) : Type 0 where
+  pub written : Passes bad (subject who p) (mac_write s p dir place)
+  pub is_dir : IsDir s.objects dir
+  pub free : look s dir name ≡ None
+  pub standing : is_removed s dir ≡ false
+  pub fresh : IsFresh p o
+  pub left : has_object_number s p ≡ true
+  pub order : dominates p.label is_dir.object.label ≡ true
+  pub named : fit → is_name name ≡ true
+
+-- a descriptor and a number of a description are left
+pub record HasRoom (s : State) (p : Process) : Type 0 where
+  pub descriptor : open_count p + 1 ≤ MAX_DESCRIPTORS
+  pub number : drawn s.description_numbers p.label + 1 ≤ MAX_DESCRIPTIONS
+
+-- an object may be opened: it is no directory, flags ask to read or to write it, and the checks on labels passed that they ask for
+pub record IsOpening (bad : Rec → Bool) (s : State) (who : Pid) (p : Process) (id : Oid) (flags : OpenFlags) (place : Place) : Type 0 where
+  pub named : IsNamed s id
+  pub no_dir : dir_kind named.object.kind ≡ false
+  pub asked : (flags.r || flags.w) ≡ true
+  pub read : flags.r ≡ true → Passes bad (subject who p) (mac_read s p id place)
+  pub written : flags.w ≡ true → Passes bad (subject who p) (mac_write s p id place)
+  -- who reads a FIFO takes bytes out of it
+  pub fifo : (is_fifo named.object.kind && flags.r) ≡ true → Passes bad (subject who p) (mac_write s p id place)
+  pub room : HasRoom s p
 
 -- a property holds of each kind of effect; where the arguments are in their ranges, so is what the effect sets
 pub record Cases (bad : Rec → Bool) (s : State) (who : Pid) (p : Process) (fit : Type 0) (P : List Change → Type 0) : Type 0 where
@@ -67,9 +96,8 @@ pub record Cases (bad : Rec → Bool) (s : State) (who : Pid) (p : Process) (fit
   -- an entry moves to a spot of a directory, and the mac_write of both directories passed
   pub move : (dir : Oid) (name : Name) (id into : Oid) (new : Name) (place there_place : Place) → Passes bad (subject who p) (mac_write s p dir place) → IsDir s.objects dir → Passes bad (subject who p) (mac_write s p into there_place)
       → IsMove s dir name id into new → (fit → is_name new ≡ true) → P (DropEntry (dir, name) ∷ SetEntry (into, new) id ∷ [])
-  -- an object is made, where none was, in a directory whose mac_write passed and that is not removed
-  pub make : (dir : Oid) (name : Name) (o : Object) (place : Place) → Passes bad (subject who p) (mac_write s p dir place) → (is_dir : IsDir s.objects dir) → look s dir name ≡ None → is_removed s dir ≡ false
-      → IsFresh p o → has_object_number s p ≡ true → dominates p.label is_dir.object.label ≡ true → (fit → is_name name ≡ true) → P (made s p dir name o)
+  -- an object is made
+  pub make : (dir : Oid) (name : Name) (o : Object) (place : Place) → IsMaking bad s who p fit dir name o place → P (made s p dir name o)
   -- the caller gets a further descriptor, of what another one refers to
   pub share : (fd : ℕ) (f : Opened) → IsOpen s p fd f → open_count p + 1 ≤ MAX_DESCRIPTORS → P (SetProcess who (with_descriptor p f.did) ∷ [])
   -- a descriptor of the caller gets another offset
@@ -79,6 +107,12 @@ pub record Cases (bad : Rec → Bool) (s : State) (who : Pid) (p : Process) (fit
   -- a file of a descriptor, whose mac_write passed, gets other bytes and attributes, and the descriptor another offset
   pub write : (fd : ℕ) (f : Opened) (attr : Attr) (bytes : List ℕ) (place : Place) (offset : ℕ) → IsOpen s p fd f → Passes bad (subject who p) (mac_write s p f.description.object place) → (open_object s f).kind ≡ kind.File → is_mode attr.mode ≡ true → length bytes ≤ MAX_FILE_BYTES
       → P (SetObject f.description.object (record (open_object s f) { attr = attr; bytes = bytes }) ∷ moved f offset ∷ [])
+  -- an object is opened
+  pub open_existing : (id : Oid) (flags : OpenFlags) (place : Place) → IsOpening bad s who p id flags place → P (opening s who p id flags)
+  -- a file that may be written loses its bytes, gets other attributes, and is opened
+  pub open_emptied : (id : Oid) (flags : OpenFlags) (place : Place) (attr : Attr) → (may : IsOpening bad s who p id flags place) → flags.w ≡ true → may.named.object.kind ≡ kind.File → is_mode attr.mode ≡ true → P (SetObject id (record (object_at s id) { attr = attr; bytes = [] }) ∷ opening s who p id flags)
+  -- a file is made and opened
+  pub open_made : (dir : Oid) (name : Name) (o : Object) (place : Place) (flags : OpenFlags) → IsMaking bad s who p fit dir name o place → o.kind ≡ kind.File → HasRoom s p → P (made s p dir name o ++ opening s who p (next_object s p.label) flags)
   -- a descriptor of the caller closes
   pub close : (fd : ℕ) → P (SetProcess who (without_fd p fd) ∷ closing s (has_fd who fd))
 
@@ -125,7 +159,12 @@ hidden_cases l s kept valid who p fit is high =
       leave = λ dir name id place written is_dir at empty. part_of_high l s.top (DropEntry (dir, name) ∷ []) (wrote dir place written is_dir, tt);
       enter = λ dir name id place written is_dir free standing named no_dir few order fits. part_of_high l s.top (SetEntry (dir, name) id ∷ []) (wrote dir place written is_dir, tt);
       move = λ dir name id into new place there_place written is_dir written_there move fits. part_of_high l s.top (DropEntry (dir, name) ∷ SetEntry (into, new) id ∷ []) (wrote dir place written is_dir, (wrote into there_place written_there move.into_is, tt));
-      make = λ dir name o place written is_dir free standing fresh left order fits. part_of_high l s.top (made s p dir name o) (mine, (mine, (wrote dir place written is_dir, tt)));
+      make = λ dir name o place making. part_of_high l s.top (made s p dir name o) (mine, (mine, (wrote dir place making.written making.is_dir, tt)));
+      open_existing = λ id flags place may. part_of_high l s.top (opening s who p id flags) (mine, (mine, (high, tt)));
+      open_emptied = λ id flags place attr may writes file mode.
+          part_of_high l s.top (SetObject id _ ∷ opening s who p id flags) (wrote_there id place (may.written writes) (record { value = may.named.object; is = may.named.is }), (mine, (mine, (high, tt))));
+      open_made = λ dir name o place flags making file room.
+          part_of_high l s.top (made s p dir name o ++ opening s who p (next_object s p.label) flags) (mine, (mine, (wrote dir place making.written making.is_dir, (mine, (mine, (high, tt))))));
       share = λ fd f open_is room. unseen _;
       seek = λ fd f offset open_is. part_of_high l s.top (moved f offset ∷ []) (described fd f open_is, tt);
       pass = λ fd f bytes place open_is written stream few. part_of_high l s.top (with_bytes s f.description.object bytes ∷ []) (wrote_open fd f place open_is written, tt);
@@ -143,10 +182,55 @@ given_side l who p new passes =
       | false ↦ λ other. new_side l (subject who p) (mac_subject who p new) cap.MacRelabelSubj new refl refl refl refl (passes (ap not other))
     ] refl
 
+-- what a Low process opens is Low
+opening_low : (l : Label) (s : State) → Kept l s → (who : Pid) (p : Process) (id : Oid) (flags : OpenFlags) (place : Place) → IsOpening (crosses l) s who p id flags place → low l p.label ≡ true → low l id.label ≡ true
+opening_low l s kept who p id flags place may is_low =
+    let there : IsThere s.objects id = record { value = may.named.object; is = may.named.is } in
+    elim (or_cases flags.r flags.w may.asked) as (λ w. low l id.label ≡ true) [
+      | inl reads ↦ read_low l s kept who p is_low id there place (may.read reads)
+      | inr writes ↦ sym (write_side l s kept who p id there place (may.written writes)) ∙ is_low
+    ]
+
+stream_fifo : (k : Kind) → is_stream k ≡ true → (k ≡ kind.Pipe → ⊥) → is_fifo k ≡ true
+stream_fifo kind.Dir h no_pipe = absurd (true≢false (sym h))
+stream_fifo kind.File h no_pipe = absurd (true≢false (sym h))
+stream_fifo kind.Fifo h no_pipe = refl
+stream_fifo kind.Pipe h no_pipe = absurd (no_pipe refl)
+
+-- a FIFO that a process opens is on its side
+opening_side : (l : Label) (s : State) → Kept l s → (who : Pid) (p : Process) (id : Oid) (flags : OpenFlags) (place : Place) → (may : IsOpening (crosses l) s who p id flags place) → (o : Object) → may.named.object ≡ o → is_stream o.kind ≡ true → low l p.label ≡ low l id.label
+opening_side l s kept who p id flags place may o same stream =
+    let there : IsThere s.objects id = record { value = may.named.object; is = may.named.is } in
+    let is_one : is_fifo may.named.object.kind ≡ true = stream_fifo may.named.object.kind (ap (λ (x : Object). is_stream x.kind) same ∙ stream) may.named.no_pipe in
+    elim (or_cases flags.r flags.w may.asked) as (λ w. low l p.label ≡ low l id.label) [
+      | inl reads ↦ write_side l s kept who p id there place (may.fifo (and_from _ _ is_one reads))
+      | inr writes ↦ write_side l s kept who p id there place (may.written writes)
+    ]
+
 -- a kept state stays kept
 pub kept_cases : (l : Label) (s : State) → Kept l s → IsValid s → (who : Pid) (p : Process) (fit : Type 0) → map.get s.procs who ≡ Some p → Cases (crosses l) s who p fit (λ cs. Kept l (changed_by s cs))
 kept_cases l s kept valid who p fit is =
     let own : KeptProcess l who p = kept_of l s kept who p is in
+    let made_in : (dir : Oid) (name : Name) (o : Object) (place : Place) → IsMaking (crosses l) s who p fit dir name o place → Kept l (changed_by s (made s p dir name o)) =
+    λ dir name o place making.
+    let new : Oid = next_object s p.label in
+    kept_beside l (changed s (SetObject new o)) (kept_object l s kept new o (ap (low l) (sym making.fresh.label)) (λ did d e at _.
+    let described = valid.descriptions did d e in
+    absurd (never_some (map.get s.objects new) described.object (next_absent s valid p.label) (ap (map.get s.objects) (sym at) ∙ described.object_is))))
+    _ _ s.process_numbers s.description_numbers in
+    let opened_at : (t : State) → Kept l t → (id : Oid) (flags : OpenFlags) → (low l p.label ≡ true → low l id.label ≡ true) → ((o : Object) → map.get t.objects id ≡ Some o → is_stream o.kind ≡ true → low l p.label ≡ low l id.label) → Kept l (changed_by t (opening s who p id flags)) =
+    λ t kept_t id flags side stream.
+    let new : Did = next_description s p.label in
+    let drawn_t : State = changed t (DrawDescription p.label (drawn s.description_numbers p.label + 1)) in
+    let d : Description = record { object = id; reads = flags.r; writes = flags.w; appends = flags.a; offset = 0 } in
+    kept_process l (changed drawn_t (SetDescription new d)) (kept_description l drawn_t (kept_beside l t kept_t t.entries t.object_numbers t.process_numbers _) new d side stream) who _
+    (record {
+      label = own.label;
+      parent = own.parent;
+      ended = own.ended;
+      fds = each-insert nat_cmp_total nat_cmp-IsAntisymmetric (λ (n : ℕ) (did : Did). low l did.label ≡ low l who.label) p.fds own.fds (lowest_free p.fds) new (sym own.label);
+      cwd = own.cwd;
+    }) in
     let moved_to : (t : State) → Kept l t → t.descriptions ≡ s.descriptions → (fd : ℕ) (f : Opened) (offset : ℕ) → IsOpen s p fd f → Kept l (changed t (moved f offset)) =
     λ t kept_t same fd f offset open_is.
     let there : map.get t.descriptions f.did ≡ Some f.description = ap (λ (m : FinMap did_cmp Description). map.get m f.did) same ∙ open_is.is in
@@ -172,12 +256,17 @@ kept_cases l s kept valid who p fit is =
       leave = λ dir name id place written is_dir at empty. kept_beside l s kept _ s.object_numbers s.process_numbers s.description_numbers;
       enter = λ dir name id place written is_dir free standing named no_dir few order fits. kept_beside l s kept _ s.object_numbers s.process_numbers s.description_numbers;
       move = λ dir name id into new place there_place written is_dir written_there move fits. kept_beside l s kept _ s.object_numbers s.process_numbers s.description_numbers;
-      make = λ dir name o place written is_dir free standing fresh left order fits.
-          let new : Oid = next_object s p.label in
-          kept_beside l (changed s (SetObject new o)) (kept_object l s kept new o (ap (low l) (sym fresh.label)) (λ did d e at _.
-          let described = valid.descriptions did d e in
-          absurd (never_some (map.get s.objects new) described.object (next_absent s valid p.label) (ap (map.get s.objects) (sym at) ∙ described.object_is))))
-          _ _ s.process_numbers s.description_numbers;
+      make = made_in;
+      open_existing = λ id flags place may.
+          opened_at s kept id flags (opening_low l s kept who p id flags place may) (λ o e. opening_side l s kept who p id flags place may o (some_same may.named.object o (sym may.named.is ∙ e)));
+      open_emptied = λ id flags place attr may writes file mode.
+          let new : Object = record (object_at s id) { attr = attr; bytes = [] } in
+          let at : object_at s id ≡ may.named.object = get_or-found s.objects id (stub_object s.top) may.named.object may.named.is in
+          let no_stream : is_stream new.kind ≡ true → ⊥ = λ stream. true≢false (sym stream ∙ ap (λ (o : Object). is_stream o.kind) at ∙ ap is_stream file) in
+          opened_at (changed s (SetObject id new)) (kept_object l s kept id new (kept.objects id may.named.object may.named.is ∙ ap (λ (o : Object). low l o.label) (sym at)) (λ did d e on stream. absurd (no_stream stream)))
+          id flags (opening_low l s kept who p id flags place may)
+          (λ o e stream. absurd (no_stream (ap (λ (x : Object). is_stream x.kind) (some_same new o (sym (get-insert_same oid_cmp_total s.objects id new) ∙ e)) ∙ stream)));
+      open_made = λ dir name o place flags making file room. opened_at (changed_by s (made s p dir name o)) (made_in dir name o place making) (next_object s p.label) flags (λ h. h) (λ x e stream. refl);
       share = λ fd f open_is room.
           kept_process l s kept who _ (record {
             label = own.label;
@@ -246,7 +335,20 @@ valid_cases bad s valid who p is =
       leave = λ dir name id place written is_dir at empty. valid_drop s valid (dir, name) id at empty;
       enter = λ dir name id place written is_dir free standing named no_dir few order fits. valid_link s valid dir name id is_dir free standing named.object named.is (not_true_false _ no_dir) named.no_pipe few order (fits tt);
       move = λ dir name id into new place there_place written is_dir written_there move fits. valid_move s valid dir name id into new move (fits tt);
-      make = λ dir name o place written is_dir free standing fresh left order fits. valid_made s valid p dir name o fresh is_dir free standing own.below left order (fits tt);
+      make = λ dir name o place making. valid_made s valid p dir name o making.fresh making.is_dir making.free making.standing own.below making.left making.order (making.named tt);
+      open_existing = λ id flags place may. valid_opened s valid who p is (record { object = id; reads = flags.r; writes = flags.w; appends = flags.a; offset = 0 }) may.named.object may.named.is (no_dir_is may.named.object may.no_dir) may.room.descriptor may.room.number;
+      open_emptied = λ id flags place attr may writes file mode.
+          let old : Object = may.named.object in
+          let new : Object = record (object_at s id) { attr = attr; bytes = [] } in
+          let at : object_at s id ≡ old = get_or-found s.objects id (stub_object s.top) old may.named.is in
+          let new_file : new.kind ≡ kind.File = ap (λ (o : Object). o.kind) at ∙ file in
+          valid_opened (changed s (SetObject id new))
+          (valid_content s valid id old new may.named.is (ap (λ (o : Object). o.kind) at) (ap (λ (o : Object). o.label) at)
+          (record { mode = mode; only_files = λ other. absurd (true≢false (ap is_file (sym new_file) ∙ other)); dir_bytes = λ _. refl; file_bytes = λ _. omega arith; stream_bytes = λ _. omega arith }) (λ _ _. refl))
+          who p is (record { object = id; reads = flags.r; writes = flags.w; appends = flags.a; offset = 0 }) new (get-insert_same oid_cmp_total s.objects id new) (λ dir. let no : kind.File ≡ kind.Dir = sym new_file ∙ dir in cc) may.room.descriptor may.room.number;
+      open_made = λ dir name o place flags making file room.
+          valid_opened (changed_by s (made s p dir name o)) (valid_made s valid p dir name o making.fresh making.is_dir making.free making.standing own.below making.left making.order (making.named tt))
+          who p is (record { object = next_object s p.label; reads = flags.r; writes = flags.w; appends = flags.a; offset = 0 }) o (get-insert_same oid_cmp_total s.objects (next_object s p.label) o) (λ dir. let no : kind.File ≡ kind.Dir = sym file ∙ dir in cc) room.descriptor room.number;
       share = λ fd f open_is room. valid_shared s valid who p is f.did (record { value = f.description; is = open_is.is }) room;
       seek = λ fd f offset open_is. valid_moved s valid f.did f.description (record f.description { offset = offset }) open_is.is refl;
       pass = λ fd f bytes place open_is written stream few.

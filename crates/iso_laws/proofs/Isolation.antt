@@ -26,6 +26,7 @@ use Rattle.iso_laws.proofs.audit.Isolation as audit
 -- each row of a Low process ends in the part as in the state
 module _ (l : Label) (s : State) (kept : Kept l s) (valid : IsValid s) (who : Pid) (p : Process) (is : map.get s.procs who ≡ Some p) (is_low : low l p.label ≡ true) where
   pub low_row : (c : Call) → has_laws c ≡ true → Same l s who p (row s who p c) (row (by_number l s) who p c)
+  low_row (call.OpenPath path flags mode) args = files.open_low l s kept valid who p is is_low path flags mode args
   low_row (call.Close fd) _ = files.close_low l s kept valid who p is is_low fd
   low_row (call.Read fd n) _ = files.read_low l s kept valid who p is is_low fd n
   low_row (call.Write fd bytes) _ = files.write_low l s kept valid who p is is_low fd bytes
@@ -64,6 +65,7 @@ module _ (l : Label) (s : State) (kept : Kept l s) (valid : IsValid s) (who : Pi
 module _ (bad : Rec → Bool) (s : State) (valid : IsValid s) (who : Pid) (p : Process) (is : map.get s.procs who ≡ Some p) (fit : Type 0) (P : List Change → Type 0) (cases : Cases bad s who p fit P) where
   pub row_meets : (c : Call) → (fit → is_call s.top c ≡ true) → (fit → has_names c ≡ true) → has_laws c ≡ true → Meets bad who p P (row s who p c)
   unfolding is_call has_names
+  row_meets (call.OpenPath path flags mode) _ names args = files.open_meets bad s valid who p is fit P cases path flags mode args names
   row_meets (call.Close fd) _ _ _ = files.close_meets bad s valid who p is fit P cases fd
   row_meets (call.Read fd n) _ _ _ = files.read_meets bad s valid who p is fit P cases fd n
   row_meets (call.Write fd bytes) _ _ _ = files.write_meets bad s valid who p is fit P cases fd bytes

@@ -164,7 +164,7 @@ found_after s name names (Entry dir last object) f = (f.0, f.1, λ h. f.2 (and_p
 pub led_there : (s : State) → IsValid s → (dir : Oid) (name : Name) (id : Oid) → look s dir name ≡ Some id → IsThere s.objects id
 led_there s valid dir name id e = let entry = valid.entries (dir, name) id e in record { value = entry.object; is = entry.object_is }
 
-led_named : (s : State) → IsValid s → (dir : Oid) (name : Name) (id : Oid) → look s dir name ≡ Some id → IsNamed s id
+pub led_named : (s : State) → IsValid s → (dir : Oid) (name : Name) (id : Oid) → look s dir name ≡ Some id → IsNamed s id
 led_named s valid dir name id e = let entry = valid.entries (dir, name) id e in record { object = entry.object; is = entry.object_is; no_pipe = entry.no_pipe }
 
 dir_named : (s : State) (id : Oid) → IsDir s.objects id → IsNamed s id

@@ -34,6 +34,7 @@ use Rattle.iso_laws.proofs.Part.{by_number, first_low, part_of_low}
 use Rattle.iso_laws.proofs.Rows.{Gives, Passes, alike_cond, alike_give, alike_need_if, alike_refuse, ends_cond, ends_give, ends_need, ends_need_if, ends_open, ends_refuse, ends_soft, gives_cond}
 use Rattle.iso_laws.proofs.Sight.{IsOpen, is_open, object_low, open_object_is, open_no_dir}
 use Rattle.iso_laws.proofs.files.Closing.{has_fd, without_fd, closing_low}
+pub use Rattle.iso_laws.proofs.files.Opening.{open_low, open_meets}
 use Rattle.iso_laws.proofs.files.Descriptors.{any_open_low}
 use Rattle.iso_laws.proofs.tree.Entries.{stat_of_low}
 use Rattle.iso_laws.proofs.tree.Isolation.{permissions_are_mode}

@@ -162,7 +162,7 @@ module _ (l : Label) (s : State) (kept : Kept l s) (valid : IsValid s) (who : Pi
       (λ _. alike_same (crosses l) l s.top (subject who p) c c' _ _ e (λ _. rest)))
 
   -- a Low directory may get an entry
-  low_enter_in : (dir : Oid) → low l dir.label ≡ true → IsDir s.objects dir → (place : Place) (c c' : Check) → c' ≡ c → (r r' : Row) → Same l s who p r r' → Same l s who p (enter_in s p dir place c r) (enter_in part_s p dir place c' r')
+  pub low_enter_in : (dir : Oid) → low l dir.label ≡ true → IsDir s.objects dir → (place : Place) (c c' : Check) → c' ≡ c → (r r' : Row) → Same l s who p r r' → Same l s who p (enter_in s p dir place c r) (enter_in part_s p dir place c' r')
   low_enter_in dir h is_dir place c c' e r r' rest =
       low_write_directory dir h place c c' e _ _
       (alike_refuse (crosses l) l s.top (subject who p) errno.ENOENT _ _ _ _ (removed_low l s kept valid dir (record { value = is_dir.object; is = is_dir.is }) h) (λ _. rest))
@@ -171,14 +171,14 @@ module _ (l : Label) (s : State) (kept : Kept l s) (valid : IsValid s) (who : Pi
   abbrev made_at : Oid → Name → Object → ℕ → List Change
   made_at dir name o n = DrawObject p.label (n + 1) ∷ SetObject (record { label = p.label; n = n + 1 }) o ∷ SetEntry (dir, name) (record { label = p.label; n = n + 1 }) ∷ []
 
-  seen_made : (dir : Oid) (name : Name) (o : Object) → low l dir.label ≡ true → made part_s p dir name o ≡ part_changes l s.top (made s p dir name o)
+  pub seen_made : (dir : Oid) (name : Name) (o : Object) → low l dir.label ≡ true → made part_s p dir name o ≡ part_changes l s.top (made s p dir name o)
   seen_made dir name o h =
       let n : ℕ = drawn s.object_numbers p.label in
       ap (made_at dir name o) (drawn_low l s p.label is_low)
       ∙ ap (λ (q : Oid). DrawObject p.label (n + 1) ∷ SetObject (next_object s p.label) o ∷ SetEntry (dir, name) q ∷ []) (sym (shown_low l s (next_object s p.label) is_low))
       ∙ sym (part_of_low l s.top (made s p dir name o) (is_low, (is_low, (h, tt))))
 
-  same_room : has_object_number part_s p ≡ has_object_number s p
+  pub same_room : has_object_number part_s p ≡ has_object_number s p
   same_room = ap (λ n. nat_lt n MAX_OBJECTS) (drawn_low l s p.label is_low)
 
   make_low : (path : PathValue) (mode : ℕ) (b : Body) → Same l s who p (make_row s who p path mode b) (make_row part_s who p path mode b)
@@ -319,10 +319,10 @@ module _ (bad : Rec → Bool) (s : State) (valid : IsValid s) (who : Pid) (p : P
       h written (met_rule bad (subject who p) c unnamed ordered))))
 
   -- the row goes on where a directory may get an entry
-  meets_enter_in : (dir : Oid) (place : Place) (c : Check) (r : Row) → cap_of c.name ≡ None → (Passes bad (subject who p) (mac_write s p dir place) → c.holds ≡ true → is_removed s dir ≡ false → Meets bad who p P r) → Meets bad who p P (enter_in s p dir place c r)
+  pub meets_enter_in : (dir : Oid) (place : Place) (c : Check) (r : Row) → cap_of c.name ≡ None → (Passes bad (subject who p) (mac_write s p dir place) → c.holds ≡ true → is_removed s dir ≡ false → Meets bad who p P r) → Meets bad who p P (enter_in s p dir place c r)
   meets_enter_in dir place c r unnamed h = meets_write_directory dir place c _ unnamed (λ written order. ends_refuse bad (subject who p) P cases.none _ _ _ (h written order))
 
-  dir_at : (dir : Oid) (is_dir : IsDir s.objects dir) → object_at s dir ≡ is_dir.object
+  pub dir_at : (dir : Oid) (is_dir : IsDir s.objects dir) → object_at s dir ≡ is_dir.object
   dir_at dir is_dir = get_or-found s.objects dir (stub_object s.top) is_dir.object is_dir.is
 
   make_meets : (path : PathValue) (mode : ℕ) (b : Body) → bytes_of b ≡ [] → (kind_of b ≡ kind.Pipe → ⊥) → (fit → are_names path ≡ true) → Meets bad who p P (make_row s who p path mode b)
@@ -333,8 +333,16 @@ module _ (bad : Rec → Bool) (s : State) (valid : IsValid s) (who : Pid) (p : P
       (meets_new_name path.names (λ dir name. make_in s p dir place (Refuse errno.ENOSPC (not (has_object_number s p)) (Commit (made s p dir name o) answer.Nothing None)))
       (λ dir name is_dir free named. meets_enter_in dir place (created_order s p dir place) _ refl (λ written order standing.
       ends_refuse bad (subject who p) P cases.none _ _ _ (λ room. ends_give bad (subject who p) P cases.none _ answer.Nothing None
-      (cases.make dir name o place written is_dir free standing (record { label = refl; mode = masked_is_mode mode p.umask; caps = refl; bytes = no_bytes; no_pipe = no_pipe }) (not-false _ room)
-      (ap (λ (d : Object). dominates p.label d.label) (sym (dir_at dir is_dir)) ∙ order) (λ f. named (args f)))))))
+      (cases.make dir name o place (record {
+        written = written;
+        is_dir = is_dir;
+        free = free;
+        standing = standing;
+        fresh = record { label = refl; mode = masked_is_mode mode p.umask; caps = refl; bytes = no_bytes; no_pipe = no_pipe };
+        left = not-false _ room;
+        order = ap (λ (d : Object). dominates p.label d.label) (sym (dir_at dir is_dir)) ∙ order;
+        named = λ f. named (args f);
+      }))))))
 
   pub mkdir_meets : (path : PathValue) (mode : ℕ) → (fit → are_names path ≡ true) → Meets bad who p P (mkdir_row s who p path mode)
   mkdir_meets path mode args = make_meets path mode body.Dir refl (λ e. let no : kind.Dir ≡ kind.Pipe = e in cc) args
