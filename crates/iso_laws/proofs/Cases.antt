@@ -4,7 +4,7 @@ use Rattle.std.proofs.Common.{sym, ◌∙◌, ap, subst, arith, inl, inr}
 use Rattle.std.proofs.lemmas.Bool.{true≢false, and_from, and_parts, or_cases}
 use Rattle.std.proofs.lemmas.Cmp.{tied_itself}
 use Rattle.std.specs.Cmp.{nat_cmp_total}
-use Rattle.std.specs.Ordering.{is_eq}
+use Rattle.std.specs.Ordering.{is_eq, nat_cmp}
 use Rattle.std.specs.FinMap as map
 use Rattle.std.specs.FinMap.{FinMap, nat_cmp-IsAntisymmetric}
 use Rattle.cap_bits.specs.declared.cap.Cap.TheVariants as cap
@@ -22,16 +22,17 @@ use Rattle.kern_model.specs.declared.numbers.Pid.{Pid}
 use Rattle.kern_model.specs.declared.checks.Place.{Place}
 use Rattle.kern_model.specs.declared.checks.Place.TheVariants.{First}
 use Rattle.kern_model.specs.declared.objects.Attr.{Attr}
+use Rattle.kern_model.specs.declared.objects.Body.TheVariants as body
 use Rattle.kern_model.specs.declared.objects.Kind.{Kind}
 use Rattle.kern_model.specs.declared.objects.Kind.TheVariants as kind
 use Rattle.kern_model.specs.declared.objects.Object.{Object}
 use Rattle.kern_model.specs.declared.records.Rec.{Rec}
-use Rattle.kern_model.specs.Create.{made, has_object_number}
+use Rattle.kern_model.specs.Create.{attr_of, drawing, made, has_object_number}
 use Rattle.kern_model.specs.Descriptors.{Opened, closing, open_count, lowest_free, with_descriptor}
-use Rattle.kern_model.specs.FileRows.{open_object, opening, moved, with_bytes}
+use Rattle.kern_model.specs.FileRows.{open_object, opening, moved, with_bytes, pipe_mode, on_pipe, second_description, piped}
 use Rattle.kern_model.specs.Keys.{did_cmp, same_oid}
 use Rattle.kern_model.specs.Entries.{is_empty, is_removed, link_count}
-use Rattle.kern_model.specs.Kinds.{is_dir as dir_kind, is_file, is_fifo, is_mode, is_permission, is_stream}
+use Rattle.kern_model.specs.Kinds.{is_dir as dir_kind, is_file, is_fifo, is_mode, is_permission, is_stream, object_with}
 use Rattle.kern_model.specs.Rules.{same_label, mac_read, mac_write, mac_subject}
 use Rattle.kern_model.specs.Row.{Row}
 use Rattle.kern_model.specs.State.{State, Process, Description, Change, SetObject, SetProcess, SetEntry, DropEntry, SetDescription, DrawDescription, changed, changed_by, drawn, next_object, next_description, object_at, stub_object, look}
@@ -48,6 +49,7 @@ use Rattle.iso_laws.proofs.Changes.{KeptProcess, kept_of, kept_process, kept_obj
 use Rattle.iso_laws.proofs.Selections.{one_passes}
 use Rattle.iso_laws.proofs.files.Changes.{valid_moved, valid_content, valid_shared, valid_opened}
 use Rattle.iso_laws.proofs.files.Closing.{has_fd, without_fd, closing_hidden, kept_closed, valid_close}
+use Rattle.iso_laws.proofs.files.Pipes.{valid_piped}
 use Rattle.iso_laws.proofs.tree.Changes.{IsFresh, no_dir_is, next_absent, not_true_false, valid_drop, valid_link, valid_made}
 use Rattle.iso_laws.proofs.tree.Moves.{IsMove, valid_move}
 
@@ -113,6 +115,8 @@ pub record Cases (bad : Rec → Bool) (s : State) (who : Pid) (p : Process) (fit
   pub open_emptied : (id : Oid) (flags : OpenFlags) (place : Place) (attr : Attr) → (may : IsOpening bad s who p id flags place) → flags.w ≡ true → may.named.object.kind ≡ kind.File → is_mode attr.mode ≡ true → P (SetObject id (record (object_at s id) { attr = attr; bytes = [] }) ∷ opening s who p id flags)
   -- a file is made and opened
   pub open_made : (dir : Oid) (name : Name) (o : Object) (place : Place) (flags : OpenFlags) → IsMaking bad s who p fit dir name o place → o.kind ≡ kind.File → HasRoom s p → P (made s p dir name o ++ opening s who p (next_object s p.label) flags)
+  -- a pipe is made and opened at both ends
+  pub pipe : has_object_number s p ≡ true → open_count p + 2 ≤ MAX_DESCRIPTORS → drawn s.description_numbers p.label + 2 ≤ MAX_DESCRIPTIONS → P (piped s who p)
   -- a descriptor of the caller closes
   pub close : (fd : ℕ) → P (SetProcess who (without_fd p fd) ∷ closing s (has_fd who fd))
 
@@ -169,6 +173,7 @@ hidden_cases l s kept valid who p fit is high =
       seek = λ fd f offset open_is. part_of_high l s.top (moved f offset ∷ []) (described fd f open_is, tt);
       pass = λ fd f bytes place open_is written stream few. part_of_high l s.top (with_bytes s f.description.object bytes ∷ []) (wrote_open fd f place open_is written, tt);
       write = λ fd f attr bytes place offset open_is written file mode few. part_of_high l s.top (SetObject f.description.object _ ∷ moved f offset ∷ []) (wrote_open fd f place open_is written, (described fd f open_is, tt));
+      pipe = λ left room numbers. part_of_high l s.top (piped s who p) (mine, (mine, (mine, (mine, (mine, (high, tt))))));
       close = λ fd.
           first_high l s.top (SetProcess who (without_fd p fd)) (closing s (has_fd who fd)) high
           ∙ closing_hidden l s kept valid (has_fd who fd) (λ d of gone. ap (λ (q : Pid). low l q.label) (same_key pid_cmp_exact d.who who (and_parts _ _ gone).0) ∙ high);
@@ -211,13 +216,14 @@ opening_side l s kept who p id flags place may o same stream =
 pub kept_cases : (l : Label) (s : State) → Kept l s → IsValid s → (who : Pid) (p : Process) (fit : Type 0) → map.get s.procs who ≡ Some p → Cases (crosses l) s who p fit (λ cs. Kept l (changed_by s cs))
 kept_cases l s kept valid who p fit is =
     let own : KeptProcess l who p = kept_of l s kept who p is in
+    let kept_new : (new : Oid) (o : Object) → low l new.label ≡ low l o.label → map.get s.objects new ≡ None → Kept l (changed s (SetObject new o)) =
+    λ new o side absent. kept_object l s kept new o side (λ did d e at _.
+    let described = valid.descriptions did d e in
+    absurd (never_some (map.get s.objects new) described.object absent (ap (map.get s.objects) (sym at) ∙ described.object_is))) in
     let made_in : (dir : Oid) (name : Name) (o : Object) (place : Place) → IsMaking (crosses l) s who p fit dir name o place → Kept l (changed_by s (made s p dir name o)) =
     λ dir name o place making.
     let new : Oid = next_object s p.label in
-    kept_beside l (changed s (SetObject new o)) (kept_object l s kept new o (ap (low l) (sym making.fresh.label)) (λ did d e at _.
-    let described = valid.descriptions did d e in
-    absurd (never_some (map.get s.objects new) described.object (next_absent s valid p.label) (ap (map.get s.objects) (sym at) ∙ described.object_is))))
-    _ _ s.process_numbers s.description_numbers in
+    kept_beside l (changed s (SetObject new o)) (kept_new new o (ap (low l) (sym making.fresh.label)) (next_absent s valid p.label)) _ _ s.process_numbers s.description_numbers in
     let opened_at : (t : State) → Kept l t → (id : Oid) (flags : OpenFlags) → (low l p.label ≡ true → low l id.label ≡ true) → ((o : Object) → map.get t.objects id ≡ Some o → is_stream o.kind ≡ true → low l p.label ≡ low l id.label) → Kept l (changed_by t (opening s who p id flags)) =
     λ t kept_t id flags side stream.
     let new : Did = next_description s p.label in
@@ -278,6 +284,23 @@ kept_cases l s kept valid who p fit is =
       seek = moved_to s kept refl;
       pass = λ fd f bytes place open_is written stream few. rewritten_as fd f (open_object s f).attr bytes open_is;
       write = λ fd f attr bytes place offset open_is written file mode few. moved_to _ (rewritten_as fd f attr bytes open_is) refl fd f offset open_is;
+      pipe = λ left room numbers.
+          let o : Object = object_with p.label (attr_of p pipe_mode) body.Pipe in
+          let new : Oid = next_object s p.label in
+          let made_t : State = changed_by s (drawing s p o ++ DrawDescription p.label (drawn s.description_numbers p.label + 2) ∷ []) in
+          let made_kept : Kept l made_t = kept_beside l (changed s (SetObject new o)) (kept_new new o refl (next_absent s valid p.label)) s.entries _ s.process_numbers _ in
+          let reading_t : State = changed made_t (SetDescription (next_description s p.label) (on_pipe s p true)) in
+          let reading_kept : Kept l reading_t = kept_description l made_t made_kept (next_description s p.label) (on_pipe s p true) (λ h. h) (λ x e stream. refl) in
+          let fds_at : (fds : FinMap nat_cmp Did) → ((n : ℕ) (did : Did) → map.get fds n ≡ Some did → low l did.label ≡ low l who.label) → (did : Did) → low l did.label ≡ low l p.label → (n : ℕ) (q : Did) → map.get (map.insert fds (lowest_free fds) did) n ≡ Some q → low l q.label ≡ low l who.label =
+          λ fds each did side. each-insert nat_cmp_total nat_cmp-IsAntisymmetric (λ (n : ℕ) (q : Did). low l q.label ≡ low l who.label) fds each (lowest_free fds) did (side ∙ sym own.label) in
+          kept_process l (changed reading_t (SetDescription (second_description s p) (on_pipe s p false))) (kept_description l reading_t reading_kept (second_description s p) (on_pipe s p false) (λ h. h) (λ x e stream. refl)) who _
+          (record {
+            label = own.label;
+            parent = own.parent;
+            ended = own.ended;
+            fds = fds_at (with_descriptor p (next_description s p.label)).fds (fds_at p.fds own.fds (next_description s p.label) refl) (second_description s p) refl;
+            cwd = own.cwd;
+          });
       close = λ fd.
           kept_closed l s kept valid (has_fd who fd) (changed s (SetProcess who (without_fd p fd)))
           (kept_process l s kept who _ (record {
@@ -378,5 +401,6 @@ valid_cases bad s valid who p is =
           })
           (λ fifo _. absurd (true≢false (ap is_fifo (sym fifo) ∙ ap is_fifo file))))
           f.did f.description (record f.description { offset = offset }) open_is.is refl;
+      pipe = valid_piped s valid who p is;
       close = λ fd. valid_close s who p is fd valid;
     }

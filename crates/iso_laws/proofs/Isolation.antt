@@ -32,6 +32,7 @@ module _ (l : Label) (s : State) (kept : Kept l s) (valid : IsValid s) (who : Pi
   low_row (call.Write fd bytes) _ = files.write_low l s kept valid who p is is_low fd bytes
   low_row (call.Lseek fd from offset) _ = files.lseek_low l s kept valid who p is is_low fd from offset
   low_row (call.Dup fd) _ = files.dup_low l s kept valid who p is is_low fd
+  low_row call.Pipe _ = files.pipe_low l s kept valid who p is is_low
   low_row (call.Fstat fd) _ = files.fstat_low l s kept valid who p is is_low fd
   low_row (call.Mkfifo path mode) _ = tree.mkfifo_low l s kept valid who p is is_low path mode
   low_row (call.Mkdir path mode) _ = tree.mkdir_low l s kept valid who p is is_low path mode
@@ -71,6 +72,7 @@ module _ (bad : Rec → Bool) (s : State) (valid : IsValid s) (who : Pid) (p : P
   row_meets (call.Write fd bytes) _ _ _ = files.write_meets bad s valid who p is fit P cases fd bytes
   row_meets (call.Lseek fd from offset) _ _ _ = files.lseek_meets bad s valid who p is fit P cases fd from offset
   row_meets (call.Dup fd) _ _ _ = files.dup_meets bad s valid who p is fit P cases fd
+  row_meets call.Pipe _ _ _ = files.pipe_meets bad s valid who p is fit P cases
   row_meets (call.Fstat fd) _ _ _ = files.fstat_meets bad s valid who p is fit P cases fd
   row_meets (call.Mkfifo path mode) _ names _ = tree.mkfifo_meets bad s valid who p is fit P cases path mode names
   row_meets (call.Mkdir path mode) _ names _ = tree.mkdir_meets bad s valid who p is fit P cases path mode names

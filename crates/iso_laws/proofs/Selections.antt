@@ -248,6 +248,13 @@ insert-over_removed {R = R} o exact m k gone x = same_map o exact _ _ (λ q.
     ] refl
     ∙ sym (get-insert o (map.remove m gone) k x q))
 
+-- the value that is set last at a key is there
+pub insert-insert : {K X : Type 0} {R : K → K → Ordering} → IsTotalOrder R → IsAntisymmetric R → (m : FinMap R X) (k : K) (x y : X) → map.insert (map.insert m k x) k y ≡ map.insert m k y
+insert-insert {R = R} o exact m k x y = same_map o exact _ _ (λ q.
+    get-insert o (map.insert m k x) k y q ∙ ap (cond (eq_by_cmp R q k) (Some y)) (get-insert o m k x q)
+    ∙ elim (eq_by_cmp R q k) as (λ b. cond b (Some y) (cond b (Some x) (map.get m q)) ≡ cond b (Some y) (map.get m q)) [ true ↦ refl | false ↦ refl ]
+    ∙ sym (get-insert o m k y q))
+
 -- ---- how many entries pass a test after a change at one key
 module _ {K X : Type 0} {R : K → K → Ordering} (o : IsTotalOrder R) (exact : IsAntisymmetric R) (p : K → X → Bool) (k : K) where
   abbrev at_key : K → X → Bool

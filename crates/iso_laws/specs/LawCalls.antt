@@ -6,7 +6,7 @@ use Rattle.kern_model.specs.declared.calls.Call.TheVariants as call
 use Rattle.kern_model.specs.declared.world.ScriptItem.{ScriptItem}
 use Rattle.kern_model.specs.Arguments.{are_flags}
 
--- whether they are proved for a call: one that reports or sets what its caller is, that reports what an object is or what a directory contains, that makes an entry, moves one or takes one away, or that opens a file by flags as they may be, closes a descriptor or goes through one
+-- whether they are proved for a call: one that reports or sets what its caller is, that reports what an object is or what a directory contains, that makes an entry, moves one or takes one away, or that opens a file by flags as they may be, opens a pipe, closes a descriptor or goes through one
 abbrev pub has_laws : Call → Bool
 has_laws (call.OpenPath path flags mode) = are_flags flags
 has_laws (call.Close fd) = true
@@ -14,6 +14,7 @@ has_laws (call.Read fd n) = true
 has_laws (call.Write fd bytes) = true
 has_laws (call.Lseek fd from offset) = true
 has_laws (call.Dup fd) = true
+has_laws call.Pipe = true
 has_laws (call.Fstat fd) = true
 has_laws (call.Mkfifo path mode) = true
 has_laws (call.Mkdir path mode) = true

@@ -1,7 +1,6 @@
 -- A valid state stays valid where processes, descriptions and the bytes of objects change.
 use Rattle.std.specs.Prelude.{◌≡◌, ℕ, ◌+◌, ◌≤◌, ◌<◌, ◌&&◌, true, false, List, [], ◌∷◌, Some, None, refl, cond, length}
 use Rattle.std.specs.List.{AllByRecursion}
-use Rattle.std.specs.Option.{option_and_then}
 use Rattle.std.specs.Ordering.{eq_by_cmp}
 use Rattle.std.specs.Cmp.{nat_cmp_total}
 use Rattle.std.specs.FinMap as map
@@ -9,7 +8,6 @@ use Rattle.std.specs.FinMap.{FinMap, get-insert, nat_cmp-IsAntisymmetric}
 use Rattle.std.proofs.Common.{sym, ◌∙◌, ap, arith, inl, inr}
 use Rattle.cap_bits.specs.CapSet.{is_within}
 use Rattle.cap_bits.specs.State.{no_flags}
-use Rattle.fs_path.specs.Name.{Name}
 use Rattle.lab_lattice.specs.Label.{Label, dominates, label_cmp}
 use Rattle.lab_lattice.proofs.Labels.{label_cmp_total, label_cmp_exact}
 use Rattle.kern_model.specs.declared.limits.TheConstants.{MAX_DESCRIPTIONS, MAX_DESCRIPTORS, MAX_FILE_BYTES, MAX_GROUPS, MAX_PIPE_BYTES, MAX_PROCS}
@@ -22,12 +20,13 @@ use Rattle.kern_model.specs.declared.objects.Object.{Object}
 use Rattle.kern_model.specs.Descriptors.{any_open, open_count, lowest_free, with_descriptor}
 use Rattle.kern_model.specs.Keys.{Spot, oid_cmp, pid_cmp, did_cmp, same_oid}
 use Rattle.kern_model.specs.Kinds.{is_dir, is_file, is_mode, is_permission, is_stream}
-use Rattle.kern_model.specs.State.{State, Process, Description, SetObject, SetProcess, SetDescription, DrawDescription, changed, changed_by, drawn, next_description, look, root}
-use Rattle.kern_model.specs.Valid.{IsValid, IsThere, IsDir, IsDrawn, AreFew, IsReached, IsHeld, IsValidObject, IsValidEntry, IsValidEnd, IsValidProcess, IsValidDescription, leads}
+use Rattle.kern_model.specs.State.{State, Process, Description, SetObject, SetProcess, SetDescription, DrawDescription, changed, changed_by, drawn, next_description, root}
+use Rattle.kern_model.specs.Valid.{IsValid, IsThere, IsDir, IsDrawn, AreFew, IsReached, IsHeld, IsValidObject, IsValidEntry, IsValidEnd, IsValidProcess, IsValidDescription}
 use Rattle.kern_model.proofs.KeyLaws.{oid_cmp_total, oid_cmp_exact, pid_cmp_total, pid_cmp_exact, did_cmp_total, did_cmp_exact}
 use Rattle.kern_model.proofs.MapLemmas.{each-insert, get-insert_same, get-insert_kept, same_key, some_same, never_some}
 use Rattle.kern_model.proofs.TableLemmas.{each_set_at}
 use Rattle.iso_laws.proofs.Changes.{there_still}
+use Rattle.iso_laws.proofs.Leading.{leads_kept}
 use Rattle.iso_laws.proofs.Selections.{none_pass, none_passes}
 use Rattle.iso_laws.proofs.ValidLemmas.{still_drawn, next_drawn, still_below}
 use Rattle.iso_laws.proofs.files.Descriptors.{lowest_absent, lowest_below}
@@ -79,12 +78,8 @@ module _ (s : State) (objects : FinMap oid_cmp Object) (procs : FinMap pid_cmp P
   abbrev pub with_open : State
   with_open = record s { objects = objects; procs = procs; descriptions = descriptions; process_numbers = process_numbers; description_numbers = description_numbers }
 
-  open_leads : (dir : Oid) (names : List Name) → leads with_open dir names ≡ leads s dir names
-  open_leads dir [] = refl
-  open_leads dir (name ∷ names) = λ i. option_and_then (λ next. open_leads next names i) (look s dir name)
-
   open_reached : (id : Oid) → IsReached s id → IsReached with_open id
-  open_reached id reached = record { names = reached.names; lead = open_leads root reached.names ∙ reached.lead }
+  open_reached id reached = record { names = reached.names; lead = leads_kept s with_open (λ at q e. e) root reached.names id reached.lead }
 
   -- an object stays valid where its content is valid, and it is empty as a FIFO without a description
   pub open_object : (id : Oid) (old o : Object) → IsValidObject s id old → o.kind ≡ old.kind → o.label ≡ old.label → HasValidContent o → (o.kind ≡ kind.Fifo → any_open with_open (λ d. true) id ≡ false → o.bytes ≡ []) → IsValidObject with_open id o

@@ -1,5 +1,5 @@
 -- The calls on files: a Low process in the state and in its part, and what the changes satisfy.
-use Rattle.std.specs.Prelude.{◌≡◌, ℕ, ◌+◌, ◌≤◌, ◌==◌, ◌&&◌, ◌||◌, not, nat_lt, int_lt, Bool, true, false, List, [], ◌∷◌, ◌++◌, length, take, drop, None, Some, refl, cond, ℤ, pos, ◌+ℤ◌, unsigned_abs}
+use Rattle.std.specs.Prelude.{◌≡◌, ℕ, ◌+◌, ◌≤◌, ◌==◌, ◌&&◌, ◌||◌, not, nat_le, nat_lt, int_lt, Bool, true, false, List, [], ◌∷◌, ◌++◌, length, take, drop, None, Some, refl, cond, ℤ, pos, ◌+ℤ◌, unsigned_abs}
 use Rattle.std.proofs.Common.{sym, ◌∙◌, ap, subst, arith}
 use Rattle.std.proofs.lemmas.Bool.{leb-true, ltb-false, not-false, true≢false}
 use Rattle.std.proofs.lemmas.List.{length-append, length-drop, length-take}
@@ -11,20 +11,23 @@ use Rattle.kern_model.specs.declared.calls.Whence.{Whence}
 use Rattle.kern_model.specs.declared.calls.Whence.TheVariants as whence
 use Rattle.kern_model.specs.declared.checks.CheckName.TheVariants as check
 use Rattle.kern_model.specs.declared.checks.Place.TheVariants.{Handle}
-use Rattle.kern_model.specs.declared.limits.TheConstants.{MAX_DESCRIPTORS, MAX_FILE_BYTES, MAX_PIPE_BYTES}
+use Rattle.kern_model.specs.declared.limits.TheConstants.{MAX_DESCRIPTIONS, MAX_DESCRIPTORS, MAX_FILE_BYTES, MAX_PIPE_BYTES}
+use Rattle.kern_model.specs.declared.numbers.Did.{Did}
 use Rattle.kern_model.specs.declared.numbers.Oid.{Oid}
 use Rattle.kern_model.specs.declared.numbers.Pid.{Pid}
+use Rattle.kern_model.specs.declared.objects.Body.TheVariants as body
 use Rattle.kern_model.specs.declared.objects.Kind.{Kind}
 use Rattle.kern_model.specs.declared.objects.Kind.TheVariants as kind
 use Rattle.kern_model.specs.declared.objects.Object.{Object}
 use Rattle.kern_model.specs.declared.records.Rec.{Rec}
-use Rattle.kern_model.specs.Descriptors.{Opened, opened, open_count, any_open, closing}
-use Rattle.kern_model.specs.FileRows.{close_row, dup_row, fstat_row, lseek_row, read_row, write_row, on_descriptor, open_object, moved, base_of, putting, writing, cleared, place_in, written_over}
+use Rattle.kern_model.specs.Create.{attr_of}
+use Rattle.kern_model.specs.Descriptors.{Opened, opened, open_count, lowest_free, with_descriptor, any_open, closing}
+use Rattle.kern_model.specs.FileRows.{pipe_row, pipe_mode, piped, close_row, dup_row, fstat_row, lseek_row, read_row, write_row, on_descriptor, open_object, moved, base_of, putting, writing, cleared, place_in, written_over}
 use Rattle.kern_model.specs.Isolation.{low, crosses, Kept}
-use Rattle.kern_model.specs.Kinds.{is_stream}
+use Rattle.kern_model.specs.Kinds.{is_stream, object_with}
 use Rattle.kern_model.specs.Row.{Row, Need, Soft, Refuse, Commit}
 use Rattle.kern_model.specs.Rules.{of_object, same_label, is_plain, mac_read, mac_write}
-use Rattle.kern_model.specs.State.{State, Process, Change, SetObject, SetProcess, object_at}
+use Rattle.kern_model.specs.State.{State, Process, Change, SetObject, SetProcess, SetDescription, DrawObject, DrawDescription, drawn, object_at}
 use Rattle.kern_model.specs.Stat.{stat_of}
 use Rattle.kern_model.specs.Step.{subject}
 use Rattle.kern_model.specs.Valid.{IsValid, IsValidObject}
@@ -32,12 +35,12 @@ use Rattle.iso_laws.proofs.Cases.{Cases, Meets, OfChanges, meets_given}
 use Rattle.iso_laws.proofs.LowRows.{Same, AreSeen, seen_self, low_itself, low_by, low_check, low_answer, low_descriptor}
 use Rattle.iso_laws.proofs.Part.{by_number, first_low, part_of_low}
 use Rattle.iso_laws.proofs.Rows.{Gives, Passes, alike_cond, alike_give, alike_need_if, alike_refuse, ends_cond, ends_give, ends_need, ends_need_if, ends_open, ends_refuse, ends_soft, gives_cond}
-use Rattle.iso_laws.proofs.Sight.{IsOpen, is_open, object_low, open_object_is, open_no_dir}
+use Rattle.iso_laws.proofs.Sight.{IsOpen, descriptions_drawn_low, drawn_low, is_open, object_low, open_object_is, open_no_dir}
 use Rattle.iso_laws.proofs.files.Closing.{has_fd, without_fd, closing_low}
 pub use Rattle.iso_laws.proofs.files.Opening.{open_low, open_meets}
 use Rattle.iso_laws.proofs.files.Descriptors.{any_open_low}
 use Rattle.iso_laws.proofs.tree.Entries.{stat_of_low}
-use Rattle.iso_laws.proofs.tree.Isolation.{permissions_are_mode}
+use Rattle.iso_laws.proofs.tree.Isolation.{permissions_are_mode, same_room}
 
 -- ---- the rows of a Low process, in the state and in its part
 module _ (l : Label) (s : State) (kept : Kept l s) (valid : IsValid s) (who : Pid) (p : Process) (is : map.get s.procs who ≡ Some p) (is_low : low l p.label ≡ true) where
@@ -65,6 +68,28 @@ module _ (l : Label) (s : State) (kept : Kept l s) (valid : IsValid s) (who : Pi
       let gone : Change = SetProcess who (without_fd p fd) in
       alike_give (crosses l) l s.top (subject who p) _ _ answer.Nothing None
       (ap (λ cs. gone ∷ cs) (closing_low l s kept valid (has_fd who fd)) ∙ sym (first_low l s.top gone (closing s (has_fd who fd)) (kept.procs who p is ∙ is_low))))
+
+  -- a pipe with the next number a of an object, and the next numbers from b on of descriptions
+  abbrev piping : ℕ → ℕ → Row
+  piping a b =
+      let id : Oid = record { label = p.label; n = a + 1 } in
+      let reading : Did = record { label = p.label; n = b + 1 } in
+      let writing : Did = record { label = p.label; n = b + 2 } in
+      Commit
+      (DrawObject p.label (a + 1) ∷ SetObject id (object_with p.label (attr_of p pipe_mode) body.Pipe) ∷ DrawDescription p.label (b + 2)
+      ∷ SetDescription reading (record { object = id; reads = true; writes = false; appends = false; offset = 0 }) ∷ SetDescription writing (record { object = id; reads = false; writes = true; appends = false; offset = 0 })
+      ∷ SetProcess who (with_descriptor (with_descriptor p reading) writing) ∷ [])
+      (answer.Two (lowest_free p.fds) (lowest_free (with_descriptor p reading).fds)) None
+
+  pub pipe_low : Same l s who p (pipe_row s who p) (pipe_row part_s who p)
+  pipe_low =
+      let same = descriptions_drawn_low l s p.label is_low in
+      alike_refuse (crosses l) l s.top (subject who p) errno.EMFILE _ _ _ _ refl
+      (λ _. alike_refuse (crosses l) l s.top (subject who p) errno.ENFILE _ _ _ _ (ap (λ n. not (nat_le (n + 2) MAX_DESCRIPTIONS)) same)
+      (λ _. alike_refuse (crosses l) l s.top (subject who p) errno.ENOSPC _ _ _ _ (ap not (same_room l s kept valid who p is is_low))
+      (λ _. subst (λ r. Same l s who p (piping (drawn s.object_numbers p.label) (drawn s.description_numbers p.label)) r) (λ i. piping (sym (drawn_low l s p.label is_low) i) (sym same i))
+      (low_itself l s kept valid who p is is_low (piping (drawn s.object_numbers p.label) (drawn s.description_numbers p.label))
+      (part_of_low l s.top (piped s who p) (is_low, (is_low, (is_low, (is_low, (is_low, (kept.procs who p is ∙ is_low, tt)))))))))))
 
   same_base : (f : Opened) → low l f.description.object.label ≡ true → (from : Whence) → base_of part_s f from ≡ base_of s f from
   same_base f h whence.Set = refl
@@ -171,6 +196,11 @@ module _ (bad : Rec → Bool) (s : State) (valid : IsValid s) (who : Pid) (p : P
   dup_meets fd = meets_descriptor fd _ (λ f open_is.
       ends_refuse bad (subject who p) P cases.none _ _ _ (λ full.
       ends_give bad (subject who p) P cases.none _ _ _ (cases.share fd f open_is (leb-true (open_count p + 1) MAX_DESCRIPTORS (not-false _ full)))))
+
+  pub pipe_meets : Meets bad who p P (pipe_row s who p)
+  pipe_meets =
+      ends_refuse bad (subject who p) P cases.none _ _ _ (λ full. ends_refuse bad (subject who p) P cases.none _ _ _ (λ none. ends_refuse bad (subject who p) P cases.none _ _ _ (λ left.
+      ends_give bad (subject who p) P cases.none _ _ _ (cases.pipe (not-false _ left) (leb-true (open_count p + 2) MAX_DESCRIPTORS (not-false _ full)) (leb-true _ MAX_DESCRIPTIONS (not-false _ none))))))
 
   pub close_meets : (fd : ℕ) → Meets bad who p P (close_row s who p fd)
   close_meets fd = meets_descriptor fd _ (λ f _. given (cases.close fd))
