@@ -1,10 +1,11 @@
 -- Properties of the changes of a row: one holds of each row where it holds of each kind of effect.
-use Rattle.std.specs.Prelude.{◌≡◌, ℕ, ◌+◌, ◌≤◌, ◌&&◌, ◌||◌, ◌++◌, length, Bool, true, false, not, List, [], ◌∷◌, Option, None, Some, refl}
+use Rattle.std.specs.Prelude.{◌≡◌, ◌⊎◌, ℕ, ◌+◌, ◌<◌, ◌≤◌, ◌&&◌, ◌||◌, ◌++◌, length, Bool, true, false, not, List, [], ◌∷◌, Option, None, Some, refl}
 use Rattle.std.proofs.Common.{sym, ◌∙◌, ap, subst, arith, inl, inr}
 use Rattle.std.proofs.lemmas.Bool.{true≢false, and_from, and_parts, or_cases}
 use Rattle.std.proofs.lemmas.Cmp.{tied_itself}
 use Rattle.std.specs.Cmp.{nat_cmp_total}
 use Rattle.std.specs.Ordering.{is_eq, nat_cmp}
+use Rattle.std.specs.List.{AllByRecursion}
 use Rattle.std.specs.FinMap as map
 use Rattle.std.specs.FinMap.{FinMap, nat_cmp-IsAntisymmetric}
 use Rattle.cap_bits.specs.declared.cap.Cap.TheVariants as cap
@@ -13,8 +14,9 @@ use Rattle.cap_bits.specs.declared.state.CapState.{CapState}
 use Rattle.fs_path.specs.Name.{Name, is_name}
 use Rattle.fs_path.specs.Path.{PathValue}
 use Rattle.lab_lattice.specs.Label.{Label, dominates}
+use Rattle.kern_model.specs.declared.calls.Ending.{Ending}
 use Rattle.kern_model.specs.declared.calls.OpenFlags.{OpenFlags}
-use Rattle.kern_model.specs.declared.limits.TheConstants.{MAX_DESCRIPTIONS, MAX_DESCRIPTORS, MAX_FILE_BYTES, MAX_GROUPS, MAX_LINKS, MAX_PIPE_BYTES}
+use Rattle.kern_model.specs.declared.limits.TheConstants.{MAX_DESCRIPTIONS, MAX_DESCRIPTORS, MAX_FILE_BYTES, MAX_GROUPS, MAX_LINKS, MAX_PIPE_BYTES, MAX_PROCS}
 use Rattle.kern_model.specs.declared.numbers.Ids.{Ids}
 use Rattle.kern_model.specs.declared.numbers.Did.{Did}
 use Rattle.kern_model.specs.declared.numbers.Oid.{Oid}
@@ -33,9 +35,10 @@ use Rattle.kern_model.specs.FileRows.{open_object, opening, moved, with_bytes, p
 use Rattle.kern_model.specs.Keys.{did_cmp, same_oid}
 use Rattle.kern_model.specs.Entries.{is_empty, is_removed, link_count}
 use Rattle.kern_model.specs.Kinds.{is_dir as dir_kind, is_file, is_fifo, is_mode, is_permission, is_stream, object_with}
-use Rattle.kern_model.specs.Rules.{same_label, mac_read, mac_write, mac_subject}
+use Rattle.kern_model.specs.ProcessRows.{child_of, ending_of}
+use Rattle.kern_model.specs.Rules.{same_label, mac_read, mac_write, mac_write_process, mac_subject}
 use Rattle.kern_model.specs.Row.{Row}
-use Rattle.kern_model.specs.State.{State, Process, Description, Change, SetObject, SetProcess, SetEntry, DropEntry, SetDescription, DrawDescription, changed, changed_by, drawn, next_object, next_description, object_at, stub_object, look}
+use Rattle.kern_model.specs.State.{State, Process, Description, Change, SetObject, SetProcess, SetEntry, DropEntry, SetDescription, DrawProcess, DrawDescription, changed, changed_by, drawn, next_object, next_description, next_process, object_at, stub_object, look}
 use Rattle.kern_model.specs.Step.{subject}
 use Rattle.kern_model.specs.Walk.{on_path, read_object, last_place}
 use Rattle.kern_model.specs.Isolation.{low, crosses, Kept}
@@ -44,12 +47,14 @@ use Rattle.kern_model.proofs.MapLemmas.{some_same, never_some, same_key, get-ins
 use Rattle.kern_model.proofs.KeyLaws.{oid_cmp_total, pid_cmp_exact, did_cmp_total, did_cmp_exact}
 use Rattle.iso_laws.proofs.Part.{part_changes, first_high, part_of_high}
 use Rattle.iso_laws.proofs.Rows.{Ends, Passes, Gives, ends_given}
-use Rattle.iso_laws.proofs.Sight.{IsNamed, IsOpen, open_object_is, open_no_dir, same_side, ends_reach, new_side, read_low, write_side}
+use Rattle.iso_laws.proofs.Sight.{IsNamed, IsOpen, open_object_is, open_no_dir, same_side, ends_reach, new_side, read_low, write_side, equal_side}
 use Rattle.iso_laws.proofs.Changes.{KeptProcess, kept_of, kept_process, kept_object, kept_description, kept_beside, valid_process}
 use Rattle.iso_laws.proofs.Selections.{one_passes}
 use Rattle.iso_laws.proofs.files.Changes.{valid_moved, valid_content, valid_shared, valid_opened}
 use Rattle.iso_laws.proofs.files.Closing.{has_fd, without_fd, closing_hidden, kept_closed, valid_close}
 use Rattle.iso_laws.proofs.files.Pipes.{valid_piped}
+use Rattle.iso_laws.proofs.processes.Ending.{ending_hidden, kept_ended, valid_ended}
+use Rattle.iso_laws.proofs.processes.Forking.{valid_forked, valid_awaited}
 use Rattle.iso_laws.proofs.tree.Changes.{IsFresh, no_dir_is, next_absent, not_true_false, valid_drop, valid_link, valid_made}
 use Rattle.iso_laws.proofs.tree.Moves.{IsMove, valid_move}
 
@@ -119,6 +124,12 @@ pub record Cases (bad : Rec → Bool) (s : State) (who : Pid) (p : Process) (fit
   pub pipe : has_object_number s p ≡ true → open_count p + 2 ≤ MAX_DESCRIPTORS → drawn s.description_numbers p.label + 2 ≤ MAX_DESCRIPTIONS → P (piped s who p)
   -- a descriptor of the caller closes
   pub close : (fd : ℕ) → P (SetProcess who (without_fd p fd) ∷ closing s (has_fd who fd))
+  -- the caller forks
+  pub fork : drawn s.process_numbers p.label < MAX_PROCS → P (DrawProcess p.label (drawn s.process_numbers p.label + 1) ∷ SetProcess (next_process s p.label) (child_of who p) ∷ [])
+  -- the caller has awaited the first of its children that ended
+  pub await : (e : Pid × Ending) (es : List (Pid × Ending)) → p.ended ≡ e ∷ es → P (SetProcess who (record p { ended = es }) ∷ [])
+  -- a process ends: the caller, or one whose mac_write passed
+  pub finish : (q : Pid) (x : Process) (how : Ending) → map.get s.procs q ≡ Some x → (q ≡ who) ⊎ Passes bad (subject who p) (mac_write_process p q q.label) → P (ending_of s q x how)
 
 -- ---- what the rows of every process share
 -- a property of changes, whatever the own record is
@@ -177,6 +188,14 @@ hidden_cases l s kept valid who p fit is high =
       close = λ fd.
           first_high l s.top (SetProcess who (without_fd p fd)) (closing s (has_fd who fd)) high
           ∙ closing_hidden l s kept valid (has_fd who fd) (λ d of gone. ap (λ (q : Pid). low l q.label) (same_key pid_cmp_exact d.who who (and_parts _ _ gone).0) ∙ high);
+      fork = λ left. part_of_high l s.top (DrawProcess p.label _ ∷ SetProcess (next_process s p.label) (child_of who p) ∷ []) (mine, (mine, tt));
+      await = λ e es first. unseen _;
+      finish = λ q x how at reached.
+          ending_hidden l s kept valid q x how at
+          (elim reached as (λ w. low l q.label ≡ false) [
+            | inl own ↦ ap (λ (z : Pid). low l z.label) own ∙ high
+            | inr written ↦ sym (equal_side l (subject who p) (mac_write_process p q q.label) refl refl written) ∙ mine
+          ]);
     }
 
 -- a label that a check allowed the caller is on the same side as its own
@@ -310,6 +329,18 @@ kept_cases l s kept valid who p fit is =
             fds = each-remove nat_cmp_total nat_cmp-IsAntisymmetric (λ (n : ℕ) (did : Did). low l did.label ≡ low l who.label) p.fds own.fds fd;
             cwd = own.cwd;
           })) refl;
+      fork = λ left.
+          let drawn_t : State = changed s (DrawProcess p.label (drawn s.process_numbers p.label + 1)) in
+          kept_process l drawn_t (kept_beside l s kept s.entries s.object_numbers _ s.description_numbers) (next_process s p.label) (child_of who p)
+          (record {
+            label = refl;
+            parent = λ q e. ap (λ (z : Pid). low l z.label) (some_same q who (sym e)) ∙ own.label;
+            ended = tt;
+            fds = λ fd did e. own.fds fd did e ∙ own.label;
+            cwd = own.cwd;
+          });
+      await = λ e es first. kept_process l s kept who _ (record { label = own.label; parent = own.parent; ended = (subst (AllByRecursion (λ (x : Pid × Ending). low l x.0.label ≡ low l who.label)) first own.ended).1; fds = own.fds; cwd = own.cwd });
+      finish = λ q x how at _. kept_ended l s kept valid q x how at;
     }
 
 -- a valid state stays valid, whatever crosses
@@ -403,4 +434,7 @@ valid_cases bad s valid who p is =
           f.did f.description (record f.description { offset = offset }) open_is.is refl;
       pipe = valid_piped s valid who p is;
       close = λ fd. valid_close s who p is fd valid;
+      fork = valid_forked s valid who p is;
+      await = valid_awaited s valid who p is;
+      finish = λ q x how at _. valid_ended s valid q x at how;
     }

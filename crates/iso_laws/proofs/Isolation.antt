@@ -48,6 +48,10 @@ module _ (l : Label) (s : State) (kept : Kept l s) (valid : IsValid s) (who : Pi
   low_row (call.CapGetFd fd) _ = attributes.cap_get_fd_low l s kept valid who p is is_low fd
   low_row (call.MacGetFile path) _ = attributes.mac_get_file_low l s kept valid who p is is_low path
   low_row (call.MacGetFd fd) _ = attributes.mac_get_fd_low l s kept valid who p is is_low fd
+  low_row call.Fork _ = processes.fork_low l s kept valid who p is is_low
+  low_row (call.Exit code) _ = processes.exit_low l s kept valid who p is is_low code
+  low_row call.Wait _ = processes.wait_low l s kept valid who p is is_low
+  low_row (call.Kill target sig) _ = processes.kill_low l s kept valid who p is is_low target sig
   low_row (call.Exec path) _ = processes.exec_low l s kept valid who p is is_low path
   low_row call.Getpid _ = processes.getpid_low l s kept valid who p is is_low
   low_row call.Getppid _ = processes.getppid_low l s kept valid who p is is_low
@@ -88,6 +92,10 @@ module _ (bad : Rec → Bool) (s : State) (valid : IsValid s) (who : Pid) (p : P
   row_meets (call.CapGetFd fd) _ _ _ = attributes.cap_get_fd_meets bad s valid who p is fit P cases fd
   row_meets (call.MacGetFile path) _ _ _ = attributes.mac_get_file_meets bad s valid who p is fit P cases path
   row_meets (call.MacGetFd fd) _ _ _ = attributes.mac_get_fd_meets bad s valid who p is fit P cases fd
+  row_meets call.Fork _ _ _ = processes.fork_meets bad s valid who p is fit P cases
+  row_meets (call.Exit code) _ _ _ = processes.exit_meets bad s valid who p is fit P cases code
+  row_meets call.Wait _ _ _ = processes.wait_meets bad s valid who p is fit P cases
+  row_meets (call.Kill target sig) _ _ _ = processes.kill_meets bad s valid who p is fit P cases target sig
   row_meets (call.Exec path) _ _ _ = processes.exec_meets bad s valid who p is fit P cases path
   row_meets call.Getpid _ _ _ = processes.getpid_meets bad s valid who p is fit P cases
   row_meets call.Getppid _ _ _ = processes.getppid_meets bad s valid who p is fit P cases

@@ -229,6 +229,10 @@ module _ (l : Label) (s : State) where
   unfolding by_number
   descriptions_drawn_low label h = get_or-same _ _ label 0 (get-select_kept label_cmp_total label_cmp_exact (low l) same s.description_numbers label h ∙ same_map _)
 
+  pub processes_drawn_low : (label : Label) → low l label ≡ true → drawn (by_number l s).process_numbers label ≡ drawn s.process_numbers label
+  unfolding by_number
+  processes_drawn_low label h = get_or-same _ _ label 0 (get-select_kept label_cmp_total label_cmp_exact (low l) same s.process_numbers label h ∙ same_map _)
+
   -- the process of a Low number is the same in the part
   pub get_process : (q : Pid) → low l q.label ≡ true → map.get (by_number l s).procs q ≡ map.get s.procs q
   unfolding by_number
@@ -298,16 +302,19 @@ read_low l s kept who p is_low id there place passes =
       | false ↦ λ high. absurd (read_crosses l s kept who p is_low id there high place passes)
     ] refl
 
+-- what passes a check of the same label is on the side of the process
+pub equal_side : (l : Label) (a : Subject) (c : Check) → cap_of c.name ≡ Some cap.MacWrite → c.holds ≡ same_label a.label c.thing_label → Passes (crosses l) a c → low l a.label ≡ low l c.thing_label
+equal_side l a c named rule passes =
+    elim (same_label a.label c.thing_label) as (λ b. same_label a.label c.thing_label ≡ b → low l a.label ≡ low l c.thing_label) [
+      | true ↦ λ same. same_side l a.label c.thing_label same
+      | false ↦ λ other. differ_false _ _ (not_true (differ (low l a.label) (low l c.thing_label)) (λ apart. crossed l a c cap.MacWrite (rule ∙ other) named refl apart passes))
+    ] refl
+
 -- what passes the mac_write of a process is on its side
 pub write_side : (l : Label) (s : State) → Kept l s → (who : Pid) (p : Process) (id : Oid) → IsThere s.objects id → (place : Place) → Passes (crosses l) (subject who p) (mac_write s p id place) → low l p.label ≡ low l id.label
 write_side l s kept who p id there place passes =
-    let label : Label = (object_at s id).label in
-    let at : low l label ≡ low l id.label = ap (λ (o : Object). low l o.label) (get_or-found _ _ _ _ there.is) ∙ sym (kept.objects id there.value there.is) in
-    elim (same_label p.label label) as (λ b. same_label p.label label ≡ b → low l p.label ≡ low l id.label) [
-      | true ↦ λ same. same_side l p.label label same ∙ at
-      | false ↦ λ other.
-          differ_false _ _ (not_true (differ (low l p.label) (low l label)) (λ apart. crossed l (subject who p) (mac_write s p id place) cap.MacWrite other refl refl apart passes)) ∙ at
-    ] refl
+    equal_side l (subject who p) (mac_write s p id place) refl refl passes
+    ∙ ap (λ (o : Object). low l o.label) (get_or-found _ _ _ _ there.is) ∙ sym (kept.objects id there.value there.is)
 
 module _ (l : Label) (s : State) (kept : Kept l s) (valid : IsValid s) (who : Pid) (p : Process) (is_low : low l p.label ≡ true) where
   abbrev Same : Row → Row → Type 0

@@ -129,16 +129,16 @@ module _ (s : State) (valid : IsValid s) (goes : Descriptor → Bool) where
       ] refl
 
 -- a change carries a property of states
-abbrev Carries : (State → Type 0) → Change → Type 0
+abbrev pub Carries : (State → Type 0) → Change → Type 0
 Carries Of c = (t : State) → Of t → Of (changed t c)
 
 -- what each change carries holds after all of them
-over_changes : (Of : State → Type 0) (cs : List Change) → AllByRecursion (Carries Of) cs → (t : State) → Of t → Of (changed_by t cs)
+pub over_changes : (Of : State → Type 0) (cs : List Change) → AllByRecursion (Carries Of) cs → (t : State) → Of t → Of (changed_by t cs)
 over_changes Of [] h t of = of
 over_changes Of (c ∷ cs) h t of = over_changes Of cs h.1 (changed t c) (h.0 t of)
 
 -- ---- closing in the part
-part_changes-flat_map : {X : Type 0} (l top : Label) (f : X → List Change) (xs : List X) → part_changes l top (flat_map f xs) ≡ flat_map (λ x. part_changes l top (f x)) xs
+pub part_changes-flat_map : {X : Type 0} (l top : Label) (f : X → List Change) (xs : List X) → part_changes l top (flat_map f xs) ≡ flat_map (λ x. part_changes l top (f x)) xs
 part_changes-flat_map l top f [] = refl
 part_changes-flat_map l top f (x ∷ xs) = part_changes-append l top (f x) (flat_map f xs) ∙ ap (λ cs. part_changes l top (f x) ++ cs) (part_changes-flat_map l top f xs)
 
