@@ -1,5 +1,5 @@
 -- Properties of the changes of a row: one holds of each row where it holds of each kind of effect.
-use Rattle.std.specs.Prelude.{◌≡◌, ◌⊎◌, ℕ, ◌+◌, ◌<◌, ◌≤◌, ◌&&◌, ◌||◌, ◌++◌, length, Bool, true, false, not, List, [], ◌∷◌, Option, None, Some, refl}
+use Rattle.std.specs.Prelude.{◌≡◌, ◌⊎◌, ℕ, ◌+◌, ◌<◌, ◌≤◌, ◌&&◌, ◌||◌, ◌++◌, length, Bool, true, false, not, List, [], ◌∷◌, Option, None, Some, refl, cond}
 use Rattle.std.proofs.Common.{sym, ◌∙◌, ap, subst, arith, inl, inr}
 use Rattle.std.proofs.lemmas.Bool.{true≢false, and_from, and_parts, or_cases}
 use Rattle.std.proofs.lemmas.Cmp.{tied_itself}
@@ -10,6 +10,7 @@ use Rattle.std.specs.FinMap as map
 use Rattle.std.specs.FinMap.{FinMap, nat_cmp-IsAntisymmetric}
 use Rattle.cap_bits.specs.declared.cap.Cap.TheVariants as cap
 use Rattle.cap_bits.specs.CapSet.{is_within}
+use Rattle.cap_bits.specs.State.{no_flags}
 use Rattle.cap_bits.specs.declared.state.CapState.{CapState}
 use Rattle.fs_path.specs.Name.{Name, is_name}
 use Rattle.fs_path.specs.Path.{PathValue}
@@ -36,9 +37,9 @@ use Rattle.kern_model.specs.Keys.{did_cmp, same_oid}
 use Rattle.kern_model.specs.Entries.{is_empty, is_removed, link_count}
 use Rattle.kern_model.specs.Kinds.{is_dir as dir_kind, is_file, is_fifo, is_mode, is_permission, is_stream, object_with}
 use Rattle.kern_model.specs.ProcessRows.{child_of, ending_of}
-use Rattle.kern_model.specs.Rules.{same_label, mac_read, mac_write, mac_write_process, mac_subject}
+use Rattle.kern_model.specs.Rules.{same_label, is_above_holders, mac_downgrade, mac_read, mac_subject, mac_upgrade, mac_write, mac_write_process}
 use Rattle.kern_model.specs.Row.{Row}
-use Rattle.kern_model.specs.State.{State, Process, Description, Change, SetObject, SetProcess, SetEntry, DropEntry, SetDescription, DrawProcess, DrawDescription, changed, changed_by, drawn, next_object, next_description, next_process, object_at, stub_object, look}
+use Rattle.kern_model.specs.State.{State, Process, Description, Change, SetObject, SetProcess, SetEntry, DropEntry, SetDescription, DrawProcess, DrawDescription, changed, changed_by, drawn, next_object, next_description, next_process, object_at, stub_object, look, root}
 use Rattle.kern_model.specs.Step.{subject}
 use Rattle.kern_model.specs.Walk.{on_path, read_object, last_place}
 use Rattle.kern_model.specs.Isolation.{low, crosses, Kept}
@@ -50,6 +51,7 @@ use Rattle.iso_laws.proofs.Rows.{Ends, Passes, Gives, ends_given}
 use Rattle.iso_laws.proofs.Sight.{IsNamed, IsOpen, open_object_is, open_no_dir, same_side, ends_reach, new_side, read_low, write_side, equal_side}
 use Rattle.iso_laws.proofs.Changes.{KeptProcess, kept_of, kept_process, kept_object, kept_description, kept_beside, valid_process}
 use Rattle.iso_laws.proofs.Selections.{one_passes}
+use Rattle.iso_laws.proofs.attributes.Labels.{valid_relabelled}
 use Rattle.iso_laws.proofs.files.Changes.{valid_moved, valid_content, valid_shared, valid_opened}
 use Rattle.iso_laws.proofs.files.Closing.{has_fd, without_fd, closing_hidden, kept_closed, valid_close}
 use Rattle.iso_laws.proofs.files.Pipes.{valid_piped}
@@ -84,6 +86,13 @@ pub record IsOpening (bad : Rec → Bool) (s : State) (who : Pid) (p : Process) 
   -- who reads a FIFO takes bytes out of it
   pub fifo : (is_fifo named.object.kind && flags.r) ≡ true → Passes bad (subject who p) (mac_write s p id place)
   pub room : HasRoom s p
+
+-- an object may get a label: a check allowed it, and it keeps the order of labels
+pub record IsRelabelling (bad : Rec → Bool) (s : State) (who : Pid) (p : Process) (id : Oid) (o : Object) (new : Label) (place : Place) : Type 0 where
+  pub allowed : Passes bad (subject who p) (cond (dominates new o.label) (mac_upgrade s id new place) (mac_downgrade s id new place))
+  pub above : is_above_holders s id new ≡ true
+  pub no_root : same_oid id root ≡ false
+  pub no_entries : is_empty s id ≡ true
 
 -- a property holds of each kind of effect; where the arguments are in their ranges, so is what the effect sets
 pub record Cases (bad : Rec → Bool) (s : State) (who : Pid) (p : Process) (fit : Type 0) (P : List Change → Type 0) : Type 0 where
@@ -124,6 +133,12 @@ pub record Cases (bad : Rec → Bool) (s : State) (who : Pid) (p : Process) (fit
   pub pipe : has_object_number s p ≡ true → open_count p + 2 ≤ MAX_DESCRIPTORS → drawn s.description_numbers p.label + 2 ≤ MAX_DESCRIPTIONS → P (piped s who p)
   -- a descriptor of the caller closes
   pub close : (fd : ℕ) → P (SetProcess who (without_fd p fd) ∷ closing s (has_fd who fd))
+  -- an object whose mac_write passed gets other attributes
+  pub attributes : (id : Oid) (o : Object) (attr : Attr) (place : Place) → map.get s.objects id ≡ Some o → Passes bad (subject who p) (mac_write s p id place) → (fit → is_mode attr.mode ≡ true) → (is_file o.kind ≡ false → attr.caps ≡ no_flags)
+      → P (SetObject id (record o { attr = attr }) ∷ [])
+  -- an object whose mac_write passed gets another label, which a check allowed
+  pub relabel : (id : Oid) (o : Object) (new : Label) (place : Place) → map.get s.objects id ≡ Some o → Passes bad (subject who p) (mac_write s p id place) → IsRelabelling bad s who p id o new place → (fit → dominates s.top new ≡ true)
+      → P (SetObject id (record o { label = new }) ∷ [])
   -- the caller forks
   pub fork : drawn s.process_numbers p.label < MAX_PROCS → P (DrawProcess p.label (drawn s.process_numbers p.label + 1) ∷ SetProcess (next_process s p.label) (child_of who p) ∷ [])
   -- the caller has awaited the first of its children that ended
@@ -188,6 +203,8 @@ hidden_cases l s kept valid who p fit is high =
       close = λ fd.
           first_high l s.top (SetProcess who (without_fd p fd)) (closing s (has_fd who fd)) high
           ∙ closing_hidden l s kept valid (has_fd who fd) (λ d of gone. ap (λ (q : Pid). low l q.label) (same_key pid_cmp_exact d.who who (and_parts _ _ gone).0) ∙ high);
+      attributes = λ id o attr place at written mode caps. part_of_high l s.top (SetObject id (record o { attr = attr }) ∷ []) (wrote_there id place written (record { value = o; is = at }), tt);
+      relabel = λ id o new place at written relabelling fits. part_of_high l s.top (SetObject id (record o { label = new }) ∷ []) (wrote_there id place written (record { value = o; is = at }), tt);
       fork = λ left. part_of_high l s.top (DrawProcess p.label _ ∷ SetProcess (next_process s p.label) (child_of who p) ∷ []) (mine, (mine, tt));
       await = λ e es first. unseen _;
       finish = λ q x how at reached.
@@ -205,6 +222,14 @@ given_side l who p new passes =
       | true ↦ λ same. sym (same_side l new p.label same)
       | false ↦ λ other. new_side l (subject who p) (mac_subject who p new) cap.MacRelabelSubj new refl refl refl refl (passes (ap not other))
     ] refl
+
+-- a label that a check allowed for an object is on the side of the process
+label_side : (l : Label) (s : State) (who : Pid) (p : Process) (id : Oid) (o : Object) (new : Label) (place : Place) → IsRelabelling (crosses l) s who p id o new place → low l p.label ≡ low l new
+label_side l s who p id o new place relabelling =
+    elim (dominates new o.label) as (λ b. Passes (crosses l) (subject who p) (cond b (mac_upgrade s id new place) (mac_downgrade s id new place)) → low l p.label ≡ low l new) [
+      | true ↦ new_side l (subject who p) (mac_upgrade s id new place) cap.MacUpgrade new refl refl refl refl
+      | false ↦ new_side l (subject who p) (mac_downgrade s id new place) cap.MacDowngrade new refl refl refl refl
+    ] relabelling.allowed
 
 -- what a Low process opens is Low
 opening_low : (l : Label) (s : State) → Kept l s → (who : Pid) (p : Process) (id : Oid) (flags : OpenFlags) (place : Place) → IsOpening (crosses l) s who p id flags place → low l p.label ≡ true → low l id.label ≡ true
@@ -329,6 +354,10 @@ kept_cases l s kept valid who p fit is =
             fds = each-remove nat_cmp_total nat_cmp-IsAntisymmetric (λ (n : ℕ) (did : Did). low l did.label ≡ low l who.label) p.fds own.fds fd;
             cwd = own.cwd;
           })) refl;
+      attributes = λ id o attr place at written mode caps. kept_object l s kept id (record o { attr = attr }) (kept.objects id o at) (λ did d e on stream. kept.streams did d o e (ap (map.get s.objects) on ∙ at) stream);
+      relabel = λ id o new place at written relabelling fits.
+          let side : low l id.label ≡ low l new = sym (write_side l s kept who p id (record { value = o; is = at }) place written) ∙ label_side l s who p id o new place relabelling in
+          kept_object l s kept id (record o { label = new }) side (λ did d e on stream. kept.streams did d o e (ap (map.get s.objects) on ∙ at) stream);
       fork = λ left.
           let drawn_t : State = changed s (DrawProcess p.label (drawn s.process_numbers p.label + 1)) in
           kept_process l drawn_t (kept_beside l s kept s.entries s.object_numbers _ s.description_numbers) (next_process s p.label) (child_of who p)
@@ -434,6 +463,10 @@ valid_cases bad s valid who p is =
           f.did f.description (record f.description { offset = offset }) open_is.is refl;
       pipe = valid_piped s valid who p is;
       close = λ fd. valid_close s who p is fd valid;
+      attributes = λ id o attr place at written mode caps.
+          let old = valid.objects id o at in
+          valid_content s valid id o (record o { attr = attr }) at refl refl (record { mode = mode tt; only_files = caps; dir_bytes = old.dir_bytes; file_bytes = old.file_bytes; stream_bytes = old.stream_bytes }) old.fifo_bytes;
+      relabel = λ id o new place at written relabelling fits. valid_relabelled s valid id o at new (fits tt) relabelling.above relabelling.no_root relabelling.no_entries;
       fork = valid_forked s valid who p is;
       await = valid_awaited s valid who p is;
       finish = λ q x how at _. valid_ended s valid q x at how;

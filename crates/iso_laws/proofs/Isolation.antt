@@ -1,7 +1,5 @@
 -- The row of each call with laws, for a Low process in the state and in its part, and what its changes satisfy.
 use Rattle.std.specs.Prelude.{◌≡◌, Bool, true, List, Some}
-use Rattle.std.proofs.Common.{sym}
-use Rattle.std.proofs.lemmas.Bool.{true≢false}
 use Rattle.std.specs.FinMap as map
 use Rattle.lab_lattice.specs.Label.{Label}
 use Rattle.kern_model.specs.declared.calls.Call.{Call}
@@ -44,6 +42,12 @@ module _ (l : Label) (s : State) (kept : Kept l s) (valid : IsValid s) (who : Pi
   low_row (call.Stat path) _ = tree.stat_low l s kept valid who p is is_low path
   low_row (call.Chdir path) _ = tree.chdir_low l s kept valid who p is is_low path
   low_row (call.Umask mode) _ = processes.umask_low l s kept valid who p is is_low mode
+  low_row (call.Chmod path mode) _ = attributes.chmod_low l s kept valid who p is is_low path mode
+  low_row (call.Chown path user group) _ = attributes.chown_low l s kept valid who p is is_low path user group
+  low_row (call.CapSetFile path caps) _ = attributes.cap_set_file_low l s kept valid who p is is_low path caps
+  low_row (call.CapSetFd fd caps) _ = attributes.cap_set_fd_low l s kept valid who p is is_low fd caps
+  low_row (call.MacSetFile path new) _ = attributes.mac_set_file_low l s kept valid who p is is_low path new
+  low_row (call.MacSetFd fd new) _ = attributes.mac_set_fd_low l s kept valid who p is is_low fd new
   low_row (call.CapGetFile path) _ = attributes.cap_get_file_low l s kept valid who p is is_low path
   low_row (call.CapGetFd fd) _ = attributes.cap_get_fd_low l s kept valid who p is is_low fd
   low_row (call.MacGetFile path) _ = attributes.mac_get_file_low l s kept valid who p is is_low path
@@ -64,7 +68,6 @@ module _ (l : Label) (s : State) (kept : Kept l s) (valid : IsValid s) (who : Pi
   low_row (call.MacSetProc new) _ = processes.mac_set_proc_low l s kept valid who p is is_low new
   low_row (call.AudWrite bytes) _ = audit.aud_write_low l s kept valid who p is is_low bytes
   low_row (call.AudSwitch on) _ = audit.aud_switch_low l s kept valid who p is is_low on
-  low_row c none = absurd (true≢false (sym none))
 
 -- the changes of each row satisfy what those of each kind of effect satisfy
 module _ (bad : Rec → Bool) (s : State) (valid : IsValid s) (who : Pid) (p : Process) (is : map.get s.procs who ≡ Some p) (fit : Type 0) (P : List Change → Type 0) (cases : Cases bad s who p fit P) where
@@ -88,6 +91,12 @@ module _ (bad : Rec → Bool) (s : State) (valid : IsValid s) (who : Pid) (p : P
   row_meets (call.Stat path) _ _ _ = tree.stat_meets bad s valid who p is fit P cases path
   row_meets (call.Chdir path) _ _ _ = tree.chdir_meets bad s valid who p is fit P cases path
   row_meets (call.Umask mode) args _ _ = processes.umask_meets bad s valid who p is fit P cases mode args
+  row_meets (call.Chmod path mode) args _ _ = attributes.chmod_meets bad s valid who p is fit P cases path mode args
+  row_meets (call.Chown path user group) _ _ _ = attributes.chown_meets bad s valid who p is fit P cases path user group
+  row_meets (call.CapSetFile path caps) _ _ _ = attributes.cap_set_file_meets bad s valid who p is fit P cases path caps
+  row_meets (call.CapSetFd fd caps) _ _ _ = attributes.cap_set_fd_meets bad s valid who p is fit P cases fd caps
+  row_meets (call.MacSetFile path new) args _ _ = attributes.mac_set_file_meets bad s valid who p is fit P cases path new args
+  row_meets (call.MacSetFd fd new) args _ _ = attributes.mac_set_fd_meets bad s valid who p is fit P cases fd new args
   row_meets (call.CapGetFile path) _ _ _ = attributes.cap_get_file_meets bad s valid who p is fit P cases path
   row_meets (call.CapGetFd fd) _ _ _ = attributes.cap_get_fd_meets bad s valid who p is fit P cases fd
   row_meets (call.MacGetFile path) _ _ _ = attributes.mac_get_file_meets bad s valid who p is fit P cases path
@@ -108,4 +117,3 @@ module _ (bad : Rec → Bool) (s : State) (valid : IsValid s) (who : Pid) (p : P
   row_meets (call.MacSetProc new) args _ _ = processes.mac_set_proc_meets bad s valid who p is fit P cases new args
   row_meets (call.AudWrite bytes) _ _ _ = audit.aud_write_meets bad s valid who p is fit P cases bytes
   row_meets (call.AudSwitch on) _ _ _ = audit.aud_switch_meets bad s valid who p is fit P cases on
-  row_meets c _ _ none = absurd (true≢false (sym none))

@@ -81,10 +81,10 @@ module _ (s : State) (objects : FinMap oid_cmp Object) (procs : FinMap pid_cmp P
   open_reached : (id : Oid) → IsReached s id → IsReached with_open id
   open_reached id reached = record { names = reached.names; lead = leads_kept s with_open (λ at q e. e) root reached.names id reached.lead }
 
-  -- an object stays valid where its content is valid, and it is empty as a FIFO without a description
-  pub open_object : (id : Oid) (old o : Object) → IsValidObject s id old → o.kind ≡ old.kind → o.label ≡ old.label → HasValidContent o → (o.kind ≡ kind.Fifo → any_open with_open (λ d. true) id ≡ false → o.bytes ≡ []) → IsValidObject with_open id o
-  open_object id old o valid kind_is label_is content fifo_bytes = record {
-    below = ap (dominates s.top) label_is ∙ valid.below;
+  -- an object stays valid where its label and content are valid, and it is empty as a FIFO without a description
+  pub open_object : (id : Oid) (old o : Object) → IsValidObject s id old → o.kind ≡ old.kind → dominates s.top o.label ≡ true → HasValidContent o → (o.kind ≡ kind.Fifo → any_open with_open (λ d. true) id ≡ false → o.bytes ≡ []) → IsValidObject with_open id o
+  open_object id old o valid kind_is below content fifo_bytes = record {
+    below = below;
     drawn_already = valid.drawn_already;
     mode = content.mode;
     only_files = content.only_files;
@@ -112,7 +112,7 @@ module _ (s : State) (objects : FinMap oid_cmp Object) (procs : FinMap pid_cmp P
         order = (λ i. dominates (object.label_is i) (dir.label_is i)) ∙ valid.order;
       }
 
-  open_ended : ((label : Label) (n : ℕ) → IsDrawn n (drawn s.process_numbers label) → IsDrawn n (drawn process_numbers label)) → (es : List (Pid × Ending)) → AllByRecursion (IsValidEnd s) es → AllByRecursion (IsValidEnd with_open) es
+  pub open_ended : ((label : Label) (n : ℕ) → IsDrawn n (drawn s.process_numbers label) → IsDrawn n (drawn process_numbers label)) → (es : List (Pid × Ending)) → AllByRecursion (IsValidEnd s) es → AllByRecursion (IsValidEnd with_open) es
   open_ended up [] h = tt
   open_ended up (e ∷ es) h = (record { below = h.0.below; drawn_already = up e.0.label e.0.n h.0.drawn_already }, open_ended up es h.1)
 
@@ -214,7 +214,7 @@ module _ (s : State) (valid : IsValid s) where
         let told = valid.descriptions did d is in
         valid_open s s.objects s.procs moved_descriptions s.process_numbers s.description_numbers valid (itself_like s.objects) (itself_like s.objects)
         (λ id o e. let old = valid.objects id o e in
-        open_object s s.objects s.procs moved_descriptions s.process_numbers s.description_numbers id o o old refl refl (content_of s id o old) (λ fifo none. old.fifo_bytes fifo (open_before s moved_descriptions id on none)))
+        open_object s s.objects s.procs moved_descriptions s.process_numbers s.description_numbers id o o old refl old.below (content_of s id o old) (λ fifo none. old.fifo_bytes fifo (open_before s moved_descriptions id on none)))
         (same_process s.procs moved_descriptions s.description_numbers (λ q there. there) (there_still did_cmp_total s.descriptions did new))
         (each-insert did_cmp_total did_cmp_exact (IsValidDescription moved_state) s.descriptions
         (λ q x e. let old = valid.descriptions q x e in record { drawn_already = old.drawn_already; object = old.object; object_is = old.object_is; no_dir = old.no_dir; held = moved_held q old.held })
@@ -258,8 +258,8 @@ module _ (s : State) (valid : IsValid s) where
         valid_open s set_objects s.procs s.descriptions s.process_numbers s.description_numbers valid still_like
         (each-insert oid_cmp_total oid_cmp_exact (λ (q : Oid) (o : Object). IsLike s.objects q o) s.objects (itself_like s.objects) id new (record { object = old; is = is; kind_is = sym kind_is; label_is = sym label_is }))
         (each-insert oid_cmp_total oid_cmp_exact (IsValidObject set_state) s.objects
-        (λ q o e. let valid_o = valid.objects q o e in open_object s set_objects s.procs s.descriptions s.process_numbers s.description_numbers q o o valid_o refl refl (content_of s q o valid_o) valid_o.fifo_bytes)
-        id new (open_object s set_objects s.procs s.descriptions s.process_numbers s.description_numbers id old new (valid.objects id old is) kind_is label_is content fifo_bytes))
+        (λ q o e. let valid_o = valid.objects q o e in open_object s set_objects s.procs s.descriptions s.process_numbers s.description_numbers q o o valid_o refl valid_o.below (content_of s q o valid_o) valid_o.fifo_bytes)
+        id new (open_object s set_objects s.procs s.descriptions s.process_numbers s.description_numbers id old new (valid.objects id old is) kind_is (ap (dominates s.top) label_is ∙ (valid.objects id old is).below) content fifo_bytes))
         (λ who p e. let valid_p = valid.procs who p e in open_process s set_objects s.procs s.descriptions s.process_numbers s.description_numbers still_like (λ label n h. h) who p (alone_of s who p valid_p) valid_p.parent valid_p.fds)
         set_description valid.process_numbers valid.description_numbers
 
@@ -319,7 +319,7 @@ module _ (s : State) (valid : IsValid s) where
     pub valid_shared : IsThere s.descriptions did → open_count p + 1 ≤ MAX_DESCRIPTORS → IsValid (changed s (SetProcess who holder))
     valid_shared there room =
         valid_open s s.objects more_procs s.descriptions s.process_numbers s.description_numbers valid (itself_like s.objects) (itself_like s.objects)
-        (λ id o e. let old = valid.objects id o e in open_object s s.objects more_procs s.descriptions s.process_numbers s.description_numbers id o o old refl refl (content_of s id o old) old.fifo_bytes)
+        (λ id o e. let old = valid.objects id o e in open_object s s.objects more_procs s.descriptions s.process_numbers s.description_numbers id o o old refl old.below (content_of s id o old) old.fifo_bytes)
         (more_processes s.descriptions s.description_numbers room (λ q h. h) there)
         (λ q d e. let old = valid.descriptions q d e in record { drawn_already = old.drawn_already; object = old.object; object_is = old.object_is; no_dir = old.no_dir; held = more_held s.descriptions s.description_numbers q old.held })
         valid.process_numbers valid.description_numbers
@@ -354,7 +354,7 @@ module _ (s : State) (valid : IsValid s) where
         let on : (q : Did) (x : Description) → map.get s.descriptions q ≡ Some x → IsOn opened_descriptions q x.object = set_on s.descriptions new d (λ x e. absurd (never_some (map.get s.descriptions new) x absent e)) in
         valid_open s s.objects (more_procs who p is new) opened_descriptions s.process_numbers more_numbers valid (itself_like s.objects) (itself_like s.objects)
         (λ id o e. let old = valid.objects id o e in
-        open_object s s.objects (more_procs who p is new) opened_descriptions s.process_numbers more_numbers id o o old refl refl (content_of s id o old) (λ fifo none. old.fifo_bytes fifo (open_before s opened_descriptions id on none)))
+        open_object s s.objects (more_procs who p is new) opened_descriptions s.process_numbers more_numbers id o o old refl old.below (content_of s id o old) (λ fifo none. old.fifo_bytes fifo (open_before s opened_descriptions id on none)))
         (more_processes who p is new opened_descriptions more_numbers room (there_still did_cmp_total s.descriptions new d) (record { value = d; is = get-insert_same did_cmp_total s.descriptions new d }))
         (each-insert did_cmp_total did_cmp_exact (IsValidDescription opened_state) s.descriptions
         (λ q x e. let old = valid.descriptions q x e in record {

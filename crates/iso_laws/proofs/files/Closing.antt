@@ -9,7 +9,7 @@ use Rattle.std.proofs.Common.{sym, ◌∙◌, ap, subst, arith, inl, inr}
 use Rattle.std.proofs.lemmas.Bool.{and_parts, and_from, true≢false, not-false, eqb-true, eqb-false}
 use Rattle.std.proofs.lemmas.Cmp.{tied_itself}
 use Rattle.std.proofs.lemmas.List.Folds.{list_any-append}
-use Rattle.lab_lattice.specs.Label.{Label}
+use Rattle.lab_lattice.specs.Label.{Label, dominates}
 use Rattle.kern_model.specs.declared.numbers.Did.{Did}
 use Rattle.kern_model.specs.declared.numbers.Oid.{Oid}
 use Rattle.kern_model.specs.declared.numbers.Pid.{Pid}
@@ -439,7 +439,7 @@ module _ (s : State) (valid : IsValid s) (goes : Descriptor → Bool) (procs : F
   closed_object id o e =
       let left : IsLeft s id o = are_left.0 id o e in
       let old = valid.objects id left.old left.is in
-      open_object s closed.objects procs closed.descriptions s.process_numbers s.description_numbers id left.old o old (ap (λ (x : Object). x.kind) left.same_but) (ap (λ (x : Object). x.label) left.same_but)
+      open_object s closed.objects procs closed.descriptions s.process_numbers s.description_numbers id left.old o old (ap (λ (x : Object). x.kind) left.same_but) (ap (λ (x : Object). dominates s.top x.label) left.same_but ∙ old.below)
       (subst HasValidContent (sym left.same_but) (content_left left.old o.bytes (content_of s id left.old old) left.bytes)) (fifo_empty id o e)
 
   -- a state is valid once descriptors closed, where each process is valid, and has what it had but for the descriptors that close

@@ -57,7 +57,7 @@ module _ (s : State) (valid : IsValid s) (who : Pid) (p : Process) (is : map.get
       let own : IsValidProcess s who p = valid.procs who p is in
       let still : (q : Pid) → IsThere s.procs q → IsThere more_procs q = there_still pid_cmp_total s.procs child (child_of who p) in
       valid_open s s.objects more_procs s.descriptions more_numbers s.description_numbers valid (itself_like s.objects) (itself_like s.objects)
-      (λ id o e. let old = valid.objects id o e in open_object s s.objects more_procs s.descriptions more_numbers s.description_numbers id o o old refl refl (content_of s id o old) old.fifo_bytes)
+      (λ id o e. let old = valid.objects id o e in open_object s s.objects more_procs s.descriptions more_numbers s.description_numbers id o o old refl old.below (content_of s id o old) old.fifo_bytes)
       (each-insert pid_cmp_total pid_cmp_exact (IsValidProcess forked_state) s.procs
       (λ q x e. let old = valid.procs q x e in
       open_process s s.objects more_procs s.descriptions more_numbers s.description_numbers (itself_like s.objects) (still_drawn s.process_numbers p.label) q x (alone_of s q x old) (λ r at. still r (old.parent r at)) old.fds)

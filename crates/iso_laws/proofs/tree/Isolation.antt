@@ -372,7 +372,7 @@ module _ (bad : Rec → Bool) (s : State) (valid : IsValid s) (who : Pid) (p : P
   meets_entry names k h (Entry dir name object) f = h dir name object f.0 f.1 f.2
 
   -- what may give way has no entries, be it a directory or not
-  has_no_entries : (t : Oid) → (is_dir (object_at s t).kind && not (is_empty s t)) ≡ false → is_empty s t ≡ true
+  pub has_no_entries : (t : Oid) → (is_dir (object_at s t).kind && not (is_empty s t)) ≡ false → is_empty s t ≡ true
   has_no_entries t h = elim (and_cases (is_dir (object_at s t).kind) (not (is_empty s t)) h) as (λ w. is_empty s t ≡ true) [ inl no_dir ↦ no_entries s valid t no_dir | inr empty ↦ not-false _ empty ]
 
   -- the row goes on where what is at the target may give way: it is something else, without entries
