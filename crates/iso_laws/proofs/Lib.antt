@@ -1,4 +1,5 @@
 pub mod AllLemmas
+pub mod KindLemmas
 pub mod PrefixLemmas
 pub mod Selections
 pub mod Part
@@ -10,6 +11,9 @@ pub mod WalkLemmas
 pub mod ClosingLemmas
 pub mod LowRows
 pub mod Cases
+pub mod HiddenCases
+pub mod KeptCases
+pub mod ValidCases
 pub mod CapsLemmas
 pub mod CalmRows
 pub mod FitRows
@@ -18,6 +22,7 @@ pub mod tree
 pub mod attributes
 pub mod processes
 pub mod audit
+pub mod PlayableCalls
 pub mod Isolation
 pub mod Records
 pub mod Numbers

@@ -14,7 +14,6 @@ use Rattle.lab_lattice.proofs.Labels.{dominates_through, dominates_bottom, label
 use Rattle.kern_model.specs.declared.numbers.Pid.{Pid}
 use Rattle.kern_model.specs.declared.numbers.Oid.{Oid}
 use Rattle.kern_model.specs.declared.numbers.Did.{Did}
-use Rattle.kern_model.specs.declared.objects.Kind.{Kind}
 use Rattle.kern_model.specs.declared.objects.Kind.TheVariants as kind
 use Rattle.kern_model.specs.declared.objects.Object.{Object}
 use Rattle.kern_model.specs.declared.checks.Check.{Check}
@@ -36,6 +35,7 @@ use Rattle.kern_model.specs.Step.{subject}
 use Rattle.kern_model.specs.Isolation.{low, crosses, is_mac, differ, differs_from, Kept}
 use Rattle.kern_model.specs.Valid.{IsValid, IsThere, IsDir}
 use Rattle.kern_model.proofs.MapLemmas.{get-select_kept, get-select_dropped, get_or-found, get_or-absent, get_or-same, never_some, some_same}
+use Rattle.iso_laws.proofs.KindLemmas.{dir_kind}
 use Rattle.iso_laws.proofs.Part.{by_number, shown, low_oid, low_pid, low_did, low_spot, same}
 use Rattle.iso_laws.proofs.Rows.{Alike, Ends, Passes, alike_same, alike_hidden, alike_refuse, alike_missing, ends_need, ends_refuse, ends_missing}
 
@@ -130,12 +130,6 @@ pub root_low : (l : Label) → low l root.label ≡ true
 root_low l = dominates_bottom l
 
 -- ---- what is there
-dir_kind : (k : Kind) → is_dir k ≡ true → k ≡ kind.Dir
-dir_kind kind.Dir h = refl
-dir_kind kind.File h = cc
-dir_kind kind.Fifo h = cc
-dir_kind kind.Pipe h = cc
-
 -- what reads as a directory is there
 pub dir_there : (s : State) (id : Oid) → is_dir (object_at s id).kind ≡ true → IsDir s.objects id
 dir_there s id h =

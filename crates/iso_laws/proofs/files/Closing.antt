@@ -13,7 +13,6 @@ use Rattle.lab_lattice.specs.Label.{Label, dominates}
 use Rattle.kern_model.specs.declared.numbers.Did.{Did}
 use Rattle.kern_model.specs.declared.numbers.Oid.{Oid}
 use Rattle.kern_model.specs.declared.numbers.Pid.{Pid}
-use Rattle.kern_model.specs.declared.objects.Kind.{Kind}
 use Rattle.kern_model.specs.declared.objects.Kind.TheVariants as kind
 use Rattle.kern_model.specs.declared.objects.Object.{Object}
 use Rattle.kern_model.specs.Descriptors.{Descriptor, descriptors, closing, let_go, is_let_go, is_drained, emptied, any_open}
@@ -28,6 +27,7 @@ use Rattle.kern_model.proofs.MapLemmas.{each-insert, each-remove, get-insert_sam
 use Rattle.iso_laws.proofs.AllLemmas.{all_each, all_always}
 use Rattle.iso_laws.proofs.Changes.{kept_object, kept_dropped, there_still}
 use Rattle.iso_laws.proofs.ClosingLemmas.{let_go_each, each_let_go, each_closing}
+use Rattle.iso_laws.proofs.KindLemmas.{fifo_stream}
 use Rattle.iso_laws.proofs.Part.{by_number, low_did, low_pid, same, part_changes, part_changes-append, part_of_low, part_of_high, change_label, shown_change, changed_by-append}
 use Rattle.iso_laws.proofs.Selections.{test_after, list_after, any_entry-select, flat_map-select, none_pass, none_passes, one_passes, some_passes, get-remove_same, get-remove_other, get-remove_none}
 use Rattle.iso_laws.proofs.Sight.{not_true, object_low}
@@ -141,12 +141,6 @@ over_changes Of (c ∷ cs) h t of = over_changes Of cs h.1 (changed t c) (h.0 t 
 pub part_changes-flat_map : {X : Type 0} (l top : Label) (f : X → List Change) (xs : List X) → part_changes l top (flat_map f xs) ≡ flat_map (λ x. part_changes l top (f x)) xs
 part_changes-flat_map l top f [] = refl
 part_changes-flat_map l top f (x ∷ xs) = part_changes-append l top (f x) (flat_map f xs) ∙ ap (λ cs. part_changes l top (f x) ++ cs) (part_changes-flat_map l top f xs)
-
-fifo_stream : (k : Kind) → is_fifo k ≡ true → is_stream k ≡ true
-fifo_stream kind.Dir h = absurd (true≢false (sym h))
-fifo_stream kind.File h = absurd (true≢false (sym h))
-fifo_stream kind.Fifo h = refl
-fifo_stream kind.Pipe h = absurd (true≢false (sym h))
 
 module _ (l : Label) (s : State) (kept : Kept l s) (valid : IsValid s) (goes : Descriptor → Bool) where
   abbrev part_s : State

@@ -1,7 +1,7 @@
 -- The calls on files: a Low process in the state and in its part, and what the changes satisfy.
 use Rattle.std.specs.Prelude.{◌≡◌, ℕ, ◌+◌, ◌≤◌, ◌==◌, ◌&&◌, ◌||◌, not, nat_le, nat_lt, int_lt, Bool, true, false, List, [], ◌∷◌, ◌++◌, length, take, drop, None, Some, refl, cond, ℤ, pos, ◌+ℤ◌, unsigned_abs}
 use Rattle.std.proofs.Common.{sym, ◌∙◌, ap, subst, arith}
-use Rattle.std.proofs.lemmas.Bool.{leb-true, ltb-false, not-false, true≢false}
+use Rattle.std.proofs.lemmas.Bool.{leb-true, ltb-false, not-false}
 use Rattle.std.proofs.lemmas.List.{length-append, length-drop, length-take}
 use Rattle.std.specs.FinMap as map
 use Rattle.lab_lattice.specs.Label.{Label, dominates}
@@ -16,7 +16,6 @@ use Rattle.kern_model.specs.declared.numbers.Did.{Did}
 use Rattle.kern_model.specs.declared.numbers.Oid.{Oid}
 use Rattle.kern_model.specs.declared.numbers.Pid.{Pid}
 use Rattle.kern_model.specs.declared.objects.Body.TheVariants as body
-use Rattle.kern_model.specs.declared.objects.Kind.{Kind}
 use Rattle.kern_model.specs.declared.objects.Kind.TheVariants as kind
 use Rattle.kern_model.specs.declared.objects.Object.{Object}
 use Rattle.kern_model.specs.declared.records.Rec.{Rec}
@@ -32,6 +31,7 @@ use Rattle.kern_model.specs.Stat.{stat_of}
 use Rattle.kern_model.specs.Step.{subject}
 use Rattle.kern_model.specs.Valid.{IsValid, IsValidObject}
 use Rattle.iso_laws.proofs.Cases.{Cases, Meets, OfChanges, meets_given}
+use Rattle.iso_laws.proofs.KindLemmas.{other_kind}
 use Rattle.iso_laws.proofs.LowRows.{Same, AreSeen, seen_self, low_itself, low_by, low_check, low_answer, low_descriptor}
 use Rattle.iso_laws.proofs.Part.{by_number, first_low, part_of_low}
 use Rattle.iso_laws.proofs.Rows.{Gives, Passes, alike_cond, alike_give, alike_need_if, alike_refuse, ends_cond, ends_give, ends_need, ends_need_if, ends_open, ends_refuse, ends_soft, gives_cond}
@@ -166,16 +166,6 @@ module _ (l : Label) (s : State) (kept : Kept l s) (valid : IsValid s) (who : Pi
 open_content : (s : State) (valid : IsValid s) (p : Process) (fd : ℕ) (f : Opened) → IsOpen s p fd f → IsValidObject s f.description.object (open_object s f)
 open_content s valid p fd f open_is = valid.objects f.description.object (open_object s f) (open_object_is s valid p fd f open_is)
 
--- what is open and no pipe or FIFO is a file
-open_file : (o : Object) → (o.kind ≡ kind.Dir → ⊥) → is_stream o.kind ≡ false → o.kind ≡ kind.File
-open_file o no_dir no_stream =
-    elim o.kind as (λ (k : Kind). (k ≡ kind.Dir → ⊥) → is_stream k ≡ false → k ≡ kind.File) [
-      | kind.Dir ↦ λ dir _. absurd (dir refl)
-      | kind.File ↦ λ _ _. refl
-      | kind.Fifo ↦ λ _ no. absurd (true≢false no)
-      | kind.Pipe ↦ λ _ no. absurd (true≢false no)
-    ] no_dir no_stream
-
 -- a piece that is written over bytes ends at the end of the bytes, or where it ends itself
 written_length : (old : List ℕ) (at : ℕ) (bytes : List ℕ) (most : ℕ) → at ≤ length old → at + length bytes ≤ most → length old ≤ most → length (written_over old at bytes) ≤ most
 written_length old at bytes most within ends few =
@@ -213,14 +203,14 @@ module _ (bad : Rec → Bool) (s : State) (valid : IsValid s) (who : Pid) (p : P
       ends_refuse bad (subject who p) P cases.none _ _ _ (λ _. ends_need bad (subject who p) P cases.none _ _ (λ _.
       ends_need_if bad (subject who p) P cases.none _ _ _ (λ written. ends_refuse bad (subject who p) P cases.none _ _ _ (λ _.
       ends_cond bad (subject who p) P cases.none (is_stream (open_object s f).kind) _ _
-      (λ stream. ends_give bad (subject who p) P cases.none _ _ _ (cases.pass fd f (drop n (open_object s f).bytes) Handle open_is (written stream) stream
+      (λ stream. ends_give bad (subject who p) P cases.none _ _ _ (cases.pass fd f (drop n (open_object s f).bytes) open_is (written stream) stream
       (omega (arith, length-drop n (open_object s f).bytes, (open_content s valid p fd f open_is).stream_bytes stream))))
       (λ _. given (cases.seek fd f _ open_is)))))))
 
   putting_meets : (fd : ℕ) (f : Opened) (bytes : List ℕ) → IsOpen s p fd f → Passes bad (subject who p) (mac_write s p f.description.object Handle) → is_stream (open_object s f).kind ≡ true → Meets bad who p P (putting s f bytes)
   putting_meets fd f bytes open_is written stream =
       ends_refuse bad (subject who p) P cases.none _ _ _ (λ _. ends_refuse bad (subject who p) P cases.none _ _ _ (λ room.
-      ends_give bad (subject who p) P cases.none _ _ _ (cases.pass fd f ((open_object s f).bytes ++ bytes) Handle open_is written stream
+      ends_give bad (subject who p) P cases.none _ _ _ (cases.pass fd f ((open_object s f).bytes ++ bytes) open_is written stream
       (omega (arith, length-append (open_object s f).bytes bytes, ltb-false MAX_PIPE_BYTES _ room)))))
 
   writing_meets : (fd : ℕ) (f : Opened) (bytes : List ℕ) → IsOpen s p fd f → Passes bad (subject who p) (mac_write s p f.description.object Handle) → (open_object s f).kind ≡ kind.File → Meets bad who p P (writing s f bytes)
@@ -231,12 +221,12 @@ module _ (bad : Rec → Bool) (s : State) (valid : IsValid s) (who : Pid) (p : P
       let few : length (written_over o.bytes (place_in o f) bytes) ≤ MAX_FILE_BYTES = written_length o.bytes (place_in o f) bytes MAX_FILE_BYTES (omega (arith, ltb-false _ _ inside)) (omega (arith, ltb-false _ _ room)) (content.file_bytes file) in
       ends_cond bad (subject who p) P cases.none (length bytes == 0) _ _ (λ _. given (cases.seek fd f _ open_is))
       (λ _. ends_soft bad (subject who p) P cases.none _ _ _
-      (λ _. ends_give bad (subject who p) P cases.none _ _ _ (cases.write fd f o.attr _ Handle _ open_is written file content.mode few))
-      (ends_give bad (subject who p) P cases.none _ _ _ (cases.write fd f (cleared o.attr) _ Handle _ open_is written file (permissions_are_mode o.attr.mode) few)))))
+      (λ _. ends_give bad (subject who p) P cases.none _ _ _ (cases.write fd f o.attr _ _ open_is written file content.mode few))
+      (ends_give bad (subject who p) P cases.none _ _ _ (cases.write fd f (cleared o.attr) _ _ open_is written file (permissions_are_mode o.attr.mode) few)))))
 
   pub write_meets : (fd : ℕ) (bytes : List ℕ) → Meets bad who p P (write_row s who p fd bytes)
   write_meets fd bytes = meets_descriptor fd _ (λ f open_is.
       ends_refuse bad (subject who p) P cases.none _ _ _ (λ _. ends_need bad (subject who p) P cases.none _ _ (λ written.
       ends_cond bad (subject who p) P cases.none (is_stream (open_object s f).kind) _ _
       (putting_meets fd f bytes open_is written)
-      (λ no_stream. writing_meets fd f bytes open_is written (open_file (open_object s f) (open_no_dir s valid p fd f open_is) no_stream)))))
+      (λ no_stream. writing_meets fd f bytes open_is written (other_kind (open_object s f).kind (open_no_dir s valid p fd f open_is) no_stream)))))

@@ -1,7 +1,7 @@
 -- `open`: a Low process in the state and in its part, and what the changes satisfy.
 use Rattle.std.specs.Prelude.{◌≡◌, ℕ, ◌+◌, ◌&&◌, ◌||◌, not, nat_le, Bool, true, false, List, [], ◌∷◌, ◌++◌, Option, None, Some, refl, unwrap_or}
 use Rattle.std.proofs.Common.{sym, ◌∙◌, ap, subst}
-use Rattle.std.proofs.lemmas.Bool.{and_parts, leb-true, not-false, true≢false}
+use Rattle.std.proofs.lemmas.Bool.{and_parts, leb-true, not-false}
 use Rattle.std.specs.FinMap as map
 use Rattle.fs_path.specs.Name.{Name, is_name}
 use Rattle.fs_path.specs.Path.{PathValue}
@@ -17,7 +17,6 @@ use Rattle.kern_model.specs.declared.limits.TheConstants.{MAX_DESCRIPTIONS, MAX_
 use Rattle.kern_model.specs.declared.numbers.Oid.{Oid}
 use Rattle.kern_model.specs.declared.numbers.Pid.{Pid}
 use Rattle.kern_model.specs.declared.objects.Body.TheVariants as body
-use Rattle.kern_model.specs.declared.objects.Kind.{Kind}
 use Rattle.kern_model.specs.declared.objects.Kind.TheVariants as kind
 use Rattle.kern_model.specs.declared.objects.Object.{Object}
 use Rattle.kern_model.specs.declared.records.Rec.{Rec}
@@ -35,6 +34,7 @@ use Rattle.kern_model.specs.Step.{subject}
 use Rattle.kern_model.specs.Valid.{IsValid, IsThere, IsDir}
 use Rattle.kern_model.specs.Walk.{Found, Start, Entry, last_place, dir_place}
 use Rattle.iso_laws.proofs.Cases.{Cases, Meets, HasRoom, IsOpening}
+use Rattle.iso_laws.proofs.KindLemmas.{file_kind}
 use Rattle.iso_laws.proofs.LowRows.{Same}
 use Rattle.iso_laws.proofs.Part.{by_number, shown, part_changes, part_changes-append, part_of_low}
 use Rattle.iso_laws.proofs.Rows.{alike_cond, alike_give, alike_need_if, alike_refuse, alike_soft, ends_cond, ends_give, ends_need_if, ends_refuse, ends_soft}
@@ -122,12 +122,6 @@ module _ (l : Label) (s : State) (kept : Kept l s) (valid : IsValid s) (who : Pi
   low_found path mode asked (Start id) seen = low_present asked id (last_place (λ n. First n) path) seen
   low_found path mode asked (Entry dir name None) seen = low_absent mode dir name (dir_place (λ n. First n) path) seen.0 seen.1
   low_found path mode asked (Entry dir name (Some id)) seen = low_present asked id (last_place (λ n. First n) path) (led_there s valid dir name id (sym seen.2))
-
-file_kind : (k : Kind) → is_file k ≡ true → k ≡ kind.File
-file_kind kind.Dir h = absurd (true≢false (sym h))
-file_kind kind.File h = refl
-file_kind kind.Fifo h = absurd (true≢false (sym h))
-file_kind kind.Pipe h = absurd (true≢false (sym h))
 
 -- flags as a call may have them ask to read or to write
 flags_ask : (f : OpenFlags) → are_flags f ≡ true → (f.r || f.w) ≡ true
