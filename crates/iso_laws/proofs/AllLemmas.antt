@@ -1,5 +1,5 @@
 -- What holds of each element of a list that is made of parts.
-use Rattle.std.specs.Prelude.{Bool, true, false, List, [], ◌∷◌, ◌++◌, cond}
+use Rattle.std.specs.Prelude.{◌≡◌, Bool, true, false, refl, List, [], ◌∷◌, ◌++◌, cond}
 use Rattle.std.specs.List.{AllByRecursion, flat_map}
 
 pub all-append : {X : Type 0} (P : X → Type 0) (xs ys : List X) → AllByRecursion P xs → AllByRecursion P ys → AllByRecursion P (xs ++ ys)
@@ -13,3 +13,11 @@ all_each Q P g each (x ∷ xs) h = all-append P (g x) (flat_map g xs) (each x h.
 pub all_if : {X : Type 0} (P : X → Type 0) (b : Bool) (xs : List X) → AllByRecursion P xs → AllByRecursion P (cond b xs [])
 all_if P true xs h = h
 all_if P false xs h = tt
+
+pub all_when : {X : Type 0} (P : X → Type 0) (b : Bool) (xs : List X) → (b ≡ true → AllByRecursion P xs) → AllByRecursion P (cond b xs [])
+all_when P true xs h = h refl
+all_when P false xs h = tt
+
+pub all_always : {X : Type 0} (P : X → Type 0) → ((x : X) → P x) → (xs : List X) → AllByRecursion P xs
+all_always P h [] = tt
+all_always P h (x ∷ xs) = (h x, all_always P h xs)

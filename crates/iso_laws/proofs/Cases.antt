@@ -1,38 +1,76 @@
 -- Properties of the changes of a row: one holds of each row where it holds of each kind of effect.
-use Rattle.std.specs.Prelude.{◌≡◌, ℕ, ◌+◌, ◌≤◌, length, Bool, true, false, not, List, [], ◌∷◌, Option, None, Some, refl}
-use Rattle.std.proofs.Common.{sym, ◌∙◌, ap, subst}
+use Rattle.std.specs.Prelude.{◌≡◌, ◌⊎◌, ℕ, ◌+◌, ◌<◌, ◌≤◌, ◌&&◌, ◌||◌, ◌++◌, length, Bool, true, false, not, List, [], ◌∷◌, Option, None, Some, cond}
 use Rattle.std.specs.FinMap as map
-use Rattle.cap_bits.specs.declared.cap.Cap.TheVariants as cap
 use Rattle.cap_bits.specs.CapSet.{is_within}
+use Rattle.cap_bits.specs.State.{no_flags}
 use Rattle.cap_bits.specs.declared.state.CapState.{CapState}
 use Rattle.fs_path.specs.Name.{Name, is_name}
 use Rattle.fs_path.specs.Path.{PathValue}
 use Rattle.lab_lattice.specs.Label.{Label, dominates}
-use Rattle.kern_model.specs.declared.limits.TheConstants.{MAX_GROUPS, MAX_LINKS}
+use Rattle.kern_model.specs.declared.calls.Ending.{Ending}
+use Rattle.kern_model.specs.declared.calls.OpenFlags.{OpenFlags}
+use Rattle.kern_model.specs.declared.limits.TheConstants.{MAX_DESCRIPTIONS, MAX_DESCRIPTORS, MAX_FILE_BYTES, MAX_LINKS, MAX_PIPE_BYTES, MAX_PROCS}
 use Rattle.kern_model.specs.declared.numbers.Ids.{Ids}
 use Rattle.kern_model.specs.declared.numbers.Oid.{Oid}
 use Rattle.kern_model.specs.declared.numbers.Pid.{Pid}
 use Rattle.kern_model.specs.declared.checks.Place.{Place}
-use Rattle.kern_model.specs.declared.checks.Place.TheVariants.{First}
+use Rattle.kern_model.specs.declared.checks.Place.TheVariants.{First, Handle}
+use Rattle.kern_model.specs.declared.objects.Attr.{Attr}
+use Rattle.kern_model.specs.declared.objects.Kind.TheVariants as kind
 use Rattle.kern_model.specs.declared.objects.Object.{Object}
 use Rattle.kern_model.specs.declared.records.Rec.{Rec}
 use Rattle.kern_model.specs.Create.{made, has_object_number}
+use Rattle.kern_model.specs.Descriptors.{Opened, closing, open_count, with_descriptor}
+use Rattle.kern_model.specs.FileRows.{open_object, opening, moved, with_bytes, piped}
+use Rattle.kern_model.specs.Keys.{same_oid}
 use Rattle.kern_model.specs.Entries.{is_empty, is_removed, link_count}
-use Rattle.kern_model.specs.Kinds.{is_dir as dir_kind, is_permission}
-use Rattle.kern_model.specs.Rules.{same_label, mac_read, mac_write, mac_subject}
+use Rattle.kern_model.specs.Kinds.{is_dir as dir_kind, is_file, is_fifo, is_mode, is_permission, is_stream}
+use Rattle.kern_model.specs.ProcessRows.{child_of, ending_of}
+use Rattle.kern_model.specs.Rules.{same_label, is_above_holders, mac_downgrade, mac_read, mac_subject, mac_upgrade, mac_write, mac_write_process}
 use Rattle.kern_model.specs.Row.{Row}
-use Rattle.kern_model.specs.State.{State, Process, Change, SetObject, SetProcess, SetEntry, DropEntry, changed, changed_by, next_object, object_at, look}
+use Rattle.kern_model.specs.State.{State, Process, Change, SetObject, SetProcess, SetEntry, DropEntry, DrawProcess, drawn, next_object, next_process, object_at, look, root}
 use Rattle.kern_model.specs.Step.{subject}
 use Rattle.kern_model.specs.Walk.{on_path, read_object, last_place}
-use Rattle.kern_model.specs.Isolation.{low, crosses, Kept}
-use Rattle.kern_model.specs.Valid.{IsValid, IsDir, IsValidProcess}
-use Rattle.kern_model.proofs.MapLemmas.{some_same, never_some}
-use Rattle.iso_laws.proofs.Part.{part_changes, part_of_high}
+use Rattle.kern_model.specs.Valid.{IsValid, IsDir}
 use Rattle.iso_laws.proofs.Rows.{Ends, Passes, Gives, ends_given}
-use Rattle.iso_laws.proofs.Sight.{IsNamed, same_side, ends_reach, new_side, read_low, write_side}
-use Rattle.iso_laws.proofs.Changes.{KeptProcess, kept_of, kept_process, kept_object, kept_beside, valid_process}
-use Rattle.iso_laws.proofs.tree.Changes.{IsFresh, next_absent, not_true_false, valid_drop, valid_link, valid_made}
-use Rattle.iso_laws.proofs.tree.Moves.{IsMove, valid_move}
+use Rattle.iso_laws.proofs.Sight.{IsNamed, IsOpen, ends_reach}
+use Rattle.iso_laws.proofs.files.Closing.{has_fd, without_fd}
+use Rattle.iso_laws.proofs.tree.Changes.{IsFresh}
+use Rattle.iso_laws.proofs.tree.Moves.{IsMove}
+
+-- an object may be made, where none was, in a directory whose mac_write passed and that is not removed
+pub record IsMaking (bad : Rec → Bool) (s : State) (who : Pid) (p : Process) (fit : Type 0) (dir : Oid) (name : Name) (o : Object) (place : Place) : Type 0 where
+  pub written : Passes bad (subject who p) (mac_write s p dir place)
+  pub is_dir : IsDir s.objects dir
+  pub free : look s dir name ≡ None
+  pub standing : is_removed s dir ≡ false
+  pub fresh : IsFresh p o
+  pub left : has_object_number s p ≡ true
+  pub order : dominates p.label is_dir.object.label ≡ true
+  pub named : fit → is_name name ≡ true
+
+-- a descriptor and a number of a description are left
+pub record HasRoom (s : State) (p : Process) : Type 0 where
+  pub descriptor : open_count p + 1 ≤ MAX_DESCRIPTORS
+  pub number : drawn s.description_numbers p.label + 1 ≤ MAX_DESCRIPTIONS
+
+-- an object may be opened: it is no directory, flags ask to read or to write it, and the checks on labels passed that they ask for
+pub record IsOpening (bad : Rec → Bool) (s : State) (who : Pid) (p : Process) (id : Oid) (flags : OpenFlags) (place : Place) : Type 0 where
+  pub named : IsNamed s id
+  pub no_dir : dir_kind named.object.kind ≡ false
+  pub asked : (flags.r || flags.w) ≡ true
+  pub read : flags.r ≡ true → Passes bad (subject who p) (mac_read s p id place)
+  pub written : flags.w ≡ true → Passes bad (subject who p) (mac_write s p id place)
+  -- who reads a FIFO takes bytes out of it
+  pub fifo : (is_fifo named.object.kind && flags.r) ≡ true → Passes bad (subject who p) (mac_write s p id place)
+  pub room : HasRoom s p
+
+-- an object may get a label: a check allowed it, and it keeps the order of labels
+pub record IsRelabelling (bad : Rec → Bool) (s : State) (who : Pid) (p : Process) (id : Oid) (o : Object) (new : Label) (place : Place) : Type 0 where
+  pub allowed : Passes bad (subject who p) (cond (dominates new o.label) (mac_upgrade s id new place) (mac_downgrade s id new place))
+  pub above : is_above_holders s id new ≡ true
+  pub no_root : same_oid id root ≡ false
+  pub no_entries : is_empty s id ≡ true
 
 -- a property holds of each kind of effect; where the arguments are in their ranges, so is what the effect sets
 pub record Cases (bad : Rec → Bool) (s : State) (who : Pid) (p : Process) (fit : Type 0) (P : List Change → Type 0) : Type 0 where
@@ -52,9 +90,39 @@ pub record Cases (bad : Rec → Bool) (s : State) (who : Pid) (p : Process) (fit
   -- an entry moves to a spot of a directory, and the mac_write of both directories passed
   pub move : (dir : Oid) (name : Name) (id into : Oid) (new : Name) (place there_place : Place) → Passes bad (subject who p) (mac_write s p dir place) → IsDir s.objects dir → Passes bad (subject who p) (mac_write s p into there_place)
       → IsMove s dir name id into new → (fit → is_name new ≡ true) → P (DropEntry (dir, name) ∷ SetEntry (into, new) id ∷ [])
-  -- an object is made, where none was, in a directory whose mac_write passed and that is not removed
-  pub make : (dir : Oid) (name : Name) (o : Object) (place : Place) → Passes bad (subject who p) (mac_write s p dir place) → (is_dir : IsDir s.objects dir) → look s dir name ≡ None → is_removed s dir ≡ false
-      → IsFresh p o → has_object_number s p ≡ true → dominates p.label is_dir.object.label ≡ true → (fit → is_name name ≡ true) → P (made s p dir name o)
+  -- an object is made
+  pub make : (dir : Oid) (name : Name) (o : Object) (place : Place) → IsMaking bad s who p fit dir name o place → P (made s p dir name o)
+  -- the caller gets a further descriptor, of what another one refers to
+  pub share : (fd : ℕ) (f : Opened) → IsOpen s p fd f → open_count p + 1 ≤ MAX_DESCRIPTORS → P (SetProcess who (with_descriptor p f.did) ∷ [])
+  -- a descriptor of the caller gets another offset
+  pub seek : (fd : ℕ) (f : Opened) (offset : ℕ) → IsOpen s p fd f → P (moved f offset ∷ [])
+  -- a pipe or FIFO of a descriptor, whose mac_write passed, gets other bytes
+  pub pass : (fd : ℕ) (f : Opened) (bytes : List ℕ) → IsOpen s p fd f → Passes bad (subject who p) (mac_write s p f.description.object Handle) → is_stream (open_object s f).kind ≡ true → length bytes ≤ MAX_PIPE_BYTES → P (with_bytes s f.description.object bytes ∷ [])
+  -- a file of a descriptor, whose mac_write passed, gets other bytes and attributes, and the descriptor another offset
+  pub write : (fd : ℕ) (f : Opened) (attr : Attr) (bytes : List ℕ) (offset : ℕ) → IsOpen s p fd f → Passes bad (subject who p) (mac_write s p f.description.object Handle) → (open_object s f).kind ≡ kind.File → is_mode attr.mode ≡ true → length bytes ≤ MAX_FILE_BYTES
+      → P (SetObject f.description.object (record (open_object s f) { attr = attr; bytes = bytes }) ∷ moved f offset ∷ [])
+  -- an object is opened
+  pub open_existing : (id : Oid) (flags : OpenFlags) (place : Place) → IsOpening bad s who p id flags place → P (opening s who p id flags)
+  -- a file that may be written loses its bytes, gets other attributes, and is opened
+  pub open_emptied : (id : Oid) (flags : OpenFlags) (place : Place) (attr : Attr) → (may : IsOpening bad s who p id flags place) → flags.w ≡ true → may.named.object.kind ≡ kind.File → is_mode attr.mode ≡ true → P (SetObject id (record (object_at s id) { attr = attr; bytes = [] }) ∷ opening s who p id flags)
+  -- a file is made and opened
+  pub open_made : (dir : Oid) (name : Name) (o : Object) (place : Place) (flags : OpenFlags) → IsMaking bad s who p fit dir name o place → o.kind ≡ kind.File → HasRoom s p → P (made s p dir name o ++ opening s who p (next_object s p.label) flags)
+  -- a pipe is made and opened at both ends
+  pub pipe : has_object_number s p ≡ true → open_count p + 2 ≤ MAX_DESCRIPTORS → drawn s.description_numbers p.label + 2 ≤ MAX_DESCRIPTIONS → P (piped s who p)
+  -- a descriptor of the caller closes
+  pub close : (fd : ℕ) → P (SetProcess who (without_fd p fd) ∷ closing s (has_fd who fd))
+  -- an object whose mac_write passed gets other attributes
+  pub attributes : (id : Oid) (o : Object) (attr : Attr) (place : Place) → map.get s.objects id ≡ Some o → Passes bad (subject who p) (mac_write s p id place) → (fit → is_mode attr.mode ≡ true) → (is_file o.kind ≡ false → attr.caps ≡ no_flags)
+      → P (SetObject id (record o { attr = attr }) ∷ [])
+  -- an object whose mac_write passed gets another label, which a check allowed
+  pub relabel : (id : Oid) (o : Object) (new : Label) (place : Place) → map.get s.objects id ≡ Some o → Passes bad (subject who p) (mac_write s p id place) → IsRelabelling bad s who p id o new place → (fit → dominates s.top new ≡ true)
+      → P (SetObject id (record o { label = new }) ∷ [])
+  -- the caller forks
+  pub fork : drawn s.process_numbers p.label < MAX_PROCS → P (DrawProcess p.label (drawn s.process_numbers p.label + 1) ∷ SetProcess (next_process s p.label) (child_of who p) ∷ [])
+  -- the caller has awaited the first of its children that ended
+  pub await : (e : Pid × Ending) (es : List (Pid × Ending)) → p.ended ≡ e ∷ es → P (SetProcess who (record p { ended = es }) ∷ [])
+  -- a process ends: the caller, or one whose mac_write passed
+  pub finish : (q : Pid) (x : Process) (how : Ending) → map.get s.procs q ≡ Some x → (q ≡ who) ⊎ Passes bad (subject who p) (mac_write_process p q q.label) → P (ending_of s q x how)
 
 -- ---- what the rows of every process share
 -- a property of changes, whatever the own record is
@@ -77,108 +145,3 @@ module _ (bad : Rec → Bool) (s : State) (valid : IsValid s) (who : Pid) (p : P
   -- the row of a call that reads the object that a path leads to, whose label does not matter
   pub meets_read : (path : PathValue) (k : Oid → Place → Object → Row) → ((id : Oid) (place : Place) → Gives (OfChanges P) (k id place (object_at s id))) → Meets bad who p P (on_path s p path (λ id place. read_object s p id place (k id place)))
   meets_read path k gives = meets_path path (λ id place. read_object s p id place (k id place)) (λ id place. meets_given _ (gives id place))
-
--- ---- the laws
--- a process that is not Low changes nothing in the part
-pub hidden_cases : (l : Label) (s : State) → Kept l s → (who : Pid) (p : Process) (fit : Type 0) → map.get s.procs who ≡ Some p → low l who.label ≡ false → Cases (crosses l) s who p fit (λ cs. part_changes l s.top cs ≡ [])
-hidden_cases l s kept who p fit is high =
-    let mine : low l p.label ≡ false = sym (kept.procs who p is) ∙ high in
-    let wrote : (id : Oid) (place : Place) → Passes (crosses l) (subject who p) (mac_write s p id place) → IsDir s.objects id → low l id.label ≡ false =
-    λ id place written dir. sym (write_side l s kept who p id (record { value = dir.object; is = dir.is }) place written) ∙ mine in
-    let unseen : (q : Process) → part_changes l s.top (SetProcess who q ∷ []) ≡ [] = λ q. part_of_high l s.top (SetProcess who q ∷ []) (high, tt) in
-    record {
-      none = refl;
-      self = λ ids caps umask audited groups within fits. unseen _;
-      label = λ new passes fits. unseen _;
-      cwd = λ id place read dir. unseen _;
-      leave = λ dir name id place written is_dir at empty. part_of_high l s.top (DropEntry (dir, name) ∷ []) (wrote dir place written is_dir, tt);
-      enter = λ dir name id place written is_dir free standing named no_dir few order fits. part_of_high l s.top (SetEntry (dir, name) id ∷ []) (wrote dir place written is_dir, tt);
-      move = λ dir name id into new place there_place written is_dir written_there move fits. part_of_high l s.top (DropEntry (dir, name) ∷ SetEntry (into, new) id ∷ []) (wrote dir place written is_dir, (wrote into there_place written_there move.into_is, tt));
-      make = λ dir name o place written is_dir free standing fresh left order fits. part_of_high l s.top (made s p dir name o) (mine, (mine, (wrote dir place written is_dir, tt)));
-    }
-
--- a label that a check allowed the caller is on the same side as its own
-given_side : (l : Label) (who : Pid) (p : Process) (new : Label) → (not (same_label new p.label) ≡ true → Passes (crosses l) (subject who p) (mac_subject who p new)) → low l p.label ≡ low l new
-given_side l who p new passes =
-    elim (same_label new p.label) as (λ b. same_label new p.label ≡ b → low l p.label ≡ low l new) [
-      | true ↦ λ same. sym (same_side l new p.label same)
-      | false ↦ λ other. new_side l (subject who p) (mac_subject who p new) cap.MacRelabelSubj new refl refl refl refl (passes (ap not other))
-    ] refl
-
--- a kept state stays kept
-pub kept_cases : (l : Label) (s : State) → Kept l s → IsValid s → (who : Pid) (p : Process) (fit : Type 0) → map.get s.procs who ≡ Some p → Cases (crosses l) s who p fit (λ cs. Kept l (changed_by s cs))
-kept_cases l s kept valid who p fit is =
-    let own : KeptProcess l who p = kept_of l s kept who p is in
-    record {
-      none = kept;
-      self = λ ids caps umask audited groups within fits. kept_process l s kept who _ (record { label = own.label; parent = own.parent; ended = own.ended; fds = own.fds; cwd = own.cwd });
-      label = λ new passes fits.
-          let side = given_side l who p new passes in
-          kept_process l s kept who _ (record { label = own.label ∙ side; parent = own.parent; ended = own.ended; fds = own.fds; cwd = λ is_low. own.cwd (side ∙ is_low) });
-      cwd = λ id place read dir.
-          kept_process l s kept who _ (record {
-            label = own.label;
-            parent = own.parent;
-            ended = own.ended;
-            fds = own.fds;
-            cwd = λ is_low. read_low l s kept who p is_low id (record { value = dir.object; is = dir.is }) place read;
-          });
-      leave = λ dir name id place written is_dir at empty. kept_beside l s kept _ s.object_numbers s.process_numbers s.description_numbers;
-      enter = λ dir name id place written is_dir free standing named no_dir few order fits. kept_beside l s kept _ s.object_numbers s.process_numbers s.description_numbers;
-      move = λ dir name id into new place there_place written is_dir written_there move fits. kept_beside l s kept _ s.object_numbers s.process_numbers s.description_numbers;
-      make = λ dir name o place written is_dir free standing fresh left order fits.
-          let new : Oid = next_object s p.label in
-          kept_beside l (changed s (SetObject new o)) (kept_object l s kept new o (ap (low l) (sym fresh.label)) (λ did d e at _.
-          let described = valid.descriptions did d e in
-          absurd (never_some (map.get s.objects new) described.object (next_absent s valid p.label) (ap (map.get s.objects) (sym at) ∙ described.object_is))))
-          _ _ s.process_numbers s.description_numbers;
-    }
-
--- a valid state stays valid, whatever crosses
-pub valid_cases : (bad : Rec → Bool) (s : State) → IsValid s → (who : Pid) (p : Process) → map.get s.procs who ≡ Some p → Cases bad s who p (Unit {0}) (λ cs. IsValid (changed_by s cs))
-valid_cases bad s valid who p is =
-    let own : IsValidProcess s who p = valid.procs who p is in
-    let fds : (old : Process) → map.get s.procs who ≡ Some old → p.fds ≡ old.fds = λ old e. ap (λ (x : Process). x.fds) (some_same p old (sym is ∙ e)) in
-    record {
-      none = valid;
-      self = λ ids caps umask audited groups within fits.
-          valid_process s valid who _ fds (record {
-            below = own.below;
-            drawn_already = own.drawn_already;
-            within = within;
-            umask = fits tt;
-            few_groups = subst (λ gs. length gs ≤ MAX_GROUPS) (sym groups) own.few_groups;
-            cwd = own.cwd;
-            parent = own.parent;
-            ended = own.ended;
-            fds = own.fds;
-          });
-      label = λ new passes fits.
-          valid_process s valid who _ fds (record {
-            below = fits tt;
-            drawn_already = own.drawn_already;
-            within = own.within;
-            umask = own.umask;
-            few_groups = own.few_groups;
-            cwd = own.cwd;
-            parent = own.parent;
-            ended = own.ended;
-            fds = own.fds;
-          });
-      cwd = λ id place read dir.
-          valid_process s valid who _ fds (record {
-            below = own.below;
-            drawn_already = own.drawn_already;
-            within = own.within;
-            umask = own.umask;
-            few_groups = own.few_groups;
-            cwd = dir;
-            parent = own.parent;
-            ended = own.ended;
-            fds = own.fds;
-          });
-      leave = λ dir name id place written is_dir at empty. valid_drop s valid (dir, name) id at empty;
-      enter = λ dir name id place written is_dir free standing named no_dir few order fits. valid_link s valid dir name id is_dir free standing named.object named.is (not_true_false _ no_dir) named.no_pipe few order (fits tt);
-      move = λ dir name id into new place there_place written is_dir written_there move fits. valid_move s valid dir name id into new move (fits tt);
-      make = λ dir name o place written is_dir free standing fresh left order fits. valid_made s valid p dir name o fresh is_dir free standing own.below left order (fits tt);
-    }

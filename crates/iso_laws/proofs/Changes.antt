@@ -16,12 +16,12 @@ use Rattle.kern_model.specs.declared.numbers.Oid.{Oid}
 use Rattle.kern_model.specs.declared.numbers.Did.{Did}
 use Rattle.kern_model.specs.declared.objects.Object.{Object}
 use Rattle.kern_model.specs.Keys.{Spot, pid_cmp, spot_cmp}
-use Rattle.kern_model.proofs.KeyLaws.{oid_cmp_total, oid_cmp_exact, pid_cmp_total, pid_cmp_exact}
+use Rattle.kern_model.proofs.KeyLaws.{oid_cmp_total, oid_cmp_exact, pid_cmp_total, pid_cmp_exact, did_cmp_total, did_cmp_exact}
 use Rattle.kern_model.specs.Kinds.{is_stream}
-use Rattle.kern_model.specs.State.{State, Process, Description, SetObject, SetProcess, changed, look, root}
+use Rattle.kern_model.specs.State.{State, Process, Description, SetObject, SetProcess, SetDescription, DropDescription, changed, look, root}
 use Rattle.kern_model.specs.Isolation.{low, Kept}
 use Rattle.kern_model.specs.Valid.{IsValid, IsThere, IsReached, IsHeld, IsValidObject, IsValidEntry, IsValidEnd, IsValidProcess, IsValidDescription, leads}
-use Rattle.kern_model.proofs.MapLemmas.{each-insert, same_key}
+use Rattle.kern_model.proofs.MapLemmas.{each-insert, each-remove, same_key}
 
 -- ---- numbers and labels stay on one side
 -- what `Kept` says of one process
@@ -73,6 +73,36 @@ module _ (l : Label) (s : State) (kept : Kept l s) where
         (λ q x at same stream. kept.streams did d x is (ap (map.get s.objects) same ∙ at) stream)
         id o (λ same stream. streams did d is same stream) d.object x at refl stream;
   }
+
+  -- a state stays kept where a description is set, if it is of a Low object where its number is Low, and on the side of a pipe or FIFO
+  pub kept_description : (did : Did) (d : Description) → (low l did.label ≡ true → low l d.object.label ≡ true)
+      → ((o : Object) → map.get s.objects d.object ≡ Some o → is_stream o.kind ≡ true → low l did.label ≡ low l d.object.label) → Kept l (changed s (SetDescription did d))
+  kept_description did d side stream = record {
+    objects = kept.objects;
+    procs = kept.procs;
+    parents = kept.parents;
+    ended = kept.ended;
+    fds = kept.fds;
+    cwd = kept.cwd;
+    descriptions = each-insert did_cmp_total did_cmp_exact (λ (q : Did) (x : Description). low l q.label ≡ true → low l x.object.label ≡ true) s.descriptions kept.descriptions did d side;
+    streams = λ q x o is at. each-insert did_cmp_total did_cmp_exact (λ (z : Did) (y : Description). map.get s.objects y.object ≡ Some o → is_stream o.kind ≡ true → low l z.label ≡ low l y.object.label) s.descriptions
+        (λ z y e at. kept.streams z y o e at) did d (stream o) q x is at;
+  }
+
+  -- a state stays kept where a description goes
+  pub kept_dropped : (did : Did) → Kept l (changed s (DropDescription did))
+  kept_dropped did =
+      let was : (q : Did) (x : Description) → map.get (map.remove s.descriptions did) q ≡ Some x → map.get s.descriptions q ≡ Some x = each-remove did_cmp_total did_cmp_exact (λ (q : Did) (x : Description). map.get s.descriptions q ≡ Some x) s.descriptions (λ q x e. e) did in
+      record {
+        objects = kept.objects;
+        procs = kept.procs;
+        parents = kept.parents;
+        ended = kept.ended;
+        fds = kept.fds;
+        cwd = kept.cwd;
+        descriptions = λ q x e. kept.descriptions q x (was q x e);
+        streams = λ q x o e. kept.streams q x o (was q x e);
+      }
 
   -- whether a state is kept depends neither on entries nor on drawn numbers
   pub kept_beside : (entries : FinMap spot_cmp Oid) (object_numbers process_numbers description_numbers : FinMap label_cmp ℕ)

@@ -1,5 +1,5 @@
 -- What holds of each change that is made where descriptors close, and where a process ends.
-use Rattle.std.specs.Prelude.{◌≡◌, Bool, not, ◌&&◌, ◌||◌, [], ◌∷◌, Some, cond}
+use Rattle.std.specs.Prelude.{◌≡◌, Bool, true, not, ◌&&◌, ◌||◌, [], ◌∷◌, Some, cond}
 use Rattle.std.specs.List.{AllByRecursion, flat_map}
 use Rattle.std.specs.FinMap as map
 use Rattle.kern_model.specs.declared.calls.Ending.{Ending}
@@ -11,20 +11,25 @@ use Rattle.kern_model.specs.ProcessRows.{survives, left_by, ending_of}
 use Rattle.kern_model.specs.State.{State, Process, Description, Change, SetProcess, DropProcess, DropDescription}
 use Rattle.kern_model.proofs.KeyLaws.{pid_cmp_total, pid_cmp_exact, did_cmp_total, did_cmp_exact}
 use Rattle.kern_model.proofs.MapLemmas.{each-entries}
-use Rattle.iso_laws.proofs.AllLemmas.{all-append, all_each, all_if}
+use Rattle.iso_laws.proofs.AllLemmas.{all-append, all_each, all_if, all_when}
+
+-- a property holds of each change of closing where it holds of dropping each description that is let go and of emptying each object that is drained
+module _ (s : State) (P : Change → Type 0) (goes : Descriptor → Bool) where
+  pub let_go_each : (e : Did × Description) → (is_let_go s goes e.0 ≡ true → P (DropDescription e.0) × (is_drained s goes e.1.object ≡ true → P (emptied s e.1.object))) → AllByRecursion P (let_go s goes e)
+  let_go_each e h =
+      all_when P (is_let_go s goes e.0) (DropDescription e.0 ∷ cond (is_drained s goes e.1.object) (emptied s e.1.object ∷ []) [])
+      (λ gone. let changes = h gone in (changes.0, all_when P (is_drained s goes e.1.object) (emptied s e.1.object ∷ []) (λ drained. (changes.1 drained, tt))))
+
+  pub each_let_go : ((did : Did) (d : Description) → map.get s.descriptions did ≡ Some d → is_let_go s goes did ≡ true → P (DropDescription did) × (is_drained s goes d.object ≡ true → P (emptied s d.object))) → AllByRecursion P (closing s goes)
+  unfolding closing
+  each_let_go h =
+      all_each (λ (e : Did × Description). is_let_go s goes e.0 ≡ true → P (DropDescription e.0) × (is_drained s goes e.1.object ≡ true → P (emptied s e.1.object))) P (let_go s goes) let_go_each (map.entries s.descriptions)
+      (each-entries did_cmp_total did_cmp_exact (λ (k : Did) (d : Description). is_let_go s goes k ≡ true → P (DropDescription k) × (is_drained s goes d.object ≡ true → P (emptied s d.object))) s.descriptions h)
 
 -- a property holds of each change of closing where it holds of dropping each description and of emptying each object
 module _ (s : State) (P : Change → Type 0) (drop : (did : Did) → P (DropDescription did)) (empty : (did : Did) (d : Description) → map.get s.descriptions did ≡ Some d → P (emptied s d.object)) where
-  each_let_go : (goes : Descriptor → Bool) (e : Did × Description) → P (emptied s e.1.object) → AllByRecursion P (let_go s goes e)
-  each_let_go goes e empties =
-      let both : AllByRecursion P (DropDescription e.0 ∷ cond (is_drained s goes e.1.object) (emptied s e.1.object ∷ []) []) = (drop e.0, all_if P (is_drained s goes e.1.object) (emptied s e.1.object ∷ []) (empties, tt)) in
-      all_if P (is_let_go s goes e.0) _ both
-
   pub each_closing : (goes : Descriptor → Bool) → AllByRecursion P (closing s goes)
-  unfolding closing
-  each_closing goes =
-      all_each (λ (e : Did × Description). P (emptied s e.1.object)) P (let_go s goes) (each_let_go goes) (map.entries s.descriptions)
-      (each-entries did_cmp_total did_cmp_exact (λ (k : Did) (d : Description). P (emptied s d.object)) s.descriptions empty)
+  each_closing goes = each_let_go s P goes (λ did d e _. (drop did, λ _. empty did d e))
 
   -- it holds of each change of an end where it also holds of dropping the process and of setting each one that it leaves
   pub each_ending : (who : Pid) (p : Process) (how : Ending) → P (DropProcess who) → ((q : Pid) (x : Process) → map.get s.procs q ≡ Some x → P (SetProcess q (left_by who p how q x))) → AllByRecursion P (ending_of s who p how)

@@ -1,4 +1,5 @@
 pub mod AllLemmas
+pub mod KindLemmas
 pub mod PrefixLemmas
 pub mod Part
 pub mod Rows
@@ -9,6 +10,9 @@ pub mod WalkLemmas
 pub mod ClosingLemmas
 pub mod LowRows
 pub mod Cases
+pub mod HiddenCases
+pub mod KeptCases
+pub mod ValidCases
 pub mod CapsLemmas
 pub mod CalmRows
 pub mod FitRows
@@ -17,6 +21,7 @@ pub mod tree
 pub mod attributes
 pub mod processes
 pub mod audit
+pub mod PlayableCalls
 pub mod Isolation
 pub mod Records
 pub mod Numbers

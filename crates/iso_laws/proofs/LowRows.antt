@@ -1,29 +1,31 @@
 -- What the rows of a Low process share: in its part they end as in the state.
 use Rattle.std.specs.Prelude.{◌≡◌, ℕ, true, List, [], ◌∷◌, Option, None, Some, refl}
-use Rattle.std.proofs.Common.{sym, ◌∙◌, subst}
+use Rattle.std.proofs.Common.{sym, ◌∙◌, ap, subst}
 use Rattle.std.specs.FinMap as map
 use Rattle.fs_path.specs.Path.{PathValue}
 use Rattle.lab_lattice.specs.Label.{Label, dominates}
 use Rattle.kern_model.specs.declared.numbers.Oid.{Oid}
 use Rattle.kern_model.specs.declared.numbers.Pid.{Pid}
+use Rattle.kern_model.specs.declared.calls.Answer.{Answer}
+use Rattle.kern_model.specs.declared.checks.Check.{Check}
 use Rattle.kern_model.specs.declared.checks.CheckName.TheVariants as check
 use Rattle.kern_model.specs.declared.checks.Place.{Place}
 use Rattle.kern_model.specs.declared.checks.Place.TheVariants.{First, Handle}
 use Rattle.kern_model.specs.declared.objects.Object.{Object}
 use Rattle.kern_model.specs.declared.records.Rec.{Rec}
 use Rattle.kern_model.specs.AttrRows.{on_open_object}
-use Rattle.kern_model.specs.Descriptors.{opened}
-use Rattle.kern_model.specs.FileRows.{or_not_open}
-use Rattle.kern_model.specs.Rules.{of_object}
-use Rattle.kern_model.specs.Row.{Row, Need}
+use Rattle.kern_model.specs.Descriptors.{Opened, opened}
+use Rattle.kern_model.specs.FileRows.{or_not_open, on_descriptor}
+use Rattle.kern_model.specs.Rules.{of_object, same_label}
+use Rattle.kern_model.specs.Row.{Row, Need, Commit}
 use Rattle.kern_model.specs.State.{State, Process, Change, SetProcess, object_at}
 use Rattle.kern_model.specs.Step.{subject}
-use Rattle.kern_model.specs.Walk.{on_path, read_object, last_place}
+use Rattle.kern_model.specs.Walk.{on_path, read_object, write_object, last_place}
 use Rattle.kern_model.specs.Isolation.{low, crosses, Kept}
-use Rattle.kern_model.specs.Valid.{IsValid}
+use Rattle.kern_model.specs.Valid.{IsValid, IsThere}
 use Rattle.iso_laws.proofs.Part.{by_number, part_changes, part_of_low}
-use Rattle.iso_laws.proofs.Rows.{Alike, Gives, alike_itself, alike_open}
-use Rattle.iso_laws.proofs.Sight.{opened_low, open_object_low, alike_reach, alike_mac_read, object_low}
+use Rattle.iso_laws.proofs.Rows.{Alike, Gives, Passes, alike_itself, alike_open, alike_same, alike_give}
+use Rattle.iso_laws.proofs.Sight.{IsOpen, is_open, opened_low, open_did_low, open_object_low, open_object_is, alike_reach, alike_mac_read, alike_mac_write, object_low}
 
 -- unless something crosses, the second row ends as the first one does, with the part of its changes
 abbrev pub Same : Label → State → Pid → Process → Row → Row → Type 0
@@ -62,14 +64,43 @@ module _ (l : Label) (s : State) (kept : Kept l s) (valid : IsValid s) (who : Pi
       → Same l s who p (on_path s p path (λ id place. read_object s p id place (r id place))) (on_path part_s p path (λ id place. read_object part_s p id place (r id place)))
   low_read_by path r gives = low_read path r r (λ id place h. low_by id h (r id place) (gives id place (object_at s id)))
 
+  -- the row of a call that writes what a path leads to
+  pub low_write : (path : PathValue) (r r' : Oid → Place → Object → Row) → ((id : Oid) (place : Place) → IsThere s.objects id → low l id.label ≡ true → Same l s who p (r id place (object_at s id)) (r' id place (object_at part_s id)))
+      → Same l s who p (on_path s p path (λ id place. write_object s p id place (r id place))) (on_path part_s p path (λ id place. write_object part_s p id place (r' id place)))
+  low_write path r r' h =
+      let place : Place = last_place (λ n. First n) path in
+      alike_reach l s kept valid who p is_low is (λ n. First n) path _ _
+      (λ id there. alike_mac_write l s kept valid who p is_low id there place (r id place (object_at s id)) (λ d. r' d place (object_at part_s d)) (h id place there))
+
+  -- a check of a Low object, which is the same in the part
+  pub low_check : (id : Oid) → low l id.label ≡ true → (c : Object → Check) (r r' : Row) → (Passes (crosses l) (subject who p) (c (object_at s id)) → Same l s who p r r')
+      → Same l s who p (Need (c (object_at s id)) r) (Need (c (object_at part_s id)) r')
+  low_check id h c r r' rest = alike_same (crosses l) l s.top (subject who p) (c (object_at s id)) (c (object_at part_s id)) r r' (ap c (object_low l s id h)) rest
+
+  -- an answer that is the same in the part, where nothing changes
+  pub low_answer : {X : Type 0} (a : X → Answer) (x x' : X) → x' ≡ x → Same l s who p (Commit [] (a x) None) (Commit [] (a x') None)
+  low_answer a x x' e = subst (λ y. Same l s who p (Commit [] (a x) None) (Commit [] (a y) None)) (sym e) (alike_give (crosses l) l s.top (subject who p) [] [] (a x) None refl)
+
+  -- the row goes on from what a descriptor refers to
+  pub low_descriptor : (fd : ℕ) (k k' : Opened → Row) → ((f : Opened) → IsOpen s p fd f → low l f.did.label ≡ true → low l f.description.object.label ≡ true → Same l s who p (k f) (k' f)) → Same l s who p (on_descriptor s p fd k) (on_descriptor part_s p fd k')
+  low_descriptor fd k k' h =
+      subst (λ w. Same l s who p (on_descriptor s p fd k) (or_not_open w k')) (sym (opened_low l s kept who p is is_low fd))
+      (alike_open (crosses l) l s.top (subject who p) (opened s p fd) k k' (λ f e. let open_is = is_open s p fd f e in h f open_is (open_did_low l s kept who p is is_low fd f open_is) (open_object_low l s kept who p is is_low fd f e)))
+
   -- the row of a call that reads the object of a descriptor, and depends on that alone
   pub low_open_object_by : (fd : ℕ) (r : Object → Row) → ((o : Object) → Gives (AreSeen l s) (r o))
       → Same l s who p (on_open_object s p fd (λ id place. read_object s p id place r)) (on_open_object part_s p fd (λ id place. read_object part_s p id place r))
   low_open_object_by fd r gives =
-      subst (λ w. Same l s who p (on_open_object s p fd (λ id place. read_object s p id place r)) (or_not_open w (λ f. read_object part_s p f.description.object Handle r)))
-      (sym (opened_low l s kept who p is is_low fd))
-      (alike_open (crosses l) l s.top (subject who p) (opened s p fd) _ _ (λ f e.
-      low_by f.description.object (open_object_low l s kept who p is is_low fd f e) (λ o. Need (of_object check.MacRead (dominates p.label o.label) None f.description.object o Handle) (r o)) (gives (object_at s f.description.object))))
+      low_descriptor fd _ _ (λ f _ _ h.
+      low_by f.description.object h (λ o. Need (of_object check.MacRead (dominates p.label o.label) None f.description.object o Handle) (r o)) (gives (object_at s f.description.object)))
+
+  -- the row of a call that writes the object of a descriptor
+  pub low_open_write : (fd : ℕ) (r r' : Oid → Place → Object → Row) → ((id : Oid) (place : Place) → IsThere s.objects id → low l id.label ≡ true → Same l s who p (r id place (object_at s id)) (r' id place (object_at part_s id)))
+      → Same l s who p (on_open_object s p fd (λ id place. write_object s p id place (r id place))) (on_open_object part_s p fd (λ id place. write_object part_s p id place (r' id place)))
+  low_open_write fd r r' h =
+      low_descriptor fd _ _ (λ f open_is _ low_id.
+      let id : Oid = f.description.object in
+      low_check id low_id (λ o. of_object check.MacWrite (same_label p.label o.label) None id o Handle) _ _ (λ _. h id Handle (record { value = object_at s id; is = open_object_is s valid p fd f open_is }) low_id))
 
   pub same_bound : part_s.bound ≡ s.bound
   unfolding by_number

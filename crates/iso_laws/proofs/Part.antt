@@ -2,7 +2,7 @@
 use Rattle.std.specs.Prelude.{◌≡◌, ℕ, Bool, true, false, List, [], ◌∷◌, ◌++◌, Some, None, refl, cond, map}
 use Rattle.std.specs.List.{AllByRecursion}
 use Rattle.std.specs.FinMap as map
-use Rattle.std.proofs.Common.{sym, ◌∙◌, ap}
+use Rattle.std.proofs.Common.{sym, ◌∙◌, ap, append_assoc}
 use Rattle.lab_lattice.specs.Label.{Label}
 use Rattle.lab_lattice.proofs.Labels.{label_cmp_total, label_cmp_exact}
 use Rattle.kern_model.specs.declared.numbers.Pid.{Pid}
@@ -75,15 +75,27 @@ abbrev pub part_changes : Label → Label → List Change → List Change
 part_changes l top [] = []
 part_changes l top (c ∷ cs) = part_change l top c ++ part_changes l top cs
 
+pub part_changes-append : (l top : Label) (cs ds : List Change) → part_changes l top (cs ++ ds) ≡ part_changes l top cs ++ part_changes l top ds
+part_changes-append l top [] ds = refl
+part_changes-append l top (c ∷ cs) ds = ap (λ xs. part_change l top c ++ xs) (part_changes-append l top cs ds) ∙ sym (append_assoc (part_change l top c) (part_changes l top cs) (part_changes l top ds))
+
+-- the part sees a change at a Low number
+pub first_low : (l top : Label) (c : Change) (cs : List Change) → low l (change_label c) ≡ true → part_changes l top (c ∷ cs) ≡ shown_change l top c ∷ part_changes l top cs
+first_low l top c cs h = ap (λ b. cond b (shown_change l top c ∷ []) [] ++ part_changes l top cs) h
+
+-- it does not see another one
+pub first_high : (l top : Label) (c : Change) (cs : List Change) → low l (change_label c) ≡ false → part_changes l top (c ∷ cs) ≡ part_changes l top cs
+first_high l top c cs h = ap (λ b. cond b (shown_change l top c ∷ []) [] ++ part_changes l top cs) h
+
 -- of changes at Low numbers, the part sees each
 pub part_of_low : (l top : Label) (cs : List Change) → AllByRecursion (λ c. low l (change_label c) ≡ true) cs → part_changes l top cs ≡ map (shown_change l top) cs
 part_of_low l top [] h = refl
-part_of_low l top (c ∷ cs) h = ap (λ b. cond b (shown_change l top c ∷ []) [] ++ part_changes l top cs) h.0 ∙ ap (λ ds. shown_change l top c ∷ ds) (part_of_low l top cs h.1)
+part_of_low l top (c ∷ cs) h = first_low l top c cs h.0 ∙ ap (λ ds. shown_change l top c ∷ ds) (part_of_low l top cs h.1)
 
 -- of changes at numbers that are not Low, the part sees none
 pub part_of_high : (l top : Label) (cs : List Change) → AllByRecursion (λ c. low l (change_label c) ≡ false) cs → part_changes l top cs ≡ []
 part_of_high l top [] h = refl
-part_of_high l top (c ∷ cs) h = ap (λ b. cond b (shown_change l top c ∷ []) [] ++ part_changes l top cs) h.0 ∙ part_of_high l top cs h.1
+part_of_high l top (c ∷ cs) h = first_high l top c cs h.0 ∙ part_of_high l top cs h.1
 
 -- what a change does to the part by numbers
 pub by_number-changed : (l : Label) (s : State) (c : Change) → by_number l (changed s c) ≡ changed_by (by_number l s) (part_change l s.top c)
@@ -170,7 +182,7 @@ pub fixed_by : {X : Type 0} (of : State → X) → ((s : State) (c : Change) →
 fixed_by of fixed s [] = refl
 fixed_by of fixed s (c ∷ cs) = fixed_by of fixed (changed s c) cs ∙ fixed s c
 
-changed_by-append : (s : State) (cs ds : List Change) → changed_by s (cs ++ ds) ≡ changed_by (changed_by s cs) ds
+pub changed_by-append : (s : State) (cs ds : List Change) → changed_by s (cs ++ ds) ≡ changed_by (changed_by s cs) ds
 changed_by-append s [] ds = refl
 changed_by-append s (c ∷ cs) ds = changed_by-append (changed s c) cs ds
 

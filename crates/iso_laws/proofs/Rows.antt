@@ -174,6 +174,16 @@ module _ (bad : Rec → Bool) (l top : Label) (a : Subject) where
   alike_open None k k' h = alike_fail errno.EBADF
   alike_open (Some f) k k' h = h f refl
 
+  pub alike_cond : (b b' : Bool) (x y x' y' : Row) → b' ≡ b → (b ≡ true → Alike bad l top a x x') → (b ≡ false → Alike bad l top a y y') → Alike bad l top a (cond b x y) (cond b' x' y')
+  alike_cond b b' x y x' y' same f g =
+      subst (λ c. Alike bad l top a (cond b x y) (cond c x' y')) (sym same)
+      (elim b as (λ c. b ≡ c → Alike bad l top a (cond c x y) (cond c x' y')) [ true ↦ f | false ↦ g ] refl)
+
+  -- equal checks that are made where they are asked for, where the rows after them end alike
+  pub alike_need_if : (b b' : Bool) (c c' : Check) (r r' : Row) → b' ≡ b → c' ≡ c → Alike bad l top a r r' → Alike bad l top a (need_if b c r) (need_if b' c' r')
+  unfolding need_if
+  alike_need_if b b' c c' r r' same e rest = alike_cond b b' (Need c r) r (Need c' r') r' same (λ _. alike_same c c' r r' e (λ _. rest)) (λ _. rest)
+
 -- ---- what a row's changes satisfy
 module _ (bad : Rec → Bool) (a : Subject) (P : List Change → Type 0) (none : P []) where
   pub ends_fail : (e : Errno) → Ends bad a P (Fail e)
@@ -220,6 +230,14 @@ module _ (bad : Rec → Bool) (a : Subject) (P : List Change → Type 0) (none :
   pub ends_missing : (o : Option Oid) (k : Oid → Row) → ((id : Oid) → o ≡ Some id → Ends bad a P (k id)) → Ends bad a P (or_missing o k)
   ends_missing None k h = ends_fail errno.ENOENT
   ends_missing (Some id) k h = h id refl
+
+  pub ends_open : (o : Option Opened) (k : Opened → Row) → ((f : Opened) → o ≡ Some f → Ends bad a P (k f)) → Ends bad a P (or_not_open o k)
+  ends_open None k h = ends_fail errno.EBADF
+  ends_open (Some f) k h = h f refl
+
+  pub ends_cond : (b : Bool) (x y : Row) → (b ≡ true → Ends bad a P x) → (b ≡ false → Ends bad a P y) → Ends bad a P (cond b x y)
+  ends_cond true x y f g = f refl
+  ends_cond false x y f g = g refl
 
 -- ---- rows whose checks do not matter
 -- each refusal of a row is no denial, and changes and own record at each of its ends satisfy a property

@@ -14,7 +14,6 @@ use Rattle.lab_lattice.proofs.Labels.{dominates_through, dominates_bottom, label
 use Rattle.kern_model.specs.declared.numbers.Pid.{Pid}
 use Rattle.kern_model.specs.declared.numbers.Oid.{Oid}
 use Rattle.kern_model.specs.declared.numbers.Did.{Did}
-use Rattle.kern_model.specs.declared.objects.Kind.{Kind}
 use Rattle.kern_model.specs.declared.objects.Kind.TheVariants as kind
 use Rattle.kern_model.specs.declared.objects.Object.{Object}
 use Rattle.kern_model.specs.declared.checks.Check.{Check}
@@ -36,6 +35,7 @@ use Rattle.kern_model.specs.Step.{subject}
 use Rattle.kern_model.specs.Isolation.{low, crosses, is_mac, differ, differs_from, Kept}
 use Rattle.kern_model.specs.Valid.{IsValid, IsThere, IsDir}
 use Rattle.kern_model.proofs.MapLemmas.{get-select_kept, get-select_dropped, get_or-found, get_or-absent, get_or-same, never_some, some_same}
+use Rattle.iso_laws.proofs.KindLemmas.{dir_kind}
 use Rattle.iso_laws.proofs.Part.{by_number, shown, low_oid, low_pid, low_did, low_spot, same}
 use Rattle.iso_laws.proofs.Rows.{Alike, Ends, Passes, alike_same, alike_hidden, alike_refuse, alike_missing, ends_need, ends_refuse, ends_missing}
 
@@ -130,12 +130,6 @@ pub root_low : (l : Label) → low l root.label ≡ true
 root_low l = dominates_bottom l
 
 -- ---- what is there
-dir_kind : (k : Kind) → is_dir k ≡ true → k ≡ kind.Dir
-dir_kind kind.Dir h = refl
-dir_kind kind.File h = cc
-dir_kind kind.Fifo h = cc
-dir_kind kind.Pipe h = cc
-
 -- what reads as a directory is there
 pub dir_there : (s : State) (id : Oid) → is_dir (object_at s id).kind ≡ true → IsDir s.objects id
 dir_there s id h =
@@ -164,7 +158,7 @@ found_after s name names (Entry dir last object) f = (f.0, f.1, λ h. f.2 (and_p
 pub led_there : (s : State) → IsValid s → (dir : Oid) (name : Name) (id : Oid) → look s dir name ≡ Some id → IsThere s.objects id
 led_there s valid dir name id e = let entry = valid.entries (dir, name) id e in record { value = entry.object; is = entry.object_is }
 
-led_named : (s : State) → IsValid s → (dir : Oid) (name : Name) (id : Oid) → look s dir name ≡ Some id → IsNamed s id
+pub led_named : (s : State) → IsValid s → (dir : Oid) (name : Name) (id : Oid) → look s dir name ≡ Some id → IsNamed s id
 led_named s valid dir name id e = let entry = valid.entries (dir, name) id e in record { object = entry.object; is = entry.object_is; no_pipe = entry.no_pipe }
 
 dir_named : (s : State) (id : Oid) → IsDir s.objects id → IsNamed s id
@@ -225,12 +219,20 @@ module _ (l : Label) (s : State) where
   unfolding by_number
   drawn_low label h = get_or-same _ _ label 0 (get-select_kept label_cmp_total label_cmp_exact (low l) same s.object_numbers label h ∙ same_map _)
 
+  pub descriptions_drawn_low : (label : Label) → low l label ≡ true → drawn (by_number l s).description_numbers label ≡ drawn s.description_numbers label
+  unfolding by_number
+  descriptions_drawn_low label h = get_or-same _ _ label 0 (get-select_kept label_cmp_total label_cmp_exact (low l) same s.description_numbers label h ∙ same_map _)
+
+  pub processes_drawn_low : (label : Label) → low l label ≡ true → drawn (by_number l s).process_numbers label ≡ drawn s.process_numbers label
+  unfolding by_number
+  processes_drawn_low label h = get_or-same _ _ label 0 (get-select_kept label_cmp_total label_cmp_exact (low l) same s.process_numbers label h ∙ same_map _)
+
   -- the process of a Low number is the same in the part
   pub get_process : (q : Pid) → low l q.label ≡ true → map.get (by_number l s).procs q ≡ map.get s.procs q
   unfolding by_number
   get_process q h = get-select_kept pid_cmp_total pid_cmp_exact (low_pid l) same s.procs q h ∙ same_map _
 
-  get_description : (did : Did) → low l did.label ≡ true → map.get (by_number l s).descriptions did ≡ map.get s.descriptions did
+  pub get_description : (did : Did) → low l did.label ≡ true → map.get (by_number l s).descriptions did ≡ map.get s.descriptions did
   unfolding by_number
   get_description did h = get-select_kept did_cmp_total did_cmp_exact (low_did l) same s.descriptions did h ∙ same_map _
 
@@ -294,16 +296,19 @@ read_low l s kept who p is_low id there place passes =
       | false ↦ λ high. absurd (read_crosses l s kept who p is_low id there high place passes)
     ] refl
 
+-- what passes a check of the same label is on the side of the process
+pub equal_side : (l : Label) (a : Subject) (c : Check) → cap_of c.name ≡ Some cap.MacWrite → c.holds ≡ same_label a.label c.thing_label → Passes (crosses l) a c → low l a.label ≡ low l c.thing_label
+equal_side l a c named rule passes =
+    elim (same_label a.label c.thing_label) as (λ b. same_label a.label c.thing_label ≡ b → low l a.label ≡ low l c.thing_label) [
+      | true ↦ λ same. same_side l a.label c.thing_label same
+      | false ↦ λ other. differ_false _ _ (not_true (differ (low l a.label) (low l c.thing_label)) (λ apart. crossed l a c cap.MacWrite (rule ∙ other) named refl apart passes))
+    ] refl
+
 -- what passes the mac_write of a process is on its side
 pub write_side : (l : Label) (s : State) → Kept l s → (who : Pid) (p : Process) (id : Oid) → IsThere s.objects id → (place : Place) → Passes (crosses l) (subject who p) (mac_write s p id place) → low l p.label ≡ low l id.label
 write_side l s kept who p id there place passes =
-    let label : Label = (object_at s id).label in
-    let at : low l label ≡ low l id.label = ap (λ (o : Object). low l o.label) (get_or-found _ _ _ _ there.is) ∙ sym (kept.objects id there.value there.is) in
-    elim (same_label p.label label) as (λ b. same_label p.label label ≡ b → low l p.label ≡ low l id.label) [
-      | true ↦ λ same. same_side l p.label label same ∙ at
-      | false ↦ λ other.
-          differ_false _ _ (not_true (differ (low l p.label) (low l label)) (λ apart. crossed l (subject who p) (mac_write s p id place) cap.MacWrite other refl refl apart passes)) ∙ at
-    ] refl
+    equal_side l (subject who p) (mac_write s p id place) refl refl passes
+    ∙ ap (λ (o : Object). low l o.label) (get_or-found _ _ _ _ there.is) ∙ sym (kept.objects id there.value there.is)
 
 module _ (l : Label) (s : State) (kept : Kept l s) (valid : IsValid s) (who : Pid) (p : Process) (is_low : low l p.label ≡ true) where
   abbrev Same : Row → Row → Type 0
@@ -420,6 +425,21 @@ module _ (l : Label) (s : State) (kept : Kept l s) (who : Pid) (p : Process) (is
         | Some did ↦ λ at. ap (option_map (λ (d : Description). record { did = did; description = d })) (get_description l s did (fd_low did at))
       ] refl
 
+  -- its description has a Low number
+  pub open_did_low : (f : Opened) → IsOpen s p fd f → low l f.did.label ≡ true
+  open_did_low f held = fd_low f.did held.fd_is
+
   -- a descriptor of a Low process refers to a Low object
   pub open_object_low : (f : Opened) → opened s p fd ≡ Some f → low l f.description.object.label ≡ true
   open_object_low f e = let held = is_open s p fd f e in kept.descriptions f.did f.description held.is (fd_low f.did held.fd_is)
+
+-- what an open descriptor refers to is there, and is no directory
+pub open_object_is : (s : State) → IsValid s → (p : Process) (fd : ℕ) (f : Opened) → IsOpen s p fd f → map.get s.objects f.description.object ≡ Some (object_at s f.description.object)
+open_object_is s valid p fd f is =
+    let described = valid.descriptions f.did f.description is.is in
+    described.object_is ∙ ap (λ (o : Object). Some o) (sym (get_or-found s.objects f.description.object (stub_object s.top) described.object described.object_is))
+
+pub open_no_dir : (s : State) → IsValid s → (p : Process) (fd : ℕ) (f : Opened) → IsOpen s p fd f → (object_at s f.description.object).kind ≡ kind.Dir → ⊥
+open_no_dir s valid p fd f is dir =
+    let described = valid.descriptions f.did f.description is.is in
+    described.no_dir (ap (λ (o : Object). o.kind) (sym (get_or-found s.objects f.description.object (stub_object s.top) described.object described.object_is)) ∙ dir)

@@ -22,7 +22,10 @@ use Rattle.iso_laws.specs.Laws.{IsLowStep, LowStepReply, LowStepRecords, LowStep
 use Rattle.iso_laws.proofs.Part.{by_number, top-changed, low_pid, same, part_changes, part_by_number, by_number-changed_by, fixed_by}
 use Rattle.iso_laws.proofs.Rows.{part_end, part_judged, bad_prefix, never, none_never}
 use Rattle.iso_laws.proofs.Sight.{get_process}
-use Rattle.iso_laws.proofs.Cases.{Cases, hidden_cases, kept_cases, valid_cases}
+use Rattle.iso_laws.proofs.Cases.{Cases}
+use Rattle.iso_laws.proofs.HiddenCases.{hidden_cases}
+use Rattle.iso_laws.proofs.KeptCases.{kept_cases}
+use Rattle.iso_laws.proofs.ValidCases.{valid_cases}
 use Rattle.iso_laws.proofs.Isolation.{low_row, row_meets}
 
 module _ (s : State) (who : Pid) (c : Call) where
@@ -56,7 +59,7 @@ module _ (l : Label) (s : State) (who : Pid) (c : Call) (laws : has_laws c ≡ t
 pub kept_step : KeptStep
 kept_step l s who c laws valid kept = by_process s who c (λ o. crossing l o.recs ≡ false → Kept l o.state)
     (λ _ _. kept)
-    (λ p is h. met l s who c laws (λ cs. Kept l (changed_by s cs)) valid p is (kept_cases l s kept valid who p _ is) h)
+    (λ p is h. met l s who c laws (λ cs. Kept l (changed_by s cs)) valid p is (kept_cases l s kept valid who p is _) h)
 
 pub other_step : OtherStep
 other_step l s who c laws valid kept high = by_process s who c (λ o. (crossing l o.recs ≡ false → Kept l o.state) → crossing l o.recs ≡ false → part l o.state ≡ part l s)
@@ -64,7 +67,7 @@ other_step l s who c laws valid kept high = by_process s who c (λ o. (crossing 
     (λ p is k h.
     part_by_number l _ (k h)
     ∙ by_number-changed_by l s (changes_of (judged_row s who c p).end)
-    ∙ ap (changed_by (by_number l s)) (met l s who c laws (λ cs. part_changes l s.top cs ≡ []) valid p is (hidden_cases l s kept who p _ is high) h)
+    ∙ ap (changed_by (by_number l s)) (met l s who c laws (λ cs. part_changes l s.top cs ≡ []) valid p is (hidden_cases l s kept valid who p _ is high) h)
     ∙ sym (part_by_number l s kept))
     (kept_step l s who c laws valid kept)
 

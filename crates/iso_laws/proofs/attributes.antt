@@ -1,3 +1,4 @@
+pub mod Labels
 pub mod Isolation
 pub mod Records
 pub mod Numbers

@@ -1,3 +1,5 @@
+pub mod Ending
+pub mod Forking
 pub mod Isolation
 pub mod Records
 pub mod Numbers

@@ -1,39 +1,15 @@
--- The calls for which the laws of isolation and of validity are proved so far.
-use Rattle.std.specs.Prelude.{Bool, true, false, List}
+-- The calls for which the laws of isolation and of validity are proved.
+use Rattle.std.specs.Prelude.{Bool, true, List}
 use Rattle.std.specs.List.{list_all}
 use Rattle.kern_model.specs.declared.calls.Call.{Call}
 use Rattle.kern_model.specs.declared.calls.Call.TheVariants as call
 use Rattle.kern_model.specs.declared.world.ScriptItem.{ScriptItem}
+use Rattle.kern_model.specs.Arguments.{are_flags}
 
--- whether they are proved for a call: one that reports or sets what its caller is, that reports what an object is or what a directory contains, or that makes an entry, moves one or takes one away
+-- whether they are proved for a call: for every call, but that opens a file by flags that no call may have
 abbrev pub has_laws : Call → Bool
-has_laws (call.Mkfifo path mode) = true
-has_laws (call.Mkdir path mode) = true
-has_laws (call.Link path to) = true
-has_laws (call.Rmdir path) = true
-has_laws (call.Unlink path) = true
-has_laws (call.Rename path to) = true
-has_laws (call.Readdir path) = true
-has_laws (call.Stat path) = true
-has_laws (call.Chdir path) = true
-has_laws (call.Umask mode) = true
-has_laws (call.CapGetFile path) = true
-has_laws (call.CapGetFd fd) = true
-has_laws (call.MacGetFile path) = true
-has_laws (call.MacGetFd fd) = true
-has_laws (call.Exec path) = true
-has_laws call.Getpid = true
-has_laws call.Getppid = true
-has_laws call.Getids = true
-has_laws (call.Setuid user) = true
-has_laws (call.Setgid group) = true
-has_laws call.CapGetProc = true
-has_laws (call.CapSetProc caps) = true
-has_laws call.MacGetProc = true
-has_laws (call.MacSetProc label) = true
-has_laws (call.AudWrite bytes) = true
-has_laws (call.AudSwitch on) = true
-has_laws _ = false
+has_laws (call.OpenPath path flags mode) = are_flags flags
+has_laws _ = true
 
 -- whether each call of a script has laws
 abbrev pub have_laws : List ScriptItem → Bool

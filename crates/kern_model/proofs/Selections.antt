@@ -163,6 +163,34 @@ module _ {K X : Type 0} {R : K → K → Ordering} (o : IsTotalOrder R) (exact :
   unfolding any_entry
   none_pass m h = fails_all (map.entries m) (each-entries o exact (λ (k : K) (x : X). p k x ≡ false) m h)
 
+  -- an entry that passes
+  pub record Passing (m : FinMap R X) : Type 0 where
+    pub key : K
+    pub value : X
+    pub is : map.get m key ≡ Some value
+    pub passes : p key value ≡ true
+
+  some_listed : (m : FinMap R X) (es : List (K × X)) → AllByRecursion (λ (e : K × X). map.get m e.0 ≡ Some e.1) es → list_any (λ (e : K × X). p e.0 e.1) es ≡ true → Passing m
+  some_listed m [] h some = absurd (true≢false (sym some))
+  some_listed m (e ∷ es) h some =
+      elim (p e.0 e.1) as (λ b. p e.0 e.1 ≡ b → (b || list_any (λ (e : K × X). p e.0 e.1) es) ≡ true → Passing m) [
+        | true ↦ λ t _. record { key = e.0; value = e.1; is = h.0; passes = t }
+        | false ↦ λ _ rest. some_listed m es h.1 rest
+      ] refl some
+
+  -- where `any_entry` finds one, an entry of the map passes
+  pub some_passes : (m : FinMap R X) → any_entry p m ≡ true → Passing m
+  unfolding any_entry
+  some_passes m h = some_listed m (map.entries m) (each-entries o exact (λ (k : K) (x : X). map.get m k ≡ Some x) m (λ k x e. e)) h
+
+  -- where an entry of the map passes, `any_entry` finds one
+  pub one_passes : (m : FinMap R X) (k : K) (x : X) → map.get m k ≡ Some x → p k x ≡ true → any_entry p m ≡ true
+  one_passes m k x e t =
+      elim (any_entry p m) as (λ b. any_entry p m ≡ b → b ≡ true) [
+        | true ↦ λ _. refl
+        | false ↦ λ none. absurd (true≢false (sym t ∙ none_passes m none k x e))
+      ] refl
+
   -- ---- how many entries pass a test
   one_first : (e : K × X) (es : List (K × X)) → passing (e ∷ es) ≡ cond (p e.0 e.1) 1 0 + passing es
   one_first e es = sum_by-cons (λ (e : K × X). cond (p e.0 e.1) 1 0) e es
@@ -220,6 +248,13 @@ insert-over_removed {R = R} o exact m k gone x = same_map o exact _ _ (λ q.
       | false ↦ λ other. get-remove o (map.remove m k) gone q ∙ ap (cond (eq_by_cmp R q gone) None) (get-remove_other o m k q other) ∙ sym (get-remove o m gone q)
     ] refl
     ∙ sym (get-insert o (map.remove m gone) k x q))
+
+-- the value that is set last at a key is there
+pub insert-insert : {K X : Type 0} {R : K → K → Ordering} → IsTotalOrder R → IsAntisymmetric R → (m : FinMap R X) (k : K) (x y : X) → map.insert (map.insert m k x) k y ≡ map.insert m k y
+insert-insert {R = R} o exact m k x y = same_map o exact _ _ (λ q.
+    get-insert o (map.insert m k x) k y q ∙ ap (cond (eq_by_cmp R q k) (Some y)) (get-insert o m k x q)
+    ∙ elim (eq_by_cmp R q k) as (λ b. cond b (Some y) (cond b (Some x) (map.get m q)) ≡ cond b (Some y) (map.get m q)) [ true ↦ refl | false ↦ refl ]
+    ∙ sym (get-insert o m k y q))
 
 -- ---- how many entries pass a test after a change at one key
 module _ {K X : Type 0} {R : K → K → Ordering} (o : IsTotalOrder R) (exact : IsAntisymmetric R) (p : K → X → Bool) (k : K) where

@@ -1,7 +1,7 @@
 -- The calls on processes: a Low process in the state and in its part, and what the changes satisfy.
-use Rattle.std.specs.Prelude.{◌≡◌, ℕ, Bool, true, List, [], ◌∷◌, Some, refl}
-use Rattle.std.proofs.Common.{sym, ◌∙◌, subst}
-use Rattle.std.proofs.lemmas.Bool.{and_parts}
+use Rattle.std.specs.Prelude.{◌≡◌, ℕ, ◌+◌, ◌==◌, ◌&&◌, not, nat_le, length, Bool, true, false, List, [], ◌∷◌, Option, None, Some, refl, cond}
+use Rattle.std.proofs.Common.{sym, ◌∙◌, ap, subst, arith, inl, inr}
+use Rattle.std.proofs.lemmas.Bool.{and_parts, leb-false, true≢false}
 use Rattle.std.specs.FinMap as map
 use Rattle.std.specs.FinSet.{contains-is_subset, contains-intersection}
 use Rattle.cap_bits.specs.Laws.{cap_cmp_total}
@@ -9,22 +9,36 @@ use Rattle.cap_bits.specs.CapSet.{CapSet, is_within, meet_of}
 use Rattle.cap_bits.specs.declared.state.CapState.{CapState}
 use Rattle.fs_path.specs.Path.{PathValue}
 use Rattle.lab_lattice.specs.Label.{Label, dominates}
+use Rattle.kern_model.specs.declared.calls.Answer.TheVariants as answer
+use Rattle.kern_model.specs.declared.calls.Ending.{Ending}
+use Rattle.kern_model.specs.declared.calls.Ending.TheVariants as ending
+use Rattle.kern_model.specs.declared.calls.Errno.TheVariants as errno
+use Rattle.kern_model.specs.declared.calls.Signal.{Signal}
+use Rattle.kern_model.specs.declared.calls.Signal.TheVariants as signal
+use Rattle.kern_model.specs.declared.checks.Check.{Check}
+use Rattle.kern_model.specs.declared.limits.TheConstants.{MAX_PROCS}
+use Rattle.kern_model.specs.declared.records.Rec.TheVariants as rec
 use Rattle.kern_model.specs.declared.numbers.Ids.{Ids}
 use Rattle.kern_model.specs.declared.numbers.Pid.{Pid}
 use Rattle.kern_model.specs.declared.records.Rec.{Rec}
-use Rattle.kern_model.specs.Isolation.{low, Kept}
+use Rattle.kern_model.specs.Isolation.{low, crosses, Kept}
+use Rattle.kern_model.specs.Keys.{is_pid}
+use Rattle.kern_model.specs.Maps.{where_key}
 use Rattle.kern_model.specs.Kinds.{is_permission}
-use Rattle.kern_model.specs.ProcessRows.{umask_row, exec_row, take_on, getpid_row, getppid_row, getids_row, setuid_row, setgid_row, cap_get_proc_row, cap_set_proc_row, mac_get_proc_row, mac_set_proc_row}
-use Rattle.kern_model.specs.Row.{Row}
-use Rattle.kern_model.specs.Rules.{cap_grow}
-use Rattle.kern_model.specs.State.{State, Process, Change, SetProcess, object_at}
+use Rattle.kern_model.specs.ProcessRows.{child_of, fork_row, has_child, take_ended, wait_row, exit_row, kill_with, signalled, send, kill_row, umask_row, exec_row, take_on, getpid_row, getppid_row, getids_row, setuid_row, setgid_row, cap_get_proc_row, cap_set_proc_row, mac_get_proc_row, mac_set_proc_row}
+use Rattle.kern_model.specs.Row.{Row, Commit}
+use Rattle.kern_model.specs.Rules.{cap_grow, kill_rule, mac_write_process}
+use Rattle.kern_model.specs.State.{State, Process, Change, SetProcess, DrawProcess, drawn, next_process, object_at}
 use Rattle.kern_model.specs.Step.{subject}
+use Rattle.kern_model.proofs.KeyLaws.{pid_cmp_total, pid_cmp_exact}
 use Rattle.kern_model.specs.Valid.{IsValid, IsValidProcess}
 use Rattle.iso_laws.proofs.Cases.{Cases, Meets, OfChanges, meets_given, meets_read}
 use Rattle.iso_laws.proofs.LowRows.{Same, AreSeen, seen_self, low_itself, low_by, low_read, same_bound}
-use Rattle.iso_laws.proofs.Part.{by_number, part_changes}
-use Rattle.iso_laws.proofs.Rows.{Gives, gives_need_if, ends_need, ends_give, ends_need_if}
-use Rattle.iso_laws.proofs.Sight.{met_rule}
+use Rattle.iso_laws.proofs.Part.{by_number, low_pid, same, part_changes, part_of_low}
+use Rattle.iso_laws.proofs.Rows.{Gives, Passes, alike_fail, alike_give, alike_hidden, alike_need, alike_need_if, alike_refuse, gives_need_if, ends_need, ends_give, ends_need_if, ends_refuse}
+use Rattle.iso_laws.proofs.Selections.{test_after, any_entry-select}
+use Rattle.iso_laws.proofs.Sight.{equal_side, get_process, met_rule, not_true, processes_drawn_low}
+use Rattle.iso_laws.proofs.processes.Ending.{is_pid_some, ending_low}
 
 module _ (l : Label) (s : State) (kept : Kept l s) (valid : IsValid s) (who : Pid) (p : Process) (is : map.get s.procs who ≡ Some p) (is_low : low l p.label ≡ true) where
   abbrev part_s : State
@@ -70,6 +84,66 @@ module _ (l : Label) (s : State) (kept : Kept l s) (valid : IsValid s) (who : Pi
 
   pub mac_set_proc_low : (new : Label) → Same l s who p (mac_set_proc_row s who p new) (mac_set_proc_row part_s who p new)
   mac_set_proc_low new = itself (gives_need_if (AreSeen l s) _ _ _ (seen _))
+
+  -- ---- children and ends
+  -- a Low process has a living child in the part where it has one in the state
+  has_child_low : has_child part_s who ≡ has_child s who
+  unfolding by_number
+  has_child_low =
+      let p_of : Pid → Process → Bool = λ q child. is_pid who child.parent in
+      any_entry-select pid_cmp_total pid_cmp_exact (where_key (low_pid l) (same {X = Process})) p_of p_of s.procs (λ q x e.
+      elim (low l q.label) as (λ b. low l q.label ≡ b → test_after p_of q (cond b (Some x) None) ≡ p_of q x) [
+        | true ↦ λ _. refl
+        | false ↦ λ high. sym (not_true (p_of q x) (λ t. true≢false (sym (sym (kept.parents q who x e (is_pid_some who x.parent t)) ∙ kept.procs who p is ∙ is_low) ∙ high)))
+      ] refl)
+
+  -- the caller forks a process with the number after n
+  abbrev forking : ℕ → Row
+  forking n =
+      let child : Pid = record { label = p.label; n = n + 1 } in
+      Commit (DrawProcess p.label (n + 1) ∷ SetProcess child (child_of who p) ∷ []) (answer.Process child) (Some (rec.Fork who child))
+
+  pub fork_low : Same l s who p (fork_row s who p) (fork_row part_s who p)
+  fork_low =
+      let n : ℕ = drawn s.process_numbers p.label in
+      let same_number = processes_drawn_low l s p.label is_low in
+      alike_refuse (crosses l) l s.top (subject who p) errno.EAGAIN _ _ _ _ (ap (nat_le MAX_PROCS) same_number)
+      (λ _. subst (λ m. Same l s who p (forking n) (forking m)) (sym same_number) (itself (part_of_low l s.top (DrawProcess p.label (n + 1) ∷ SetProcess (next_process s p.label) (child_of who p) ∷ []) (is_low, (is_low, tt)))))
+
+  taking : (es : List (Pid × Ending)) → Gives (AreSeen l s) (take_ended who p es)
+  taking [] = refl
+  taking (e ∷ es) = seen _
+
+  pub wait_low : Same l s who p (wait_row s who p) (wait_row part_s who p)
+  wait_low = alike_refuse (crosses l) l s.top (subject who p) errno.ECHILD _ _ _ _ (ap (λ b. length p.ended == 0 && not b) has_child_low) (λ _. itself (taking p.ended))
+
+  -- a process with a Low number ends
+  low_end : (q : Pid) (x : Process) (how : Ending) → low l q.label ≡ true → Same l s who p (kill_with s q x how) (kill_with part_s q x how)
+  low_end q x how h = alike_give (crosses l) l s.top (subject who p) _ _ answer.Nothing (Some (rec.Exit q how)) (ending_low l s kept valid q x how h)
+
+  pub exit_low : (code : ℕ) → Same l s who p (exit_row s who p code) (exit_row part_s who p code)
+  exit_low code = low_end who p (ending.Exit code) (kept.procs who p is ∙ is_low)
+
+  signalled_low : (target : Pid) (t : Process) → low l target.label ≡ true → (sig : Signal) → Same l s who p (signalled s target t sig) (signalled part_s target t sig)
+  signalled_low target t h signal.Zero = itself refl
+  signalled_low target t h signal.Term = low_end target t ending.Term h
+  signalled_low target t h signal.Kill = low_end target t ending.Kill h
+
+  send_low : (target : Pid) (sig : Signal) → low l target.label ≡ true → (o : Option Process) → Same l s who p (send s p target sig o) (send part_s p target sig o)
+  send_low target sig h None = alike_fail (crosses l) l s.top (subject who p) errno.ESRCH
+  send_low target sig h (Some t) = alike_need_if (crosses l) l s.top (subject who p) _ _ _ _ _ _ refl refl (alike_need (crosses l) l s.top (subject who p) (kill_rule p target t) _ _ (λ _. signalled_low target t h sig))
+
+  pub kill_low : (target : Pid) (sig : Signal) → Same l s who p (kill_row s who p target sig) (kill_row part_s who p target sig)
+  kill_low target sig =
+      let c : Check = mac_write_process p target target.label in
+      elim (low l target.label) as (λ b. low l target.label ≡ b → Same l s who p (kill_row s who p target sig) (kill_row part_s who p target sig)) [
+        | true ↦ λ h.
+            alike_need (crosses l) l s.top (subject who p) c _ _
+            (λ _. subst (λ w. Same l s who p (send s p target sig (map.get s.procs target)) (send part_s p target sig w)) (sym (get_process l s target h)) (send_low target sig h (map.get s.procs target)))
+        | false ↦ λ high.
+            alike_hidden (crosses l) l s.top (subject who p) c c _ _ refl refl refl
+            (λ passes. true≢false (sym is_low ∙ equal_side l (subject who p) c refl refl passes ∙ high))
+      ] refl
 
 within_meet : (a b : CapSet) → is_within (meet_of a b) b ≡ true
 within_meet a b = contains-is_subset cap_cmp_total (meet_of a b) b (λ q h. (and_parts _ _ (sym (contains-intersection cap_cmp_total a b q) ∙ h)).1)
@@ -121,3 +195,29 @@ module _ (bad : Rec → Bool) (s : State) (valid : IsValid s) (who : Pid) (p : P
 
   pub mac_set_proc_meets : (new : Label) → (fit → dominates s.top new ≡ true) → Meets bad who p P (mac_set_proc_row s who p new)
   mac_set_proc_meets new args = ends_need_if bad (subject who p) P cases.none _ _ _ (λ passes. ends_give bad (subject who p) P cases.none _ _ _ (cases.label new passes args))
+
+  -- ---- children and ends
+  pub fork_meets : Meets bad who p P (fork_row s who p)
+  fork_meets = ends_refuse bad (subject who p) P cases.none _ _ _ (λ left. ends_give bad (subject who p) P cases.none _ _ _ (cases.fork (omega (arith, leb-false MAX_PROCS (drawn s.process_numbers p.label) left))))
+
+  taking_meets : (es : List (Pid × Ending)) → p.ended ≡ es → Meets bad who p P (take_ended who p es)
+  taking_meets [] e = given refl
+  taking_meets (e ∷ es) first = given (cases.await e es first)
+
+  pub wait_meets : Meets bad who p P (wait_row s who p)
+  wait_meets = ends_refuse bad (subject who p) P cases.none _ _ _ (λ _. taking_meets p.ended refl)
+
+  pub exit_meets : (code : ℕ) → Meets bad who p P (exit_row s who p code)
+  exit_meets code = given (cases.finish who p (ending.Exit code) is (inl refl))
+
+  signalled_meets : (target : Pid) (t : Process) → map.get s.procs target ≡ Some t → Passes bad (subject who p) (mac_write_process p target target.label) → (sig : Signal) → Meets bad who p P (signalled s target t sig)
+  signalled_meets target t at written signal.Zero = given cases.none
+  signalled_meets target t at written signal.Term = given (cases.finish target t ending.Term at (inr written))
+  signalled_meets target t at written signal.Kill = given (cases.finish target t ending.Kill at (inr written))
+
+  send_meets : (target : Pid) (sig : Signal) → Passes bad (subject who p) (mac_write_process p target target.label) → (o : Option Process) → map.get s.procs target ≡ o → Meets bad who p P (send s p target sig o)
+  send_meets target sig written None at = given refl
+  send_meets target sig written (Some t) at = ends_need_if bad (subject who p) P cases.none _ _ _ (λ _. ends_need bad (subject who p) P cases.none _ _ (λ _. signalled_meets target t at written sig))
+
+  pub kill_meets : (target : Pid) (sig : Signal) → Meets bad who p P (kill_row s who p target sig)
+  kill_meets target sig = ends_need bad (subject who p) P cases.none _ _ (λ written. send_meets target sig written (map.get s.procs target) refl)

@@ -290,7 +290,7 @@ module _ (s : State) (valid : IsValid s) (objects : FinMap oid_cmp Object) (obje
   names_more = count_insert spot_cmp_total spot_cmp_exact (λ (at : Spot) (x : Oid). same_oid x to) (dir, name) s.entries to free
 
 -- ---- a further name
-no_dir_is : (o : Object) → is_dir o.kind ≡ false → o.kind ≡ kind.Dir → ⊥
+pub no_dir_is : (o : Object) → is_dir o.kind ≡ false → o.kind ≡ kind.Dir → ⊥
 no_dir_is o no_dir dir = let no : true ≡ false = ap is_dir (sym dir) ∙ no_dir in cc
 
 module _ (s : State) (valid : IsValid s) (dir : Oid) (name : Name) (id : Oid) (dir_is : IsDir s.objects dir) (free : look s dir name ≡ None) (standing : is_removed s dir ≡ false) (o : Object) (is : map.get s.objects id ≡ Some o) (no_dir : is_dir o.kind ≡ false) where

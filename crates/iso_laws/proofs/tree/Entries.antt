@@ -24,7 +24,7 @@ pub true_is_not_false : true ≡ false → ⊥
 true_is_not_false e = cc
 
 -- a directory that is not Low differs from one that is
-other_dir : (l : Label) (id : Oid) → low l id.label ≡ true → (dir : Oid) → low l dir.label ≡ false → same_oid dir id ≡ false
+pub other_dir : (l : Label) (id : Oid) → low l id.label ≡ true → (dir : Oid) → low l dir.label ≡ false → same_oid dir id ≡ false
 other_dir l id is_low dir high = not_true (same_oid dir id) (λ t. true_is_not_false (sym is_low ∙ ap (λ (d : Oid). low l d.label) (sym (same_key oid_cmp_exact dir id t)) ∙ high))
 
 module _ (l : Label) (s : State) (id : Oid) (is_low : low l id.label ≡ true) where
@@ -60,7 +60,7 @@ module _ (l : Label) (s : State) (kept : Kept l s) (valid : IsValid s) (id : Oid
   no_stub : same_oid (stub s.top) id ≡ false
   no_stub = not_true _ (λ t. let none : 0 ≡ id.n = ap (λ (q : Oid). q.n) (same_key oid_cmp_exact (stub s.top) id t) in absurd (omega (arith, none, (valid.objects id there.value there.is).drawn_already.0)))
 
-  shown_is : (at : Oid) → same_oid (shown l s.top at) id ≡ same_oid at id
+  pub shown_is : (at : Oid) → same_oid (shown l s.top at) id ≡ same_oid at id
   shown_is at =
       elim (low l at.label) as (λ b. low l at.label ≡ b → same_oid (cond b at (stub s.top)) id ≡ same_oid at id) [
         | true ↦ λ _. refl

@@ -12,7 +12,6 @@ use Rattle.fs_path.specs.Path.{PathValue}
 use Rattle.lab_lattice.specs.Label.{Label, dominates}
 use Rattle.kern_model.specs.declared.calls.Answer.TheVariants as answer
 use Rattle.kern_model.specs.declared.calls.Errno.TheVariants as errno
-use Rattle.kern_model.specs.declared.calls.Answer.{Answer}
 use Rattle.kern_model.specs.declared.checks.Check.{Check}
 use Rattle.kern_model.specs.declared.checks.CheckName.TheVariants as check
 use Rattle.kern_model.specs.declared.checks.Place.{Place}
@@ -43,7 +42,7 @@ use Rattle.kern_model.proofs.MapLemmas.{some_same, never_some, get_or-found}
 use Rattle.kern_model.specs.Valid.{IsValid, IsThere, IsDir}
 use Rattle.kern_model.specs.Walk.{Found, Start, Entry, walk, to_entry, to_entry_of_object, to_new_name, last_place, dir_place}
 use Rattle.iso_laws.proofs.Cases.{Cases, Meets, meets_given, meets_path, meets_read}
-use Rattle.iso_laws.proofs.LowRows.{Same, seen_self, low_itself}
+use Rattle.iso_laws.proofs.LowRows.{Same, seen_self, low_itself, low_check, low_answer}
 use Rattle.iso_laws.proofs.Part.{by_number, shown, part_changes, part_of_low}
 use Rattle.iso_laws.proofs.Rows.{Passes, alike_same, alike_refuse, alike_give, alike_fail, alike_missing, ends_fail, ends_give, ends_need, ends_refuse, ends_missing}
 use Rattle.iso_laws.proofs.Sight.{alike_reach, alike_walk, alike_enter, alike_mac_read, alike_mac_write, ends_enter, ends_walk, ends_reach, object_low, drawn_low, shown_low, led_there, part_found, Seen, FoundIn, met_rule}
@@ -51,13 +50,17 @@ use Rattle.iso_laws.proofs.tree.Changes.{no_entries, not_true_false}
 use Rattle.iso_laws.proofs.tree.Holders.{under_low, not_led}
 use Rattle.iso_laws.proofs.tree.Entries.{names_low, empty_low, link_count_low, removed_low, stat_of_low}
 
--- the permission bits of a new object are a mode
-masked_is_mode : (mode umask : ℕ) → is_mode (masked mode umask) ≡ true
-masked_is_mode mode umask =
-    let m : ℕ = masked mode umask in
-    let small : m ≤ MAX_PERMISSIONS = omega (arith, and_le_l (permissions mode) (bit_not w16 umask), and_le_r mode MAX_PERMISSIONS) in
+-- permission bits are a mode
+small_is_mode : (m : ℕ) → m ≤ MAX_PERMISSIONS → is_mode m ≡ true
+small_is_mode m small =
     let none : m / STICKY ≡ 0 = omega (arith, small) in
     and_from (nat_le m MAX_MODE) ((m / STICKY) % 2 == 0) (le-leb m MAX_MODE (omega (arith, small))) (ap (λ n. n % 2 == 0) none)
+
+pub permissions_are_mode : (mode : ℕ) → is_mode (permissions mode) ≡ true
+permissions_are_mode mode = small_is_mode (permissions mode) (and_le_r mode MAX_PERMISSIONS)
+
+pub masked_is_mode : (mode umask : ℕ) → is_mode (masked mode umask) ≡ true
+masked_is_mode mode umask = small_is_mode (masked mode umask) (omega (arith, and_le_l (permissions mode) (bit_not w16 umask), and_le_r mode MAX_PERMISSIONS))
 
 -- one more than a number below the limit is within the limit
 below_limit : (n : ℕ) → nat_le MAX_LINKS n ≡ false → n + 1 ≤ MAX_LINKS
@@ -85,15 +88,6 @@ module _ (l : Label) (s : State) (kept : Kept l s) (valid : IsValid s) (who : Pi
   abbrev part_s : State
   part_s = by_number l s
 
-  -- a check of a Low object, which is the same in the part
-  low_check : (id : Oid) → low l id.label ≡ true → (c : Object → Check) (r r' : Row) → (Passes (crosses l) (subject who p) (c (object_at s id)) → Same l s who p r r')
-      → Same l s who p (Need (c (object_at s id)) r) (Need (c (object_at part_s id)) r')
-  low_check id h c r r' rest = alike_same (crosses l) l s.top (subject who p) (c (object_at s id)) (c (object_at part_s id)) r r' (ap c (object_low l s id h)) rest
-
-  -- an answer that is the same in the part, where nothing changes
-  low_answer : {X : Type 0} (a : X → Answer) (x x' : X) → x' ≡ x → Same l s who p (Commit [] (a x) None) (Commit [] (a x') None)
-  low_answer a x x' e = subst (λ y. Same l s who p (Commit [] (a x) None) (Commit [] (a y) None)) (sym e) (alike_give (crosses l) l s.top (subject who p) [] [] (a x) None refl)
-
   abbrev listing : State → Oid → Place → Object → Row
   listing t id place o = Refuse errno.ENOTDIR (not (is_dir o.kind)) (Need (dac_read t p id place) (Commit [] (answer.Names (names_in t id)) None))
 
@@ -103,14 +97,14 @@ module _ (l : Label) (s : State) (kept : Kept l s) (valid : IsValid s) (who : Pi
       alike_reach l s kept valid who p is_low is (λ n. First n) path _ _
       (λ id there. alike_mac_read l s kept valid who p is_low id there place (listing s id place (object_at s id)) (λ d. listing part_s d place (object_at part_s d))
       (λ h. alike_refuse (crosses l) l s.top (subject who p) errno.ENOTDIR _ _ _ _ (ap (λ (o : Object). not (is_dir o.kind)) (object_low l s id h))
-      (λ _. low_check id h (λ o. of_object check.DacRead (mode_allows o.attr p.ids want.Read) None id o place) _ _
-      (λ _. low_answer answer.Names (names_in s id) (names_in part_s id) (names_low l s id h)))))
+      (λ _. low_check l s kept valid who p is is_low id h (λ o. of_object check.DacRead (mode_allows o.attr p.ids want.Read) None id o place) _ _
+      (λ _. low_answer l s kept valid who p is is_low answer.Names (names_in s id) (names_in part_s id) (names_low l s id h)))))
 
   pub stat_low : (path : PathValue) → Same l s who p (stat_row s who p path) (stat_row part_s who p path)
   stat_low path =
       alike_reach l s kept valid who p is_low is (λ n. First n) path _ _
       (λ id there. alike_mac_read l s kept valid who p is_low id there (last_place (λ n. First n) path) (Commit [] (answer.Stat (stat_of s id)) None) (λ d. Commit [] (answer.Stat (stat_of part_s d)) None)
-      (λ h. low_answer answer.Stat (stat_of s id) (stat_of part_s id) (stat_of_low l s kept valid id there h)))
+      (λ h. low_answer l s kept valid who p is is_low answer.Stat (stat_of s id) (stat_of part_s id) (stat_of_low l s kept valid id there h)))
 
   -- the row goes on from an entry of an object, in a Low directory
   low_entry_of_object : (k k' : Oid → Name → Oid → Row) → ((dir : Oid) (name : Name) (id : Oid) → low l dir.label ≡ true → IsDir s.objects dir → look s dir name ≡ Some id → Same l s who p (k dir name id) (k' dir name (shown l s.top id)))
@@ -124,8 +118,8 @@ module _ (l : Label) (s : State) (kept : Kept l s) (valid : IsValid s) (who : Pi
       → Same l s who p (leave_from s p path dir id r) (leave_from part_s p path dir (shown l s.top id) (r' (shown l s.top id)))
   low_leave path dir id h there r r' rest =
       let place : Place = dir_place (λ n. First n) path in
-      low_check dir h (λ o. of_object check.MacWrite (same_label p.label o.label) None dir o place) _ _
-      (λ _. low_check dir h (λ o. of_object check.DacWrite (mode_allows o.attr p.ids want.Write) None dir o place) _ _
+      low_check l s kept valid who p is is_low dir h (λ o. of_object check.MacWrite (same_label p.label o.label) None dir o place) _ _
+      (λ _. low_check l s kept valid who p is is_low dir h (λ o. of_object check.DacWrite (mode_allows o.attr p.ids want.Write) None dir o place) _ _
       (λ _. alike_mac_write l s kept valid who p is_low id there (last_place (λ n. First n) path) r r' rest))
 
   -- the part sees the removal of an entry of a Low directory
@@ -151,7 +145,7 @@ module _ (l : Label) (s : State) (kept : Kept l s) (valid : IsValid s) (who : Pi
       alike_walk l s kept valid who p is_low is (λ n. First n) path _ _
       (low_entry_of_object (λ dir name id. leave_from s p path dir id (unlinking s path dir name id)) (λ dir name id. leave_from part_s p path dir id (unlinking part_s path dir name id))
       (λ dir name id h _ e. low_leave path dir id h (led_there s valid dir name id e) (unlinking s path dir name id) (unlinking part_s path dir name)
-      (λ low_id. low_check id low_id (λ o. of_object check.UnlinkDir (not (is_dir o.kind)) None id o (last_place (λ n. First n) path)) _ _ (λ _. seen_drop dir name h))))
+      (λ low_id. low_check l s kept valid who p is is_low id low_id (λ o. of_object check.UnlinkDir (not (is_dir o.kind)) None id o (last_place (λ n. First n) path)) _ _ (λ _. seen_drop dir name h))))
 
   -- the row goes on from a name that nothing has, in a Low directory
   low_new_name : (k k' : Oid → Name → Row) → ((dir : Oid) (name : Name) → low l dir.label ≡ true → IsDir s.objects dir → Same l s who p (k dir name) (k' dir name))
@@ -163,12 +157,12 @@ module _ (l : Label) (s : State) (kept : Kept l s) (valid : IsValid s) (who : Pi
   -- a Low directory may be written, and the check of the order of labels is the same in the part
   low_write_directory : (dir : Oid) → low l dir.label ≡ true → (place : Place) (c c' : Check) → c' ≡ c → (r r' : Row) → Same l s who p r r' → Same l s who p (write_directory s p dir place c r) (write_directory part_s p dir place c' r')
   low_write_directory dir h place c c' e r r' rest =
-      low_check dir h (λ o. of_object check.MacWrite (same_label p.label o.label) None dir o place) _ _
-      (λ _. low_check dir h (λ o. of_object check.DacWrite (mode_allows o.attr p.ids want.Write) None dir o place) _ _
+      low_check l s kept valid who p is is_low dir h (λ o. of_object check.MacWrite (same_label p.label o.label) None dir o place) _ _
+      (λ _. low_check l s kept valid who p is is_low dir h (λ o. of_object check.DacWrite (mode_allows o.attr p.ids want.Write) None dir o place) _ _
       (λ _. alike_same (crosses l) l s.top (subject who p) c c' _ _ e (λ _. rest)))
 
   -- a Low directory may get an entry
-  low_enter_in : (dir : Oid) → low l dir.label ≡ true → IsDir s.objects dir → (place : Place) (c c' : Check) → c' ≡ c → (r r' : Row) → Same l s who p r r' → Same l s who p (enter_in s p dir place c r) (enter_in part_s p dir place c' r')
+  pub low_enter_in : (dir : Oid) → low l dir.label ≡ true → IsDir s.objects dir → (place : Place) (c c' : Check) → c' ≡ c → (r r' : Row) → Same l s who p r r' → Same l s who p (enter_in s p dir place c r) (enter_in part_s p dir place c' r')
   low_enter_in dir h is_dir place c c' e r r' rest =
       low_write_directory dir h place c c' e _ _
       (alike_refuse (crosses l) l s.top (subject who p) errno.ENOENT _ _ _ _ (removed_low l s kept valid dir (record { value = is_dir.object; is = is_dir.is }) h) (λ _. rest))
@@ -177,14 +171,14 @@ module _ (l : Label) (s : State) (kept : Kept l s) (valid : IsValid s) (who : Pi
   abbrev made_at : Oid → Name → Object → ℕ → List Change
   made_at dir name o n = DrawObject p.label (n + 1) ∷ SetObject (record { label = p.label; n = n + 1 }) o ∷ SetEntry (dir, name) (record { label = p.label; n = n + 1 }) ∷ []
 
-  seen_made : (dir : Oid) (name : Name) (o : Object) → low l dir.label ≡ true → made part_s p dir name o ≡ part_changes l s.top (made s p dir name o)
+  pub seen_made : (dir : Oid) (name : Name) (o : Object) → low l dir.label ≡ true → made part_s p dir name o ≡ part_changes l s.top (made s p dir name o)
   seen_made dir name o h =
       let n : ℕ = drawn s.object_numbers p.label in
       ap (made_at dir name o) (drawn_low l s p.label is_low)
       ∙ ap (λ (q : Oid). DrawObject p.label (n + 1) ∷ SetObject (next_object s p.label) o ∷ SetEntry (dir, name) q ∷ []) (sym (shown_low l s (next_object s p.label) is_low))
       ∙ sym (part_of_low l s.top (made s p dir name o) (is_low, (is_low, (h, tt))))
 
-  same_room : has_object_number part_s p ≡ has_object_number s p
+  pub same_room : has_object_number part_s p ≡ has_object_number s p
   same_room = ap (λ n. nat_lt n MAX_OBJECTS) (drawn_low l s p.label is_low)
 
   make_low : (path : PathValue) (mode : ℕ) (b : Body) → Same l s who p (make_row s who p path mode b) (make_row part_s who p path mode b)
@@ -220,7 +214,7 @@ module _ (l : Label) (s : State) (kept : Kept l s) (valid : IsValid s) (who : Pi
       let there_place : Place = dir_place (λ n. Second n) to in
       alike_reach l s kept valid who p is_low is (λ n. First n) path _ _
       (λ id there. alike_mac_write l s kept valid who p is_low id there place (linking s to place id) (linking part_s to place)
-      (λ low_id. low_check id low_id (λ o. of_object check.LinkDir (not (is_dir o.kind)) None id o place) _ _
+      (λ low_id. low_check l s kept valid who p is is_low id low_id (λ o. of_object check.LinkDir (not (is_dir o.kind)) None id o place) _ _
       (λ _. alike_refuse (crosses l) l s.top (subject who p) errno.EMLINK _ _ _ _ (ap (nat_le MAX_LINKS) (link_count_low l s kept valid id there low_id))
       (λ _. alike_walk l s kept valid who p is_low is (λ n. Second n) to _ _
       (low_new_name (naming s to id) (naming part_s to id)
@@ -325,10 +319,10 @@ module _ (bad : Rec → Bool) (s : State) (valid : IsValid s) (who : Pid) (p : P
       h written (met_rule bad (subject who p) c unnamed ordered))))
 
   -- the row goes on where a directory may get an entry
-  meets_enter_in : (dir : Oid) (place : Place) (c : Check) (r : Row) → cap_of c.name ≡ None → (Passes bad (subject who p) (mac_write s p dir place) → c.holds ≡ true → is_removed s dir ≡ false → Meets bad who p P r) → Meets bad who p P (enter_in s p dir place c r)
+  pub meets_enter_in : (dir : Oid) (place : Place) (c : Check) (r : Row) → cap_of c.name ≡ None → (Passes bad (subject who p) (mac_write s p dir place) → c.holds ≡ true → is_removed s dir ≡ false → Meets bad who p P r) → Meets bad who p P (enter_in s p dir place c r)
   meets_enter_in dir place c r unnamed h = meets_write_directory dir place c _ unnamed (λ written order. ends_refuse bad (subject who p) P cases.none _ _ _ (h written order))
 
-  dir_at : (dir : Oid) (is_dir : IsDir s.objects dir) → object_at s dir ≡ is_dir.object
+  pub dir_at : (dir : Oid) (is_dir : IsDir s.objects dir) → object_at s dir ≡ is_dir.object
   dir_at dir is_dir = get_or-found s.objects dir (stub_object s.top) is_dir.object is_dir.is
 
   make_meets : (path : PathValue) (mode : ℕ) (b : Body) → bytes_of b ≡ [] → (kind_of b ≡ kind.Pipe → ⊥) → (fit → are_names path ≡ true) → Meets bad who p P (make_row s who p path mode b)
@@ -339,8 +333,16 @@ module _ (bad : Rec → Bool) (s : State) (valid : IsValid s) (who : Pid) (p : P
       (meets_new_name path.names (λ dir name. make_in s p dir place (Refuse errno.ENOSPC (not (has_object_number s p)) (Commit (made s p dir name o) answer.Nothing None)))
       (λ dir name is_dir free named. meets_enter_in dir place (created_order s p dir place) _ refl (λ written order standing.
       ends_refuse bad (subject who p) P cases.none _ _ _ (λ room. ends_give bad (subject who p) P cases.none _ answer.Nothing None
-      (cases.make dir name o place written is_dir free standing (record { label = refl; mode = masked_is_mode mode p.umask; caps = refl; bytes = no_bytes; no_pipe = no_pipe }) (not-false _ room)
-      (ap (λ (d : Object). dominates p.label d.label) (sym (dir_at dir is_dir)) ∙ order) (λ f. named (args f)))))))
+      (cases.make dir name o place (record {
+        written = written;
+        is_dir = is_dir;
+        free = free;
+        standing = standing;
+        fresh = record { label = refl; mode = masked_is_mode mode p.umask; caps = refl; bytes = no_bytes; no_pipe = no_pipe };
+        left = not-false _ room;
+        order = ap (λ (d : Object). dominates p.label d.label) (sym (dir_at dir is_dir)) ∙ order;
+        named = λ f. named (args f);
+      }))))))
 
   pub mkdir_meets : (path : PathValue) (mode : ℕ) → (fit → are_names path ≡ true) → Meets bad who p P (mkdir_row s who p path mode)
   mkdir_meets path mode args = make_meets path mode body.Dir refl (λ e. let no : kind.Dir ≡ kind.Pipe = e in cc) args
@@ -370,7 +372,7 @@ module _ (bad : Rec → Bool) (s : State) (valid : IsValid s) (who : Pid) (p : P
   meets_entry names k h (Entry dir name object) f = h dir name object f.0 f.1 f.2
 
   -- what may give way has no entries, be it a directory or not
-  has_no_entries : (t : Oid) → (is_dir (object_at s t).kind && not (is_empty s t)) ≡ false → is_empty s t ≡ true
+  pub has_no_entries : (t : Oid) → (is_dir (object_at s t).kind && not (is_empty s t)) ≡ false → is_empty s t ≡ true
   has_no_entries t h = elim (and_cases (is_dir (object_at s t).kind) (not (is_empty s t)) h) as (λ w. is_empty s t ≡ true) [ inl no_dir ↦ no_entries s valid t no_dir | inr empty ↦ not-false _ empty ]
 
   -- the row goes on where what is at the target may give way: it is something else, without entries
