@@ -1,13 +1,15 @@
 -- The entries of one directory: what a look-up finds, and what an edit makes of the map.
-use Rattle.std.proofs.Common.{◌≡◌, ℕ, List, [], ◌∷◌, length, get_or, set, Some, None, ap, ◌∙◌}
-use Rattle.std.specs.Prelude.{map, not, refl}
+use Rattle.std.proofs.Common.{◌≡◌, ℕ, List, [], ◌∷◌, length, get_or, set, Some, None, ap, sym, ◌∙◌}
+use Rattle.std.specs.Prelude.{Option, map, not, refl, slice_get}
 use Rattle.std.specs.Ordering.{eq_by_cmp}
 use Rattle.std.specs.List.{insert, remove}
+use Rattle.std.specs.Option.{option_map}
 use Rattle.std.specs.FinMap as map
 use Rattle.std.specs.FinMap.{IsAntisymmetric, nat_cmp-IsAntisymmetric, slice_cmp-IsAntisymmetric, empty_of_len, entries-from_sorted, get-from_sorted, len-entries, put}
 use Rattle.std.specs.FinMap.Entries.{where_key}
 use Rattle.std.proofs.lemmas.Cmp.{nat_list_cmp_total}
 use Rattle.std.proofs.lemmas.List.{length-map}
+use Rattle.std.proofs.lemmas.Option.{slice_get-map}
 use Rattle.fs_path.specs.Name.{Name}
 use Rattle.kern_model.specs.declared.numbers.Oid.{Oid}
 use Rattle.fs_dirs.specs.Directory.{AreSorted, Boxed, IsAt, IsGap, directory_of, name_cmp, pairs_of}
@@ -27,12 +29,25 @@ first_names : (es : List Boxed) → map (λ (p : Name × Oid). p.0) (pairs_of es
 first_names [] = refl
 first_names (e ∷ es) = ap (λ ns. e.value.name ∷ ns) (first_names es)
 
+objects : (es : List Boxed) → map (λ (p : Name × Oid). p.1) (pairs_of es) ≡ map (λ (e : Boxed). e.value.id) es
+objects [] = refl
+objects (e ∷ es) = ap (λ ids. e.value.id ∷ ids) (objects es)
+
 module _ (es : List Boxed) (sorted : AreSorted es) where
   pub how_many : map.len (directory_of es) ≡ length es
   how_many = len-entries (directory_of es) ∙ ap length (entries-from_sorted name_cmp (pairs_of es) sorted) ∙ length-map es pair_of
 
   pub all_names : map.keys (directory_of es) ≡ map (λ (e : Boxed). e.value.name) es
   all_names = ap (map (λ (p : Name × Oid). p.0)) (entries-from_sorted name_cmp (pairs_of es) sorted) ∙ first_names es
+
+  all_objects : map.values (directory_of es) ≡ map (λ (e : Boxed). e.value.id) es
+  all_objects = ap (map (λ (p : Name × Oid). p.1)) (entries-from_sorted name_cmp (pairs_of es) sorted) ∙ objects es
+
+  -- the entry at a place leads to the object at that place
+  pub object_there : (place : ℕ) (w : Option Boxed) → w ≡ slice_get es place → option_map (λ (e : Boxed). e.value.id) w ≡ slice_get (map.values (directory_of es)) place
+  object_there place w at =
+      ap (option_map (λ (e : Boxed). e.value.id)) at ∙ sym (slice_get-map (λ (e : Boxed). e.value.id) es place)
+      ∙ ap (λ ids. slice_get ids place) (sym all_objects)
 
   pub found : (name : Name) (place : ℕ) (e : Boxed) → IsAt es name place → e ≡ get_or es place e → map.get (directory_of es) name ≡ Some e.value.id
   found name place e at is = get-from_sorted name_cmp (pairs_of es) name sorted ∙ find_at pair_of nat_list_cmp_total es name place e sorted at.within at.same is

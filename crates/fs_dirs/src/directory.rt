@@ -1,5 +1,5 @@
 // One directory.
-ghost use Rattle.std.specs.Prelude.{◌≡◌, ◌<◌, IfErr, IfOk, IsOk, IsSome, OnErr, OnOk, length};
+ghost use Rattle.std.specs.Prelude.{◌≡◌, ◌<◌, IfErr, IfOk, IsOk, IsSome, OnErr, OnOk, length, slice_get};
 ghost use Rattle.std.specs.FinMap as map;
 ghost use Rattle.fs_dirs.specs.Directory.{AreSorted, IsAt, IsGap, TakesFewSteps};
 
@@ -94,6 +94,16 @@ impl Directory {
         match place_of(&self.entries, name) {
             Ok(place) => Some(self.entries.remove(place).id),
             Err(_) => None,
+        }
+    }
+
+    /// The object to which the name at a place in their order leads, if there are so many.
+    pub fn object_at(&self, place: usize) -> Option<Oid>
+        ensures { result ≡ slice_get (map.values self.now) place }
+    {
+        match self.entries.get(place) {
+            Some(entry) => Some(entry.id),
+            None => None,
         }
     }
 

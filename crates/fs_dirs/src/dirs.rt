@@ -1,5 +1,5 @@
 // What each directory contains.
-ghost use Rattle.std.specs.Prelude.{◌≡◌, IfOk, OnErr, OnOk};
+ghost use Rattle.std.specs.Prelude.{◌≡◌, IfOk, OnErr, OnOk, slice_get};
 ghost use Rattle.std.specs.FinMap as map;
 ghost use Rattle.fs_dirs.specs.Directory.{TakesFewSteps};
 ghost use Rattle.fs_dirs.specs.Entries.{contents_of, entries_of};
@@ -68,6 +68,16 @@ impl Dirs {
         match self.kept.get(dir) {
             Some(directory) => directory.len(),
             None => 0,
+        }
+    }
+
+    /// The object to which the name at a place in a directory leads, if it contains so many.
+    pub fn object_at(&self, dir: &Oid, place: usize) -> Option<Oid>
+        ensures { result ≡ slice_get (map.values (contents_of self.now dir.now)) place }
+    {
+        match self.kept.get(dir) {
+            Some(directory) => directory.object_at(place),
+            None => None,
         }
     }
 

@@ -1,5 +1,5 @@
 // The entries of all directories.
-ghost use Rattle.std.specs.Prelude.{◌≡◌, ◌-◌, ◌<◌, ◌≤◌, ℕ, false, None, Some, IfOk, IsSome, OnErr, OnOk, cond, is_some};
+ghost use Rattle.std.specs.Prelude.{◌≡◌, ◌-◌, ◌<◌, ◌≤◌, ℕ, false, None, Some, IfOk, IsSome, OnErr, OnOk, cond, is_some, slice_get};
 ghost use Rattle.std.specs.Ordering.{eq_by_cmp};
 ghost use Rattle.std.specs.FinMap as map;
 ghost use Rattle.kern_model.specs.declared.limits.TheConstants.{MAX_LINKS};
@@ -8,7 +8,7 @@ ghost use Rattle.kern_model.specs.Keys.{spot_cmp};
 ghost use Rattle.kern_model.specs.Entries.{entry_count, holder, link_count, names_in};
 ghost use Rattle.fs_dirs.specs.declared.links.Links.TheVariants as links;
 ghost use Rattle.fs_dirs.specs.Directory.{TakesFewSteps};
-ghost use Rattle.fs_dirs.specs.Entries.{count_of, entries_alone, HasShared, linked, without_name};
+ghost use Rattle.fs_dirs.specs.Entries.{count_of, entries_alone, HasShared, linked, objects_in, without_name};
 
 use crate::dirs::Dirs;
 use crate::links::{LinkTable, count, only_dir, with_name};
@@ -89,6 +89,13 @@ impl Entries {
         ensures { result ≡ entry_count (entries_alone self.now.entries) dir.now }
     {
         self.dirs.len(dir)
+    }
+
+    /// The object to which the name at a place in a directory leads, if it contains so many.
+    pub fn object_at(&self, dir: &Oid, place: usize) -> Option<Oid>
+        ensures { result ≡ slice_get (objects_in (entries_alone self.now.entries) dir.now) place }
+    {
+        self.dirs.object_at(dir, place)
     }
 
     /// Copies of the names in a directory, in their order.
