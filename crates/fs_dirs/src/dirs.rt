@@ -92,11 +92,10 @@ impl Dirs {
     }
 
     /// Has a name in a directory lead to an object, in place of the one to which it led.
-    pub fn insert(&mut self, dir: &Oid, name: &Name, id: &Oid) -> Result<(), NoMemory>
-        ensures ok { OnOk result (entries_of self.new ≡ map.insert (entries_of self.old) (dir.now, name.now) id.now) }
+    pub fn insert(&mut self, dir: &Oid, name: Name, id: &Oid) -> Result<(), NoMemory>
+        ensures ok { OnOk result (entries_of self.new ≡ map.insert (entries_of self.old) (dir.now, name) id.now) }
         ensures err { OnErr result (self.new ≡ self.old) }
     {
-        let name = name.copy()?;
         if let Some(directory) = self.kept.get_mut(dir) {
             return directory.insert(name, *id);
         }

@@ -139,10 +139,10 @@ impl Entries {
     }
 
     /// Adds an entry.
-    pub fn insert(&mut self, dir: &Oid, name: &Name, id: &Oid) -> Result<(), NoMemory>
-        requires absent { map.get self.old.entries (dir.now, name.now) ≡ None }
+    pub fn insert(&mut self, dir: &Oid, name: Name, id: &Oid) -> Result<(), NoMemory>
+        requires absent { map.get self.old.entries (dir.now, name) ≡ None }
         requires few { link_count (entries_alone self.old.entries) id.now < MAX_LINKS }
-        ensures entries { OnOk result (self.new.entries ≡ map.insert self.old.entries (dir.now, name.now) id.now) }
+        ensures entries { OnOk result (self.new.entries ≡ map.insert self.old.entries (dir.now, name) id.now) }
         ensures links { OnOk result (self.new.links ≡ map.insert self.old.links id.now (linked (map.get self.old.links id.now) dir.now)) }
         ensures err { OnErr result (self.new ≡ self.old) }
         ensures before { count_of (map.get self.old.links id.now) ≡ link_count (entries_alone self.old.entries) id.now }
@@ -150,10 +150,10 @@ impl Entries {
         if self.total == usize::MAX {
             return Err(NoMemory);
         }
-        let links = with_name(self.names.get(id), *dir);
-        self.dirs.insert(dir, name, id)?;
-        if let Err(e) = self.names.set(*id, links) {
-            self.dirs.remove(dir, name);
+        let links = self.names.get(id);
+        self.names.set(*id, with_name(&links, *dir))?;
+        if let Err(e) = self.dirs.insert(dir, name, id) {
+            self.names.replace(id, links);
             return Err(e);
         }
         self.total += 1;
@@ -188,7 +188,7 @@ impl Entries {
         ensures err { OnErr result (self.new ≡ self.old) }
     {
         let replaced = self.look(to, new);
-        self.dirs.insert(to, new, id)?;
+        self.dirs.insert(to, new.copy()?, id)?;
         self.dirs.remove(from, old);
         self.names.drop_name(&replaced);
         self.names.move_name(id, to);

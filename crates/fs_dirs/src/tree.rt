@@ -298,7 +298,7 @@ impl Tree {
         if self.is_removed(dir) {
             return Err(AddError::Removed);
         }
-        self.entries.insert(dir, name, id)?;
+        self.entries.insert(dir, name.copy()?, id)?;
         Ok(())
     }
 

@@ -1,8 +1,8 @@
-use Rattle.std.proofs.Common.{◌≡◌, ◌+◌, ◌-◌, ◌≤◌, ◌⊎◌, sym, ◌∙◌, inl, inr, arith}
+use Rattle.std.proofs.Common.{◌≡◌, ◌+◌, sym, ◌∙◌, inl, inr, arith}
 use Rattle.kern_model.proofs.MapLemmas.{never_some}
 use Rattle.fs_nodes.proofs.Places.{on_ok}
 use Rattle.fs_dirs.specs.Below.{IsUnderDue}
-use Rattle.fs_dirs.specs.Entries.{entries_alone, objects_in}
+use Rattle.fs_dirs.specs.Entries.{entries_alone}
 use Rattle.fs_dirs.proofs.BelowLemmas.{child_due, looked, none_of_last}
 use Rattle.fs_dirs.proofs.below.Below.look.Goals as goal
 

@@ -1,4 +1,4 @@
-use Rattle.std.proofs.Common.{◌≡◌, false, List, Ok, Err, OnOk, ap, sym, ◌∙◌, subst, inl, inr}
+use Rattle.std.proofs.Common.{List, sym, ◌∙◌, subst, inl, inr}
 use Rattle.fs_dirs.specs.declared.below.Due.{Due}
 use Rattle.fs_dirs.specs.Below.{IsUnderOne}
 use Rattle.fs_dirs.specs.Entries.{entries_alone}

@@ -1,11 +1,8 @@
-use Rattle.std.proofs.Common.{◌≡◌, ap, sym, ◌∙◌, subst, List}
+use Rattle.std.proofs.Common.{ap, sym, ◌∙◌, subst, List}
 use Rattle.std.specs.Prelude.{is_some}
 use Rattle.std.specs.FinMap as map
-use Rattle.std.specs.FinMap.{FinMap}
 use Rattle.std.proofs.lemmas.Bool.{true≢false}
-use Rattle.fs_path.specs.Name.{Name}
-use Rattle.kern_model.specs.declared.numbers.Oid.{Oid}
-use Rattle.fs_dirs.specs.Directory.{AreSorted, Boxed, IsAt, IsGap, directory_of, name_cmp}
+use Rattle.fs_dirs.specs.Directory.{AreSorted, Boxed, IsAt, IsGap, directory_of}
 use Rattle.fs_dirs.specs.declared.directory.Entry.{Entry}
 use Rattle.fs_dirs.proofs.Names.{absent, sorted_over, map_over, sorted_added, map_added}
 use Rattle.fs_dirs.proofs.directory.Directory.insert.Goals as goal
