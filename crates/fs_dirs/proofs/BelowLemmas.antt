@@ -1,5 +1,5 @@
 -- What lies under an object lies under an entry on the way down from it that is still due.
-use Rattle.std.specs.Prelude.{◌≡◌, ◌||◌, ◌==◌, ◌≤◌, ◌+◌, ℕ, zero, suc, true, false, ◌⊎◌, List, [], ◌∷◌, ◌++◌, Some, None, Result, Ok, Err, OnOk, cond, is_ok, length, slice_get, refl}
+use Rattle.std.specs.Prelude.{◌≡◌, ◌||◌, ◌==◌, ◌<◌, ◌-◌, ℕ, zero, suc, true, false, ◌⊎◌, List, [], ◌∷◌, ◌++◌, Some, None, Result, Ok, Err, OnOk, cond, is_ok, length, slice_get, refl}
 use Rattle.std.specs.Ordering.{is_eq}
 use Rattle.std.specs.Cmp.{eq_by_cmp_equiv}
 use Rattle.std.specs.List.{find, flat_map}
@@ -72,25 +72,22 @@ module _ (s : State) where
   }
 
   -- what lies under another object lies under one to which an entry of that leads
-  under_entry : (steps : ℕ) (id top : Oid) → is_under_within s steps id top ≡ true → same_oid id top ≡ false → (left : ℕ) → left ≡ length (objects_in s top) → IsUnderEntry s (record { dir = top; left = left }) id
-  under_entry zero id top under other left all = absurd (true≢false (sym under ∙ other))
-  under_entry (suc steps) id top under other left all =
-      elim (holder s id) as (λ w. holder s id ≡ w → is_so_above (λ x. is_under_within s steps x top) w ≡ true → IsUnderEntry s (record { dir = top; left = left }) id) [
+  under_entry : (steps : ℕ) (id top : Oid) → is_under_within s steps id top ≡ true → same_oid id top ≡ false → (count : ℕ) → count ≡ length (objects_in s top) → (0 < count) × IsUnderEntry s (record { dir = top; place = count - 1 }) id
+  under_entry zero id top under other count all = absurd (true≢false (sym under ∙ other))
+  under_entry (suc steps) id top under other count all =
+      elim (holder s id) as (λ w. holder s id ≡ w → is_so_above (λ x. is_under_within s steps x top) w ≡ true → (0 < count) × IsUnderEntry s (record { dir = top; place = count - 1 }) id) [
         | None ↦ λ _ no. absurd (true≢false (sym no))
         | Some above ↦ λ held rest.
-            elim (same_oid above top) as (λ b. same_oid above top ≡ b → IsUnderEntry s (record { dir = top; left = left }) id) [
+            elim (same_oid above top) as (λ b. same_oid above top ≡ b → (0 < count) × IsUnderEntry s (record { dir = top; place = count - 1 }) id) [
               | true ↦ λ t.
                   let at = held_at id top (held ∙ ap (λ (x : Oid). Some x) (same_key oid_cmp_exact above top t)) in
                   let within = slice_get_within (objects_in s top) at.0 id at.1 in
-                  record { place = at.0; child = id; is_due = omega (arith, within, all); is = at.1; under = itself_under id }
+                  (omega (arith, within, all), record { place = at.0; child = id; is_due = omega (arith, within, all); is = at.1; under = itself_under id })
               | false ↦ λ f.
-                  let next = under_entry steps above top rest f left all in
-                  record { place = next.place; child = next.child; is_due = next.is_due; is = next.is; under = one_up id above next.child held next.under }
+                  let next = under_entry steps above top rest f count all in
+                  (next.0, record { place = next.1.place; child = next.1.child; is_due = next.1.is_due; is = next.1.is; under = one_up id above next.1.child held next.1.under })
             ] refl
       ] refl (sym (ap (λ b. b || is_so_above (λ x. is_under_within s steps x top) (holder s id)) other) ∙ under)
-
-  pub all_due : (id top : Oid) (left : ℕ) → left ≡ entry_count s top → LiesUnder s id top → same_oid id top ≡ false → IsUnderEntry s (record { dir = top; left = left }) id
-  all_due id top left counted lies other = under_entry lies.steps id top lies.under other left (counted ∙ all_objects top)
 
   -- ---- the entries that are due
   appended : (due : List Due) (last : Due) (id : Oid) → IsUnderOne s due id ⊎ IsUnderEntry s last id → IsUnderOne s (due ++ last ∷ []) id
@@ -109,51 +106,51 @@ module _ (s : State) where
     | inr lies ↦ inr lies
   ]
 
-  pub one_more : (due : List Due) (dir : Oid) (left : ℕ) (id : Oid) → IsUnderOne s due id ⊎ IsUnderEntry s (record { dir = dir; left = left }) id → IsUnderOne s (with_due due dir left) id
-  one_more due dir left id lies =
-      elim (left == 0) as (λ b. (left == 0) ≡ b → IsUnderOne s (cond b due (due ++ record { dir = dir; left = left } ∷ [])) id) [
+  -- with entries of a directory due, if any
+  entered_some : (due : List Due) (dir : Oid) (count : ℕ) (id : Oid) → IsUnderOne s due id ⊎ ((0 < count) × IsUnderEntry s (record { dir = dir; place = count - 1 }) id) → IsUnderOne s (with_due due dir count) id
+  entered_some due dir count id lies =
+      elim (count == 0) as (λ b. (count == 0) ≡ b → IsUnderOne s (cond b due (due ++ record { dir = dir; place = count - 1 } ∷ [])) id) [
         | true ↦ λ none. elim lies [
           | inl before ↦ before
-          | inr entry ↦ let low = entry.is_due in absurd (grind (arith, nat_tests, none, low))
+          | inr entry ↦ let some = entry.0 in absurd (grind (arith, nat_tests, none, some))
         ]
-        | false ↦ λ _. appended due (record { dir = dir; left = left }) id lies
+        | false ↦ λ _. appended due (record { dir = dir; place = count - 1 }) id (elim lies [ inl before ↦ inl before | inr entry ↦ inr entry.1 ])
       ] refl
 
-  -- where no entry of the last directory is due, it goes
-  pub none_of_last : (before rest : List Due) (last : Due) (id : Oid) → before ≡ rest ++ last ∷ [] → (1 ≤ last.left → ⊥) → IsUnderOne s before id → IsUnderOne s rest id
-  none_of_last before rest last id parts none lies =
-      elim (split rest last id (subst (λ (due : List Due). IsUnderOne s due id) parts lies)) [
-        | inl other ↦ other
-        | inr entry ↦ let low = entry.is_due in absurd (none (omega (arith, low)))
-      ]
+  -- with all entries of an object due, each one lies under an entry that is due which lies under the object
+  pub all_due : (due after : List Due) (top : Oid) (count : ℕ) (id : Oid) → count ≡ entry_count s top → same_oid id top ≡ false → after ≡ with_due due top count → IsUnderOne s due id ⊎ LiesUnder s id top → IsUnderOne s after id
+  all_due due after top count id counted other made lies =
+      subst (λ (ds : List Due). IsUnderOne s ds id) (sym made) (entered_some due top count id (elim lies [
+        | inl before ↦ inl before
+        | inr under ↦ inr (under_entry under.steps id top under.under other count (counted ∙ all_objects top))
+      ]))
 
-  -- the last entry of the last directory is looked at: what lies under one that was due lies under one that still is, or under what the entry leads to
-  pub looked : (before rest after : List Due) (last : Due) (place : ℕ) (id : Oid) → before ≡ rest ++ last ∷ [] → last.left ≡ place + 1 → after ≡ with_due rest last.dir place → IsUnderOne s before id
-      → IsUnderOne s after id ⊎ ((child : Oid) × (slice_get (objects_in s last.dir) place ≡ Some child) × LiesUnder s id child)
-  looked before rest after last place id parts left made lies =
-      let still : (IsUnderOne s rest id ⊎ IsUnderEntry s (record { dir = last.dir; left = place }) id) → IsUnderOne s after id = λ u. subst (λ (due : List Due). IsUnderOne s due id) (sym made) (one_more rest last.dir place id u) in
+  -- the entry at the last place is looked at: what lies under one that was due lies under one that still is, or under what the entry leads to
+  pub looked : (before rest after : List Due) (last : Due) (id : Oid) → before ≡ rest ++ last ∷ [] → after ≡ with_due rest last.dir last.place → IsUnderOne s before id
+      → IsUnderOne s after id ⊎ ((child : Oid) × (slice_get (objects_in s last.dir) last.place ≡ Some child) × LiesUnder s id child)
+  looked before rest after last id parts made lies =
+      let still : (IsUnderOne s rest id ⊎ ((0 < last.place) × IsUnderEntry s (record { dir = last.dir; place = last.place - 1 }) id)) → IsUnderOne s after id =
+      λ u. subst (λ (due : List Due). IsUnderOne s due id) (sym made) (entered_some rest last.dir last.place id u) in
       elim (split rest last id (subst (λ (due : List Due). IsUnderOne s due id) parts lies)) [
         | inl other ↦ inl (still (inl other))
         | inr entry ↦
             let low = entry.is_due in
-            elim (cases_lt entry.place place) [
-              | inl earlier ↦ inl (still (inr (record { place = entry.place; child = entry.child; is_due = earlier; is = entry.is; under = entry.under })))
+            elim (cases_lt entry.place last.place) [
+              | inl earlier ↦ inl (still (inr (omega (arith, earlier), record { place = entry.place; child = entry.child; is_due = omega (arith, earlier); is = entry.is; under = entry.under })))
               | inr at ↦
-                  let same : entry.place ≡ place = omega (arith, low, left, at) in
+                  let same : entry.place ≡ last.place = omega (arith, low, at) in
                   inr (entry.child, ap (slice_get (objects_in s last.dir)) (sym same) ∙ entry.is, entry.under)
             ]
       ]
 
-  -- where that is another object, all entries of it are due from then on
-  pub child_due : (due after : List Due) (dir : Oid) (place : ℕ) (child : Oid) (left : ℕ) (id : Oid) → slice_get (objects_in s dir) place ≡ Some child → same_oid child id ≡ false → left ≡ entry_count s child → after ≡ with_due due child left
+  -- where the entry leads to another object, that one's entries are due from then on
+  pub child_due : (due after : List Due) (dir : Oid) (place : ℕ) (child : Oid) (count : ℕ) (id : Oid) → slice_get (objects_in s dir) place ≡ Some child → same_oid child id ≡ false → count ≡ entry_count s child → after ≡ with_due due child count
       → IsUnderOne s due id ⊎ ((x : Oid) × (slice_get (objects_in s dir) place ≡ Some x) × LiesUnder s id x) → IsUnderOne s after id
-  child_due due after dir place child left id is other counted made lies =
-      subst (λ (ds : List Due). IsUnderOne s ds id) (sym made) (one_more due child left id (elim lies [
+  child_due due after dir place child count id is other counted made lies =
+      all_due due after child count id counted ((eq_by_cmp_equiv oid_cmp_total).symm id child ∙ other) made (elim lies [
         | inl earlier ↦ inl earlier
-        | inr x ↦
-            let same : x.0 ≡ child = some_same x.0 child (sym x.1 ∙ is) in
-            inr (all_due id child left counted (subst (LiesUnder s id) same x.2) ((eq_by_cmp_equiv oid_cmp_total).symm id child ∙ other))
-      ]))
+        | inr x ↦ inr (subst (LiesUnder s id) (some_same x.0 child (sym x.1 ∙ is)) x.2)
+      ])
 
 -- what is under a directory lies under it, in the state with its entries alone too
 pub under_lies : (s : State) (dir top : Oid) → is_under s dir top ≡ true → LiesUnder (entries_alone s.entries) dir top

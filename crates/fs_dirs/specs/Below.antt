@@ -1,5 +1,5 @@
 -- What lies below an object, and which of the entries there are due.
-use Rattle.std.specs.Prelude.{◌≡◌, ◌&&◌, ◌==◌, ◌<◌, ℕ, Bool, true, false, ◌⊎◌, List, [], ◌∷◌, ◌++◌, Some, cond, length, slice_get}
+use Rattle.std.specs.Prelude.{◌≡◌, ◌&&◌, ◌==◌, ◌≤◌, ◌-◌, ℕ, Bool, true, false, ◌⊎◌, List, [], ◌∷◌, ◌++◌, Some, cond, length, slice_get}
 use Rattle.kern_model.specs.declared.numbers.Oid.{Oid}
 use Rattle.kern_model.specs.Entries.{is_under_within}
 use Rattle.kern_model.specs.State.{State}
@@ -16,7 +16,7 @@ pub record LiesUnder (s : State) (id top : Oid) : Type 0 where
 pub record IsUnderEntry (s : State) (due : Due) (id : Oid) : Type 0 where
   pub place : ℕ
   pub child : Oid
-  pub is_due : place < due.left
+  pub is_due : place ≤ due.place
   pub is : slice_get (objects_in s due.dir) place ≡ Some child
   pub under : LiesUnder s id child
 
@@ -29,9 +29,9 @@ IsUnderOne s (due ∷ rest) id = IsUnderEntry s due id ⊎ IsUnderOne s rest id
 abbrev pub IsUnderDue : State → Below → Oid → Type 0
 IsUnderDue s below id = (below.complete ≡ false) ⊎ IsUnderOne s below.due.items id
 
--- the directories with one more, if entries of it are due
+-- the directories with one more, of which so many entries are due, if any
 abbrev pub with_due : List Due → Oid → ℕ → List Due
-with_due due dir left = cond (left == 0) due (due ++ record { dir = dir; left = left } ∷ [])
+with_due due dir count = cond (count == 0) due (due ++ record { dir = dir; place = count - 1 } ∷ [])
 
 -- no entry is due any more, and everything below the object was looked at
 abbrev pub is_over : Below → Bool

@@ -11,18 +11,18 @@ use fs_path::NoMemory;
 use kern_model::Oid;
 use std::alloc::Global;
 
-// A directory, and how many of its entries are due: those before this place.
+// A directory whose entries are due up to a place.
 #[derive(Drop)]
 struct Due {
     dir: Oid,
-    left: usize,
+    place: usize,
 }
 
-/// The way down from an object: the entries below it that are due, since they were not looked at yet.
+/// The way down from an object: the entries below it that are due, which means that they were not looked at yet.
 #[derive(Drop)]
 pub struct Below {
     due: Vec<Due>,
-    // Whether everything below the object was looked at, or lies below an entry that is due.
+    // Whether what lies below the object was looked at, or lies below an entry that is due. Else the way down is given up.
     complete: bool,
 }
 
@@ -46,7 +46,8 @@ impl Below {
         self.complete && self.due.is_empty()
     }
 
-    /// Looks at one entry that is due. Where it leads to the goal, or memory runs out, the way down is given up.
+    /// Looks at one entry that is due. The way down is given up where memory runs out, and where the entry leads to the goal,
+    /// since the way up from the goal is not longer.
     pub fn step(&mut self, entries: &Entries, goal: &Oid)
         ensures { IsUnderDue (entries_alone entries.now.entries) self.old goal.now → IsUnderDue (entries_alone entries.now.entries) self.new goal.now }
     {
@@ -62,11 +63,8 @@ impl Below {
         let Some(due) = self.due.pop() else {
             return Ok(());
         };
-        let Some(place) = due.left.checked_sub(1) else {
-            return Ok(());
-        };
-        self.enter(due.dir, place)?;
-        let Some(child) = entries.object_at(&due.dir, place) else {
+        self.enter(due.dir, due.place)?;
+        let Some(child) = entries.object_at(&due.dir, due.place) else {
             return Ok(());
         };
         if same(&child, goal) {
@@ -76,14 +74,17 @@ impl Below {
         self.enter(child, entries.len(&child))
     }
 
-    // Has the entries of a directory before a place be due.
-    fn enter(&mut self, dir: Oid, left: usize) -> Result<(), NoMemory>
-        ensures due { OnOk result (self.new.due.items ≡ with_due self.old.due.items dir left) }
+    // Has so many entries of a directory be due.
+    fn enter(&mut self, dir: Oid, count: usize) -> Result<(), NoMemory>
+        ensures due { OnOk result (self.new.due.items ≡ with_due self.old.due.items dir count) }
         ensures err { OnErr result (self.new.due.items ≡ self.old.due.items) }
         ensures complete { self.new.complete ≡ self.old.complete }
     {
-        if left > 0 {
-            self.due.push(Due { dir, left })?;
+        if count > 0 {
+            self.due.push(Due {
+                dir,
+                place: count - 1,
+            })?;
         }
         Ok(())
     }

@@ -363,8 +363,8 @@ impl Tree {
         Ok(())
     }
 
-    /// Whether a directory is another one or lies under it. The directories above it and those below the other one are gone
-    /// through in turn, so that the shorter way decides.
+    /// Whether a directory is another one or lies under it. Each step up from it is followed by one down from the other one, so
+    /// the shorter way decides.
     pub fn under(&self, dir: &Oid, top: &Oid) -> bool
         requires { IsDir self.now.nodes.table.objects dir.now }
         ensures { result ≡ is_under (state_of_tree self.now) dir.now top.now }
