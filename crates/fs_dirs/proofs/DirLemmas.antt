@@ -25,7 +25,7 @@ use Rattle.kern_model.proofs.TableLemmas.{get_at, one_set}
 use Rattle.kern_model.specs.Entries.{entry_count, names_in}
 use Rattle.kern_model.specs.Maps.{count_entries}
 use Rattle.fs_dirs.specs.Directory.{name_cmp}
-use Rattle.fs_dirs.specs.Entries.{Contents, at_spots, contents_of, entries_alone, entries_of}
+use Rattle.fs_dirs.specs.Entries.{Contents, at_spots, contents_of, entries_alone, entries_of, objects_in}
 use Rattle.fs_dirs.proofs.CountLemmas.{count_chosen, insert_same, no_entries}
 
 -- ---- lists of entries in order
@@ -203,48 +203,68 @@ module _ (dirs : FinMap oid_cmp Contents) (d : Oid) where
       changed_one (table.remove (contents_of dirs d) n) n None (get-remove nat_list_cmp_total (contents_of dirs d) n) q ∙ sym (get-remove spot_cmp_total (entries_of dirs) (d, n) q))
 
 -- ---- what one directory contains
-abbrev chosen : Oid → List (Spot × Oid) → List Name
-chosen dir es = flat_map (λ (e : Spot × Oid). cond (same_oid e.0.0 dir) (e.0.1 ∷ []) []) es
+module _ {X : Type 0} (of : Name × Oid → X) where
+  -- what is taken of each entry of a directory
+  abbrev chosen : Oid → List (Spot × Oid) → List X
+  chosen dir es = flat_map (λ (e : Spot × Oid). cond (same_oid e.0.0 dir) (of (e.0.1, e.1) ∷ []) []) es
 
-chosen_placed : (d dir : Oid) (es : List (Name × Oid)) → chosen dir (placed d es) ≡ cond (same_oid d dir) (map (λ (e : Name × Oid). e.0) es) []
-chosen_placed d dir [] = elim (same_oid d dir) as (λ b. ◌≡◌ {A = List Name} [] (cond b [] [])) [ true ↦ refl | false ↦ refl ]
-chosen_placed d dir (e ∷ es) =
-    ap (λ (ns : List Name). cond (same_oid d dir) (e.0 ∷ []) [] ++ ns) (chosen_placed d dir es)
-    ∙ elim (same_oid d dir) as (λ b. cond b (e.0 ∷ []) [] ++ cond b (map (λ (e : Name × Oid). e.0) es) [] ≡ cond b (e.0 ∷ map (λ (e : Name × Oid). e.0) es) []) [ true ↦ refl | false ↦ refl ]
+  abbrev taken : Contents → List X
+  taken m = map of (table.entries m)
 
-abbrev keys_in : Option Contents → List Name
-keys_in None = []
-keys_in (Some m) = table.keys m
+  chosen_placed : (d dir : Oid) (es : List (Name × Oid)) → chosen dir (placed d es) ≡ cond (same_oid d dir) (map of es) []
+  chosen_placed d dir [] = elim (same_oid d dir) as (λ b. ◌≡◌ {A = List X} [] (cond b [] [])) [ true ↦ refl | false ↦ refl ]
+  chosen_placed d dir (e ∷ es) =
+      ap (λ (xs : List X). cond (same_oid d dir) (of e ∷ []) [] ++ xs) (chosen_placed d dir es)
+      ∙ elim (same_oid d dir) as (λ b. cond b (of e ∷ []) [] ++ cond b (map of es) [] ≡ cond b (of e ∷ map of es) []) [ true ↦ refl | false ↦ refl ]
 
-chosen_all : (dir : Oid) (ds : List (Oid × Contents)) → T (is_sorted oid_cmp ds) → chosen dir (flat_map at_spots ds) ≡ keys_in (find oid_cmp dir ds)
-chosen_all dir [] h = refl
-chosen_all dir (c ∷ ds) h =
-    flat_map-append (λ (e : Spot × Oid). cond (same_oid e.0.0 dir) (e.0.1 ∷ []) []) (at_spots c) (flat_map at_spots ds)
-    ∙ ap (λ (ns : List Name). ns ++ chosen dir (flat_map at_spots ds)) (chosen_placed c.0 dir (table.entries c.1))
-    ∙ ap (λ b. cond b (table.keys c.1) [] ++ chosen dir (flat_map at_spots ds)) ((eq_by_cmp_equiv oid_cmp_total).symm c.0 dir)
-    ∙ elim (same_oid dir c.0) as (λ b. same_oid dir c.0 ≡ b → cond b (table.keys c.1) [] ++ chosen dir (flat_map at_spots ds) ≡ keys_in (cond b (Some c.1) (find oid_cmp dir ds))) [
-      | true ↦ λ t. ap (λ (ns : List Name). table.keys c.1 ++ ns) (chosen_all dir ds (second _ _ h) ∙ ap keys_in (below_none oid_cmp_total oid_cmp_exact dir c.0 ds t (first _ _ h))) ∙ append-nil (table.keys c.1)
-      | false ↦ λ _. chosen_all dir ds (second _ _ h)
-    ] refl
+  abbrev taken_if : Option Contents → List X
+  taken_if None = []
+  taken_if (Some m) = taken m
+
+  chosen_all : (dir : Oid) (ds : List (Oid × Contents)) → T (is_sorted oid_cmp ds) → chosen dir (flat_map at_spots ds) ≡ taken_if (find oid_cmp dir ds)
+  chosen_all dir [] h = refl
+  chosen_all dir (c ∷ ds) h =
+      flat_map-append (λ (e : Spot × Oid). cond (same_oid e.0.0 dir) (of (e.0.1, e.1) ∷ []) []) (at_spots c) (flat_map at_spots ds)
+      ∙ ap (λ (xs : List X). xs ++ chosen dir (flat_map at_spots ds)) (chosen_placed c.0 dir (table.entries c.1))
+      ∙ ap (λ b. cond b (taken c.1) [] ++ chosen dir (flat_map at_spots ds)) ((eq_by_cmp_equiv oid_cmp_total).symm c.0 dir)
+      ∙ elim (same_oid dir c.0) as (λ b. same_oid dir c.0 ≡ b → cond b (taken c.1) [] ++ chosen dir (flat_map at_spots ds) ≡ taken_if (cond b (Some c.1) (find oid_cmp dir ds))) [
+        | true ↦ λ t. ap (λ (xs : List X). taken c.1 ++ xs) (chosen_all dir ds (second _ _ h) ∙ ap taken_if (below_none oid_cmp_total oid_cmp_exact dir c.0 ds t (first _ _ h))) ∙ append-nil (taken c.1)
+        | false ↦ λ _. chosen_all dir ds (second _ _ h)
+      ] refl
+
+  taken_none : taken table.empty ≡ []
+  taken_none = ap (map of) (no_entries name_cmp Oid)
+
+  taken_contained : (dirs : FinMap oid_cmp Contents) (dir : Oid) → taken_if (table.get dirs dir) ≡ taken (contents_of dirs dir)
+  taken_contained dirs dir = elim (table.get dirs dir) as (λ w. table.get dirs dir ≡ w → taken_if w ≡ taken (contents_of dirs dir)) [
+    | None ↦ λ e. sym taken_none ∙ ap (λ (m : Contents). taken m) (sym (get_or-absent dirs dir table.empty e))
+    | Some m ↦ λ e. ap (λ (m : Contents). taken m) (sym (get_or-found dirs dir table.empty m e))
+  ] refl
+
+  chosen-entries_of : (dirs : FinMap oid_cmp Contents) (dir : Oid) → chosen dir (table.entries (entries_of dirs)) ≡ taken (contents_of dirs dir)
+  chosen-entries_of dirs dir =
+      ap (chosen dir) (entries_in_turn dirs) ∙ chosen_all dir (table.entries dirs) (entries_sorted dirs)
+      ∙ ap taken_if (sym (get-entries dirs dir)) ∙ taken_contained dirs dir
 
 -- a directory that contains nothing has no names
 pub no_names : table.keys (table.empty {K = Name} {X = Oid} {R = name_cmp}) ≡ []
-no_names = ap (map (λ (e : Name × Oid). e.0)) (no_entries name_cmp Oid)
+no_names = taken_none (λ (e : Name × Oid). e.0)
 
-keys_contained : (dirs : FinMap oid_cmp Contents) (dir : Oid) → keys_in (table.get dirs dir) ≡ table.keys (contents_of dirs dir)
-keys_contained dirs dir = elim (table.get dirs dir) as (λ w. table.get dirs dir ≡ w → keys_in w ≡ table.keys (contents_of dirs dir)) [
-  | None ↦ λ e. sym no_names ∙ ap (λ (m : Contents). table.keys m) (sym (get_or-absent dirs dir table.empty e))
-  | Some m ↦ λ e. ap (λ (m : Contents). table.keys m) (sym (get_or-found dirs dir table.empty m e))
-] refl
+-- and leads to no object
+pub no_objects : table.values (table.empty {K = Name} {X = Oid} {R = name_cmp}) ≡ []
+no_objects = taken_none (λ (e : Name × Oid). e.1)
 
 -- the names in a directory are those that it contains
 pub names_in-entries_of : (dirs : FinMap oid_cmp Contents) (dir : Oid) → names_in (entries_alone (entries_of dirs)) dir ≡ table.keys (contents_of dirs dir)
 unfolding names_in
-names_in-entries_of dirs dir =
-    ap (chosen dir) (entries_in_turn dirs) ∙ chosen_all dir (table.entries dirs) (entries_sorted dirs)
-    ∙ ap keys_in (sym (get-entries dirs dir)) ∙ keys_contained dirs dir
+names_in-entries_of dirs dir = chosen-entries_of (λ (e : Name × Oid). e.0) dirs dir
 
--- and so is their number
+-- and so are the objects to which they lead
+pub objects_in-entries_of : (dirs : FinMap oid_cmp Contents) (dir : Oid) → objects_in (entries_alone (entries_of dirs)) dir ≡ table.values (contents_of dirs dir)
+unfolding objects_in
+objects_in-entries_of dirs dir = chosen-entries_of (λ (e : Name × Oid). e.1) dirs dir
+
+-- and so is the number of the names
 pub entry_count-entries_of : (dirs : FinMap oid_cmp Contents) (dir : Oid) → entry_count (entries_alone (entries_of dirs)) dir ≡ table.len (contents_of dirs dir)
 unfolding count_entries names_in
 entry_count-entries_of dirs dir =

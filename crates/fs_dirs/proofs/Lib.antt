@@ -1,4 +1,5 @@
 pub mod Answering
+pub mod BelowLemmas
 pub mod CountLemmas
 pub mod DirLemmas
 pub mod Halving

@@ -4,7 +4,7 @@ use Rattle.std.specs.Ordering.{eq_by_cmp, is_eq}
 use Rattle.std.specs.Option.{option_map}
 use Rattle.std.specs.Cmp.{eq_by_cmp_equiv}
 use Rattle.std.specs.FinMap as table
-use Rattle.std.specs.FinMap.{FinMap, get-empty, get-insert, get-remove, len-empty, len-insert}
+use Rattle.std.specs.FinMap.{FinMap, get-empty, get-insert, get-remove, len-empty, len-insert, same_map}
 use Rattle.std.proofs.Common.{ap, sym, ◌∙◌, subst, arith}
 use Rattle.std.proofs.lemmas.Bool.{true≢false}
 use Rattle.std.proofs.lemmas.Bool.Decides.{nat_tests}
@@ -170,6 +170,15 @@ nothing_kept = record {
   where
     none_counted : (q : Oid) → name_count table.empty q ≡ 0
     none_counted q = count_entries-empty spot_cmp (λ (spot : Spot) (at : Oid). same_oid at q)
+
+-- the names of an object as they were before one was added
+pub links_restored : (links : FinMap oid_cmp Links) (id : Oid) (more : Links) (w : Option Links) → w ≡ table.get links id → with_links (table.insert links id more) id w ≡ links
+links_restored links id more w was = same_map oid_cmp_total oid_cmp_exact _ _ (λ q.
+    get-with_links id (table.insert links id more) w q ∙ ap (cond (same_oid q id) w) (get-insert oid_cmp_total links id more q)
+    ∙ elim (same_oid q id) as (λ b. same_oid q id ≡ b → cond b w (cond b (Some more) (table.get links q)) ≡ table.get links q) [
+      | true ↦ λ t. was ∙ ap (table.get links) (sym (same_key oid_cmp_exact q id t))
+      | false ↦ λ _. refl
+    ] refl)
 
 -- what is there is not absent
 pub never_both : {X : Type 0} (w : Option X) → IsSome w → w ≡ None → ⊥

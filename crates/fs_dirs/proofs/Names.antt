@@ -1,21 +1,22 @@
 -- The entries of one directory: what a look-up finds, and what an edit makes of the map.
-use Rattle.std.proofs.Common.{◌≡◌, ℕ, List, [], ◌∷◌, length, get_or, set, Some, None, ap, ◌∙◌}
-use Rattle.std.specs.Prelude.{map, not, refl}
+use Rattle.std.proofs.Common.{◌≡◌, ℕ, List, [], ◌∷◌, length, get_or, set, Some, None, ap, sym, ◌∙◌}
+use Rattle.std.specs.Prelude.{Option, map, not, refl, slice_get}
 use Rattle.std.specs.Ordering.{eq_by_cmp}
 use Rattle.std.specs.List.{insert, remove}
+use Rattle.std.specs.Option.{option_map}
 use Rattle.std.specs.FinMap as map
 use Rattle.std.specs.FinMap.{IsAntisymmetric, nat_cmp-IsAntisymmetric, slice_cmp-IsAntisymmetric, empty_of_len, entries-from_sorted, get-from_sorted, len-entries, put}
 use Rattle.std.specs.FinMap.Entries.{where_key}
 use Rattle.std.proofs.lemmas.Cmp.{nat_list_cmp_total}
 use Rattle.std.proofs.lemmas.List.{length-map}
+use Rattle.std.proofs.lemmas.Option.{slice_get-map}
 use Rattle.fs_path.specs.Name.{Name}
 use Rattle.kern_model.specs.declared.numbers.Oid.{Oid}
-use Rattle.fs_dirs.specs.Directory.{AreSorted, IsAt, IsGap, directory_of, name_cmp, pairs_of}
-use Rattle.fs_dirs.specs.declared.directory.Entry.{Entry}
+use Rattle.fs_dirs.specs.Directory.{AreSorted, Boxed, IsAt, IsGap, directory_of, name_cmp, pairs_of}
 use Rattle.fs_dirs.proofs.Sorted.{holds_at, find_at, find_none, put_in, put_over, taken_out, sorted_put, map_put, sorted_without, map_without}
 
-abbrev pair_of : Entry → Name × Oid
-pair_of e = (e.name, e.id)
+abbrev pair_of : Boxed → Name × Oid
+pair_of e = (e.value.name, e.value.id)
 
 pub names_exact : IsAntisymmetric name_cmp
 names_exact = slice_cmp-IsAntisymmetric nat_cmp-IsAntisymmetric
@@ -24,42 +25,58 @@ names_exact = slice_cmp-IsAntisymmetric nat_cmp-IsAntisymmetric
 pub none : directory_of [] ≡ map.empty
 none = empty_of_len (directory_of []) (len-entries (directory_of []) ∙ ap length (entries-from_sorted name_cmp [] tt))
 
-first_names : (es : List Entry) → map (λ (p : Name × Oid). p.0) (pairs_of es) ≡ map (λ (e : Entry). e.name) es
+first_names : (es : List Boxed) → map (λ (p : Name × Oid). p.0) (pairs_of es) ≡ map (λ (e : Boxed). e.value.name) es
 first_names [] = refl
-first_names (e ∷ es) = ap (λ ns. e.name ∷ ns) (first_names es)
+first_names (e ∷ es) = ap (λ ns. e.value.name ∷ ns) (first_names es)
 
-module _ (es : List Entry) (sorted : AreSorted es) where
+objects : (es : List Boxed) → map (λ (p : Name × Oid). p.1) (pairs_of es) ≡ map (λ (e : Boxed). e.value.id) es
+objects [] = refl
+objects (e ∷ es) = ap (λ ids. e.value.id ∷ ids) (objects es)
+
+module _ (es : List Boxed) (sorted : AreSorted es) where
   pub how_many : map.len (directory_of es) ≡ length es
   how_many = len-entries (directory_of es) ∙ ap length (entries-from_sorted name_cmp (pairs_of es) sorted) ∙ length-map es pair_of
 
-  pub all_names : map.keys (directory_of es) ≡ map (λ (e : Entry). e.name) es
+  pub all_names : map.keys (directory_of es) ≡ map (λ (e : Boxed). e.value.name) es
   all_names = ap (map (λ (p : Name × Oid). p.0)) (entries-from_sorted name_cmp (pairs_of es) sorted) ∙ first_names es
 
-  pub found : (name : Name) (place : ℕ) (e : Entry) → IsAt es name place → e ≡ get_or es place e → map.get (directory_of es) name ≡ Some e.id
+  all_objects : map.values (directory_of es) ≡ map (λ (e : Boxed). e.value.id) es
+  all_objects = ap (map (λ (p : Name × Oid). p.1)) (entries-from_sorted name_cmp (pairs_of es) sorted) ∙ objects es
+
+  -- the entry at a place leads to the object at that place
+  pub object_there : (place : ℕ) (w : Option Boxed) → w ≡ slice_get es place → option_map (λ (e : Boxed). e.value.id) w ≡ slice_get (map.values (directory_of es)) place
+  object_there place w at =
+      ap (option_map (λ (e : Boxed). e.value.id)) at ∙ sym (slice_get-map (λ (e : Boxed). e.value.id) es place)
+      ∙ ap (λ ids. slice_get ids place) (sym all_objects)
+
+  pub found : (name : Name) (place : ℕ) (e : Boxed) → IsAt es name place → e ≡ get_or es place e → map.get (directory_of es) name ≡ Some e.value.id
   found name place e at is = get-from_sorted name_cmp (pairs_of es) name sorted ∙ find_at pair_of nat_list_cmp_total es name place e sorted at.within at.same is
 
   pub absent : (name : Name) (place : ℕ) → IsGap es name place → map.get (directory_of es) name ≡ None
   absent name place gap = get-from_sorted name_cmp (pairs_of es) name sorted ∙ find_none pair_of nat_list_cmp_total es name place gap.less gap.greater
 
-  module _ (name : Name) (place : ℕ) (id : Oid) (gap : IsGap es name place) where
-    added : pairs_of (insert es place (record { name = name; id = id })) ≡ put name_cmp name id (pairs_of es)
-    added = put_in pair_of nat_list_cmp_total es place (record { name = name; id = id }) gap.within gap.less gap.greater
+  module _ (e : Boxed) (place : ℕ) (gap : IsGap es e.value.name place) where
+    added : pairs_of (insert es place e) ≡ put name_cmp e.value.name e.value.id (pairs_of es)
+    added = put_in pair_of nat_list_cmp_total es place e gap.within gap.less gap.greater
 
-    pub sorted_added : AreSorted (insert es place (record { name = name; id = id }))
-    sorted_added = sorted_put nat_list_cmp_total (pairs_of es) _ name id sorted added
+    pub sorted_added : AreSorted (insert es place e)
+    sorted_added = sorted_put nat_list_cmp_total (pairs_of es) _ e.value.name e.value.id sorted added
 
-    pub map_added : directory_of (insert es place (record { name = name; id = id })) ≡ map.insert (directory_of es) name id
-    map_added = map_put nat_list_cmp_total (pairs_of es) _ name id sorted added
+    pub map_added : directory_of (insert es place e) ≡ map.insert (directory_of es) e.value.name e.value.id
+    map_added = map_put nat_list_cmp_total (pairs_of es) _ e.value.name e.value.id sorted added
 
   module _ (name : Name) (place : ℕ) (at : IsAt es name place) where
-    over : (e : Entry) → e ≡ get_or es place e → (id : Oid) → pairs_of (set es place (record e { id = id })) ≡ put name_cmp name id (pairs_of es)
-    over e is id = put_over pair_of nat_list_cmp_total es name place (record e { id = id }) id sorted at.within at.same (holds_at (λ (x : Entry). ◌≡◌ {A = Name × Oid} (e.name, id) (x.name, id)) es place e at.within (ap (λ (x : Entry). (x.name, id)) is))
+    -- another entry of the same name in its place
+    module _ (e new : Boxed) (is : e ≡ get_or es place e) (id : Oid) (same : pair_of new ≡ (e.value.name, id)) where
+      over : pairs_of (set es place new) ≡ put name_cmp name id (pairs_of es)
+      over = put_over pair_of nat_list_cmp_total es name place new id sorted at.within at.same
+          (holds_at (λ (x : Boxed). pair_of new ≡ (x.value.name, id)) es place e at.within (same ∙ ap (λ (x : Boxed). (x.value.name, id)) is))
 
-    pub sorted_over : (e : Entry) → e ≡ get_or es place e → (id : Oid) → AreSorted (set es place (record e { id = id }))
-    sorted_over e is id = sorted_put nat_list_cmp_total (pairs_of es) _ name id sorted (over e is id)
+      pub sorted_over : AreSorted (set es place new)
+      sorted_over = sorted_put nat_list_cmp_total (pairs_of es) _ name id sorted over
 
-    pub map_over : (e : Entry) → e ≡ get_or es place e → (id : Oid) → directory_of (set es place (record e { id = id })) ≡ map.insert (directory_of es) name id
-    map_over e is id = map_put nat_list_cmp_total (pairs_of es) _ name id sorted (over e is id)
+      pub map_over : directory_of (set es place new) ≡ map.insert (directory_of es) name id
+      map_over = map_put nat_list_cmp_total (pairs_of es) _ name id sorted over
 
     without : pairs_of (remove es place) ≡ where_key name_cmp (λ x. not (eq_by_cmp name_cmp name x)) (pairs_of es)
     without = taken_out pair_of nat_list_cmp_total es name place sorted at.within at.same

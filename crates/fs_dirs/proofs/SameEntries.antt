@@ -19,7 +19,7 @@ module _ (s t : State) (same : s.entries ≡ t.entries) where
   unfolding holder
   holder-same id = ap (λ (m : FinMap spot_cmp Oid). option_map (λ (e : Spot × Oid). e.0.0) (find (λ (e : Spot × Oid). same_oid e.1 id) (map.entries m))) same
 
-  under_within-same : (n : ℕ) (dir top : Oid) → is_under_within s n dir top ≡ is_under_within t n dir top
+  pub under_within-same : (n : ℕ) (dir top : Oid) → is_under_within s n dir top ≡ is_under_within t n dir top
   under_within-same zero dir top = refl
   under_within-same (suc n) dir top =
       ap (λ b. same_oid dir top || b)

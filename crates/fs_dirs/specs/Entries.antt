@@ -1,5 +1,5 @@
 -- The entries of all directories, and the names that objects have.
-use Rattle.std.specs.Prelude.{◌≡◌, ℕ, ◌+◌, ◌-◌, nat_le, List, map, Option, None, Some, cond, refl}
+use Rattle.std.specs.Prelude.{◌≡◌, ℕ, ◌+◌, ◌-◌, nat_le, List, [], ◌∷◌, map, Option, None, Some, cond, refl}
 use Rattle.std.specs.List.{flat_map}
 use Rattle.std.specs.Coded.{Coded, code_by, coded×}
 use Rattle.std.specs.FinMap as table
@@ -9,7 +9,7 @@ use Rattle.fs_path.specs.Name.{Name}
 use Rattle.lab_lattice.specs.Label.{bottom}
 use Rattle.kern_model.specs.declared.numbers.Oid.{Oid}
 use Rattle.kern_model.specs.Entries.{link_count}
-use Rattle.kern_model.specs.Keys.{Spot, oid_cmp, spot_cmp}
+use Rattle.kern_model.specs.Keys.{Spot, oid_cmp, same_oid, spot_cmp}
 use Rattle.kern_model.specs.Maps.{get_or}
 use Rattle.kern_model.specs.State.{State}
 use Rattle.fs_dirs.specs.Directory.{name_cmp}
@@ -33,6 +33,10 @@ at_spots d = map (λ (e : Name × Oid). ((d.0, e.0), e.1)) (table.entries d.1)
 -- the entries of all directories: those of each one in turn
 unfoldable pub entries_of : FinMap oid_cmp Contents → FinMap spot_cmp Oid
 entries_of dirs = table.from_sorted (flat_map at_spots (table.entries dirs))
+
+-- the objects to which the names in a directory lead, in the order of the names
+unfoldable pub objects_in : State → Oid → List Oid
+objects_in s dir = flat_map (λ (e : Spot × Oid). cond (same_oid e.0.0 dir) (e.1 ∷ []) []) (table.entries s.entries)
 
 -- ---- which names objects have
 

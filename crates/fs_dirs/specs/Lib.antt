@@ -1,3 +1,4 @@
+pub mod Below
 pub mod Directory
 pub mod Entries
 pub mod Tree

@@ -1,5 +1,5 @@
 // One directory.
-ghost use Rattle.std.specs.Prelude.{◌≡◌, ◌<◌, IfErr, IfOk, IsOk, IsSome, OnErr, OnOk, length};
+ghost use Rattle.std.specs.Prelude.{◌≡◌, ◌<◌, IfErr, IfOk, IsOk, IsSome, OnErr, OnOk, length, slice_get};
 ghost use Rattle.std.specs.FinMap as map;
 ghost use Rattle.fs_dirs.specs.Directory.{AreSorted, IsAt, IsGap, TakesFewSteps};
 
@@ -20,7 +20,9 @@ struct Entry {
 /// One directory: the names in it, sorted by their bytes, and the object to which each leads.
 #[derive(Drop)]
 pub struct Directory {
-    entries: Vec<Entry>,
+    alloc: Global,
+    // An entry that comes or goes moves the pointers behind it, and not the entries.
+    entries: Vec<Box<Entry>>,
 }
 
 impl Model for Directory {
@@ -45,6 +47,7 @@ impl Directory {
         ensures { result ≡ map.empty }
     {
         Directory {
+            alloc,
             entries: Vec::new(alloc),
         }
     }
@@ -75,7 +78,10 @@ impl Directory {
     {
         match place_of(&self.entries, &name) {
             Ok(place) => self.entries[place].id = id,
-            Err(place) => self.entries.insert(place, Entry { name, id })?,
+            Err(place) => {
+                let entry = Box::new(self.alloc, Entry { name, id })?;
+                self.entries.insert(place, entry)?;
+            }
         }
         Ok(())
     }
@@ -88,6 +94,16 @@ impl Directory {
         match place_of(&self.entries, name) {
             Ok(place) => Some(self.entries.remove(place).id),
             Err(_) => None,
+        }
+    }
+
+    /// The object to which the name at a place in their order leads, if there are so many.
+    pub fn object_at(&self, place: usize) -> Option<Oid>
+        ensures { result ≡ slice_get (map.values self.now) place }
+    {
+        match self.entries.get(place) {
+            Some(entry) => Some(entry.id),
+            None => None,
         }
     }
 
@@ -104,7 +120,11 @@ impl Directory {
 }
 
 // Where a name is among sorted entries, or else where it belongs. Each comparison of names is counted.
-fn search<L: Ledger>(entries: &[Entry], name: &Name, steps: &mut Steps<L>) -> Result<usize, usize>
+fn search<L: Ledger>(
+    entries: &[Box<Entry>],
+    name: &Name,
+    steps: &mut Steps<L>,
+) -> Result<usize, usize>
     requires { AreSorted entries.now }
     ensures found { IfOk result (IsAt entries.now name.now) }
     ensures absent { IfErr result (IsGap entries.now name.now) }
@@ -124,7 +144,7 @@ fn search<L: Ledger>(entries: &[Entry], name: &Name, steps: &mut Steps<L>) -> Re
 }
 
 // The same search, with a count of its own.
-fn search_from<L: Ledger>(entries: &[Entry], name: &Name, blank: Blank) -> Result<usize, usize>
+fn search_from<L: Ledger>(entries: &[Box<Entry>], name: &Name, blank: Blank) -> Result<usize, usize>
     requires sorted { AreSorted entries.now }
     requires name { blank.name ≡ L.name }
     requires parts { blank.parts ≡ L.parts }
@@ -137,7 +157,7 @@ fn search_from<L: Ledger>(entries: &[Entry], name: &Name, blank: Blank) -> Resul
 }
 
 // Where a name is among sorted entries, or else where it belongs.
-fn place_of(entries: &[Entry], name: &Name) -> Result<usize, usize>
+fn place_of(entries: &[Box<Entry>], name: &Name) -> Result<usize, usize>
     requires { AreSorted entries.now }
     ensures found { IfOk result (IsAt entries.now name.now) }
     ensures absent { IfErr result (IsGap entries.now name.now) }

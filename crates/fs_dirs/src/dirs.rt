@@ -1,5 +1,5 @@
 // What each directory contains.
-ghost use Rattle.std.specs.Prelude.{◌≡◌, IfOk, OnErr, OnOk};
+ghost use Rattle.std.specs.Prelude.{◌≡◌, IfOk, OnErr, OnOk, slice_get};
 ghost use Rattle.std.specs.FinMap as map;
 ghost use Rattle.fs_dirs.specs.Directory.{TakesFewSteps};
 ghost use Rattle.fs_dirs.specs.Entries.{contents_of, entries_of};
@@ -71,6 +71,16 @@ impl Dirs {
         }
     }
 
+    /// The object to which the name at a place in a directory leads, if it contains so many.
+    pub fn object_at(&self, dir: &Oid, place: usize) -> Option<Oid>
+        ensures { result ≡ slice_get (map.values (contents_of self.now dir.now)) place }
+    {
+        match self.kept.get(dir) {
+            Some(directory) => directory.object_at(place),
+            None => None,
+        }
+    }
+
     /// Copies of the names in a directory, in their order.
     pub fn names(&self, dir: &Oid) -> Result<NameList, NoMemory>
         ensures { IfOk result (λ names. names ≡ map.keys (contents_of self.now dir.now)) }
@@ -82,11 +92,10 @@ impl Dirs {
     }
 
     /// Has a name in a directory lead to an object, in place of the one to which it led.
-    pub fn insert(&mut self, dir: &Oid, name: &Name, id: &Oid) -> Result<(), NoMemory>
-        ensures ok { OnOk result (entries_of self.new ≡ map.insert (entries_of self.old) (dir.now, name.now) id.now) }
+    pub fn insert(&mut self, dir: &Oid, name: Name, id: &Oid) -> Result<(), NoMemory>
+        ensures ok { OnOk result (entries_of self.new ≡ map.insert (entries_of self.old) (dir.now, name) id.now) }
         ensures err { OnErr result (self.new ≡ self.old) }
     {
-        let name = name.copy()?;
         if let Some(directory) = self.kept.get_mut(dir) {
             return directory.insert(name, *id);
         }

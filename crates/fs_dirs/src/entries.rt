@@ -1,5 +1,5 @@
 // The entries of all directories.
-ghost use Rattle.std.specs.Prelude.{◌≡◌, ◌-◌, ◌<◌, ◌≤◌, ℕ, false, None, Some, IfOk, IsSome, OnErr, OnOk, cond, is_some};
+ghost use Rattle.std.specs.Prelude.{◌≡◌, ◌-◌, ◌<◌, ◌≤◌, ℕ, false, None, Some, IfOk, IsSome, OnErr, OnOk, cond, is_some, slice_get};
 ghost use Rattle.std.specs.Ordering.{eq_by_cmp};
 ghost use Rattle.std.specs.FinMap as map;
 ghost use Rattle.kern_model.specs.declared.limits.TheConstants.{MAX_LINKS};
@@ -8,7 +8,7 @@ ghost use Rattle.kern_model.specs.Keys.{spot_cmp};
 ghost use Rattle.kern_model.specs.Entries.{entry_count, holder, link_count, names_in};
 ghost use Rattle.fs_dirs.specs.declared.links.Links.TheVariants as links;
 ghost use Rattle.fs_dirs.specs.Directory.{TakesFewSteps};
-ghost use Rattle.fs_dirs.specs.Entries.{count_of, entries_alone, HasShared, linked, without_name};
+ghost use Rattle.fs_dirs.specs.Entries.{count_of, entries_alone, HasShared, linked, objects_in, without_name};
 
 use crate::dirs::Dirs;
 use crate::links::{LinkTable, count, only_dir, with_name};
@@ -91,6 +91,13 @@ impl Entries {
         self.dirs.len(dir)
     }
 
+    /// The object to which the name at a place in a directory leads, if it contains so many.
+    pub fn object_at(&self, dir: &Oid, place: usize) -> Option<Oid>
+        ensures { result ≡ slice_get (objects_in (entries_alone self.now.entries) dir.now) place }
+    {
+        self.dirs.object_at(dir, place)
+    }
+
     /// Copies of the names in a directory, in their order.
     pub fn names(&self, dir: &Oid) -> Result<NameList, NoMemory>
         ensures { IfOk result (λ names. names ≡ names_in (entries_alone self.now.entries) dir.now) }
@@ -132,10 +139,10 @@ impl Entries {
     }
 
     /// Adds an entry.
-    pub fn insert(&mut self, dir: &Oid, name: &Name, id: &Oid) -> Result<(), NoMemory>
-        requires absent { map.get self.old.entries (dir.now, name.now) ≡ None }
+    pub fn insert(&mut self, dir: &Oid, name: Name, id: &Oid) -> Result<(), NoMemory>
+        requires absent { map.get self.old.entries (dir.now, name) ≡ None }
         requires few { link_count (entries_alone self.old.entries) id.now < MAX_LINKS }
-        ensures entries { OnOk result (self.new.entries ≡ map.insert self.old.entries (dir.now, name.now) id.now) }
+        ensures entries { OnOk result (self.new.entries ≡ map.insert self.old.entries (dir.now, name) id.now) }
         ensures links { OnOk result (self.new.links ≡ map.insert self.old.links id.now (linked (map.get self.old.links id.now) dir.now)) }
         ensures err { OnErr result (self.new ≡ self.old) }
         ensures before { count_of (map.get self.old.links id.now) ≡ link_count (entries_alone self.old.entries) id.now }
@@ -143,10 +150,10 @@ impl Entries {
         if self.total == usize::MAX {
             return Err(NoMemory);
         }
-        let links = with_name(self.names.get(id), *dir);
-        self.dirs.insert(dir, name, id)?;
-        if let Err(e) = self.names.set(*id, links) {
-            self.dirs.remove(dir, name);
+        let links = self.names.get(id);
+        self.names.set(*id, with_name(&links, *dir))?;
+        if let Err(e) = self.dirs.insert(dir, name, id) {
+            self.names.replace(id, links);
             return Err(e);
         }
         self.total += 1;
@@ -181,7 +188,7 @@ impl Entries {
         ensures err { OnErr result (self.new ≡ self.old) }
     {
         let replaced = self.look(to, new);
-        self.dirs.insert(to, new, id)?;
+        self.dirs.insert(to, new.copy()?, id)?;
         self.dirs.remove(from, old);
         self.names.drop_name(&replaced);
         self.names.move_name(id, to);

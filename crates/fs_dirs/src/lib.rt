@@ -1,10 +1,12 @@
 //! The tree of directories: the entries in each of them, over the objects.
 #![tactic(auto)]
 
+mod below;
 mod directory;
 mod dirs;
 mod entries;
 mod links;
+mod numbers;
 mod spots;
 mod tree;
 

@@ -41,14 +41,14 @@ pub fn only_dir(links: Option<Links>) -> Option<Oid>
 }
 
 /// The names of an object that gets one more.
-pub fn with_name(links: Option<Links>, dir: Oid) -> Links
-    requires { count_of links < 4_294_967_295 }
-    ensures { result ≡ linked links dir }
+pub fn with_name(links: &Option<Links>, dir: Oid) -> Links
+    requires { count_of links.now < 4_294_967_295 }
+    ensures { result ≡ linked links.now dir }
 {
     match links {
         None => Links::One(dir),
         Some(Links::One(_)) => Links::Shared(2),
-        Some(Links::Shared(n)) => Links::Shared(n + 1),
+        Some(Links::Shared(n)) => Links::Shared(*n + 1),
     }
 }
 

@@ -62,14 +62,15 @@ impl Spots {
     }
 
     // The entries in their directories. They are entered in the order of their spots, so that each is the last one of its directory.
-    pub(crate) fn entered(&self, alloc: Global) -> Result<Entries, NoMemory>
-        requires { (id : Number) → name_count self.now id ≤ MAX_LINKS }
-        ensures entries { IfOk result (λ entered. entered.entries ≡ self.now) }
-        ensures shared { IfOk result (λ entered. (id : Number) (n : ℕ) → map.get entered.links id ≡ Some (links.Shared n) → 1 < name_count self.now id) }
+    pub(crate) fn entered(self, alloc: Global) -> Result<Entries, NoMemory>
+        requires { (id : Number) → name_count self id ≤ MAX_LINKS }
+        ensures entries { IfOk result (λ entered. entered.entries ≡ self) }
+        ensures shared { IfOk result (λ entered. (id : Number) (n : ℕ) → map.get entered.links id ≡ Some (links.Shared n) → 1 < name_count self id) }
     {
         let mut entries = Entries::new(alloc);
-        for (spot, id) in self.kept.iter() {
-            entries.insert(&spot.0, &spot.1, id)?;
+        for (spot, id) in self.kept {
+            let (dir, name) = spot;
+            entries.insert(&dir, name, &id)?;
         }
         Ok(entries)
     }

@@ -11,12 +11,14 @@ ghost use Rattle.kern_model.specs.Valid.{IsDir, IsThere};
 ghost use Rattle.kern_model.specs.declared.limits.TheConstants.{MAX_FILE_BYTES, MAX_OBJECTS};
 ghost use Rattle.kern_model.specs.declared.objects.Object.{Object as Value};
 ghost use Rattle.fs_nodes.specs.Nodes.{IsFile, next_in, with_new, with_object};
-ghost use Rattle.kern_model.specs.Keys.{same_oid, spot_cmp};
+ghost use Rattle.kern_model.specs.Keys.{spot_cmp};
 ghost use Rattle.fs_dirs.specs.Directory.{TakesFewSteps};
 ghost use Rattle.fs_dirs.specs.Tree.{AreEntries, MayBeAdded, root_alone, state_of_tree, would_loop};
 
 use crate::NoMemory;
+use crate::below::Below;
 use crate::entries::Entries;
+use crate::numbers::same;
 use crate::spots::Spots;
 use fs_nodes::{Buffers, NodeError, Nodes, WriteError};
 use fs_path::{Name, NameList, Steps};
@@ -77,6 +79,7 @@ pub struct Absent;
 /// The objects, and the entries of the directories among them.
 #[derive(Drop)]
 pub struct Tree {
+    alloc: Global,
     nodes: Nodes,
     entries: Entries,
 }
@@ -107,14 +110,6 @@ pub fn root_directory() -> Oid
         label: bottom(),
         n: 1,
     }
-}
-
-// Whether two numbers are one.
-#[tactic(auto, unfolding(kern_model::specs::Keys::oid_cmp))]
-fn same(a: &Oid, b: &Oid) -> bool
-    ensures { result ≡ same_oid a.now b.now }
-{
-    a.cmp(b).is_eq()
 }
 
 // Whether two spots are one.
@@ -152,7 +147,11 @@ impl Tree {
     {
         let nodes = root_nodes(alloc, attr)?;
         let entries = Entries::new(alloc);
-        Ok(Tree { nodes, entries })
+        Ok(Tree {
+            alloc,
+            nodes,
+            entries,
+        })
     }
 
     /// The tree of these objects, and of all its entries at once.
@@ -162,7 +161,11 @@ impl Tree {
         ensures entries { IfOk result (λ tree. tree.entries ≡ spots) }
     {
         let entries = spots.entered(alloc)?;
-        Ok(Tree { nodes, entries })
+        Ok(Tree {
+            alloc,
+            nodes,
+            entries,
+        })
     }
 
     /// The objects.
@@ -295,7 +298,7 @@ impl Tree {
         if self.is_removed(dir) {
             return Err(AddError::Removed);
         }
-        self.entries.insert(dir, name, id)?;
+        self.entries.insert(dir, name.copy()?, id)?;
         Ok(())
     }
 
@@ -360,15 +363,17 @@ impl Tree {
         Ok(())
     }
 
-    /// Whether a directory is another one or lies under it.
+    /// Whether a directory is another one or lies under it. Each step up from it is followed by one down from the other one, so
+    /// the shorter way decides.
     pub fn under(&self, dir: &Oid, top: &Oid) -> bool
         requires { IsDir self.now.nodes.table.objects dir.now }
         ensures { result ≡ is_under (state_of_tree self.now) dir.now top.now }
     {
         let mut current = *dir;
         let mut left = self.entries.total();
+        let mut below = Below::new(self.alloc, top, &self.entries);
         'up: while !same(&current, top) {
-            if left == 0 {
+            if left == 0 || below.is_over() {
                 return false;
             }
             let Some(above) = self.entries.holder(&current) else {
@@ -376,6 +381,7 @@ impl Tree {
             };
             current = above;
             left -= 1;
+            below.step(&self.entries, dir);
         }
         true
     }

@@ -1,7 +1,7 @@
-use Rattle.std.proofs.Common.{sym, ◌≡◌, ◌+◌, ◌-◌, ◌/◌, arith}
+use Rattle.std.proofs.Common.{ap, sym, ◌∙◌, ◌≡◌, ◌+◌, ◌-◌, ◌/◌, arith}
 use Rattle.std.specs.declared.cmp.Ordering.TheVariants.{Less, Greater}
 use Rattle.std.proofs.lemmas.Cmp.{nat_list_cmp_total}
-use Rattle.fs_dirs.specs.Directory.{name_cmp}
+use Rattle.fs_dirs.specs.Directory.{Boxed, name_cmp}
 use Rattle.fs_dirs.specs.declared.directory.Entry.{Entry}
 use Rattle.fs_dirs.proofs.Sorted.{holds_at, less_upto, greater_from}
 use Rattle.fs_dirs.proofs.Halving.{halved, few}
@@ -19,7 +19,7 @@ loop-low-preserved-in-Less g c =
     record {
       ordered = omega arith;
       within = inv.within;
-      less = less_upto (λ (e : Entry). (e.name, e.id)) nat_list_cmp_total es name middle c.requires (omega arith) (holds_at (λ (e : Entry). name_cmp e.name name ≡ Less) es middle c.index-entries-middle.result (omega arith) (sym c.in-Less.ensures.order));
+      less = less_upto (λ (e : Boxed). (e.value.name, e.value.id)) nat_list_cmp_total es name middle c.requires (omega arith) (holds_at (λ (e : Boxed). name_cmp e.value.name name ≡ Less) es middle c.index-entries-middle.result (omega arith) (ap (λ (e : Boxed). name_cmp e.value.name name) (sym c.index-entries-middle.is) ∙ ap (λ (e : Entry). name_cmp e.name name) (sym c.deref.ensures) ∙ sym c.in-Less.ensures.order));
       greater = inv.greater;
       counted = omega arith;
       halved = halved c.args.steps.now c.loop-low.steps c.compare.new.steps (high - low) _ inv.counted c.in-Less.ensures.counted inv.halved (high - (middle + 1)) (omega arith);
@@ -51,7 +51,7 @@ loop-low-preserved g c =
       ordered = omega arith;
       within = omega arith;
       less = inv.less;
-      greater = greater_from (λ (e : Entry). (e.name, e.id)) nat_list_cmp_total es name middle c.requires (holds_at (λ (e : Entry). name_cmp e.name name ≡ Greater) es middle c.index-entries-middle.result (omega arith) (sym c.in-Greater.ensures.order));
+      greater = greater_from (λ (e : Boxed). (e.value.name, e.value.id)) nat_list_cmp_total es name middle c.requires (holds_at (λ (e : Boxed). name_cmp e.value.name name ≡ Greater) es middle c.index-entries-middle.result (omega arith) (ap (λ (e : Boxed). name_cmp e.value.name name) (sym c.index-entries-middle.is) ∙ ap (λ (e : Entry). name_cmp e.name name) (sym c.deref.ensures) ∙ sym c.in-Greater.ensures.order));
       counted = omega arith;
       halved = halved c.args.steps.now c.loop-low.steps c.compare.new.steps (high - low) _ inv.counted c.in-Greater.ensures.counted inv.halved (middle - low) (omega arith);
       few = few c.args.steps.now c.loop-low.steps c.compare.new.steps (high - low) _ inv.counted c.in-Greater.ensures.counted inv.halved (omega arith);

@@ -4,7 +4,6 @@ use Rattle.std.specs.Option.{option_copied_mut}
 use Rattle.std.specs.BTreeMap.{BTreeMap, is_at}
 use Rattle.std.specs.Map.{lookup}
 use Rattle.std.specs.FinMap as map
-use Rattle.fs_path.specs.Name.{Name}
 use Rattle.kern_model.specs.declared.numbers.Oid.{Oid}
 use Rattle.kern_model.specs.Keys.{oid_cmp}
 use Rattle.fs_nodes.proofs.Places.{on_ok}
@@ -25,9 +24,8 @@ returns-in-Some-clause-ok c =
     let w = c.insert.new.self in
     on_ok c.insert.result (λ e.
     ap entries_of (dirs_set ds dirs c.self.view_is dir (c.get_mut.follows.lender w).entries w ((c.get_mut.follows.holds w).3 (subst IsSome is refl)).0)
-    ∙ ap (λ (m : Contents). entries_of (map.insert dirs dir m)) (e ∙ ap (λ (m : Contents). map.insert m c.in_ok-name.name id) (sym found))
-    ∙ entries_of-insert dirs dir c.in_ok-name.name id
-    ∙ ap (λ (n : Name). map.insert (entries_of dirs) (dir, n) id) c.in_ok-name.ensures)
+    ∙ ap (λ (m : Contents). entries_of (map.insert dirs dir m)) (e ∙ ap (λ (m : Contents). map.insert m c.args.name id) (sym found))
+    ∙ entries_of-insert dirs dir c.args.name id)
     c.insert.ensures.inserted
 
 pub returns-in-Some-clause-err : goal.returns-in-Some-clause-err
@@ -49,6 +47,5 @@ returns-clause-ok c =
     let absent = contents_absent c.self.inside.kept.entries dirs c.self.view_is dir (sym (ap option_copied_mut c.in_default.is) ∙ c.get_mut.ensures.value) in
     let view = ap (λ (t : BTreeMap Oid Contents). map.from_entries {R = oid_cmp} t.entries) c.get_mut.follows.holds-at-none ∙ c.self.view_is in
     ap entries_of (dirs_set c.get_mut.follows.lender-at-none.entries dirs view dir c.insert-3.new.self.entries c.insert-2.new.self c.in_ok-insert-2.ensures.updates.0)
-    ∙ ap (λ (m : Contents). entries_of (map.insert dirs dir m)) (c.in_ok-insert.ensures.inserted ∙ ap (λ (m : Contents). map.insert m c.in_ok-name.name id) (c.new-directory.ensures ∙ sym absent))
-    ∙ entries_of-insert dirs dir c.in_ok-name.name id
-    ∙ ap (λ (n : Name). map.insert (entries_of dirs) (dir, n) id) c.in_ok-name.ensures
+    ∙ ap (λ (m : Contents). entries_of (map.insert dirs dir m)) (c.in_ok-insert.ensures.inserted ∙ ap (λ (m : Contents). map.insert m c.args.name id) (c.new-directory.ensures ∙ sym absent))
+    ∙ entries_of-insert dirs dir c.args.name id

@@ -2,6 +2,7 @@ use Rattle.std.specs.Prelude.{◌≡◌, ◌-◌, cond, is_some}
 use Rattle.std.proofs.Common.{ap, sym, ◌∙◌, subst}
 use Rattle.std.specs.FinMap as map
 use Rattle.std.specs.FinMap.{FinMap}
+use Rattle.fs_path.specs.Name.{Name}
 use Rattle.kern_model.specs.declared.numbers.Oid.{Oid}
 use Rattle.kern_model.specs.Keys.{oid_cmp, spot_cmp}
 use Rattle.kern_model.proofs.KeyLaws.{spot_cmp_total, spot_cmp_exact}
@@ -39,7 +40,7 @@ invariant_of-self-2 c =
     let links : c.move_name.new.self ≡ with_links (without_name c.self.inside.names w) c.args.id.now (relinked (map.get (without_name c.self.inside.names w) c.args.id.now) c.args.to.now) =
     c.move_name.ensures ∙ ap (λ (m : FinMap oid_cmp Links). with_links m c.args.id.now (relinked (map.get m c.args.id.now) c.args.to.now)) c.drop_name.ensures in
     let moved : entries_of c.remove.new.self ≡ map.insert (map.remove entries (c.args.from.now, c.args.old.now)) (c.args.to.now, c.args.new.now) c.args.id.now =
-    c.remove.ensures.removed ∙ ap (λ (m : FinMap spot_cmp Oid). map.remove m (c.args.from.now, c.args.old.now)) c.in_ok-insert.ensures.ok
+    c.remove.ensures.removed ∙ ap (λ (m : FinMap spot_cmp Oid). map.remove m (c.args.from.now, c.args.old.now)) (c.in_ok-insert.ensures.ok ∙ ap (λ (n : Name). map.insert entries (c.args.to.now, n) c.args.id.now) c.in_ok-copy.ensures)
     ∙ remove-insert_other spot_cmp_total spot_cmp_exact entries (c.args.from.now, c.args.old.now) (c.args.to.now, c.args.new.now) c.requires.apart c.args.id.now in
     subst (λ n. AreKept (entries_of c.remove.new.self) c.move_name.new.self n) (sym c.without_one-self-inside.ensures)
     (subst (λ (m : FinMap oid_cmp Links). AreKept (entries_of c.remove.new.self) m (cond (is_some w) (c.self.inside.total - 1) c.self.inside.total)) (sym links)
@@ -50,7 +51,7 @@ pub returns-clause-entries : goal.returns-clause-entries
 returns-clause-entries c =
     let entries = entries_of c.self.inside.dirs in
     let moved : entries_of c.remove.new.self ≡ map.insert (map.remove entries (c.args.from.now, c.args.old.now)) (c.args.to.now, c.args.new.now) c.args.id.now =
-    c.remove.ensures.removed ∙ ap (λ (m : FinMap spot_cmp Oid). map.remove m (c.args.from.now, c.args.old.now)) c.in_ok-insert.ensures.ok
+    c.remove.ensures.removed ∙ ap (λ (m : FinMap spot_cmp Oid). map.remove m (c.args.from.now, c.args.old.now)) (c.in_ok-insert.ensures.ok ∙ ap (λ (n : Name). map.insert entries (c.args.to.now, n) c.args.id.now) c.in_ok-copy.ensures)
     ∙ remove-insert_other spot_cmp_total spot_cmp_exact entries (c.args.from.now, c.args.old.now) (c.args.to.now, c.args.new.now) c.requires.apart c.args.id.now in
     moved ∙ ap (λ (t : EntryTable). map.insert (map.remove t.entries (c.args.from.now, c.args.old.now)) (c.args.to.now, c.args.new.now) c.args.id.now) c.self.view_is
 

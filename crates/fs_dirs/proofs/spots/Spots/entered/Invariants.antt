@@ -8,6 +8,6 @@ use Rattle.fs_dirs.proofs.spots.Spots.entered.Given as goal
 -- the entries so far and those that are left, and what has several names so far
 abbrev pub invariant-loop-spot : goal.invariant-loop-spot
 invariant-loop-spot l = record {
-  parts : map.entries l.entries.entries ++ l.spot-iterator ≡ map.entries l.self;
-  shared : (q : Oid) (n : ℕ) → map.get l.entries.links q ≡ Some (Shared n) → 1 < name_count l.self q;
+  parts : map.entries l.entries.entries ++ l.spot-iterator ≡ map.entries l.fn.self;
+  shared : (q : Oid) (n : ℕ) → map.get l.entries.links q ≡ Some (Shared n) → 1 < name_count l.fn.self q;
 }
