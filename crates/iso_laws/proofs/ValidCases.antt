@@ -22,7 +22,7 @@ use Rattle.kern_model.proofs.MapLemmas.{some_same, get-insert_same, get_or-found
 use Rattle.kern_model.proofs.KeyLaws.{oid_cmp_total, did_cmp_total, did_cmp_exact}
 use Rattle.iso_laws.proofs.Sight.{open_object_is, open_no_dir}
 use Rattle.iso_laws.proofs.Changes.{valid_process}
-use Rattle.iso_laws.proofs.Selections.{one_passes}
+use Rattle.kern_model.proofs.Selections.{one_passes}
 use Rattle.iso_laws.proofs.attributes.Labels.{valid_relabelled}
 use Rattle.iso_laws.proofs.files.Changes.{valid_moved, valid_content, valid_shared, valid_opened}
 use Rattle.iso_laws.proofs.files.Closing.{valid_close}

@@ -22,7 +22,7 @@ use Rattle.kern_model.specs.Valid.{IsValid, IsDir, IsThere, IsValidObject, IsVal
 use Rattle.kern_model.proofs.KeyLaws.{oid_cmp_total, oid_cmp_exact, spot_cmp_total, spot_cmp_exact}
 use Rattle.kern_model.proofs.MapLemmas.{each-insert, get-insert_same, get_or-found, same_key, some_same}
 use Rattle.iso_laws.proofs.Part.{by_number, shown, low_spot}
-use Rattle.iso_laws.proofs.Selections.{test_after, any_entry-select, none_passes}
+use Rattle.kern_model.proofs.Selections.{test_after, any_entry-select, none_passes}
 use Rattle.iso_laws.proofs.Sight.{not_true, object_low}
 use Rattle.iso_laws.proofs.files.Changes.{content_of, open_ended, open_object}
 use Rattle.iso_laws.proofs.tree.Changes.{not_true_false}

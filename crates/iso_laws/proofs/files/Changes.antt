@@ -27,7 +27,7 @@ use Rattle.kern_model.proofs.MapLemmas.{each-insert, get-insert_same, get-insert
 use Rattle.kern_model.proofs.TableLemmas.{each_set_at}
 use Rattle.iso_laws.proofs.Changes.{there_still}
 use Rattle.iso_laws.proofs.Leading.{leads_kept}
-use Rattle.iso_laws.proofs.Selections.{none_pass, none_passes}
+use Rattle.kern_model.proofs.Selections.{none_pass, none_passes}
 use Rattle.iso_laws.proofs.ValidLemmas.{still_drawn, next_drawn, still_below}
 use Rattle.iso_laws.proofs.files.Descriptors.{lowest_absent, lowest_below}
 

@@ -29,7 +29,7 @@ use Rattle.iso_laws.proofs.Changes.{kept_object, kept_dropped, there_still}
 use Rattle.iso_laws.proofs.ClosingLemmas.{let_go_each, each_let_go, each_closing}
 use Rattle.iso_laws.proofs.KindLemmas.{fifo_stream}
 use Rattle.iso_laws.proofs.Part.{by_number, low_did, low_pid, same, part_changes, part_changes-append, part_of_low, part_of_high, change_label, shown_change, changed_by-append}
-use Rattle.iso_laws.proofs.Selections.{test_after, list_after, any_entry-select, flat_map-select, none_pass, none_passes, one_passes, some_passes, get-remove_same, get-remove_other, get-remove_none}
+use Rattle.kern_model.proofs.Selections.{test_after, list_after, any_entry-select, flat_map-select, none_pass, none_passes, one_passes, some_passes, get-remove_same, get-remove_other, get-remove_none}
 use Rattle.iso_laws.proofs.Sight.{not_true, object_low}
 use Rattle.iso_laws.proofs.files.Changes.{IsLike, IsValidAlone, HasValidContent, alone_of, content_of, with_open, open_object, open_process, valid_open}
 use Rattle.iso_laws.proofs.files.Descriptors.{on_stream_low}

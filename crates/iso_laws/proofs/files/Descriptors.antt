@@ -23,7 +23,7 @@ use Rattle.kern_model.specs.Valid.{IsValid}
 use Rattle.kern_model.proofs.KeyLaws.{oid_cmp_exact, did_cmp_total, did_cmp_exact}
 use Rattle.kern_model.proofs.MapLemmas.{head_T, tail_T, same_key, get_or-found}
 use Rattle.iso_laws.proofs.Part.{by_number, low_did, same}
-use Rattle.iso_laws.proofs.Selections.{test_after, any_entry-select}
+use Rattle.kern_model.proofs.Selections.{test_after, any_entry-select}
 use Rattle.iso_laws.proofs.Sight.{not_true}
 
 -- ---- the lowest free descriptor

@@ -26,7 +26,7 @@ use Rattle.kern_model.proofs.KeyLaws.{oid_cmp_total, oid_cmp_exact, pid_cmp_tota
 use Rattle.kern_model.proofs.MapLemmas.{each-insert, get-insert_same, get-insert_kept, get_or-found, never_some}
 use Rattle.kern_model.proofs.TableLemmas.{each_set_at}
 use Rattle.iso_laws.proofs.Leading.{leads_kept}
-use Rattle.iso_laws.proofs.Selections.{count_none, insert-insert}
+use Rattle.kern_model.proofs.Selections.{count_none, insert-insert}
 use Rattle.iso_laws.proofs.ValidLemmas.{still_drawn, next_drawn, still_below}
 use Rattle.iso_laws.proofs.files.Changes.{valid_opened}
 use Rattle.iso_laws.proofs.tree.Changes.{distinct, next_absent, tree_entry, tree_object, valid_tree, with_tree}

@@ -23,7 +23,7 @@ use Rattle.iso_laws.proofs.AllLemmas.{all-append, all_each, all_when}
 use Rattle.iso_laws.proofs.Changes.{KeptProcess, kept_of, kept_process}
 use Rattle.iso_laws.proofs.ClosingLemmas.{each_closing}
 use Rattle.iso_laws.proofs.Part.{by_number, low_pid, same, part_changes, part_changes-append, first_low, first_high, part_of_low, part_of_high, change_label, changed_by-append}
-use Rattle.iso_laws.proofs.Selections.{list_after, flat_map-select, get-remove_other}
+use Rattle.kern_model.proofs.Selections.{list_after, flat_map-select, get-remove_other}
 use Rattle.iso_laws.proofs.Sight.{not_true}
 use Rattle.iso_laws.proofs.files.Changes.{IsValidAlone}
 use Rattle.iso_laws.proofs.files.Closing.{Carries, over_changes, part_changes-flat_map, closing_low, closing_hidden, kept_closed, closed, valid_closed}

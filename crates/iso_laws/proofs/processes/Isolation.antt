@@ -36,7 +36,7 @@ use Rattle.iso_laws.proofs.Cases.{Cases, Meets, OfChanges, meets_given, meets_re
 use Rattle.iso_laws.proofs.LowRows.{Same, AreSeen, seen_self, low_itself, low_by, low_read, same_bound}
 use Rattle.iso_laws.proofs.Part.{by_number, low_pid, same, part_changes, part_of_low}
 use Rattle.iso_laws.proofs.Rows.{Gives, Passes, alike_fail, alike_give, alike_hidden, alike_need, alike_need_if, alike_refuse, gives_need_if, ends_need, ends_give, ends_need_if, ends_refuse}
-use Rattle.iso_laws.proofs.Selections.{test_after, any_entry-select}
+use Rattle.kern_model.proofs.Selections.{test_after, any_entry-select}
 use Rattle.iso_laws.proofs.Sight.{equal_side, get_process, met_rule, not_true, processes_drawn_low}
 use Rattle.iso_laws.proofs.processes.Ending.{is_pid_some, ending_low}
 
