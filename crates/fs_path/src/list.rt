@@ -52,6 +52,13 @@ impl<T: Drop> List<T> {
         self.kept.as_slice()
     }
 
+    /// The items in order, in a vector.
+    pub fn into_vec(self) -> Vec<T>
+        ensures { result.items ≡ self }
+    {
+        self.kept
+    }
+
     /// Removes all items.
     pub fn clear(&mut self)
         ensures { self.new ≡ [] }
