@@ -20,14 +20,14 @@ use Rattle.kern_model.specs.Maps.{any_entry, count_entries, select, where_key}
 use Rattle.kern_model.specs.State.{Description}
 use Rattle.kern_model.specs.Valid.{IsThere}
 use Rattle.kern_model.proofs.KeyLaws.{did_cmp_total, did_cmp_exact, oid_cmp_total, oid_cmp_exact}
-use Rattle.kern_model.proofs.MapLemmas.{each-entries, get-select, get-select_dropped, get-select_kept, select-insert_kept, same_key, some_same, never_some}
+use Rattle.kern_model.proofs.MapLemmas.{each-entries, get-select, get-select_dropped, get-select_kept, select-insert_kept, same_key, some_same, never_some, insert-same}
 use Rattle.fd_table.specs.declared.shared.Shared.{Shared}
 use Rattle.fd_table.specs.Descriptions.{SharedTable, description_of, descriptions_of, holders_kept, uses_of, with_one_less}
 use Rattle.fd_table.specs.Files.{AreHeld, drained, emptied_if, is_held, is_open, is_unused}
 use Rattle.fd_table.specs.Fifo.{fifo_emptied, without_bytes}
 use Rattle.fd_table.specs.Rows.{AllFds, Fds, holders, holders_in}
 use Rattle.fd_table.proofs.Holding.{get-less, less}
-use Rattle.fd_table.proofs.Sums.{any-sum, set_again}
+use Rattle.fd_table.proofs.Sums.{any-sum}
 use Rattle.fd_table.proofs.UseLemmas.{uses-remove, uses-replace, uses_some}
 use Rattle.lab_lattice.specs.Label.{label_cmp}
 
@@ -67,7 +67,7 @@ there_with shared did there = elim (map.get shared did) as (λ w. map.get shared
 pub descriptions-count : (shared : SharedTable) (did : Did) (s new : Shared) → map.get shared did ≡ Some s → description_of new ≡ description_of s → descriptions_of (map.insert shared did new) ≡ descriptions_of shared
 descriptions-count shared did s new is same =
     descriptions-insert shared did new ∙ ap (map.insert (descriptions_of shared) did) same
-    ∙ set_again did_cmp_total did_cmp_exact (descriptions_of shared) did (description_of s) (get-descriptions shared did ∙ ap (option_map description_of) is)
+    ∙ insert-same did_cmp_total did_cmp_exact (descriptions_of shared) did (description_of s) (get-descriptions shared did ∙ ap (option_map description_of) is)
 
 -- the description that is there
 pub description_is : (shared : SharedTable) (did : Did) (s : Shared) (d : Description) → map.get shared did ≡ Some s → map.get (descriptions_of shared) did ≡ Some d → description_of s ≡ d
