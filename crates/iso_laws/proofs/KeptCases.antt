@@ -37,7 +37,8 @@ use Rattle.iso_laws.proofs.KindLemmas.{stream_fifo}
 use Rattle.iso_laws.proofs.Rows.{Passes}
 use Rattle.iso_laws.proofs.Sight.{IsOpen, open_object_is, same_side, new_side, read_low, write_side}
 use Rattle.iso_laws.proofs.Changes.{KeptProcess, kept_of, kept_process, kept_object, kept_description, kept_beside}
-use Rattle.iso_laws.proofs.files.Closing.{has_fd, without_fd, kept_closed}
+use Rattle.iso_laws.proofs.files.Closing.{kept_closed}
+use Rattle.iso_laws.proofs.files.Closed.{has_fd, without_fd}
 use Rattle.iso_laws.proofs.processes.Ending.{kept_ended}
 use Rattle.iso_laws.proofs.tree.Changes.{next_absent}
 use Rattle.iso_laws.proofs.Cases.{Cases, IsMaking, IsOpening, IsRelabelling}

@@ -25,7 +25,7 @@ use Rattle.iso_laws.proofs.Changes.{valid_process}
 use Rattle.kern_model.proofs.Selections.{one_passes}
 use Rattle.iso_laws.proofs.attributes.Labels.{valid_relabelled}
 use Rattle.iso_laws.proofs.files.Changes.{valid_moved, valid_content, valid_shared, valid_opened}
-use Rattle.iso_laws.proofs.files.Closing.{valid_close}
+use Rattle.iso_laws.proofs.files.Closed.{valid_close}
 use Rattle.iso_laws.proofs.files.Pipes.{valid_piped}
 use Rattle.iso_laws.proofs.processes.Ending.{valid_ended}
 use Rattle.iso_laws.proofs.processes.Forking.{valid_forked, valid_awaited}

@@ -26,7 +26,8 @@ use Rattle.iso_laws.proofs.Part.{by_number, low_pid, same, part_changes, part_ch
 use Rattle.kern_model.proofs.Selections.{list_after, flat_map-select, get-remove_other}
 use Rattle.iso_laws.proofs.Sight.{not_true}
 use Rattle.iso_laws.proofs.files.Changes.{IsValidAlone}
-use Rattle.iso_laws.proofs.files.Closing.{Carries, over_changes, part_changes-flat_map, closing_low, closing_hidden, kept_closed, closed, valid_closed}
+use Rattle.iso_laws.proofs.files.Closing.{Carries, over_changes, part_changes-flat_map, closing_low, closing_hidden, kept_closed}
+use Rattle.iso_laws.proofs.files.Closed.{closed, valid_closed}
 
 pub is_pid_some : (a : Pid) (o : Option Pid) → is_pid a o ≡ true → o ≡ Some a
 is_pid_some a None h = absurd (true≢false (sym h))
