@@ -6,7 +6,7 @@ use Rattle.std.specs.Cmp.{nat_cmp_total}
 use Rattle.std.specs.FinMap as table
 use Rattle.std.specs.FinMap.{FinMap, nat_cmp-IsAntisymmetric, find, get-insert, get-remove, get-entries}
 use Rattle.std.proofs.Common.{sym, ◌∙◌, ap, subst, arith, inl, inr}
-use Rattle.std.proofs.lemmas.Bool.{and_parts, and_from, true≢false, eqb-true, eqb-false}
+use Rattle.std.proofs.lemmas.Bool.{and_parts, and_from, true≢false, eqb-true, eqb-false, false_from_ne_true}
 use Rattle.std.proofs.lemmas.Cmp.{tied_itself}
 use Rattle.lab_lattice.specs.Label.{dominates}
 use Rattle.kern_model.specs.declared.numbers.Did.{Did}
@@ -26,7 +26,6 @@ use Rattle.iso_laws.proofs.Changes.{there_still}
 use Rattle.iso_laws.proofs.ClosingLemmas.{let_go_each, each_closing}
 use Rattle.iso_laws.proofs.Part.{same, changed_by-append}
 use Rattle.kern_model.proofs.Selections.{none_pass, none_passes, some_passes, get-remove_same, get-remove_other, get-remove_none}
-use Rattle.iso_laws.proofs.Sight.{not_true}
 use Rattle.iso_laws.proofs.files.Changes.{IsLike, IsValidAlone, HasValidContent, alone_of, content_of, with_open, open_object, open_process, valid_open}
 use Rattle.iso_laws.proofs.files.Closing.{IsOf, Carries, over_changes, stays_there, holder_of}
 
@@ -54,7 +53,7 @@ module _ (s : State) (goes : Descriptor → Bool) where
   listed_stays did stays (e ∷ es) t =
       ap (λ (u : State). table.get u.descriptions did) (changed_by-append t (let_go s goes e) (going es))
       ∙ listed_stays did stays es (changed_by t (let_go s goes e))
-      ∙ one_stays did e (λ gone. not_true _ (λ same. true≢false (sym gone ∙ ap (is_let_go s goes) (sym (same_key did_cmp_exact did e.0 same)) ∙ stays))) t
+      ∙ one_stays did e (λ gone. false_from_ne_true _ (λ same. true≢false (sym gone ∙ ap (is_let_go s goes) (sym (same_key did_cmp_exact did e.0 same)) ∙ stays))) t
 
   -- what the changes of closing carry holds after those of any list of descriptions
   going_carries : (Of : State → Type 0) → ((did : Did) → Carries Of (DropDescription did)) → ((id : Oid) → Carries Of (emptied s id)) → (es : List (Did × Description)) (t : State) → Of t → Of (changed_by t (going es))
@@ -263,10 +262,10 @@ module _ (s : State) (who : Pid) (p : Process) (is : table.get s.procs who ≡ S
   procs_without = table.insert s.procs who without
 
   other_fd : (n : ℕ) → (n == fd) ≡ false → eq_by_cmp nat_cmp n fd ≡ false
-  other_fd n other = not_true _ (λ t. eqb-false n fd other (same_key nat_cmp-IsAntisymmetric n fd t))
+  other_fd n other = false_from_ne_true _ (λ t. eqb-false n fd other (same_key nat_cmp-IsAntisymmetric n fd t))
 
   fd_itself : (n : ℕ) → eq_by_cmp nat_cmp n fd ≡ false → (n == fd) ≡ false
-  fd_itself n other = not_true _ (λ t. true≢false (ap is_eq (sym (tied_itself nat_cmp_total n)) ∙ ap (eq_by_cmp nat_cmp n) (eqb-true n fd t) ∙ other))
+  fd_itself n other = false_from_ne_true _ (λ t. true≢false (ap is_eq (sym (tied_itself nat_cmp_total n)) ∙ ap (eq_by_cmp nat_cmp n) (eqb-true n fd t) ∙ other))
 
   -- what is open then was open, and does not close
   stayed_open : (d : Descriptor) → IsOf (record s { procs = procs_without }) d → IsOf s d × (has_fd who fd d ≡ false)

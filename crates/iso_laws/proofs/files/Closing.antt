@@ -6,7 +6,7 @@ use Rattle.std.specs.Cmp.{nat_cmp_total}
 use Rattle.std.specs.FinMap as table
 use Rattle.std.specs.FinMap.{FinMap, nat_cmp-IsAntisymmetric}
 use Rattle.std.proofs.Common.{sym, ◌∙◌, ap}
-use Rattle.std.proofs.lemmas.Bool.{and_parts, and_from, true≢false, not-false}
+use Rattle.std.proofs.lemmas.Bool.{and_parts, and_from, true≢false, not-false, false_from_ne_true}
 use Rattle.std.proofs.lemmas.Cmp.{tied_itself}
 use Rattle.std.proofs.lemmas.List.Folds.{list_any-append}
 use Rattle.lab_lattice.specs.Label.{Label}
@@ -25,10 +25,10 @@ use Rattle.kern_model.proofs.KeyLaws.{oid_cmp_exact, pid_cmp_total, pid_cmp_exac
 use Rattle.kern_model.proofs.MapLemmas.{each-remove, get_or-found, same_key}
 use Rattle.iso_laws.proofs.Changes.{kept_object, kept_dropped}
 use Rattle.iso_laws.proofs.ClosingLemmas.{let_go_each, each_let_go, each_closing}
-use Rattle.iso_laws.proofs.KindLemmas.{fifo_stream}
+use Rattle.kern_model.proofs.KindLemmas.{fifo_stream}
 use Rattle.iso_laws.proofs.Part.{by_number, low_did, low_pid, same, part_changes, part_changes-append, part_of_low, part_of_high, change_label, shown_change}
 use Rattle.kern_model.proofs.Selections.{test_after, list_after, any_entry-select, flat_map-select, none_pass, one_passes, some_passes}
-use Rattle.iso_laws.proofs.Sight.{not_true, object_low}
+use Rattle.iso_laws.proofs.Sight.{object_low}
 use Rattle.iso_laws.proofs.files.Descriptors.{on_stream_low}
 
 same_did_itself : (did : Did) → same_did did did ≡ true
@@ -121,7 +121,7 @@ module _ (s : State) (valid : IsValid s) (goes : Descriptor → Bool) where
             let some : list_any (goes_on did) (descriptors s) ≡ true = one_found (goes_on did) s first first_is (and_from _ _ gone (same_did_itself did)) in
             let found = found_one (stays_on did) s (not_both _ _ some stays) in
             let parts = and_parts _ _ found.passes in
-            record { descriptor = found.descriptor; is = found.is; stays = not_true _ (λ t. true≢false (sym parts.0 ∙ ap not t)); same_number = same_key did_cmp_exact found.descriptor.did did parts.1 }
+            record { descriptor = found.descriptor; is = found.is; stays = false_from_ne_true _ (λ t. true≢false (sym parts.0 ∙ ap not t)); same_number = same_key did_cmp_exact found.descriptor.did did parts.1 }
         | false ↦ λ kept. record { descriptor = first; is = first_is; stays = kept; same_number = refl }
       ] refl
 
@@ -151,7 +151,7 @@ module _ (l : Label) (s : State) (kept : Kept l s) (valid : IsValid s) (goes : D
       ∙ any_entry-select pid_cmp_total pid_cmp_exact (where_key (low_pid l) (same {X = Process})) (any_of p) (any_of p) s.procs (λ who x is.
       elim (low l who.label) as (λ b. low l who.label ≡ b → test_after (any_of p) who (cond b (Some x) None) ≡ any_of p who x) [
         | true ↦ λ _. refl
-        | false ↦ λ high. sym (none_pass nat_cmp_total nat_cmp-IsAntisymmetric (λ (fd : ℕ) (q : Did). p (record { who = who; fd = fd; did = q })) x.fds (λ fd q e. not_true _ (λ t.
+        | false ↦ λ high. sym (none_pass nat_cmp_total nat_cmp-IsAntisymmetric (λ (fd : ℕ) (q : Did). p (record { who = who; fd = fd; did = q })) x.fds (λ fd q e. false_from_ne_true _ (λ t.
             let on : q ≡ did = only (record { who = who; fd = fd; did = q }) t in
             true≢false (sym (sym (kept.fds who x fd q is e) ∙ ap (λ (z : Did). low l z.label) on ∙ is_low) ∙ high))))
       ] refl)
@@ -172,7 +172,7 @@ module _ (l : Label) (s : State) (kept : Kept l s) (valid : IsValid s) (goes : D
         | true ↦ λ fifo. ap not (any_entry-select did_cmp_total did_cmp_exact (where_key (low_did l) (same {X = Description})) p p' s.descriptions (λ did d is.
             elim (low l did.label) as (λ b. low l did.label ≡ b → test_after p' did (cond b (Some d) None) ≡ p did d) [
               | true ↦ λ h. ap (λ b. same_oid d.object id && not b) (let_go_low did h)
-              | false ↦ λ high. sym (not_true (p did d) (λ t.
+              | false ↦ λ high. sym (false_from_ne_true (p did d) (λ t.
                   true≢false (sym (on_stream_low l s kept valid id is_low (fifo_stream _ fifo) did d is (same_key oid_cmp_exact d.object id (and_parts _ _ t).0)) ∙ high)))
             ] refl))
         | false ↦ λ _. refl
