@@ -59,6 +59,13 @@ impl<T: Drop> List<T> {
         self.kept
     }
 
+    /// Gives back the memory that its items do not need.
+    pub fn shrink_to_fit(&mut self)
+        ensures { self.new ≡ self.old }
+    {
+        self.kept.shrink_to_fit();
+    }
+
     /// Removes all items.
     pub fn clear(&mut self)
         ensures { self.new ≡ [] }
