@@ -2,3 +2,4 @@ pub mod Descriptions
 pub mod Fifo
 pub mod Files
 pub mod Rows
+pub mod Uses
