@@ -18,9 +18,9 @@ use Rattle.kern_model.specs.State.{Description}
 use Rattle.kern_model.specs.Valid.{IsThere}
 use Rattle.kern_model.proofs.KeyLaws.{did_cmp_total, did_cmp_exact, oid_cmp_total, oid_cmp_exact}
 use Rattle.kern_model.proofs.MapLemmas.{get-select, get-select_dropped, get-select_kept, select-insert_kept, same_key, some_same, never_some}
-use Rattle.kern_model.proofs.Selections.{none_pass, none_passes}
+use Rattle.kern_model.proofs.Selections.{any_entry-select}
 use Rattle.fd_table.specs.declared.shared.Shared.{Shared}
-use Rattle.fd_table.specs.Descriptions.{SharedTable, description_of, descriptions_of, holders_kept, uses_of, with_one_less}
+use Rattle.fd_table.specs.Descriptions.{SharedTable, description_of, descriptions_of, has_user, holders_kept, uses_of, with_one_less}
 use Rattle.fd_table.specs.Files.{AreHeld, drained, emptied_if, is_held, is_open, is_unused}
 use Rattle.fd_table.specs.Fifo.{fifo_emptied, without_bytes}
 use Rattle.fd_table.specs.Rows.{AllFds, Fds, holders, holders_in}
@@ -71,13 +71,6 @@ descriptions-count shared did s new is same =
 pub description_is : (shared : SharedTable) (did : Did) (s : Shared) (d : Description) → map.get shared did ≡ Some s → map.get (descriptions_of shared) did ≡ Some d → description_of s ≡ d
 description_is shared did s d is at = some_same (description_of s) d (sym (get-descriptions shared did ∙ ap (option_map description_of) is) ∙ at)
 
--- ---- whether some entry passes a test
-pub same_tests : (b c : Bool) → (b ≡ false → c ≡ false) → (c ≡ false → b ≡ false) → b ≡ c
-same_tests true true f g = refl
-same_tests false false f g = refl
-same_tests true false f g = g refl
-same_tests false true f g = sym (f refl)
-
 -- ---- which objects have descriptions
 abbrev on_object : Oid → Did → Shared → Bool
 on_object id did s = same_oid s.object id
@@ -85,18 +78,18 @@ on_object id did s = same_oid s.object id
 abbrev of_object : Oid → Did → Description → Bool
 of_object id did d = same_oid d.object id
 
-open_alike : (shared : SharedTable) (id : Oid) → any_entry (on_object id) shared ≡ is_open (descriptions_of shared) id
-open_alike shared id = same_tests (any_entry (on_object id) shared) (is_open (descriptions_of shared) id)
-    (λ no. none_pass did_cmp_total did_cmp_exact (of_object id) (descriptions_of shared) (λ k d e.
-    elim (map.get shared k) as (λ w. map.get shared k ≡ w → option_map description_of w ≡ Some d → same_oid d.object id ≡ false) [
-      | None ↦ λ _ f. absurd (never_some None d refl f)
-      | Some s ↦ λ is f. ap (λ (x : Description). same_oid x.object id) (sym (some_same (description_of s) d f)) ∙ none_passes did_cmp_total did_cmp_exact (on_object id) shared no k s is
-    ] refl (sym (get-descriptions shared k) ∙ e)))
-    (λ no. none_pass did_cmp_total did_cmp_exact (on_object id) shared (λ k s e. none_passes did_cmp_total did_cmp_exact (of_object id) (descriptions_of shared) no k (description_of s) (get-descriptions shared k ∙ ap (option_map description_of) e)))
+open_alike : (shared : SharedTable) (id : Oid) → is_open (descriptions_of shared) id ≡ any_entry (on_object id) shared
+unfolding descriptions_of
+open_alike shared id = any_entry-select did_cmp_total did_cmp_exact (where_key (λ (did : Did). true) description_of) (on_object id) (of_object id) shared (λ k s e. refl)
+
+-- what passes a test without its count
+pub users_alike : (test : Description → Bool) (shared : SharedTable) (id : Oid) → has_user (λ s. test (description_of s)) shared id ≡ any_entry (λ (did : Did) (d : Description). same_oid d.object id && test d) (descriptions_of shared)
+unfolding descriptions_of
+users_alike test shared id = sym (any_entry-select did_cmp_total did_cmp_exact (where_key (λ (did : Did). true) description_of) (λ (did : Did) (s : Shared). same_oid s.object id && test (description_of s)) (λ (did : Did) (d : Description). same_oid d.object id && test d) shared (λ k s e. refl))
 
 -- an object has a description where their number is not 0
 pub open-count : (shared : SharedTable) (id : Oid) → is_open (descriptions_of shared) id ≡ not (uses_of shared id == 0)
-open-count shared id = sym (open_alike shared id) ∙ some-number (on_object id) shared
+open-count shared id = open_alike shared id ∙ some-number (on_object id) shared
 
 -- ---- the descriptions that are left
 pub left_held : (rows : AllFds) (shared new : SharedTable) (numbers : FinMap label_cmp ℕ) → AreHeld rows new numbers → ((q : Did) (s : Shared) → map.get new q ≡ Some s → map.get (descriptions_of shared) q ≡ Some (description_of s))

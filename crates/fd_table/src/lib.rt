@@ -3,6 +3,7 @@
 
 mod descriptions;
 mod fifo;
+mod pipes;
 mod row;
 mod rows;
 mod shared;
@@ -10,5 +11,6 @@ mod table;
 mod uses;
 
 pub use kern_model::NoMemory;
+pub use pipes::PipeError;
 pub use shared::How;
 pub use table::{FdError, FdTable};
