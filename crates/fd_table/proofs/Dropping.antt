@@ -18,14 +18,14 @@ use Rattle.kern_model.specs.State.{Description}
 use Rattle.kern_model.specs.Valid.{IsThere}
 use Rattle.kern_model.proofs.KeyLaws.{did_cmp_total, did_cmp_exact, oid_cmp_total, oid_cmp_exact, pid_cmp_total, pid_cmp_exact}
 use Rattle.kern_model.proofs.MapLemmas.{get-insert_same, get-select_dropped, get-select_kept, never_some}
-use Rattle.kern_model.proofs.Selections.{none_pass, none_passes}
+use Rattle.kern_model.proofs.Selections.{get-remove_same, none_pass, none_passes}
 use Rattle.fd_table.specs.declared.table.FdError.{FdError}
 use Rattle.fd_table.specs.Files.{OpenFiles, did_at, drained, emptied_if, is_held, is_open, is_unused, left_with}
 use Rattle.fd_table.specs.Rows.{AllFds, Fds, holders, row_of}
 use Rattle.fd_table.proofs.Holding.{holders-insert, row_is}
 use Rattle.fd_table.proofs.Leaving.{get-drained, held-count}
 use Rattle.fd_table.proofs.Loops.{from, from-all, from-next, from-same, row_set, set_twice}
-use Rattle.fd_table.proofs.Sums.{gone, set_again, set_over}
+use Rattle.fd_table.proofs.Sums.{set_again, set_over}
 
 abbrev Descriptions : Type 0
 Descriptions = FinMap did_cmp Description
@@ -59,7 +59,7 @@ held_twice rows more ds h = same_map did_cmp_total did_cmp_exact _ _ (λ q.
 still_held : (rows : AllFds) (who : Pid) (fds : Fds) (q : Did) → is_held (map.remove rows who) q ≡ true → is_held (map.insert rows who fds) q ≡ true
 still_held rows who fds q t =
     let some : not (holders (map.remove rows who) q == 0) ≡ true = sym (held-count (map.remove rows who) q) ∙ t in
-    let sum = holders-insert (map.remove rows who) who q fds (gone pid_cmp_total rows who) in
+    let sum = holders-insert (map.remove rows who) who q fds (get-remove_same pid_cmp_total rows who) in
     let more : not (holders (map.insert (map.remove rows who) who fds) q == 0) ≡ true = grind (arith, nat_tests) in
     ap (λ (m : AllFds). is_held m q) (sym (set_over pid_cmp_total pid_cmp_exact rows who fds)) ∙ held-count (map.insert (map.remove rows who) who fds) q ∙ more
 

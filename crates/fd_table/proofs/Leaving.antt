@@ -26,7 +26,7 @@ use Rattle.fd_table.specs.Fifo.{fifo_emptied, without_bytes}
 use Rattle.fd_table.specs.Rows.{AllFds, Fds, holders, holders_in}
 use Rattle.fd_table.proofs.Holding.{get-less, less}
 use Rattle.fd_table.proofs.Sums.{any-sum, set_again}
-use Rattle.fd_table.proofs.UseLemmas.{some-number, uses-remove, uses-replace, uses_some}
+use Rattle.fd_table.proofs.UseLemmas.{once, some-number, uses-remove, uses-replace, uses_some}
 use Rattle.lab_lattice.specs.Label.{label_cmp}
 
 -- ---- descriptions without their counts
@@ -46,10 +46,6 @@ pub held-count : (rows : AllFds) (did : Did) → is_held rows did ≡ not (holde
 unfolding is_held holders any_entry count_entries
 held-count rows did = any-sum (λ (row : Pid × Fds). list_any (λ (e : ℕ × Did). same_did e.1 did) (map.entries row.1)) (λ (row : Pid × Fds). holders_in row.1 did)
     (λ row. any-sum (λ (e : ℕ × Did). same_did e.1 did) (λ (e : ℕ × Did). cond (same_did e.1 did) 1 0) (λ e. once (same_did e.1 did)) (map.entries row.1)) (map.entries rows)
-  where
-    once : (b : Bool) → b ≡ not (cond b 1 0 == 0)
-    once true = refl
-    once false = refl
 
 -- ---- what is there with its count and without
 pub there_without : (shared : SharedTable) (did : Did) → IsThere shared did → IsThere (descriptions_of shared) did

@@ -20,6 +20,12 @@ use Rattle.fd_table.specs.Uses.{Includes, more_if, no_use, with_more}
 use Rattle.fd_table.proofs.Sums.{any-sum, sum-empty, sum-insert, sum-remove, sum-replace}
 
 -- ---- how many descriptions pass a test
+
+-- what is counted once is counted
+pub once : (b : Bool) → b ≡ not (cond b 1 0 == 0)
+once true = refl
+once false = refl
+
 module _ (p : Did → Shared → Bool) where
   abbrev passes : Did → Shared → ℕ
   passes did s = cond (p did s) 1 0
@@ -32,10 +38,6 @@ module _ (p : Did → Shared → Bool) where
   pub some-number : (shared : SharedTable) → any_entry p shared ≡ not (count_entries p shared == 0)
   unfolding any_entry count_entries
   some-number shared = any-sum (λ (e : Did × Shared). p e.0 e.1) (λ (e : Did × Shared). passes e.0 e.1) (λ e. once (p e.0 e.1)) (map.entries shared)
-    where
-      once : (b : Bool) → b ≡ not (cond b 1 0 == 0)
-      once true = refl
-      once false = refl
 
   module _ (shared : SharedTable) (did : Did) (s : Shared) where
     number-insert : map.get shared did ≡ None → count_entries p (map.insert shared did s) ≡ cond (p did s) 1 0 + count_entries p shared
