@@ -17,14 +17,14 @@ use Rattle.kern_model.specs.Maps.{select, where_key}
 use Rattle.kern_model.specs.State.{Description}
 use Rattle.kern_model.specs.Valid.{IsThere}
 use Rattle.kern_model.proofs.KeyLaws.{did_cmp_total, did_cmp_exact, oid_cmp_total, oid_cmp_exact, pid_cmp_total, pid_cmp_exact}
-use Rattle.kern_model.proofs.MapLemmas.{get-insert_same, get-select_dropped, get-select_kept, never_some, insert-same}
+use Rattle.kern_model.proofs.MapLemmas.{get-insert_same, get-select_dropped, get-select_kept, insert-same, never_some}
+use Rattle.kern_model.proofs.Selections.{get-remove_same, none_pass, none_passes}
 use Rattle.fd_table.specs.declared.table.FdError.{FdError}
 use Rattle.fd_table.specs.Files.{OpenFiles, did_at, drained, emptied_if, is_held, is_open, is_unused, left_with}
 use Rattle.fd_table.specs.Rows.{AllFds, Fds, holders, row_of}
 use Rattle.fd_table.proofs.Holding.{holders-insert, row_is}
-use Rattle.fd_table.proofs.Leaving.{get-drained, held-count, none_pass, none_passes}
+use Rattle.fd_table.proofs.Leaving.{get-drained, held-count}
 use Rattle.fd_table.proofs.Loops.{from, from-all, from-next, from-same, row_set, set_twice}
-use Rattle.kern_model.proofs.Selections.{get-remove_same}
 use Rattle.fd_table.proofs.Sums.{set_over}
 
 abbrev Descriptions : Type 0
