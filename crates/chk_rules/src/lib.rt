@@ -7,5 +7,5 @@ mod stop;
 
 pub use checks::{Checks, must, prefer, refuse_if};
 pub use kern_model::{Check, NoMemory, Verdict, Want};
-pub use rules::{mac_read_ok, mac_write_ok, mode_allows};
+pub use rules::{has_group, mac_read_ok, mac_write_ok, mode_allows};
 pub use stop::Stop;

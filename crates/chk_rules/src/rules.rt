@@ -44,8 +44,8 @@ fn shift_of_class(attr: &Attr, ids: &Ids) -> u16
     }
 }
 
-// Whether a group is the effective or a supplementary one.
-fn has_group(ids: &Ids, group: Gid) -> bool
+/// Whether a group is the effective or a supplementary one.
+pub fn has_group(ids: &Ids, group: Gid) -> bool
     ensures { result ≡ is_member ids.now group }
 {
     ids.egid == group || is_among(group, ids.groups.items())

@@ -1,20 +1,13 @@
--- The laws of isolation and of validity are proved for each call that is built.
+-- The laws of isolation and of validity are proved for each call whose arguments are in their ranges.
 use Rattle.std.specs.Prelude.{◌≡◌, true, refl}
+use Rattle.std.proofs.lemmas.Bool.{and_parts}
+use Rattle.lab_lattice.specs.Label.{Label}
 use Rattle.kern_model.specs.declared.calls.Call.{Call}
 use Rattle.kern_model.specs.declared.calls.Call.TheVariants as call
+use Rattle.kern_model.specs.Arguments.{are_flags, is_call, is_mode_if}
 use Rattle.iso_laws.specs.LawCalls.{has_laws}
-use Rattle.kern_core.specs.Built.{is_built}
 
-pub built_laws : (c : Call) → is_built c ≡ true → has_laws c ≡ true
-built_laws (call.Mkdir path mode) h = refl
-built_laws (call.Rmdir path) h = refl
-built_laws (call.Link path to) h = refl
-built_laws (call.Unlink path) h = refl
-built_laws (call.Rename path to) h = refl
-built_laws (call.Readdir path) h = refl
-built_laws (call.Stat path) h = refl
-built_laws (call.Chdir path) h = refl
-built_laws (call.MacGetFile path) h = refl
-built_laws call.CapGetProc h = refl
-built_laws (call.CapSetProc caps) h = refl
-built_laws c h = absurd (cc)
+pub call_laws : (top : Label) (c : Call) → is_call top c ≡ true → has_laws c ≡ true
+unfolding is_call
+call_laws top (call.OpenPath path flags mode) h = (and_parts (are_flags flags) (is_mode_if flags.c mode) h).0
+call_laws top c h = refl

@@ -31,9 +31,8 @@ use Rattle.fd_table.specs.Rows.{AllFds}
 use Rattle.sys_lookup.specs.Shared.{with_fds}
 use Rattle.sys_lookup.proofs.FdLemmas.{field-with_fds}
 use Rattle.iso_laws.proofs.Laws.{refusals_are_named, numbers_step, valid_boot, valid_step}
-use Rattle.kern_core.specs.Built.{is_built}
 use Rattle.kern_core.specs.Kernel.{IsStopped}
-use Rattle.kern_core.proofs.BuiltLaws.{built_laws}
+use Rattle.kern_core.proofs.BuiltLaws.{call_laws}
 use Rattle.kern_core.proofs.StepLemmas.{no_process}
 
 -- ---- a call that stopped
@@ -64,11 +63,11 @@ module _ {E : Type 0} (s t : State) (who : Pid) (c : Call) (r : Result reported.
   named_played = IfOk-weaker r _ _ (λ o e. subst IsNamed (ap (λ (u : StepResult). u.reply) e) (refusals_are_named s who c)) is
 
   -- leaves a valid state valid
-  pub valid_played : is_built c ≡ true → is_call s.top c ≡ true → (IsSome (map.get s.procs who) → has_names c ≡ true) → ∥ IsValid s ∥₁ → OnOk r (∥ IsValid t ∥₁)
-  valid_played built arguments names valid =
+  pub valid_played : is_call s.top c ≡ true → (IsSome (map.get s.procs who) → has_names c ≡ true) → ∥ IsValid s ∥₁ → OnOk r (∥ IsValid t ∥₁)
+  valid_played arguments names valid =
       let after : IsValid s → IsValid (step s who c).state = λ v. elim (map.get s.procs who) as (λ w. map.get s.procs who ≡ w → IsValid (step s who c).state) [
         | None ↦ λ none. subst IsValid (sym (ap (λ (u : StepResult). u.state) (no_process s who c none))) v
-        | Some p ↦ λ some. valid_step s who c (built_laws c built) arguments (names (ap is_some some)) v
+        | Some p ↦ λ some. valid_step s who c (call_laws s.top c arguments) arguments (names (ap is_some some)) v
       ] refl in
       IfOk-weaker r _ _ (λ o e. ∥∥₁_map valid (λ v. subst IsValid (ap (λ (u : StepResult). u.state) e) (after v))) is
 

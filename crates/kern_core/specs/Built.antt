@@ -3,17 +3,27 @@ use Rattle.std.specs.Prelude.{Bool, true, false}
 use Rattle.kern_model.specs.declared.calls.Call.{Call}
 use Rattle.kern_model.specs.declared.calls.Call.TheVariants as call
 
--- whether a call can be played
+-- whether a call can be played: all but these
 abbrev pub is_built : Call → Bool
-is_built (call.Mkdir path mode) = true
-is_built (call.Rmdir path) = true
-is_built (call.Link path to) = true
-is_built (call.Unlink path) = true
-is_built (call.Rename path to) = true
-is_built (call.Readdir path) = true
-is_built (call.Stat path) = true
-is_built (call.Chdir path) = true
-is_built (call.MacGetFile path) = true
-is_built call.CapGetProc = true
-is_built (call.CapSetProc caps) = true
-is_built _ = false
+is_built (call.OpenPath path flags mode) = false
+is_built (call.Close fd) = false
+is_built (call.Read fd n) = false
+is_built (call.Write fd bytes) = false
+is_built (call.Lseek fd from offset) = false
+is_built (call.Dup fd) = false
+is_built call.Pipe = false
+is_built (call.Mkfifo path mode) = false
+is_built (call.Fstat fd) = false
+is_built (call.MacSetFile path label) = false
+is_built (call.MacSetFd fd label) = false
+is_built call.Fork = false
+is_built (call.Exec path) = false
+is_built (call.Exit status) = false
+is_built call.Wait = false
+is_built (call.Kill target signal) = false
+is_built (call.Setuid user) = false
+is_built (call.Setgid group) = false
+is_built (call.MacSetProc label) = false
+is_built (call.AudWrite bytes) = false
+is_built (call.AudSwitch on) = false
+is_built _ = true

@@ -1,5 +1,5 @@
 -- The state of a kernel.
-use Rattle.std.specs.Prelude.{◌≡◌, ◌⊎◌, Bool, None}
+use Rattle.std.specs.Prelude.{◌≡◌, ◌⊎◌, Bool, true, false, None}
 use Rattle.std.specs.FinMap as map
 use Rattle.kern_model.specs.declared.calls.Call.{Call}
 use Rattle.kern_model.specs.declared.calls.Call.TheVariants as call
@@ -24,6 +24,15 @@ IsStopped (reply.Done answer) = ⊥
 IsStopped (reply.Denied errno check place) = Unit {0}
 IsStopped (reply.Refused errno) = Unit {0}
 
--- a call for which no memory is wanted: no living process has the number, or the caller asks for its own capability sets
+-- a call that takes no memory
+abbrev pub takes_no_memory : Call → Bool
+takes_no_memory (call.Umask mode) = true
+takes_no_memory call.Getpid = true
+takes_no_memory call.Getppid = true
+takes_no_memory call.CapGetProc = true
+takes_no_memory call.MacGetProc = true
+takes_no_memory _ = false
+
+-- no memory is wanted where no living process has the number, and for a call that takes none
 abbrev pub TakesNoMemory : State → Pid → Call → Type 0
-TakesNoMemory s who c = (map.get s.procs who ≡ None) ⊎ (c ≡ call.CapGetProc)
+TakesNoMemory s who c = (map.get s.procs who ≡ None) ⊎ (takes_no_memory c ≡ true)

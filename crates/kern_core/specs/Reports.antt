@@ -14,11 +14,6 @@ use Rattle.chk_rules.specs.declared.stop.Stop.{Stop}
 use Rattle.chk_rules.specs.declared.stop.Stop.TheVariants as stop
 use Rattle.sys_lookup.specs.declared.effect.Effect.{Effect}
 
--- the body was not stopped, and leaves no record of its own
-abbrev pub LeavesNothing : Result Effect Stop → Type 0
-LeavesNothing (Ok effect) = effect.own ≡ None
-LeavesNothing (Err how) = ⊥
-
 -- an outcome is this reply with these records
 pub record Reports (o : Outcome) (r : Reply) (rs : List Rec) : Type 0 where
   pub reply : o.reply ≡ r

@@ -2,7 +2,8 @@
 ghost use Rattle.std.specs.Prelude.{◌≡◌, [], None, IfOk, IsOk};
 ghost use Rattle.kern_model.specs.declared.calls.Reply.TheVariants as reply;
 ghost use Rattle.kern_model.specs.declared.calls.Errno.TheVariants as errno;
-ghost use Rattle.kern_core.specs.Reports.{LeavesNothing, OutcomeOf};
+ghost use Rattle.sys_lookup.specs.PlaysRow.{LeavesNothing};
+ghost use Rattle.kern_core.specs.Reports.{OutcomeOf};
 
 use chk_rules::{Checks, Stop};
 use kern_model::{CallName, Errno, NoMemory, Outcome, Pid, Rec, RecList, Reply};
@@ -20,7 +21,8 @@ pub fn no_process(alloc: Global) -> Outcome
 }
 
 /// The outcome of a call whose body gave this result. After the exercises stands the call's own record, or that of the
-/// denial where the caller's switch is on. No memory is taken where the body gives an effect without a record.
+/// denial where the caller's switch is on. No memory is taken where the body leaves no
+/// record.
 pub fn report(
     checks: Checks,
     who: &Pid,

@@ -1,5 +1,5 @@
 -- What it means that a body plays a row.
-use Rattle.std.specs.Prelude.{◌≡◌, List, Result}
+use Rattle.std.specs.Prelude.{◌≡◌, List, None, Result, Ok, Err}
 use Rattle.std.specs.Result.{IfOk, IfErr}
 use Rattle.kern_model.specs.State.{State, Change, changed_by}
 use Rattle.kern_model.specs.Row.{Row, Done, check_outcome}
@@ -26,3 +26,10 @@ pub record PlaysRow (s : State) (before : CheckLog) (r : Row) (result : Result E
   pub completes : IfOk result (λ effect. RowCompletes s before r effect t after)
   pub ends : IfErr result (λ how. EndsBy (judge_from before r) after how)
   pub keeps : IfErr result (λ how. Keeps how s t)
+
+-- a body leaves no record, neither of its own nor of a denial, and memory did not run out
+abbrev pub LeavesNothing : Result Effect Stop → Type 0
+LeavesNothing (Ok effect) = effect.own ≡ None
+LeavesNothing (Err (stop.Denied name place)) = ⊥
+LeavesNothing (Err (stop.Refused e)) = Unit {0}
+LeavesNothing (Err (stop.NoMemory m)) = ⊥

@@ -10,7 +10,7 @@ unfolding state_of
 invariant_of-self c = record {
   valid = λ sound.
       where_no_error c.play-outcome.result
-      (valid_played (held.state_of c.args.self.now.shared) (held.state_of c.play-outcome.new.shared) c.args.who.now c.args.call.now c.play-outcome.result c.play-outcome.ensures.played c.requires.built c.requires.arguments c.play-outcome.ensures.names (c.args.self.now.valid c.if-self.false))
+      (valid_played (held.state_of c.args.self.now.shared) (held.state_of c.play-outcome.new.shared) c.args.who.now c.args.call.now c.play-outcome.result c.play-outcome.ensures.played c.requires.arguments c.play-outcome.ensures.names (c.args.self.now.valid c.if-self.false))
       (sym c.is_err-self.ensures.value ∙ sound);
 }
 
@@ -22,7 +22,7 @@ returns-clause-kept c =
 pub returns-clause-valid : goal.returns-clause-valid
 unfolding state_of
 returns-clause-valid c =
-    valid_played (held.state_of c.args.self.now.shared) (held.state_of c.play-outcome.new.shared) c.args.who.now c.args.call.now c.play-outcome.result c.play-outcome.ensures.played c.requires.built c.requires.arguments c.play-outcome.ensures.names (c.args.self.now.valid c.if-self.false)
+    valid_played (held.state_of c.args.self.now.shared) (held.state_of c.play-outcome.new.shared) c.args.who.now c.args.call.now c.play-outcome.result c.play-outcome.ensures.played c.requires.arguments c.play-outcome.ensures.names (c.args.self.now.valid c.if-self.false)
 
 pub returns-clause-named : goal.returns-clause-named
 returns-clause-named c = named_played (held.state_of c.args.self.now.shared) (held.state_of c.play-outcome.new.shared) c.args.who.now c.args.call.now c.play-outcome.result c.play-outcome.ensures.played

@@ -1,0 +1,89 @@
+-- Objects that a call names are there.
+use Rattle.std.specs.Prelude.{◌≡◌, ℕ, true, false, [], ◌∷◌, Option, None, Some, Result, Ok, Err, IfOk, cond, refl}
+use Rattle.std.specs.FinMap as map
+use Rattle.std.specs.FinMap.{FinMap}
+use Rattle.std.specs.Option.{option_and_then, option_map}
+use Rattle.std.proofs.Common.{ap, sym, subst, inl, inr}
+use Rattle.std.proofs.Math.Logic.{∥∥₁_map, ∥∥₁_elim}
+use Rattle.fs_path.specs.Path.{PathValue}
+use Rattle.kern_model.specs.declared.calls.Answer.TheVariants.{Nothing}
+use Rattle.kern_model.specs.declared.calls.Errno.TheVariants.{EBADF}
+use Rattle.kern_model.specs.declared.checks.Place.{Place}
+use Rattle.kern_model.specs.declared.numbers.Did.{Did}
+use Rattle.kern_model.specs.declared.numbers.Oid.{Oid}
+use Rattle.kern_model.specs.declared.numbers.Pid.{Pid}
+use Rattle.kern_model.specs.declared.objects.Object.{Object}
+use Rattle.kern_model.specs.Descriptors.{Opened, opened}
+use Rattle.kern_model.specs.FileRows.{or_not_open, on_descriptor}
+use Rattle.kern_model.specs.Keys.{oid_cmp}
+use Rattle.kern_model.specs.Row.{Row, Commit, End, Done, Refused, judge}
+use Rattle.kern_model.specs.State.{State, Process, Description, SetDescription, root}
+use Rattle.kern_model.specs.Valid.{IsThere, IsValid}
+use Rattle.kern_model.specs.Walk.{start_of}
+use Rattle.kern_model.proofs.MapLemmas.{never_some, some_same}
+use Rattle.chk_rules.specs.CheckLog.{CheckLog, judge_from}
+use Rattle.chk_rules.specs.Ends.{GoesOn}
+use Rattle.chk_rules.specs.declared.stop.Stop.{Stop}
+use Rattle.sys_lookup.specs.Walks.{IsLedTo}
+
+-- what is known to be there is there, also where the proof gives nothing else
+there_where : (objects : FinMap oid_cmp Object) (id : Oid) → ∥ IsThere objects id ∥₁ → IsThere objects id
+there_where objects id known =
+    elim (map.get objects id) as (λ w. map.get objects id ≡ w → IsThere objects id) [
+      | None ↦ λ e. absurd (∥∥₁_elim known (λ a b. absurd a) (λ t. never_some (map.get objects id) t.value e t.is))
+      | Some o ↦ λ e. record { value = o; is = e }
+    ] refl
+
+-- ---- by a path
+
+-- where a path starts is there
+start_there : (s : State) → IsValid s → (who : Pid) (p : Process) → map.get s.procs who ≡ Some p → (path : PathValue) → IsThere s.objects (start_of p path)
+start_there s valid who p living path =
+    let r = valid.root_is in
+    let cwd = (valid.procs who p living).cwd in
+    elim path.absolute as (λ b. IsThere s.objects (cond b root p.cwd)) [ true ↦ record { value = r.object; is = r.is } | false ↦ record { value = cwd.object; is = cwd.is } ]
+
+led_there : (s : State) → IsValid s → (who : Pid) (p : Process) → map.get s.procs who ≡ Some p → (path : PathValue) (id : Oid) → IsLedTo s (start_of p path) id → IsThere s.objects id
+led_there s valid who p living path id (inl same) = subst (IsThere s.objects) (sym same) (start_there s valid who p living path)
+led_there s valid who p living path id (inr named) = let entry = valid.entries (named.dir, named.name) id named.leads in record { value = entry.object; is = entry.object_is }
+
+-- what a path leads to is there
+pub path_there : (s : State) → ∥ IsValid s ∥₁ → (who : Pid) (p : Process) → map.get s.procs who ≡ Some p → (path : PathValue) (r : Result (Oid × Place) Stop) → IfOk r (λ x. IsLedTo s (start_of p path) x.0) → IfOk r (λ x. IsThere s.objects x.0)
+path_there s valid who p living path (Ok x) led = there_where s.objects x.0 (∥∥₁_map valid (λ v. led_there s v who p living path x.0 led))
+path_there s valid who p living path (Err how) led = tt
+
+-- ---- by a descriptor
+
+-- the description that an end sets, if it does that alone
+described : Opened → End → Opened
+described d (Done (SetDescription did x ∷ []) answer own) = record { did = did; description = x }
+described d _ = d
+
+-- a row goes on from what a descriptor refers to where it refers to that
+goes_on_from : (a b : CheckLog) (w : Option Opened) (f : Opened) → ((rest : Opened → Row) → judge_from a (or_not_open w rest) ≡ judge_from b (rest f)) → w ≡ Some f
+unfolding judge described
+goes_on_from a b None f goes = let no : Refused EBADF ≡ Done [] Nothing None = ap (λ j. j.end) (goes (λ _. Commit [] Nothing None)) in cc
+goes_on_from a b (Some g) f goes = ap (λ j. Some (described g j.end)) (goes (λ x. Commit (SetDescription x.did x.description ∷ []) Nothing None))
+
+described_by : (s : State) (did : Did) (f : Opened) → option_map (λ d. record { did = did; description = d }) (map.get s.descriptions did) ≡ Some f → map.get s.descriptions f.did ≡ Some f.description
+described_by s did f is =
+    elim (map.get s.descriptions did) as (λ (w : Option Description). map.get s.descriptions did ≡ w → option_map (λ d. record { did = did; description = d }) w ≡ Some f → map.get s.descriptions f.did ≡ Some f.description) [
+      | None ↦ λ e none. absurd (never_some {X = Opened} None f refl none)
+      | Some d ↦ λ e some. let same : record { did = did; description = d } ≡ f = some_same _ _ some in subst (λ (x : Opened). map.get s.descriptions x.did ≡ Some x.description) same e
+    ] refl is
+
+-- what an open descriptor refers to is a description of the state
+described_there : (s : State) (p : Process) (fd : ℕ) (f : Opened) → opened s p fd ≡ Some f → map.get s.descriptions f.did ≡ Some f.description
+unfolding opened
+described_there s p fd f is =
+    elim (map.get p.fds fd) as (λ (w : Option Did). option_and_then (λ did. option_map (λ d. record { did = did; description = d }) (map.get s.descriptions did)) w ≡ Some f → map.get s.descriptions f.did ≡ Some f.description) [
+      | None ↦ λ none. absurd (never_some {X = Opened} None f refl none)
+      | Some did ↦ λ some. described_by s did f some
+    ] is
+
+-- the object that an open descriptor refers to is there
+pub descriptor_there : (s : State) → ∥ IsValid s ∥₁ → (p : Process) (fd : ℕ) (f : Opened) (a b : CheckLog) → GoesOn a (on_descriptor s p fd) (Ok f) b → IsThere s.objects f.description.object
+descriptor_there s valid p fd f a b goes =
+    there_where s.objects f.description.object (∥∥₁_map valid (λ v.
+    let d = v.descriptions f.did f.description (described_there s p fd f (goes_on_from a b (opened s p fd) f goes.continues)) in
+    record { value = d.object; is = d.object_is }))

@@ -1,0 +1,50 @@
+// The calls on modes, owners, capability sets of files, and labels of objects, as one.
+ghost use Rattle.std.specs.Prelude.{◌≡◌, Some, IsSome, true};
+ghost use Rattle.std.specs.FinMap as map;
+ghost use Rattle.kern_model.specs.Arguments.{has_names};
+ghost use Rattle.kern_model.specs.State.{Process};
+ghost use Rattle.kern_model.specs.Table.{row};
+ghost use Rattle.kern_model.specs.Valid.{IsValid};
+ghost use Rattle.sys_lookup.specs.PlaysRow.{PlaysRow};
+ghost use Rattle.sys_lookup.specs.Shared.{state_of};
+ghost use Rattle.sys_attr.specs.Playing.{is_attr_call};
+
+use crate::file_caps::{cap_get, cap_set};
+use crate::labels::mac_get;
+use crate::modes::{chmod, umask};
+use crate::objects::ObjectArgument;
+use crate::owners::chown;
+use chk_rules::{Checks, Stop};
+use kern_model::{Call, Pid};
+use sys_lookup::{Effect, Shared};
+
+/// Plays a call of a living process on modes, owners, capability sets of files, and labels of objects.
+pub fn play(
+    shared: &mut Shared,
+    checks: &mut Checks,
+    who: &Pid,
+    call: &Call,
+) -> Result<Effect, Stop>
+    requires call { is_attr_call call.now ≡ true }
+    requires valid { ∥ IsValid (state_of shared.old) ∥₁ }
+    requires living { IsSome (map.get (state_of shared.old).procs who.now) }
+    ensures played { (p : Process) → map.get (state_of shared.old).procs who.now ≡ Some p → PlaysRow (state_of shared.old) checks.old (row (state_of shared.old) who.now p call.now) result (state_of shared.new) checks.new }
+    ensures names { has_names call.now ≡ true }
+{
+    match call {
+        Call::Chmod(path, mode) => chmod(shared, checks, who, path, *mode),
+        Call::Chown(path, owner, group) => chown(shared, checks, who, path, *owner, *group),
+        Call::Umask(mode) => umask(shared, checks, who, *mode),
+        Call::CapGetFile(path) => cap_get(shared, checks, who, ObjectArgument::Path(path)),
+        Call::CapGetFd(fd) => cap_get(shared, checks, who, ObjectArgument::Descriptor(*fd)),
+        Call::CapSetFile(path, caps) => {
+            cap_set(shared, checks, who, ObjectArgument::Path(path), *caps)
+        }
+        Call::CapSetFd(fd, caps) => {
+            cap_set(shared, checks, who, ObjectArgument::Descriptor(*fd), *caps)
+        }
+        Call::MacGetFile(path) => mac_get(shared, checks, who, ObjectArgument::Path(path)),
+        Call::MacGetFd(fd) => mac_get(shared, checks, who, ObjectArgument::Descriptor(*fd)),
+        _ => unreachable!(),
+    }
+}

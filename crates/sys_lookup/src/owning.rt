@@ -1,0 +1,105 @@
+// What rows ask of the owner of an object, and of its attributes.
+ghost use Rattle.std.specs.Prelude.{◌≡◌};
+ghost use Rattle.kern_model.specs.declared.numbers.Oid.{Oid};
+ghost use Rattle.kern_model.specs.Kinds.{has_set_id as mode_has_set_id, is_file};
+ghost use Rattle.kern_model.specs.Row.{Need};
+ghost use Rattle.kern_model.specs.Rules.{cap_within, chown_rule, is_owner, owner, setfcap};
+ghost use Rattle.kern_model.specs.State.{State};
+ghost use Rattle.chk_rules.specs.Ends.{GoesOn};
+ghost use Rattle.sys_lookup.specs.Shared.{metadata_of, process_of};
+
+use crate::caller::{Caller, check_of};
+use crate::shared::Metadata;
+use cap_bits::CapState;
+use chk_rules::{Checks, Stop, has_group, must};
+use kern_model::{Check, CheckName, Gid, Kind, Mode, Place, Thing, Uid};
+
+// The places of the set-id bits in a mode.
+const SET_USER: u16 = 11;
+
+const SET_GROUP: u16 = 10;
+
+/// Whether a mode has a set-id bit.
+#[tactic(auto, using(std::proofs::lemmas::Nat::Bits::shr_and_one))]
+pub fn has_set_id(mode: Mode) -> bool
+    ensures { result ≡ mode_has_set_id mode }
+{
+    (mode >> SET_USER) & 1 == 1 || (mode >> SET_GROUP) & 1 == 1
+}
+
+impl Metadata {
+    /// Whether the object is a regular file.
+    pub fn is_file(&self) -> bool
+        ensures { result ≡ is_file self.now.kind }
+    {
+        match self.kind {
+            Kind::File => true,
+            Kind::Dir | Kind::Fifo | Kind::Pipe => false,
+        }
+    }
+}
+
+impl Caller<'_> {
+    /// Whether the caller's effective user is the owner of an object.
+    pub fn is_owner(&self, object: &Metadata) -> bool
+        ensures { (s : State) (id : Oid) → object.now ≡ metadata_of s id → result ≡ is_owner s (process_of self.now) id }
+    {
+        let process = self.process;
+        process.creds.ids.euid == object.attr.owner
+    }
+
+    /// Checks that the caller owns an object.
+    pub fn owner(&self, checks: &mut Checks, object: &Metadata, place: Place) -> Result<(), Stop>
+        ensures { (s : State) (id : Oid) → object.now ≡ metadata_of s id → GoesOn checks.old (λ rest. Need (owner s (process_of self.now) id place) (rest tt)) result checks.new }
+    {
+        let holds = self.is_owner(object);
+        must(checks, &check_of(CheckName::Owner, holds, object, place))
+    }
+
+    /// Checks that the caller may give an object an owner and a group: it owns the object, the owner stays, and the group is one
+    /// of the caller's.
+    pub fn chown(
+        &self,
+        checks: &mut Checks,
+        object: &Metadata,
+        user: Uid,
+        group: Gid,
+        place: Place,
+    ) -> Result<(), Stop>
+        ensures { (s : State) (id : Oid) → object.now ≡ metadata_of s id → GoesOn checks.old (λ rest. Need (chown_rule s (process_of self.now) id user group place) (rest tt)) result checks.new }
+    {
+        let process = self.process;
+        let stays = user == object.attr.owner;
+        let holds = stays && self.is_owner(object) && has_group(&process.creds.ids, group);
+        must(checks, &check_of(CheckName::Chown, holds, object, place))
+    }
+
+    /// Checks that the caller may set the capability sets of a file: never without the capability.
+    pub fn setfcap(&self, checks: &mut Checks, object: &Metadata, place: Place) -> Result<(), Stop>
+        ensures { (s : State) (id : Oid) → object.now ≡ metadata_of s id → GoesOn checks.old (λ rest. Need (setfcap s id place) (rest tt)) result checks.new }
+    {
+        must(checks, &check_of(CheckName::Setfcap, false, object, place))
+    }
+
+    /// Checks that each capability in these sets is a permitted one of the caller.
+    pub fn cap_within(&self, checks: &mut Checks, caps: &CapState) -> Result<(), Stop>
+        ensures { GoesOn checks.old (λ rest. Need (cap_within self.now.who (process_of self.now) caps.now) (rest tt)) result checks.new }
+    {
+        let process = self.process;
+        let permitted = process.creds.caps.p;
+        let holds = caps.e.within(&permitted)
+            && caps.i.within(&permitted)
+            && caps.p.within(&permitted);
+        must(
+            checks,
+            &Check {
+                name: CheckName::CapWithin,
+                holds,
+                thing: Thing::Process(self.who),
+                thing_label: process.creds.label,
+                new_label: None,
+                place: Place::Caller,
+            },
+        )
+    }
+}
