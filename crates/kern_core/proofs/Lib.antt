@@ -1,4 +1,5 @@
 pub mod BootLemmas
 pub mod BuiltLaws
 pub mod KernelLemmas
+pub mod OwnLemmas
 pub mod StepLemmas

@@ -1,4 +1,5 @@
 pub mod Built
 pub mod Kernel
+pub mod Own
 pub mod Reports
 pub mod Starts

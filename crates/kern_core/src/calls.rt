@@ -6,39 +6,46 @@ ghost use Rattle.kern_model.specs.State.{Process};
 ghost use Rattle.kern_model.specs.Step.{IsPlayed};
 ghost use Rattle.kern_model.specs.Table.{row};
 ghost use Rattle.kern_model.specs.Valid.{IsValid};
-ghost use Rattle.kern_model.specs.declared.calls.Call.TheVariants as call_name;
-ghost use Rattle.sys_lookup.specs.PlaysRow.{PlaysRow};
+ghost use Rattle.sys_lookup.specs.PlaysRow.{LeavesNothing, PlaysRow};
 ghost use Rattle.sys_lookup.specs.Shared.{state_of};
 ghost use Rattle.kern_core.specs.Built.{is_built};
-ghost use Rattle.kern_core.specs.Kernel.{TakesNoMemory};
-ghost use Rattle.kern_core.specs.Reports.{LeavesNothing};
+ghost use Rattle.kern_core.specs.Kernel.{TakesNoMemory, takes_no_memory};
 
-mod attributes;
 mod processes;
 
 use crate::outcome::{no_process, report};
 use chk_rules::{Checks, Stop};
 use kern_model::{Call, NoMemory, Outcome, Pid};
 use std::alloc::Global;
-use sys_lookup::{Caller, Effect, Shared, living};
+use sys_lookup::{Effect, Shared, living};
 
 /// Whether this kernel can play a call.
 pub fn built(call: &Call) -> bool
     ensures { result ≡ is_built call.now }
 {
     match call {
-        Call::Mkdir(_, _)
-        | Call::Rmdir(_)
-        | Call::Link(_, _)
-        | Call::Unlink(_)
-        | Call::Rename(_, _)
-        | Call::Readdir(_)
-        | Call::Stat(_)
-        | Call::Chdir(_)
-        | Call::MacGetFile(_)
-        | Call::CapGetProc
-        | Call::CapSetProc(_) => true,
-        _ => false,
+        Call::OpenPath(_, _, _)
+        | Call::Close(_)
+        | Call::Read(_, _)
+        | Call::Write(_, _)
+        | Call::Lseek(_, _, _)
+        | Call::Dup(_)
+        | Call::Pipe
+        | Call::Mkfifo(_, _)
+        | Call::Fstat(_)
+        | Call::MacSetFile(_, _)
+        | Call::MacSetFd(_, _)
+        | Call::Fork
+        | Call::Exec(_)
+        | Call::Exit(_)
+        | Call::Wait
+        | Call::Kill(_, _)
+        | Call::Setuid(_)
+        | Call::Setgid(_)
+        | Call::MacSetProc(_)
+        | Call::AudWrite(_)
+        | Call::AudSwitch(_) => false,
+        _ => true,
     }
 }
 
@@ -72,19 +79,9 @@ fn play_body(
     requires living { IsSome (map.get (state_of shared.old).procs who.now) }
     ensures played { (p : Process) → map.get (state_of shared.old).procs who.now ≡ Some p → PlaysRow (state_of shared.old) checks.old (row (state_of shared.old) who.now p call.now) result (state_of shared.new) checks.new }
     ensures names { has_names call.now ≡ true }
-    ensures nothing { call.now ≡ call_name.CapGetProc → LeavesNothing result }
+    ensures nothing { takes_no_memory call.now ≡ true → LeavesNothing result }
 {
     match call {
-        Call::MacGetFile(path) => {
-            let process = living(shared, who);
-            attributes::mac_get_file(&Caller {
-                shared,
-                who: *who,
-                process,
-            }, checks, path)
-        }
-        Call::CapGetProc => Ok(processes::cap_get_proc(living(shared, who))),
-        Call::CapSetProc(caps) => processes::cap_set_proc(shared, checks, who, *caps),
         Call::Mkdir(_, _)
         | Call::Rmdir(_)
         | Call::Link(_, _)
@@ -93,6 +90,16 @@ fn play_body(
         | Call::Readdir(_)
         | Call::Stat(_)
         | Call::Chdir(_) => sys_tree::play(shared, checks, who, call),
-        _ => unreachable!(),
+        Call::Chmod(_, _)
+        | Call::Chown(_, _, _)
+        | Call::Umask(_)
+        | Call::CapGetFile(_)
+        | Call::CapSetFile(_, _)
+        | Call::CapGetFd(_)
+        | Call::CapSetFd(_, _)
+        | Call::MacGetFile(_)
+        | Call::MacGetFd(_) => sys_attr::play(shared, checks, who, call),
+        Call::CapSetProc(caps) => processes::cap_set_proc(shared, checks, who, *caps),
+        _ => processes::report(living(shared, who), who, call),
     }
 }

@@ -104,11 +104,7 @@ impl Kernel {
     }
 
     /// The capability sets of the living process with this number, if there is one.
-    #[tactic(
-        auto,
-        using(crate::proofs::KernelLemmas::caps_found),
-        unfolding(crate::specs::Kernel::state_of)
-    )]
+    #[tactic(auto, using(crate::proofs::KernelLemmas::caps_found), unfolding(crate::specs::Kernel::state_of))]
     pub fn caps_of(&self, who: &Pid) -> Option<CapState>
         ensures { result ≡ option_map (λ (p : Process). p.caps) (map.get (state_of self.now).procs who.now) }
     {
@@ -117,11 +113,7 @@ impl Kernel {
     }
 
     /// The label of the living process with this number, if there is one.
-    #[tactic(
-        auto,
-        using(crate::proofs::KernelLemmas::label_found),
-        unfolding(crate::specs::Kernel::state_of)
-    )]
+    #[tactic(auto, using(crate::proofs::KernelLemmas::label_found), unfolding(crate::specs::Kernel::state_of))]
     pub fn label_of(&self, who: &Pid) -> Option<Label>
         ensures { result ≡ option_map (λ (p : Process). p.label) (map.get (state_of self.now).procs who.now) }
     {
