@@ -10,7 +10,7 @@ use Rattle.kern_model.specs.declared.calls.Call.{Call}
 use Rattle.kern_model.specs.declared.limits.TheConstants.{MAX_INPUT}
 use Rattle.kern_model.specs.declared.numbers.Pid.{Pid}
 use Rattle.kern_core.specs.Built.{is_built}
-use Rattle.kern_core.proofs.BuiltLaws.{built_laws}
+use Rattle.iso_laws.proofs.Laws.{laws_of_call}
 use Rattle.iso_laws.specs.LawCalls.{have_laws}
 use Rattle.script_text.specs.declared.line.Line.{Line}
 use Rattle.script_text.specs.declared.line.Line.TheVariants as line
@@ -35,7 +35,7 @@ pub record MayBePlayed (top : Label) (s : Script) : Type 0 where
 module _ (policy : PolicyNames) where
   by_built : (who : Pid) (c : Call) (n : ℕ) (more : Script) → (is_number (top_of policy) who ≡ true) × (is_call (top_of policy) c ≡ true) × (has_names c ≡ true) → (b : Bool) → is_built c ≡ b → MayBePlayed (top_of policy) more
       → MayBePlayed (top_of policy) (cond b (script (item_of who c ∷ more.items) more.ending) (script [] (Refused n part.Script refusal.NotBuilt)))
-  by_built who c n more fit true built rest = record { arguments = and_from _ _ (and_from _ _ (and_from _ _ fit.0 fit.1) fit.2) rest.arguments; laws = and_from _ _ (built_laws c built) rest.laws }
+  by_built who c n more fit true built rest = record { arguments = and_from _ _ (and_from _ _ (and_from _ _ fit.0 fit.1) fit.2) rest.arguments; laws = and_from _ _ (laws_of_call (top_of policy) c fit.1) rest.laws }
   by_built who c n more fit false built rest = record { arguments = refl; laws = refl }
 
   after_played : (text : List ℕ) (parsed : Result Line LineError) → parse_line policy text ≡ parsed → (n : ℕ) (more : Script) → MayBePlayed (top_of policy) more → MayBePlayed (top_of policy) (after_line parsed n more)
