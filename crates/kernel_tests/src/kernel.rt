@@ -271,7 +271,7 @@ fn number_without_a_process_is_refused(rt: HostRuntime) -> Result<(), Fail> {
     let (mut kernel, _) = booted(rt.alloc())?;
     let outcome = set(&mut kernel, &low(9), CapState::none())?;
     assert!(rt; refuses(&outcome, Errno::ESRCH));
-    assert!(rt; built(&Call::CapGetProc) && !built(&Call::Getpid));
+    assert!(rt; built(&Call::CapGetProc) && !built(&Call::Fork));
     Ok(())
 }
 

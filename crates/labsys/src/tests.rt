@@ -182,7 +182,7 @@ const REFUSED: [(Pieces, Pieces, Pieces); 3] = [
         &[],
     ),
     (
-        &[INPUT, b"1@unc getpid\n", CALL],
+        &[INPUT, b"1@unc fork\n", CALL],
         &[REPLY, END, b"refused 10 script not_built\n"],
         TRAIL,
     ),
