@@ -32,7 +32,6 @@ use Rattle.sys_lookup.specs.Shared.{with_fds}
 use Rattle.sys_lookup.proofs.FdLemmas.{field-with_fds}
 use Rattle.iso_laws.proofs.Laws.{laws_of_call, numbers_step, refusals_are_named, valid_boot, valid_step}
 use Rattle.kern_core.specs.Kernel.{IsStopped}
-
 use Rattle.kern_core.proofs.StepLemmas.{no_process}
 
 -- ---- a call that stopped

@@ -1,7 +1,7 @@
 -- A body that plays the row of its call makes the step of the call table.
 use Rattle.std.specs.Prelude.{◌≡◌, [], Some, None, Result, Ok, Err}
 use Rattle.std.specs.FinMap as map
-use Rattle.std.proofs.Common.{ap, sym, ◌∙◌, subst}
+use Rattle.std.proofs.Common.{ap, sym, ◌∙◌}
 use Rattle.std.proofs.lemmas.List.{append-nil}
 use Rattle.kern_model.specs.declared.calls.Call.{Call}
 use Rattle.kern_model.specs.declared.calls.Errno.TheVariants as errno

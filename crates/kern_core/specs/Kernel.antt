@@ -26,7 +26,6 @@ IsStopped (reply.Refused errno) = Unit {0}
 
 -- a call that takes no memory
 abbrev pub takes_no_memory : Call → Bool
-takes_no_memory (call.Umask mode) = true
 takes_no_memory call.Getpid = true
 takes_no_memory call.Getppid = true
 takes_no_memory call.CapGetProc = true

@@ -1,5 +1,5 @@
 -- What is reported of the body of a call.
-use Rattle.std.specs.Prelude.{◌≡◌, Bool, List, [], ◌∷◌, ◌++◌, None, Result, Ok, Err, cond}
+use Rattle.std.specs.Prelude.{◌≡◌, Bool, List, [], ◌∷◌, ◌++◌, Result, Ok, Err, cond}
 use Rattle.std.specs.Option.{option_to_list}
 use Rattle.kern_model.specs.declared.calls.CallName.{CallName}
 use Rattle.kern_model.specs.declared.calls.Reply.{Reply}

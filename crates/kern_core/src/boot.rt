@@ -32,7 +32,9 @@ pub fn furnish(alloc: Global, world: &World) -> Result<Shared, NoMemory>
 /// The state that has the objects of a world, and no process, and the processes of that world. The world is used up.
 pub fn furnish_from(alloc: Global, world: World) -> Result<(Shared, ProcList), NoMemory>
     requires { IsWorld world }
-    ensures { IfOk result (λ made. (state_of made.0 ≡ furnished world) × (made.1 ≡ world.procs)) }
+    ensures state { IfOk result (λ made. state_of made.0 ≡ furnished world) }
+    ensures fds { IfOk result (λ made. made.0.fds ≡ no_files) }
+    ensures procs { IfOk result (λ made. made.1 ≡ world.procs) }
 {
     let World {
         top,

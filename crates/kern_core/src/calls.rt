@@ -100,6 +100,8 @@ fn play_body(
         | Call::MacGetFile(_)
         | Call::MacGetFd(_) => sys_attr::play(shared, checks, who, call),
         Call::CapSetProc(caps) => processes::cap_set_proc(shared, checks, who, *caps),
-        _ => processes::report(living(shared, who), who, call),
+        Call::Getpid | Call::Getppid | Call::Getids | Call::CapGetProc | Call::MacGetProc =>
+            processes::report(living(shared, who), who, call),
+        _ => unreachable!(),
     }
 }

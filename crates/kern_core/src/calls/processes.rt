@@ -1,6 +1,7 @@
 // The calls on processes: their numbers, children and ends, their ids, capability sets and labels.
 ghost use Rattle.std.specs.Prelude.{◌≡◌, IfOk, IsOk, IsSome, Some, true};
 ghost use Rattle.std.specs.FinMap as map;
+ghost use Rattle.kern_model.specs.Arguments.{has_names};
 ghost use Rattle.kern_model.specs.ProcessRows.{cap_set_proc_row};
 ghost use Rattle.kern_model.specs.Rules.{cap_grow};
 ghost use Rattle.kern_model.specs.State.{Process, State};
@@ -24,6 +25,7 @@ use sys_lookup::{Effect, Shared};
 pub fn report(process: &Proc, who: &Pid, call: &Call) -> Result<Effect, Stop>
     requires { is_own_call call.now ≡ true }
     ensures played { (s : State) (rows : AllFds) (log : CheckLog) → PlaysRow s log (row s who.now (holding rows who.now process.now) call.now) result s log }
+    ensures names { has_names call.now ≡ true }
     ensures nothing { takes_no_memory call.now ≡ true → LeavesNothing result }
 {
     let answer = own_answer(process, who, call)?;

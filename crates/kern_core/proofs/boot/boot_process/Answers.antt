@@ -1,8 +1,6 @@
-use Rattle.std.proofs.Common.{◌≡◌, ◌∙◌, ap}
+use Rattle.std.proofs.Common.{◌∙◌, ap}
 use Rattle.std.specs.FinMap as map
-use Rattle.kern_model.specs.State.{Process}
 use Rattle.fd_table.specs.Files.{OpenFiles}
-use Rattle.fd_table.specs.Rows.{Fds}
 use Rattle.proc_table.specs.Procs.{next_in, starting}
 use Rattle.sys_lookup.specs.Shared.{state_of, with_fds}
 use Rattle.sys_lookup.proofs.FdLemmas.{no_row, with_fds-process}

@@ -1,10 +1,8 @@
-use Rattle.std.proofs.Common.{◌≡◌, ◌∙◌, ap, sym, subst, refl, ℕ, List}
-use Rattle.std.proofs.lemmas.Result.{IfOk-weaker}
+use Rattle.std.proofs.Common.{◌≡◌, ◌∙◌, ap, sym, subst, ℕ}
 use Rattle.std.specs.FinMap as map
 use Rattle.std.specs.FinMap.{FinMap}
 use Rattle.lab_lattice.specs.Label.{label_cmp}
 use Rattle.kern_model.specs.declared.limits.TheConstants.{MAX_OBJECTS}
-use Rattle.kern_model.specs.declared.world.WorldObject.{WorldObject}
 use Rattle.kern_model.specs.Boot.{boot_objects, furnished}
 use Rattle.kern_model.specs.State.{State}
 use Rattle.kern_model.specs.Valid.{IsValid}
@@ -26,7 +24,7 @@ load-requires c =
     let whole : state_loaded c.take_objects.new.self ≡ furnished w = c.in_ok-take_objects.ensures ∙ (λ i. boot_objects (c.in_ok-loading.ensures i) c.args.world.objects) in
     valid_entries (state_loaded c.take_objects.new.self) (subst IsValid (sym whole) (valid_furnished w c.requires))
 
-pub returns : goal.returns
-returns c =
+pub returns-clause-state : goal.returns-clause-state
+returns-clause-state c =
     let whole : state_loaded c.take_objects.new.self ≡ furnished c.args.world = c.in_ok-take_objects.ensures ∙ (λ i. boot_objects (c.in_ok-loading.ensures i) c.args.world.objects) in
-    (c.in_ok-shared.ensures ∙ whole, refl)
+    c.in_ok-shared.ensures.state ∙ whole

@@ -13,3 +13,13 @@ returns-in-CapSetProc-clause-played c p there = plays_as (state_of c.args.shared
 pub returns-in-CapSetProc-clause-names : goal.returns-in-CapSetProc-clause-names
 unfolding has_names
 returns-in-CapSetProc-clause-names c = names_as c.in-CapSetProc.is refl
+
+pub returns-in-Getpid-clause-played : goal.returns-in-Getpid-clause-played
+returns-in-Getpid-clause-played c = λ p there.
+    let h = c.args.shared.now in
+    let s = state_of h in
+    let who = c.args.who.now in
+    caller_plays (λ (x : Process). row s who x c.args.call.now) who (holding h.fds.rows who c.living.result.now) p c.living.ensures.found there (c.report.ensures.played s h.fds.rows c.args.checks.now)
+
+pub returns-in-Getpid-clause-names : goal.returns-in-Getpid-clause-names
+returns-in-Getpid-clause-names c = c.report.ensures.names

@@ -12,23 +12,23 @@ use Rattle.kern_core.proofs.BootLemmas.{all_can, objects_keep}
 use Rattle.kern_core.proofs.KernelLemmas.{valid_started}
 use Rattle.kern_core.proofs.kernel.Kernel.boot_from.Goals as goal
 
-pub boot_processes-requires : goal.boot_processes-requires
-boot_processes-requires c =
+pub boot_processes-requires-clause-start : goal.boot_processes-requires-clause-start
+boot_processes-requires-clause-start c =
     let w = c.args.world in
     let none_drawn : c.in_ok-shared.shared.procs.numbers ≡ map.empty =
-    ap (λ (s : State). s.process_numbers) c.in_ok-shared.ensures.0 ∙ objects_keep (nothing w.bound w.top) w.objects in
+    ap (λ (s : State). s.process_numbers) c.in_ok-shared.ensures.state ∙ objects_keep (nothing w.bound w.top) w.objects in
     subst (λ (m : FinMap label_cmp ℕ). CanStart m c.items.result.now) (sym none_drawn)
-    (subst (λ (ws : List WorldProc). CanStart map.empty ws) (sym (c.items.ensures ∙ c.in_ok-shared.ensures.1)) (all_can w c.requires.world))
+    (subst (λ (ws : List WorldProc). CanStart map.empty ws) (sym (c.items.ensures ∙ c.in_ok-shared.ensures.procs)) (all_can w c.requires.world))
 
 pub invariant_of-kernel : goal.invariant_of-kernel
 invariant_of-kernel c = record {
   valid = λ sound.
       ∣ valid_started c.args.world c.requires.world (held.state_of c.in_ok-shared.shared) (held.state_of c.boot_processes.new.shared) c.items.result.now
-      c.in_ok-shared.ensures.0 (c.items.ensures ∙ c.in_ok-shared.ensures.1) c.in_ok-recs.ensures.state ∣₁;
+      c.in_ok-shared.ensures.state (c.items.ensures ∙ c.in_ok-shared.ensures.procs) c.in_ok-recs.ensures.state ∣₁;
 }
 
 pub returns-clause-valid : goal.returns-clause-valid
 unfolding state_of
 returns-clause-valid c =
     valid_started c.args.world c.requires.world (held.state_of c.in_ok-shared.shared) (held.state_of c.boot_processes.new.shared) c.items.result.now
-    c.in_ok-shared.ensures.0 (c.items.ensures ∙ c.in_ok-shared.ensures.1) c.in_ok-recs.ensures.state
+    c.in_ok-shared.ensures.state (c.items.ensures ∙ c.in_ok-shared.ensures.procs) c.in_ok-recs.ensures.state
