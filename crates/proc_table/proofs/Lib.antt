@@ -1,2 +1,5 @@
+pub mod ChildLemmas
 pub mod DrawnLemmas
+pub mod KeptLemmas
 pub mod LendLemmas
+pub mod ReapLemmas

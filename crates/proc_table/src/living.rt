@@ -1,9 +1,14 @@
 // Living processes by their numbers.
-ghost use Rattle.std.specs.Prelude.{◌≡◌, IfOk, OnErr, OnOk, option_copied, option_map};
+ghost use Rattle.std.specs.Prelude.{◌≡◌, Some, IfOk, OnErr, OnOk, option_copied, option_map};
 ghost use Rattle.std.specs.FinMap as map;
+ghost use Rattle.kern_model.specs.ProcessRows.{child_of};
+ghost use Rattle.kern_model.specs.State.{Process};
+ghost use Rattle.kern_model.specs.Valid.{IsThere};
+ghost use Rattle.proc_table.specs.Procs.{TakesEnded};
 
 use crate::process::Proc;
-use kern_model::{NoMemory, Pid, PidList};
+use kern_model::{Ending, NoMemory, Pid, PidList};
+use lab_lattice::Label;
 use proc_creds::Creds;
 use std::alloc::Global;
 use std::collections::BTreeMap;
@@ -73,6 +78,39 @@ impl Living {
             Some(process) => Some(&mut process.creds),
             None => None,
         }
+    }
+
+    /// The present label of a living process.
+    pub fn label(&self, who: &Pid) -> Label
+        requires { IsThere self.now who.now }
+        ensures { (p : Process) → map.get self.now who.now ≡ Some p → result ≡ p.label }
+    {
+        let Some(process) = self.get(who) else {
+            unreachable!();
+        };
+        process.creds.label
+    }
+
+    /// A child of a living process, with the numbers of both.
+    pub fn child(&self, alloc: Global, parent: &Pid, who: &Pid) -> Result<Proc, NoMemory>
+        requires { IsThere self.now parent.now }
+        ensures { (p : Process) → map.get self.now parent.now ≡ Some p → IfOk result (λ child. child ≡ child_of parent.now p) }
+    {
+        let Some(process) = self.get(parent) else {
+            unreachable!();
+        };
+        process.child(alloc, parent, who)
+    }
+
+    /// Takes the child that ended first off the list of a living process, if there is one. It takes no memory.
+    pub fn take_ended(&mut self, who: &Pid) -> Option<(Pid, Ending)>
+        requires { IsThere self.old who.now }
+        ensures { (p : Process) → map.get self.old who.now ≡ Some p → TakesEnded self.old self.new who.now p result }
+    {
+        let Some(process) = self.get_mut(who) else {
+            unreachable!();
+        };
+        process.ended.take_first()
     }
 
     /// Puts a process in place of what was there.
