@@ -1,5 +1,5 @@
 -- The table of living processes.
-use Rattle.std.specs.Prelude.{◌≡◌, ℕ, ◌+◌, ◌≤◌, Bool, true, false, List, [], ◌∷◌, Option, None, Some, MatchOption, Result, Ok, Err, refl}
+use Rattle.std.specs.Prelude.{◌≡◌, ℕ, ◌+◌, ◌≤◌, Bool, true, false, List, [], ◌∷◌, ◌++◌, cond, Option, None, Some, MatchOption, Result, Ok, Err, refl}
 use Rattle.std.specs.FinMap as map
 use Rattle.std.specs.FinMap.{FinMap}
 use Rattle.std.specs.Coded.{Coded, code_by, coded×, coded_ℕ}
@@ -8,7 +8,8 @@ use Rattle.kern_model.specs.declared.calls.Ending.{Ending}
 use Rattle.kern_model.specs.declared.numbers.Oid.{Oid}
 use Rattle.kern_model.specs.declared.numbers.Pid.{Pid}
 use Rattle.kern_model.specs.Keys.{is_pid, pid_cmp}
-use Rattle.kern_model.specs.Maps.{any_entry}
+use Rattle.kern_model.specs.Maps.{any_entry, select}
+use Rattle.kern_model.specs.ProcessRows.{left_by}
 use Rattle.kern_model.specs.State.{Process, drawn}
 use Rattle.proc_creds.specs.Credentials.{Credentials}
 use Rattle.proc_table.specs.declared.procs.ReapError.{ReapError}
@@ -79,6 +80,30 @@ pub record TakesEnded (old new : FinMap pid_cmp Process) (who : Pid) (p : Proces
   pub left : List (Pid × Ending)
   pub now : new ≡ map.insert old who (record p { ended = left })
   pub list : MatchOption first ((p.ended ≡ []) × (left ≡ [])) (λ e. p.ended ≡ e ∷ left)
+
+-- the processes, where the one with a number, if there is one, is changed
+abbrev pub altered_at : FinMap pid_cmp Process → Pid → (Process → Process) → Option Process → FinMap pid_cmp Process
+altered_at procs who f None = procs
+altered_at procs who f (Some p) = map.insert procs who (f p)
+
+abbrev pub altered : FinMap pid_cmp Process → Pid → (Process → Process) → FinMap pid_cmp Process
+altered procs who f = altered_at procs who f (map.get procs who)
+
+-- a process without a parent
+abbrev pub without_parent : Process → Process
+without_parent p = record p { parent = None }
+
+-- a process of which one more child ended
+abbrev pub with_ended : Pid → Ending → Process → Process
+with_ended child how p = record p { ended = p.ended ++ (child, how) ∷ [] }
+
+-- a process that has lost its parent, where that was this one
+abbrev pub parted : Pid → Process → Process
+parted who p = record p { parent = cond (is_pid who p.parent) None p.parent }
+
+-- the processes after one ends: it goes, and each other one is as `left_by` says
+abbrev pub ended_by : FinMap pid_cmp Process → Pid → Process → Ending → FinMap pid_cmp Process
+ended_by procs who p how = select (λ q other. Some (left_by who p how q other)) (map.remove procs who)
 
 -- the number of each living process was drawn
 abbrev pub AreDrawn : FinMap pid_cmp Process → FinMap label_cmp ℕ → Type 0

@@ -1,11 +1,12 @@
 // Living processes by their numbers.
-ghost use Rattle.std.specs.Prelude.{◌≡◌, Some, IfOk, OnErr, OnOk, option_copied, option_map};
+ghost use Rattle.std.specs.Prelude.{◌≡◌, ◌+◌, ◌<◌, ◌^◌, length, Some, IfOk, OnErr, OnOk, option_copied, option_map};
 ghost use Rattle.std.specs.FinMap as map;
 ghost use Rattle.kern_model.specs.ProcessRows.{child_of};
 ghost use Rattle.kern_model.specs.State.{Process};
 ghost use Rattle.kern_model.specs.Valid.{IsThere};
-ghost use Rattle.proc_table.specs.Procs.{TakesEnded};
+ghost use Rattle.proc_table.specs.Procs.{TakesEnded, altered, with_ended, without_parent};
 
+use crate::ended::Place;
 use crate::process::Proc;
 use kern_model::{Ending, NoMemory, Pid, PidList};
 use lab_lattice::Label;
@@ -111,6 +112,25 @@ impl Living {
             unreachable!();
         };
         process.ended.take_first()
+    }
+
+    /// Appends a child that ended to the list of a process, if there is one with the number. It takes no memory.
+    pub fn add_ended(&mut self, who: &Pid, place: Place, child: &Pid, ending: Ending)
+        requires { (p : Process) → map.get self.old who.now ≡ Some p → length p.ended + 1 < 2 ^ 63 }
+        ensures { self.new ≡ altered self.old who.now (with_ended child.now ending) }
+    {
+        if let Some(process) = self.get_mut(who) {
+            process.ended.add(place, *child, ending);
+        }
+    }
+
+    /// Leaves a process, if there is one with the number, without a parent. It takes no memory.
+    pub fn orphan(&mut self, who: &Pid)
+        ensures { self.new ≡ altered self.old who.now without_parent }
+    {
+        if let Some(process) = self.get_mut(who) {
+            process.parent = None;
+        }
     }
 
     /// Puts a process in place of what was there.
