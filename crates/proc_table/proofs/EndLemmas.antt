@@ -1,5 +1,5 @@
 -- A process ends, step by step: it goes, its parent learns of it, and its children lose their parent.
-use Rattle.std.specs.Prelude.{◌≡◌, ◌++◌, true, false, List, [], ◌∷◌, Option, Some, None, cond, option_map, refl}
+use Rattle.std.specs.Prelude.{◌≡◌, ◌++◌, true, false, [], ◌∷◌, Option, Some, None, cond, option_map, refl}
 use Rattle.std.specs.FinMap as map
 use Rattle.std.specs.FinMap.{FinMap, get-insert, same_map}
 use Rattle.std.specs.Ordering.{eq_by_cmp}
@@ -11,7 +11,7 @@ use Rattle.kern_model.specs.Maps.{select}
 use Rattle.kern_model.specs.ProcessRows.{left_by}
 use Rattle.kern_model.specs.State.{Process}
 use Rattle.kern_model.proofs.KeyLaws.{pid_cmp_total, pid_cmp_exact}
-use Rattle.kern_model.proofs.MapLemmas.{never_some, same_key}
+use Rattle.kern_model.proofs.MapLemmas.{same_key}
 use Rattle.kern_model.proofs.Selections.{get-select_each}
 use Rattle.proc_table.specs.Procs.{altered, altered_at, ended_by, parted, with_ended}
 

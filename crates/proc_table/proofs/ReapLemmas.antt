@@ -1,5 +1,5 @@
 -- A child that ended is taken off the list of its parent.
-use Rattle.std.specs.Prelude.{◌≡◌, ℕ, ◌≤◌, Bool, true, false, List, [], ◌∷◌, Option, Some, None, MatchOption, Result, Ok, Err, OnErr, cond, length, refl}
+use Rattle.std.specs.Prelude.{◌≡◌, ℕ, ◌≤◌, true, false, List, [], ◌∷◌, Option, Some, None, MatchOption, Result, Ok, Err, OnErr, cond, length, refl}
 use Rattle.std.specs.FinMap as map
 use Rattle.std.specs.FinMap.{FinMap, get-insert, same_map}
 use Rattle.std.specs.Ordering.{eq_by_cmp}

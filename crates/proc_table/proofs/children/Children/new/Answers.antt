@@ -1,9 +1,7 @@
-use Rattle.std.specs.BTreeSet.{contains}
 use Rattle.std.proofs.Common.{ap}
 use Rattle.std.specs.List.{list_any}
 use Rattle.std.specs.BTreeMap.{is_at}
-use Rattle.kern_model.specs.declared.numbers.Pid.{Pid}
-use Rattle.std.specs.Prelude.{Option, Some}
+use Rattle.std.specs.Prelude.{Some}
 use Rattle.proc_table.specs.Children.{is_child, pair_cmp}
 use Rattle.proc_table.proofs.children.Children.new.Goals as goal
 

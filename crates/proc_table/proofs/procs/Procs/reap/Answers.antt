@@ -1,4 +1,4 @@
-use Rattle.std.specs.Prelude.{◌≡◌, true, false, List, [], ◌∷◌, Option, None, Some, drop}
+use Rattle.std.specs.Prelude.{◌≡◌, List, [], ◌∷◌, Option, None, drop}
 use Rattle.std.specs.FinMap as map
 use Rattle.std.specs.FinMap.{FinMap}
 use Rattle.std.proofs.Common.{ap, sym, ◌∙◌, subst}
