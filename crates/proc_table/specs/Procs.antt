@@ -1,14 +1,19 @@
 -- The table of living processes.
-use Rattle.std.specs.Prelude.{◌≡◌, ℕ, ◌+◌, ◌≤◌, true, [], Option, None, Some, refl}
+use Rattle.std.specs.Prelude.{◌≡◌, ℕ, ◌+◌, ◌≤◌, Bool, true, false, List, [], ◌∷◌, ◌++◌, cond, Option, None, Some, MatchOption, Result, Ok, Err, refl}
 use Rattle.std.specs.FinMap as map
 use Rattle.std.specs.FinMap.{FinMap}
 use Rattle.std.specs.Coded.{Coded, code_by, coded×, coded_ℕ}
 use Rattle.lab_lattice.specs.Label.{Label, label_cmp}
+use Rattle.kern_model.specs.declared.calls.Ending.{Ending}
 use Rattle.kern_model.specs.declared.numbers.Oid.{Oid}
 use Rattle.kern_model.specs.declared.numbers.Pid.{Pid}
-use Rattle.kern_model.specs.Keys.{pid_cmp}
+use Rattle.kern_model.specs.Keys.{is_pid, pid_cmp}
+use Rattle.kern_model.specs.Maps.{any_entry, select}
+use Rattle.kern_model.specs.ProcessRows.{left_by}
 use Rattle.kern_model.specs.State.{Process, drawn}
 use Rattle.proc_creds.specs.Credentials.{Credentials}
+use Rattle.proc_table.specs.declared.procs.ReapError.{ReapError}
+use Rattle.proc_table.specs.declared.procs.ReapError.TheVariants.{NoChild, NoneEnded}
 
 -- the living processes, and the last number drawn of each label
 pub record ProcTable : Type 0 where
@@ -59,6 +64,46 @@ set_creds procs who c (Some p) = map.insert procs who (with_creds p c)
 -- the processes, where the one with a number, if there is one, has other credentials
 abbrev pub under_creds : FinMap pid_cmp Process → Pid → Credentials → FinMap pid_cmp Process
 under_creds procs who c = set_creds procs who c (map.get procs who)
+
+-- whether a process has a living child
+abbrev pub has_living_child : FinMap pid_cmp Process → Pid → Bool
+has_living_child procs who = any_entry (λ q (child : Process). is_pid who child.parent) procs
+
+-- what a process learns by waiting, from its list of ended children and whether it has a living one
+abbrev pub reaped : List (Pid × Ending) → Bool → Result (Pid × Ending) ReapError
+reaped [] false = Err NoChild
+reaped [] true = Err NoneEnded
+reaped (e ∷ es) living = Ok e
+
+-- the first of the ended children of a process, if there is one, is taken off its list
+pub record TakesEnded (old new : FinMap pid_cmp Process) (who : Pid) (p : Process) (first : Option (Pid × Ending)) : Type 0 where
+  pub left : List (Pid × Ending)
+  pub now : new ≡ map.insert old who (record p { ended = left })
+  pub list : MatchOption first ((p.ended ≡ []) × (left ≡ [])) (λ e. p.ended ≡ e ∷ left)
+
+-- the processes, where the one with a number, if there is one, is changed
+abbrev pub altered_at : FinMap pid_cmp Process → Pid → (Process → Process) → Option Process → FinMap pid_cmp Process
+altered_at procs who f None = procs
+altered_at procs who f (Some p) = map.insert procs who (f p)
+
+abbrev pub altered : FinMap pid_cmp Process → Pid → (Process → Process) → FinMap pid_cmp Process
+altered procs who f = altered_at procs who f (map.get procs who)
+
+-- a process without a parent
+abbrev pub without_parent : Process → Process
+without_parent p = record p { parent = None }
+
+-- a process of which one more child ended
+abbrev pub with_ended : Pid → Ending → Process → Process
+with_ended child how p = record p { ended = p.ended ++ (child, how) ∷ [] }
+
+-- a process that has lost its parent, where that was this one
+abbrev pub parted : Pid → Process → Process
+parted who p = record p { parent = cond (is_pid who p.parent) None p.parent }
+
+-- the processes after one ends: it goes, and each other one is as `left_by` says
+abbrev pub ended_by : FinMap pid_cmp Process → Pid → Process → Ending → FinMap pid_cmp Process
+ended_by procs who p how = select (λ q other. Some (left_by who p how q other)) (map.remove procs who)
 
 -- the number of each living process was drawn
 abbrev pub AreDrawn : FinMap pid_cmp Process → FinMap label_cmp ℕ → Type 0

@@ -1,6 +1,7 @@
 //! The living processes by their numbers, and the numbers drawn of each label.
 #![tactic(auto)]
 
+mod children;
 mod ended;
 mod living;
 mod process;
@@ -9,4 +10,4 @@ mod table;
 
 pub use kern_model::NoMemory;
 pub use process::Proc;
-pub use procs::{ProcError, Procs};
+pub use procs::{ProcError, Procs, ReapError};

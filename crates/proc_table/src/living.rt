@@ -1,9 +1,15 @@
 // Living processes by their numbers.
-ghost use Rattle.std.specs.Prelude.{◌≡◌, IfOk, OnErr, OnOk, option_copied, option_map};
+ghost use Rattle.std.specs.Prelude.{◌≡◌, ◌+◌, ◌<◌, ◌^◌, length, Some, IfOk, OnErr, OnOk, option_copied, option_map};
 ghost use Rattle.std.specs.FinMap as map;
+ghost use Rattle.kern_model.specs.ProcessRows.{child_of};
+ghost use Rattle.kern_model.specs.State.{Process};
+ghost use Rattle.kern_model.specs.Valid.{IsThere};
+ghost use Rattle.proc_table.specs.Procs.{TakesEnded, altered, with_ended, without_parent};
 
+use crate::ended::Place;
 use crate::process::Proc;
-use kern_model::{NoMemory, Pid, PidList};
+use kern_model::{Ending, NoMemory, Pid, PidList};
+use lab_lattice::Label;
 use proc_creds::Creds;
 use std::alloc::Global;
 use std::collections::BTreeMap;
@@ -72,6 +78,58 @@ impl Living {
         match self.get_mut(who) {
             Some(process) => Some(&mut process.creds),
             None => None,
+        }
+    }
+
+    /// The present label of a living process.
+    pub fn label(&self, who: &Pid) -> Label
+        requires { IsThere self.now who.now }
+        ensures { (p : Process) → map.get self.now who.now ≡ Some p → result ≡ p.label }
+    {
+        let Some(process) = self.get(who) else {
+            unreachable!();
+        };
+        process.creds.label
+    }
+
+    /// A child of a living process, with the numbers of both.
+    pub fn child(&self, alloc: Global, parent: &Pid, who: &Pid) -> Result<Proc, NoMemory>
+        requires { IsThere self.now parent.now }
+        ensures { (p : Process) → map.get self.now parent.now ≡ Some p → IfOk result (λ child. child ≡ child_of parent.now p) }
+    {
+        let Some(process) = self.get(parent) else {
+            unreachable!();
+        };
+        process.child(alloc, parent, who)
+    }
+
+    /// Takes the child that ended first off the list of a living process, if there is one. It takes no memory.
+    pub fn take_ended(&mut self, who: &Pid) -> Option<(Pid, Ending)>
+        requires { IsThere self.old who.now }
+        ensures { (p : Process) → map.get self.old who.now ≡ Some p → TakesEnded self.old self.new who.now p result }
+    {
+        let Some(process) = self.get_mut(who) else {
+            unreachable!();
+        };
+        process.ended.take_first()
+    }
+
+    /// Appends a child that ended to the list of a process, if there is one with the number. It takes no memory.
+    pub fn add_ended(&mut self, who: &Pid, place: Place, child: &Pid, ending: Ending)
+        requires { (p : Process) → map.get self.old who.now ≡ Some p → length p.ended + 1 < 2 ^ 63 }
+        ensures { self.new ≡ altered self.old who.now (with_ended child.now ending) }
+    {
+        if let Some(process) = self.get_mut(who) {
+            process.ended.add(place, *child, ending);
+        }
+    }
+
+    /// Leaves a process, if there is one with the number, without a parent. It takes no memory.
+    pub fn orphan(&mut self, who: &Pid)
+        ensures { self.new ≡ altered self.old who.now without_parent }
+    {
+        if let Some(process) = self.get_mut(who) {
+            process.parent = None;
         }
     }
 

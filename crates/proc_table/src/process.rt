@@ -1,9 +1,15 @@
 // One living process.
-use kern_model::{Oid, Pid};
+ghost use Rattle.std.specs.Prelude.{◌≡◌, IfOk};
+ghost use Rattle.kern_model.specs.ProcessRows.{child_of};
+ghost use Rattle.proc_table.specs.Procs.{starting};
+
+use crate::ended::{EndedList, Place};
+use kern_model::{NoMemory, Oid, Pid};
 use proc_creds::Creds;
+use std::alloc::Global;
 use std::marker::Model;
 
-/// A living process. It has no open descriptor, and no child that ended.
+/// A living process. It has no open descriptor.
 #[derive(Debug, Drop)]
 pub struct Proc {
     pub creds: Creds,
@@ -12,10 +18,14 @@ pub struct Proc {
     pub parent: Option<Pid>,
     /// The audit switch: whether a denial leaves a record.
     pub audited: bool,
+    /// The children that ended and were not awaited.
+    pub(crate) ended: EndedList,
+    /// The place that the process takes in its parent's list when it ends.
+    pub(crate) place: Place,
 }
 
 impl Model for Proc {
-    ghost use Rattle.std.specs.Prelude.{ℕ, []};
+    ghost use Rattle.std.specs.Prelude.{ℕ};
     ghost use Rattle.std.specs.Ordering.{nat_cmp};
     ghost use Rattle.std.specs.FinMap as map;
     ghost use Rattle.std.specs.FinSet as set;
@@ -29,5 +39,42 @@ impl Model for Proc {
 
     ghost coded = { Prim.hlevel (codes, map.code {K = ℕ} {X = Did} {R = nat_cmp} coded_ℕ (Prim.hlevel (codes, label_code)), set.code {R = cap_cmp} cap_code, label_code) };
 
-    ghost view = { λ p. record { ids = p.creds.ids; label = p.creds.label; caps = p.creds.caps; umask = p.creds.umask; cwd = p.cwd; audited = p.audited; parent = p.parent; ended = []; fds = map.empty } };
+    ghost view = { λ p. record { ids = p.creds.ids; label = p.creds.label; caps = p.creds.caps; umask = p.creds.umask; cwd = p.cwd; audited = p.audited; parent = p.parent; ended = p.ended; fds = map.empty } };
+}
+
+impl Proc {
+    /// A process that starts, with its number.
+    pub(crate) fn start(alloc: Global, who: &Pid, creds: Creds, cwd: Oid) -> Result<Proc, NoMemory>
+        ensures { IfOk result (λ process. process ≡ starting creds cwd) }
+    {
+        Ok(Proc {
+            creds,
+            cwd,
+            parent: None,
+            audited: true,
+            ended: EndedList::new(alloc),
+            place: Place::new(alloc, *who)?,
+        })
+    }
+
+    /// The parent, if there is one.
+    pub(crate) fn parent(&self) -> Option<Pid>
+        ensures { result ≡ self.now.parent }
+    {
+        self.parent
+    }
+
+    /// A child of this process, with the numbers of both.
+    pub(crate) fn child(&self, alloc: Global, parent: &Pid, who: &Pid) -> Result<Proc, NoMemory>
+        ensures { IfOk result (λ child. child ≡ child_of parent.now self.now) }
+    {
+        Ok(Proc {
+            creds: self.creds.copy()?,
+            cwd: self.cwd,
+            parent: Some(*parent),
+            audited: self.audited,
+            ended: EndedList::new(alloc),
+            place: Place::new(alloc, *who)?,
+        })
+    }
 }

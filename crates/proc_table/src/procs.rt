@@ -1,14 +1,15 @@
 // The processes.
-ghost use Rattle.std.specs.Prelude.{◌≡◌, ◌↔◌, ◌≤◌, Some, Err, IfOk, OnErr, OnOk, option_copied, option_map};
+ghost use Rattle.std.specs.Prelude.{◌≡◌, ◌↔◌, ◌≤◌, Some, Err, IfOk, OnErr, OnOk, drop, option_copied, option_map};
 ghost use Rattle.std.specs.FinMap as map;
+ghost use Rattle.kern_model.specs.ProcessRows.{child_of};
 ghost use Rattle.kern_model.specs.State.{Process, drawn};
 ghost use Rattle.kern_model.specs.Valid.{IsThere};
 ghost use Rattle.kern_model.specs.declared.limits.TheConstants.{MAX_PROCS};
-ghost use Rattle.proc_table.specs.Procs.{creds_of, next_in, no_procs, starting, with_new, with_process};
+ghost use Rattle.proc_table.specs.Procs.{creds_of, has_living_child, next_in, no_procs, reaped, starting, with_new, with_process};
 
 use crate::process::Proc;
 use crate::table::Table;
-use kern_model::{NoMemory, Oid, Pid, PidList};
+use kern_model::{Ending, NoMemory, Oid, Pid, PidList};
 use proc_creds::Creds;
 use std::alloc::Global;
 use std::marker::Model;
@@ -19,6 +20,15 @@ pub enum ProcError {
     /// All numbers of the label are drawn.
     Full,
     NoMemory(NoMemory),
+}
+
+/// Why no child is reaped.
+#[derive(Clone, Copy, Debug, PartialEq, Eq)]
+pub enum ReapError {
+    /// The process has no child, living or ended.
+    NoChild,
+    /// No child has ended.
+    NoneEnded,
 }
 
 impl From<NoMemory> for ProcError {
@@ -48,6 +58,7 @@ impl Model for Procs {
     ghost use Rattle.cap_bits.specs.Cap.{cap_cmp, cap_code};
     ghost use Rattle.lab_lattice.specs.Label.{label_code};
     ghost use Rattle.kern_model.specs.declared.numbers.Did.{Did};
+    ghost use Rattle.proc_table.specs.Children.{IsKept};
     ghost use Rattle.proc_table.specs.Procs.{AreDrawn, ProcTable, table_code};
 
     ghost Value = { ProcTable };
@@ -56,7 +67,7 @@ impl Model for Procs {
 
     ghost view = { λ p. record { procs = p.table.living; numbers = p.table.numbers } };
 
-    ghost invariant = { λ p. AreDrawn p.table.living p.table.numbers };
+    ghost invariant = { λ p. AreDrawn p.table.living p.table.numbers × IsKept p.table.living p.table.children p.table.made };
 }
 
 impl Procs {
@@ -83,14 +94,41 @@ impl Procs {
         ensures err { OnErr result (self.new ≡ self.old) }
     {
         let who = self.table.next(&creds.label).ok_or(ProcError::Full)?;
-        let process = Proc {
-            creds,
-            cwd,
-            parent: None,
-            audited: true,
-        };
+        let process = Proc::start(self.alloc, &who, creds, cwd)?;
         self.table.enter(&who, process)?;
         Ok(who)
+    }
+
+    /// Makes a child of a living process, under the next number of its present label, and returns the number. The child is
+    /// like the process, but has it as its parent and no child of its own.
+    pub fn fork(&mut self, parent: &Pid) -> Result<Pid, ProcError>
+        requires { IsThere self.old.procs parent.now }
+        ensures who { (p : Process) → map.get self.old.procs parent.now ≡ Some p → IfOk result (λ who. who ≡ next_in self.old p.label) }
+        ensures made { (p : Process) → map.get self.old.procs parent.now ≡ Some p → OnOk result (self.new ≡ with_new self.old (child_of parent.now p)) }
+        ensures full { (p : Process) → map.get self.old.procs parent.now ≡ Some p → ((result ≡ Err ProcError.Full) ↔ (MAX_PROCS ≤ drawn self.old.numbers p.label)) }
+        ensures err { OnErr result (self.new ≡ self.old) }
+    {
+        let label = self.table.living.label(parent);
+        let who = self.table.next(&label).ok_or(ProcError::Full)?;
+        let child = self.table.living.child(self.alloc, parent, &who)?;
+        self.table.enter(&who, child)?;
+        Ok(who)
+    }
+
+    /// Takes the child of a living process that ended first off its list, and returns it with its ending. It takes no memory.
+    pub fn reap(&mut self, who: &Pid) -> Result<(Pid, Ending), ReapError>
+        requires { IsThere self.old.procs who.now }
+        ensures answer { (p : Process) → map.get self.old.procs who.now ≡ Some p → result ≡ reaped p.ended (has_living_child self.old.procs who.now) }
+        ensures taken { (p : Process) → map.get self.old.procs who.now ≡ Some p → OnOk result (self.new ≡ with_process self.old who.now (record p { ended = drop 1 p.ended })) }
+        ensures err { OnErr result (self.new ≡ self.old) }
+    {
+        if let Some(first) = self.table.living.take_ended(who) {
+            return Ok(first);
+        }
+        match self.table.children.first(who) {
+            Some(_) => Err(ReapError::NoneEnded),
+            None => Err(ReapError::NoChild),
+        }
     }
 
     /// The living process with a number, if there is one.

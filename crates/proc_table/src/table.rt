@@ -1,9 +1,11 @@
 // The living processes, and which numbers are drawn.
-ghost use Rattle.std.specs.Prelude.{◌≡◌, ◌+◌, ◌<◌, ◌≤◌, None, MatchOption, OnErr, OnOk};
+ghost use Rattle.std.specs.Prelude.{◌≡◌, ◌+◌, ◌<◌, ◌≤◌, [], None, MatchOption, OnErr, OnOk};
 ghost use Rattle.std.specs.FinMap as map;
 ghost use Rattle.kern_model.specs.State.{drawn};
 ghost use Rattle.kern_model.specs.declared.limits.TheConstants.{MAX_PROCS};
+ghost use Rattle.proc_table.specs.Children.{IsKept};
 
+use crate::children::Children;
 use crate::living::Living;
 use crate::process::Proc;
 use kern_model::limits::MAX_PROCS;
@@ -11,11 +13,17 @@ use kern_model::{NoMemory, Numbers, Pid};
 use lab_lattice::Label;
 use std::alloc::Global;
 
+/// Processes that are made, so that each list of ended children can be counted.
+pub const MAX_MADE: usize = isize::MAX as usize;
+
 /// The living processes, and the last number drawn of each label.
 #[derive(Drop)]
 pub struct Table {
     pub living: Living,
     pub numbers: Numbers,
+    pub children: Children,
+    /// How many processes were made.
+    pub made: usize,
 }
 
 impl Table {
@@ -23,10 +31,13 @@ impl Table {
     pub fn new(alloc: Global) -> Self
         ensures living { result.living ≡ map.empty }
         ensures numbers { result.numbers ≡ map.empty }
+        ensures kept { IsKept result.living result.children result.made }
     {
         Table {
             living: Living::new(alloc),
             numbers: Numbers::new(alloc),
+            children: Children::new(alloc),
+            made: 0,
         }
     }
 
@@ -44,10 +55,35 @@ impl Table {
 
     /// Enters a new process, whose number is the last one drawn from then on.
     pub fn enter(&mut self, who: &Pid, process: Proc) -> Result<(), NoMemory>
+        requires absent { map.get self.old.living who.now ≡ None }
+        requires childless { process.ended ≡ [] }
+        requires kept { IsKept self.old.living self.old.children self.old.made }
+        ensures living { OnOk result (self.new.living ≡ map.insert self.old.living who.now process) }
+        ensures numbers { OnOk result (self.new.numbers ≡ map.insert self.old.numbers who.now.label who.now.n) }
+        ensures err { OnErr result ((self.new.living ≡ self.old.living) × (self.new.numbers ≡ self.old.numbers)) }
+        ensures kept { IsKept self.new.living self.new.children self.new.made }
+    {
+        if self.made >= MAX_MADE {
+            return Err(NoMemory);
+        }
+        let parent = process.parent();
+        self.children.add(&parent, who)?;
+        if let Err(e) = self.draw(who, process) {
+            self.children.remove(&parent, who);
+            return Err(e);
+        }
+        self.made += 1;
+        Ok(())
+    }
+
+    // Adds a process under a number that it draws.
+    fn draw(&mut self, who: &Pid, process: Proc) -> Result<(), NoMemory>
         requires { map.get self.old.living who.now ≡ None }
         ensures living { OnOk result (self.new.living ≡ map.insert self.old.living who.now process) }
         ensures numbers { OnOk result (self.new.numbers ≡ map.insert self.old.numbers who.now.label who.now.n) }
-        ensures err { OnErr result (self.new ≡ self.old) }
+        ensures children { self.new.children ≡ self.old.children }
+        ensures made { self.new.made ≡ self.old.made }
+        ensures err { OnErr result ((self.new.living ≡ self.old.living) × (self.new.numbers ≡ self.old.numbers)) }
     {
         self.living.set(*who, process)?;
         if let Err(e) = self.numbers.set(who.label, who.n) {

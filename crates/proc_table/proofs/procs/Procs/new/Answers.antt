@@ -7,4 +7,4 @@ use Rattle.proc_table.proofs.DrawnLemmas.{none_drawn}
 use Rattle.proc_table.proofs.procs.Procs.new.Goals as goal
 
 pub invariant_of-result : goal.invariant_of-result
-invariant_of-result c = subst (λ (procs : FinMap pid_cmp Process). AreDrawn procs c.new.result.numbers) (sym c.new.ensures.living) (none_drawn c.new.result.numbers)
+invariant_of-result c = (subst (λ (procs : FinMap pid_cmp Process). AreDrawn procs c.new.result.numbers) (sym c.new.ensures.living) (none_drawn c.new.result.numbers), c.new.ensures.kept)

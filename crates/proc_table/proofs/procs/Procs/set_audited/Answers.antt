@@ -1,21 +1,26 @@
-use Rattle.std.specs.Prelude.{◌≡◌}
+use Rattle.std.specs.Prelude.{◌≡◌, Some, refl}
 use Rattle.std.specs.FinMap as map
 use Rattle.std.specs.FinMap.{FinMap}
-use Rattle.std.proofs.Common.{ap, sym, ◌∙◌, subst}
+use Rattle.std.proofs.Common.{ap, arith, sym, ◌∙◌, subst}
 use Rattle.kern_model.specs.Keys.{pid_cmp}
 use Rattle.kern_model.specs.State.{Process}
 use Rattle.kern_model.proofs.MapLemmas.{some_same}
+use Rattle.proc_table.specs.Children.{IsKept}
 use Rattle.proc_table.specs.Procs.{AreDrawn, ProcTable, with_process}
 use Rattle.proc_table.specs.contracts.process.Proc.{the_view}
 use Rattle.proc_table.proofs.DrawnLemmas.{still_drawn}
+use Rattle.proc_table.proofs.KeptLemmas.{kept_changed}
 use Rattle.proc_table.proofs.LendLemmas.{at_some}
 use Rattle.proc_table.proofs.procs.Procs.set_audited.Goals as goal
 
 pub invariant_of-self : goal.invariant_of-self
 invariant_of-self c =
     let new : Process = record (the_view c.process.inside) { audited = c.args.on } in
-    subst (λ (procs : FinMap pid_cmp Process). AreDrawn procs c.self.inside.table.numbers) (sym (at_some c.in-Some.is (c.get_mut.follows.holds new)))
-    (still_drawn c.self.inside.table.living c.self.inside.table.numbers c.self.invariant c.args.who.now c.in-Some.process.now (sym c.in-Some.ensures.value) new)
+    let there = sym c.in-Some.ensures.value ∙ ap Some (sym c.process.view_is) in
+    subst (λ (procs : FinMap pid_cmp Process). AreDrawn procs c.self.inside.table.numbers × IsKept procs c.self.inside.table.children c.self.inside.table.made) (sym (at_some c.in-Some.is (c.get_mut.follows.holds new))) (
+      still_drawn c.self.inside.table.living c.self.inside.table.numbers c.self.invariant.0 c.args.who.now (the_view c.process.inside) there new,
+      kept_changed c.self.inside.table.living c.self.inside.table.children c.self.inside.table.made c.self.invariant.1 c.args.who.now (the_view c.process.inside) there new refl (omega arith),
+    )
 
 pub returns : goal.returns
 returns c = λ p there.

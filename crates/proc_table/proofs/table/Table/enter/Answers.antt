@@ -1,11 +1,28 @@
-use Rattle.std.proofs.Common.{ap, ◌∙◌}
-use Rattle.std.specs.FinMap as map
-use Rattle.kern_model.proofs.KeyLaws.{pid_cmp_total, pid_cmp_exact}
-use Rattle.kern_model.proofs.MapLemmas.{remove-insert}
+use Rattle.std.specs.Prelude.{◌≡◌, ℕ, ◌+◌, ◌<◌, not, ◌&&◌}
+use Rattle.std.specs.FinMap.{FinMap}
+use Rattle.std.proofs.Common.{ap, arith, sym, ◌∙◌, subst}
+use Rattle.kern_model.specs.Keys.{is_pid, pid_cmp, same_pid}
+use Rattle.kern_model.specs.State.{Process}
+use Rattle.proc_table.specs.declared.children.Children.{Children}
+use Rattle.proc_table.specs.declared.table.TheConstants.{MAX_MADE}
+use Rattle.proc_table.specs.Children.{IsKept, is_child}
+use Rattle.proc_table.proofs.KeptLemmas.{kept_made, kept_undone}
 use Rattle.proc_table.proofs.table.Table.enter.Goals as goal
 
-pub returns-in-Err-clause-err : goal.returns-in-Err-clause-err
-returns-in-Err-clause-err c =
-    let living = c.remove.ensures ∙ ap (λ m. map.remove m c.args.who.now) c.in_ok-set.ensures.ok ∙ remove-insert pid_cmp_total pid_cmp_exact c.args.self.now.living c.args.who.now c.args.process c.requires in
-    let numbers = c.in-Err.ensures.err in
-    λ i. record { living = living i; numbers = numbers i }
+pub returns-in-Err-clause-kept : goal.returns-in-Err-clause-kept
+returns-in-Err-clause-kept c =
+    let parent = c.parent-parent.result in
+    let who = c.args.who.now in
+    subst (λ (made : ℕ). IsKept c.draw.new.self.living c.remove.new.self made) (sym c.draw.ensures.made)
+    (subst (λ (living : FinMap pid_cmp Process). IsKept living c.remove.new.self c.args.self.now.made) (sym c.in-Err.ensures.err.0)
+    (kept_undone c.args.self.now.living c.args.self.now.children c.args.self.now.made c.requires.kept who c.requires.absent parent c.add.new.self c.in_ok-add.ensures.ok c.remove.new.self
+    (λ q d. c.remove.ensures q d ∙ ap (λ (kept : Children). not (is_pid q parent && same_pid d who) && is_child kept q d) c.draw.ensures.children)))
+
+pub returns-clause-kept : goal.returns-clause-kept
+returns-clause-kept c =
+    let its : c.args.process.parent ≡ c.parent-parent.result = cc (c.parent-parent.ensures, ap (λ (p : Process). p.parent) c.process.view_is) in
+    let more : c.args.self.now.made < MAX_MADE = omega (arith, c.if-self-ge-MAX_MADE.false) in
+    subst (λ (made : ℕ). IsKept c.draw.new.self.living c.draw.new.self.children (made + 1)) (sym c.draw.ensures.made)
+    (subst (λ (kept : Children). IsKept c.draw.new.self.living kept (c.args.self.now.made + 1)) (sym c.draw.ensures.children)
+    (subst (λ (living : FinMap pid_cmp Process). IsKept living c.add.new.self (c.args.self.now.made + 1)) (sym c.in_default.ensures.living)
+    (kept_made c.args.self.now.living c.args.self.now.children c.args.self.now.made c.requires.kept c.args.who.now c.requires.absent c.parent-parent.result c.args.process its c.requires.childless more c.add.new.self c.in_ok-add.ensures.ok)))
