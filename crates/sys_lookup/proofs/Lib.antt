@@ -3,6 +3,7 @@ pub mod CheckLemmas
 pub mod FdChanges
 pub mod FdLemmas
 pub mod MakeLemmas
+pub mod OpenedLemmas
 pub mod PlayLemmas
 pub mod StopLemmas
 pub mod WalkLemmas

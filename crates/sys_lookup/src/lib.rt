@@ -11,6 +11,7 @@ mod effect;
 mod found;
 mod making;
 mod reporting;
+mod rewriting;
 mod shared;
 mod walk_stop;
 mod walking;
