@@ -74,7 +74,7 @@ pub description_is : (shared : SharedTable) (did : Did) (s : Shared) (d : Descri
 description_is shared did s d is at = some_same (description_of s) d (sym (get-descriptions shared did ∙ ap (option_map description_of) is) ∙ at)
 
 -- ---- whether some entry passes a test
-same_tests : (b c : Bool) → (b ≡ false → c ≡ false) → (c ≡ false → b ≡ false) → b ≡ c
+pub same_tests : (b c : Bool) → (b ≡ false → c ≡ false) → (c ≡ false → b ≡ false) → b ≡ c
 same_tests true true f g = refl
 same_tests false false f g = refl
 same_tests true false f g = g refl

@@ -1,4 +1,6 @@
+pub mod AskLemmas
 pub mod CheckLemmas
+pub mod FdChanges
 pub mod FdLemmas
 pub mod MakeLemmas
 pub mod OpenedLemmas

@@ -3,6 +3,7 @@
 #![tactic(auto)]
 
 mod argument;
+mod asking;
 mod caller;
 mod descriptors;
 mod directories;
