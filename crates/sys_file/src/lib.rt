@@ -4,5 +4,8 @@
 mod offsets;
 mod pipes;
 mod reading;
+mod writing;
 
 pub use pipes::mkfifo;
+pub use reading::read;
+pub use writing::write;
