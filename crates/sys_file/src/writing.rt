@@ -75,10 +75,7 @@ fn write_stream(shared: &mut Shared, opened: &Opened, bytes: &[u8]) -> Result<Ef
     requires { IsStream (state_of shared.old).objects opened.now.description.object }
     ensures { (log : CheckLog) → PlaysRow (state_of shared.old) log (putting (state_of shared.old) opened.now bytes.now) result (state_of shared.new) log }
 {
-    match shared
-        .fds
-        .pipe_put(&mut shared.tree, &opened.object, bytes)
-    {
+    match shared.fds.pipe_put(&mut shared.tree, &opened.object, bytes) {
         Ok(()) => Ok(Effect {
             answer: Answer::Number(bytes.len() as u32),
             own: None,
@@ -100,10 +97,7 @@ fn place_to_write(shared: &Shared, opened: &Opened, bytes: &[u8]) -> Result<u32,
     let size = shared.byte_count(&opened.object) as u32;
     let at = place_in_file(opened, size);
     refuse_if(at > size, Errno::EINVAL)?;
-    refuse_if(
-        at as usize + bytes.len() > MAX_FILE_BYTES,
-        Errno::EFBIG,
-    )?;
+    refuse_if(at as usize + bytes.len() > MAX_FILE_BYTES, Errno::EFBIG)?;
     Ok(at)
 }
 
@@ -129,7 +123,8 @@ fn overwrite(
     requires file { IsFile (state_of shared.old).objects id.now }
     requires within { at ≤ length (object_at (state_of shared.old) id.now).bytes }
     requires few { at + length bytes.now ≤ MAX_FILE_BYTES }
-    ensures { OnOk result (state_of shared.new ≡ changed (state_of shared.old) (SetObject id.now (record (object_at (state_of shared.old) id.now) { attr = attr; bytes = written_over (object_at (state_of shared.old) id.now).bytes at bytes.now }))) }
+    ensures files { shared.new.fds ≡ shared.old.fds }
+    ensures written { OnOk result (state_of shared.new ≡ changed (state_of shared.old) (SetObject id.now (record (object_at (state_of shared.old) id.now) { attr = attr; bytes = written_over (object_at (state_of shared.old) id.now).bytes at bytes.now }))) }
 {
     match shared.tree.write_at(id, at, bytes) {
         Ok(()) => {

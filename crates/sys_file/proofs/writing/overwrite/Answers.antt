@@ -37,8 +37,8 @@ unreachable-requires-in-Err-TooBig c =
     let few = c.requires.few in
     omega (arith, big, few)
 
-pub returns-in-Ok : goal.returns-in-Ok
-returns-in-Ok c =
+pub returns-in-Ok-clause-written : goal.returns-in-Ok-clause-written
+returns-in-Ok-clause-written c =
     let s = state_of c.args.shared.now in
     let id = c.args.id.now in
     let file = c.requires.file in
