@@ -1,5 +1,6 @@
 pub mod Making
 pub mod PlaysRow
+pub mod Rewriting
 pub mod Shared
 pub mod WalkStops
 pub mod Walks

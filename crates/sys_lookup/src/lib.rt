@@ -3,6 +3,7 @@
 #![tactic(auto)]
 
 mod argument;
+mod asking;
 mod caller;
 mod descriptors;
 mod directories;
@@ -11,6 +12,7 @@ mod found;
 mod making;
 mod owning;
 mod reporting;
+mod rewriting;
 mod shared;
 mod walk_stop;
 mod walking;

@@ -1,0 +1,4 @@
+pub mod ObjectLemmas
+pub mod ReadLemmas
+pub mod StreamLemmas
+pub mod WriteLemmas

@@ -1,0 +1,83 @@
+// Checks that a call makes only where they are asked for.
+ghost use Rattle.std.specs.Prelude.{◌≡◌};
+ghost use Rattle.kern_model.specs.declared.numbers.Oid.{Oid};
+ghost use Rattle.kern_model.specs.Row.{need_if};
+ghost use Rattle.kern_model.specs.Rules.{dac_read, dac_write, mac_read, mac_write};
+ghost use Rattle.kern_model.specs.State.{State};
+ghost use Rattle.chk_rules.specs.Ends.{GoesOn};
+ghost use Rattle.sys_lookup.specs.Shared.{metadata_of, process_of};
+
+use crate::caller::Caller;
+use crate::shared::Metadata;
+use chk_rules::{Checks, Stop};
+use kern_model::Place;
+
+impl Caller<'_> {
+    /// Checks, where it is asked, that the caller may read an object.
+    pub fn mac_read_if(
+        &self,
+        asked: bool,
+        checks: &mut Checks,
+        object: &Metadata,
+        place: Place,
+    ) -> Result<(), Stop>
+        ensures { (s : State) (id : Oid) → object.now ≡ metadata_of s id → GoesOn checks.old (λ rest. need_if asked (mac_read s (process_of self.now) id place) (rest tt)) result checks.new }
+    {
+        if asked {
+            self.mac_read(checks, object, place)
+        } else {
+            Ok(())
+        }
+    }
+
+    /// Checks, where it is asked, that the caller may write an object.
+    pub fn mac_write_if(
+        &self,
+        asked: bool,
+        checks: &mut Checks,
+        object: &Metadata,
+        place: Place,
+    ) -> Result<(), Stop>
+        ensures { (s : State) (id : Oid) → object.now ≡ metadata_of s id → GoesOn checks.old (λ rest. need_if asked (mac_write s (process_of self.now) id place) (rest tt)) result checks.new }
+    {
+        if asked {
+            self.mac_write(checks, object, place)
+        } else {
+            Ok(())
+        }
+    }
+
+    /// Checks, where it is asked, that the mode of an object lets the caller read it.
+    pub fn dac_read_if(
+        &self,
+        asked: bool,
+        checks: &mut Checks,
+        object: &Metadata,
+        place: Place,
+    ) -> Result<(), Stop>
+        ensures { (s : State) (id : Oid) → object.now ≡ metadata_of s id → GoesOn checks.old (λ rest. need_if asked (dac_read s (process_of self.now) id place) (rest tt)) result checks.new }
+    {
+        if asked {
+            self.dac_read(checks, object, place)
+        } else {
+            Ok(())
+        }
+    }
+
+    /// Checks, where it is asked, that the mode of an object lets the caller write it.
+    pub fn dac_write_if(
+        &self,
+        asked: bool,
+        checks: &mut Checks,
+        object: &Metadata,
+        place: Place,
+    ) -> Result<(), Stop>
+        ensures { (s : State) (id : Oid) → object.now ≡ metadata_of s id → GoesOn checks.old (λ rest. need_if asked (dac_write s (process_of self.now) id place) (rest tt)) result checks.new }
+    {
+        if asked {
+            self.dac_write(checks, object, place)
+        } else {
+            Ok(())
+        }
+    }
+}
