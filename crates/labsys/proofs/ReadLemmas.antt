@@ -21,7 +21,7 @@ use Rattle.labsys.specs.declared.status.InputEnd.TheVariants.{Refused}
 use Rattle.labsys.specs.declared.status.Part.TheVariants as part
 use Rattle.labsys.specs.declared.status.Refusal.{Refusal}
 use Rattle.labsys.specs.declared.status.Refusal.TheVariants as refusal
-use Rattle.labsys.specs.Input.{Script, item_of, last_piece, refusal_of_line, no_world, script, script_from, after_line, has_fifo, input_by}
+use Rattle.labsys.specs.Input.{Script, item_of, last_piece, refusal_of_line, no_world, script, script_from, after_line, input_by}
 use Rattle.labsys.specs.declared.reading.Item.{Item}
 use Rattle.labsys.specs.declared.reading.Unread.{Unread}
 use Rattle.labsys.specs.Reading.{Reads, PlaysLine, SkipsLine, Ends, IsRefusal, script_left}
