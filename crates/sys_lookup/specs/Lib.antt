@@ -1,4 +1,5 @@
 pub mod Making
+pub mod Owners
 pub mod PlaysRow
 pub mod Rewriting
 pub mod Shared

@@ -1,0 +1,8 @@
+//! The bodies of the calls on descriptors, and of those that open or make what descriptors refer to.
+#![tactic(auto)]
+
+mod descriptors;
+mod opening;
+
+pub use descriptors::{close, dup, fstat, lseek};
+pub use opening::open;
