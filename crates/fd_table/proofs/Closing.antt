@@ -29,7 +29,7 @@ use Rattle.kern_model.proofs.Selections.{none_pass, none_passes}
 use Rattle.fd_table.specs.Files.{OpenFiles, drained, emptied_if, is_held, is_open, is_unused, left_with}
 use Rattle.fd_table.specs.Rows.{AllFds, Fds, row_of}
 use Rattle.fd_table.proofs.Dropping.{get-gone, get-kept, held_by}
-use Rattle.fd_table.proofs.Leaving.{get-drained, same_tests}
+use Rattle.fd_table.proofs.Leaving.{get-drained}
 
 -- a table that has the descriptors of the processes of a state, and its descriptions, each of which some process holds
 pub record Shows (s : State) (t : OpenFiles) : Type 0 where
@@ -39,6 +39,12 @@ pub record Shows (s : State) (t : OpenFiles) : Type 0 where
   pub held : (did : Did) (d : Description) → map.get s.descriptions did ≡ Some d → IsHeld s did
 
 -- ---- tests
+same_tests : (b c : Bool) → (b ≡ false → c ≡ false) → (c ≡ false → b ≡ false) → b ≡ c
+same_tests true true f g = refl
+same_tests false false f g = refl
+same_tests true false f g = g refl
+same_tests false true f g = sym (f refl)
+
 both_false : (a b : Bool) → b ≡ false → (a && b) ≡ false
 both_false true b e = e
 both_false false b e = refl

@@ -17,14 +17,15 @@ use Rattle.kern_model.specs.Maps.{select, where_key}
 use Rattle.kern_model.specs.State.{Description}
 use Rattle.kern_model.specs.Valid.{IsThere}
 use Rattle.kern_model.proofs.KeyLaws.{did_cmp_total, did_cmp_exact, oid_cmp_total, oid_cmp_exact, pid_cmp_total, pid_cmp_exact}
-use Rattle.kern_model.proofs.MapLemmas.{get-insert_same, get-select_dropped, get-select_kept, never_some}
+use Rattle.kern_model.proofs.MapLemmas.{get-insert_same, get-select_dropped, get-select_kept, insert-same, never_some}
+use Rattle.kern_model.proofs.Selections.{get-remove_same, none_pass, none_passes}
 use Rattle.fd_table.specs.declared.table.FdError.{FdError}
 use Rattle.fd_table.specs.Files.{OpenFiles, did_at, drained, emptied_if, is_held, is_open, is_unused, left_with}
 use Rattle.fd_table.specs.Rows.{AllFds, Fds, holders, row_of}
 use Rattle.fd_table.proofs.Holding.{holders-insert, row_is}
-use Rattle.fd_table.proofs.Leaving.{get-drained, held-count, none_pass, none_passes}
+use Rattle.fd_table.proofs.Leaving.{get-drained, held-count}
 use Rattle.fd_table.proofs.Loops.{from, from-all, from-next, from-same, row_set, set_twice}
-use Rattle.fd_table.proofs.Sums.{gone, set_again, set_over}
+use Rattle.fd_table.proofs.Sums.{set_over}
 
 abbrev Descriptions : Type 0
 Descriptions = FinMap did_cmp Description
@@ -58,7 +59,7 @@ held_twice rows more ds h = same_map did_cmp_total did_cmp_exact _ _ (λ q.
 still_held : (rows : AllFds) (who : Pid) (fds : Fds) (q : Did) → is_held (map.remove rows who) q ≡ true → is_held (map.insert rows who fds) q ≡ true
 still_held rows who fds q t =
     let some : not (holders (map.remove rows who) q == 0) ≡ true = sym (held-count (map.remove rows who) q) ∙ t in
-    let sum = holders-insert (map.remove rows who) who q fds (gone pid_cmp_total rows who) in
+    let sum = holders-insert (map.remove rows who) who q fds (get-remove_same pid_cmp_total rows who) in
     let more : not (holders (map.insert (map.remove rows who) who fds) q == 0) ≡ true = grind (arith, nat_tests) in
     ap (λ (m : AllFds). is_held m q) (sym (set_over pid_cmp_total pid_cmp_exact rows who fds)) ∙ held-count (map.insert (map.remove rows who) who fds) q ∙ more
 
@@ -115,7 +116,7 @@ pub record AreClosed (t0 : OpenFiles) (who : Pid) (n : ℕ) (t : OpenFiles) (obj
 
 pub none_closed : (t0 : OpenFiles) (who : Pid) (objects : FinMap oid_cmp Object) → IsThere t0.rows who → AreClosed t0 who 0 t0 objects objects
 none_closed t0 who objects there = record {
-  rows = sym (ap (map.insert t0.rows who) (from-all (row_of t0.rows who)) ∙ set_again pid_cmp_total pid_cmp_exact t0.rows who (row_of t0.rows who) (row_is t0.rows who there));
+  rows = sym (ap (map.insert t0.rows who) (from-all (row_of t0.rows who)) ∙ insert-same pid_cmp_total pid_cmp_exact t0.rows who (row_of t0.rows who) (row_is t0.rows who there));
   numbers = refl;
   left = refl;
   fewer = λ q e. e;

@@ -1,14 +1,11 @@
 -- The descriptions that are left where descriptors close, and the FIFOs that lose their last one.
-use Rattle.std.specs.Prelude.{◌≡◌, ◌==◌, ◌||◌, ◌&&◌, not, ℕ, ◌-◌, nat_le, Bool, true, false, List, [], ◌∷◌, Option, Some, None, cond, refl}
-use Rattle.std.specs.Ordering.{eq_by_cmp}
+use Rattle.std.specs.Prelude.{◌≡◌, ◌==◌, ◌&&◌, not, ℕ, ◌-◌, nat_le, Bool, true, false, [], Option, Some, None, cond, refl}
 use Rattle.std.specs.Option.{option_and_then, option_map}
-use Rattle.std.specs.List.{AllByRecursion, list_any}
-use Rattle.std.specs.declared.cmp.Ordering.{Ordering}
-use Rattle.std.specs.Cmp.{IsTotalOrder, eq_by_cmp_equiv}
+use Rattle.std.specs.List.{list_any}
+use Rattle.std.specs.Cmp.{eq_by_cmp_equiv}
 use Rattle.std.specs.FinMap as map
-use Rattle.std.specs.FinMap.{FinMap, IsAntisymmetric, find, get-entries, get-empty, get-insert, same_map}
+use Rattle.std.specs.FinMap.{FinMap, get-empty, get-insert, same_map}
 use Rattle.std.proofs.Common.{ap, sym, ◌∙◌, arith}
-use Rattle.std.proofs.lemmas.Bool.{true≢false}
 use Rattle.std.proofs.lemmas.Bool.Decides.{nat_tests}
 use Rattle.kern_model.specs.declared.numbers.Did.{Did}
 use Rattle.kern_model.specs.declared.numbers.Oid.{Oid}
@@ -20,15 +17,16 @@ use Rattle.kern_model.specs.Maps.{any_entry, count_entries, select, where_key}
 use Rattle.kern_model.specs.State.{Description}
 use Rattle.kern_model.specs.Valid.{IsThere}
 use Rattle.kern_model.proofs.KeyLaws.{did_cmp_total, did_cmp_exact, oid_cmp_total, oid_cmp_exact}
-use Rattle.kern_model.proofs.MapLemmas.{each-entries, get-select, get-select_dropped, get-select_kept, select-insert_kept, same_key, some_same, never_some}
+use Rattle.kern_model.proofs.MapLemmas.{each-entries, get-select, get-select_dropped, get-select_kept, select-insert_kept, same_key, some_same, never_some, insert-same}
+use Rattle.kern_model.proofs.Selections.{any_entry-select}
 use Rattle.fd_table.specs.declared.shared.Shared.{Shared}
-use Rattle.fd_table.specs.Descriptions.{SharedTable, description_of, descriptions_of, holders_kept, uses_of, with_one_less}
+use Rattle.fd_table.specs.Descriptions.{SharedTable, description_of, descriptions_of, has_user, holders_kept, uses_of, with_one_less}
 use Rattle.fd_table.specs.Files.{AreHeld, drained, emptied_if, is_held, is_open, is_unused}
 use Rattle.fd_table.specs.Fifo.{fifo_emptied, without_bytes}
 use Rattle.fd_table.specs.Rows.{AllFds, Fds, holders, holders_in}
 use Rattle.fd_table.proofs.Holding.{get-less, less}
-use Rattle.fd_table.proofs.Sums.{any-sum, set_again}
-use Rattle.fd_table.proofs.UseLemmas.{uses-remove, uses-replace, uses_some}
+use Rattle.fd_table.proofs.Sums.{any-sum}
+use Rattle.fd_table.proofs.UseLemmas.{once, some-number, uses-remove, uses-replace, uses_some}
 use Rattle.lab_lattice.specs.Label.{label_cmp}
 
 -- ---- descriptions without their counts
@@ -48,10 +46,6 @@ pub held-count : (rows : AllFds) (did : Did) → is_held rows did ≡ not (holde
 unfolding is_held holders any_entry count_entries
 held-count rows did = any-sum (λ (row : Pid × Fds). list_any (λ (e : ℕ × Did). same_did e.1 did) (map.entries row.1)) (λ (row : Pid × Fds). holders_in row.1 did)
     (λ row. any-sum (λ (e : ℕ × Did). same_did e.1 did) (λ (e : ℕ × Did). cond (same_did e.1 did) 1 0) (λ e. once (same_did e.1 did)) (map.entries row.1)) (map.entries rows)
-  where
-    once : (b : Bool) → b ≡ not (cond b 1 0 == 0)
-    once true = refl
-    once false = refl
 
 -- ---- what is there with its count and without
 pub there_without : (shared : SharedTable) (did : Did) → IsThere shared did → IsThere (descriptions_of shared) did
@@ -67,46 +61,11 @@ there_with shared did there = elim (map.get shared did) as (λ w. map.get shared
 pub descriptions-count : (shared : SharedTable) (did : Did) (s new : Shared) → map.get shared did ≡ Some s → description_of new ≡ description_of s → descriptions_of (map.insert shared did new) ≡ descriptions_of shared
 descriptions-count shared did s new is same =
     descriptions-insert shared did new ∙ ap (map.insert (descriptions_of shared) did) same
-    ∙ set_again did_cmp_total did_cmp_exact (descriptions_of shared) did (description_of s) (get-descriptions shared did ∙ ap (option_map description_of) is)
+    ∙ insert-same did_cmp_total did_cmp_exact (descriptions_of shared) did (description_of s) (get-descriptions shared did ∙ ap (option_map description_of) is)
 
 -- the description that is there
 pub description_is : (shared : SharedTable) (did : Did) (s : Shared) (d : Description) → map.get shared did ≡ Some s → map.get (descriptions_of shared) did ≡ Some d → description_of s ≡ d
 description_is shared did s d is at = some_same (description_of s) d (sym (get-descriptions shared did ∙ ap (option_map description_of) is) ∙ at)
-
--- ---- whether some entry passes a test
-pub same_tests : (b c : Bool) → (b ≡ false → c ≡ false) → (c ≡ false → b ≡ false) → b ≡ c
-same_tests true true f g = refl
-same_tests false false f g = refl
-same_tests true false f g = g refl
-same_tests false true f g = sym (f refl)
-
-module _ {K X : Type 0} {R : K → K → Ordering} (o : IsTotalOrder R) (exact : IsAntisymmetric R) (p : K → X → Bool) where
-  none_found : (es : List (K × X)) → list_any (λ (e : K × X). p e.0 e.1) es ≡ false → (k : K) (x : X) → find R k es ≡ Some x → p k x ≡ false
-  none_found [] h k x f = absurd (never_some None x refl f)
-  none_found (e ∷ es) h k x f =
-      let both = neither (p e.0 e.1) (list_any (λ (e : K × X). p e.0 e.1) es) h in
-      elim (eq_by_cmp R k e.0) as (λ b. eq_by_cmp R k e.0 ≡ b → cond b (Some e.1) (find R k es) ≡ Some x → p k x ≡ false) [
-        | true ↦ λ t g. ap (λ j. p j x) (same_key exact k e.0 t) ∙ ap (p e.0) (sym (some_same e.1 x g)) ∙ both.0
-        | false ↦ λ _ g. none_found es both.1 k x g
-      ] refl f
-    where
-      neither : (a b : Bool) → (a || b) ≡ false → (a ≡ false) × (b ≡ false)
-      neither true b e = absurd (true≢false e)
-      neither false b e = (refl, e)
-
-  -- where none passes, each entry does not
-  pub none_passes : (m : FinMap R X) → any_entry p m ≡ false → (k : K) (x : X) → map.get m k ≡ Some x → p k x ≡ false
-  unfolding any_entry
-  none_passes m h k x is = none_found (map.entries m) h k x (sym (get-entries m k) ∙ is)
-
-  all_fail : (es : List (K × X)) → AllByRecursion (λ (e : K × X). p e.0 e.1 ≡ false) es → list_any (λ (e : K × X). p e.0 e.1) es ≡ false
-  all_fail [] h = refl
-  all_fail (e ∷ es) h = ap (λ b. b || list_any (λ (e : K × X). p e.0 e.1) es) h.0 ∙ all_fail es h.1
-
-  -- and where each does not, none passes
-  pub none_pass : (m : FinMap R X) → ((k : K) (x : X) → map.get m k ≡ Some x → p k x ≡ false) → any_entry p m ≡ false
-  unfolding any_entry
-  none_pass m h = all_fail (map.entries m) (each-entries o exact (λ (k : K) (x : X). p k x ≡ false) m h)
 
 -- ---- which objects have descriptions
 abbrev on_object : Oid → Did → Shared → Bool
@@ -115,23 +74,18 @@ on_object id did s = same_oid s.object id
 abbrev of_object : Oid → Did → Description → Bool
 of_object id did d = same_oid d.object id
 
-open_alike : (shared : SharedTable) (id : Oid) → any_entry (on_object id) shared ≡ is_open (descriptions_of shared) id
-open_alike shared id = same_tests (any_entry (on_object id) shared) (is_open (descriptions_of shared) id)
-    (λ no. none_pass did_cmp_total did_cmp_exact (of_object id) (descriptions_of shared) (λ k d e.
-    elim (map.get shared k) as (λ w. map.get shared k ≡ w → option_map description_of w ≡ Some d → same_oid d.object id ≡ false) [
-      | None ↦ λ _ f. absurd (never_some None d refl f)
-      | Some s ↦ λ is f. ap (λ (x : Description). same_oid x.object id) (sym (some_same (description_of s) d f)) ∙ none_passes did_cmp_total did_cmp_exact (on_object id) shared no k s is
-    ] refl (sym (get-descriptions shared k) ∙ e)))
-    (λ no. none_pass did_cmp_total did_cmp_exact (on_object id) shared (λ k s e. none_passes did_cmp_total did_cmp_exact (of_object id) (descriptions_of shared) no k (description_of s) (get-descriptions shared k ∙ ap (option_map description_of) e)))
+open_alike : (shared : SharedTable) (id : Oid) → is_open (descriptions_of shared) id ≡ any_entry (on_object id) shared
+unfolding descriptions_of
+open_alike shared id = any_entry-select did_cmp_total did_cmp_exact (where_key (λ (did : Did). true) description_of) (on_object id) (of_object id) shared (λ k s e. refl)
+
+-- what passes a test without its count
+pub users_alike : (test : Description → Bool) (shared : SharedTable) (id : Oid) → has_user (λ s. test (description_of s)) shared id ≡ any_entry (λ (did : Did) (d : Description). same_oid d.object id && test d) (descriptions_of shared)
+unfolding descriptions_of
+users_alike test shared id = sym (any_entry-select did_cmp_total did_cmp_exact (where_key (λ (did : Did). true) description_of) (λ (did : Did) (s : Shared). same_oid s.object id && test (description_of s)) (λ (did : Did) (d : Description). same_oid d.object id && test d) shared (λ k s e. refl))
 
 -- an object has a description where their number is not 0
 pub open-count : (shared : SharedTable) (id : Oid) → is_open (descriptions_of shared) id ≡ not (uses_of shared id == 0)
-unfolding any_entry count_entries
-open-count shared id = sym (open_alike shared id) ∙ any-sum (λ (e : Did × Shared). same_oid e.1.object id) (λ (e : Did × Shared). cond (same_oid e.1.object id) 1 0) (λ e. once (same_oid e.1.object id)) (map.entries shared)
-  where
-    once : (b : Bool) → b ≡ not (cond b 1 0 == 0)
-    once true = refl
-    once false = refl
+open-count shared id = open_alike shared id ∙ some-number (on_object id) shared
 
 -- ---- the descriptions that are left
 pub left_held : (rows : AllFds) (shared new : SharedTable) (numbers : FinMap label_cmp ℕ) → AreHeld rows new numbers → ((q : Did) (s : Shared) → map.get new q ≡ Some s → map.get (descriptions_of shared) q ≡ Some (description_of s))

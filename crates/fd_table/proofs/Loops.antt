@@ -9,13 +9,12 @@ use Rattle.std.proofs.Common.{ap, sym, ◌∙◌, arith}
 use Rattle.std.proofs.lemmas.Bool.Decides.{nat_tests}
 use Rattle.kern_model.specs.declared.limits.TheConstants.{MAX_DESCRIPTORS}
 use Rattle.kern_model.specs.declared.numbers.Did.{Did}
-use Rattle.kern_model.proofs.MapLemmas.{get-insert_kept, get-insert_same, get_or-found, get_or-same, same_key}
+use Rattle.kern_model.proofs.MapLemmas.{get-insert_kept, get-insert_same, get_or-found, get_or-same, same_key, remove-absent}
 use Rattle.kern_model.specs.declared.numbers.Pid.{Pid}
 use Rattle.kern_model.specs.Valid.{IsThere}
 use Rattle.kern_model.proofs.KeyLaws.{pid_cmp_total, pid_cmp_exact}
 use Rattle.fd_table.specs.Files.{OpenFiles, with_row}
 use Rattle.fd_table.specs.Rows.{AllFds, Fds, row_of}
-use Rattle.fd_table.proofs.Sums.{remove_absent}
 
 -- the descriptors below n
 abbrev pub below : ℕ → Fds → Fds
@@ -101,7 +100,7 @@ module _ (fds : Fds) where
 
   -- the next one is not there
   pub from-same : (n : ℕ) → map.get (from n fds) n ≡ None → from n fds ≡ from (n + 1) fds
-  from-same n none = sym (remove_absent nat_cmp_total nat_cmp-IsAntisymmetric (from n fds) n none) ∙ from-next n
+  from-same n none = sym (remove-absent nat_cmp_total nat_cmp-IsAntisymmetric (from n fds) n none) ∙ from-next n
 
   module _ (few : (fd : ℕ) (did : Did) → map.get fds fd ≡ Some did → fd < MAX_DESCRIPTORS) where
     pub below-all : below 32 fds ≡ fds

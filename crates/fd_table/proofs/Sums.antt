@@ -10,16 +10,12 @@ use Rattle.std.specs.FinMap.{FinMap, IsAntisymmetric, find, put, entries-insert,
 use Rattle.std.specs.FinMap.Entries.{by_order}
 use Rattle.std.proofs.Common.{ap, sym, ◌∙◌, arith}
 use Rattle.std.proofs.lemmas.Bool.Decides.{nat_tests}
-use Rattle.std.proofs.lemmas.Cmp.{tied_itself}
 use Rattle.std.proofs.lemmas.List.Sums.{sum_by-cons}
-use Rattle.kern_model.proofs.MapLemmas.{never_some, same_key}
+use Rattle.kern_model.proofs.Selections.{get-remove_same}
+use Rattle.kern_model.proofs.MapLemmas.{never_some, same_key, insert-same}
 
 -- ---- maps
 module _ {K X : Type 0} {R : K → K → Ordering} (o : IsTotalOrder R) where
-  -- what was removed is not there
-  pub gone : (m : FinMap R X) (k : K) → map.get (map.remove m k) k ≡ None
-  gone m k = get-remove o m k k ∙ ap (λ r. cond (is_eq r) None (map.get m k)) (tied_itself o k)
-
   module _ (exact : IsAntisymmetric R) where
     -- what is set may be removed first
     pub set_over : (m : FinMap R X) (k : K) (x : X) → map.insert (map.remove m k) k x ≡ map.insert m k x
@@ -27,24 +23,6 @@ module _ {K X : Type 0} {R : K → K → Ordering} (o : IsTotalOrder R) where
         get-insert o (map.remove m k) k x q ∙ ap (cond (eq_by_cmp R q k) (Some x)) (get-remove o m k q)
         ∙ elim (eq_by_cmp R q k) as (λ b. cond b (Some x) (cond b None (map.get m q)) ≡ cond b (Some x) (map.get m q)) [ true ↦ refl | false ↦ refl ]
         ∙ sym (get-insert o m k x q))
-
-    -- what is there may be set again
-    pub set_again : (m : FinMap R X) (k : K) (x : X) → map.get m k ≡ Some x → map.insert m k x ≡ m
-    set_again m k x e = same_map o exact _ _ (λ q.
-        get-insert o m k x q
-        ∙ elim (eq_by_cmp R q k) as (λ b. eq_by_cmp R q k ≡ b → cond b (Some x) (map.get m q) ≡ map.get m q) [
-          | true ↦ λ t. sym (ap (map.get m) (same_key exact q k t) ∙ e)
-          | false ↦ λ _. refl
-        ] refl)
-
-    -- what is absent may be removed
-    pub remove_absent : (m : FinMap R X) (k : K) → map.get m k ≡ None → map.remove m k ≡ m
-    remove_absent m k e = same_map o exact _ _ (λ q.
-        get-remove o m k q
-        ∙ elim (eq_by_cmp R q k) as (λ b. eq_by_cmp R q k ≡ b → cond b None (map.get m q) ≡ map.get m q) [
-          | true ↦ λ t. sym (ap (map.get m) (same_key exact q k t) ∙ e)
-          | false ↦ λ _. refl
-        ] refl)
 
 -- ---- sums
 swapped : (a b n m : ℕ) → n ≡ b + m → a + n ≡ b + (a + m)
@@ -78,12 +56,12 @@ module _ {K X : Type 0} (f : K → X → ℕ) where
     module _ (exact : IsAntisymmetric R) where
       -- an entry that goes was part of it
       pub sum-remove : (m : FinMap R X) (k : K) (x : X) → map.get m k ≡ Some x → sum_entries m ≡ f k x + sum_entries (map.remove m k)
-      sum-remove m k x e = ap (λ (m : FinMap R X). sum_entries m) (sym (set_over o exact m k x ∙ set_again o exact m k x e)) ∙ sum-insert (map.remove m k) k x (gone o m k)
+      sum-remove m k x e = ap (λ (m : FinMap R X). sum_entries m) (sym (set_over o exact m k x ∙ insert-same o exact m k x e)) ∙ sum-insert (map.remove m k) k x (get-remove_same o m k)
 
       -- an entry in place of one that was there
       pub sum-replace : (m : FinMap R X) (k : K) (x y : X) → map.get m k ≡ Some x → f k x + sum_entries (map.insert m k y) ≡ f k y + sum_entries m
       sum-replace m k x y e =
-          let new : sum_entries (map.insert m k y) ≡ f k y + sum_entries (map.remove m k) = ap (λ (m : FinMap R X). sum_entries m) (sym (set_over o exact m k y)) ∙ sum-insert (map.remove m k) k y (gone o m k) in
+          let new : sum_entries (map.insert m k y) ≡ f k y + sum_entries (map.remove m k) = ap (λ (m : FinMap R X). sum_entries m) (sym (set_over o exact m k y)) ∙ sum-insert (map.remove m k) k y (get-remove_same o m k) in
           let old = sum-remove m k x e in
           omega (arith, new, old)
 

@@ -54,6 +54,10 @@ description_at t who fd = option_and_then (λ did. map.get t.descriptions did) (
 abbrev pub opened_at : OpenFiles → Pid → ℕ → Option Opened
 opened_at t who fd = option_and_then (λ did. option_map (λ d. record { did = did; description = d }) (map.get t.descriptions did)) (did_at t who fd)
 
+-- whether some description of an object passes a test
+abbrev pub any_on : OpenFiles → (Description → Bool) → Oid → Bool
+any_on t test id = any_entry (λ (did : Did) (d : Description). same_oid d.object id && test d) t.descriptions
+
 -- what a description is open for
 abbrev pub how_of : Description → How
 how_of d = record { reads = d.reads; writes = d.writes; appends = d.appends }

@@ -1,4 +1,6 @@
 pub mod Descriptions
 pub mod Fifo
 pub mod Files
+pub mod Pipes
 pub mod Rows
+pub mod Uses

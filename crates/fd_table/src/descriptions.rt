@@ -2,7 +2,7 @@
 ghost use Rattle.std.specs.Prelude.{◌≡◌, ◌==◌, ◌+◌, ◌<◌, ◌≤◌, None, Some, OnErr, OnOk, cond};
 ghost use Rattle.std.specs.FinMap as map;
 ghost use Rattle.kern_model.specs.Valid.{IsThere};
-ghost use Rattle.fd_table.specs.Descriptions.{made_for, uses_of, with_one_less};
+ghost use Rattle.fd_table.specs.Descriptions.{has_user, made_for, uses_of, with_one_less};
 ghost use Rattle.fd_table.specs.declared.shared.Shared.{Shared as Value};
 
 use crate::shared::{How, Shared, SharedTable};
@@ -66,7 +66,7 @@ impl Descriptions {
             holders: 1,
         };
         self.shared.set(*did, shared)?;
-        if let Err(e) = self.uses.add_one(&object) {
+        if let Err(e) = self.uses.add_one(&object, how) {
             self.shared.remove(did);
             return Err(e);
         }
@@ -113,7 +113,7 @@ impl Descriptions {
             return None;
         }
         self.shared.remove(did);
-        self.uses.remove_one(&shared.object);
+        self.uses.remove_one(&shared.object, shared.how);
         self.unused(&shared.object)
     }
 
@@ -121,10 +121,23 @@ impl Descriptions {
     fn unused(&self, id: &Oid) -> Option<Oid>
         ensures { result ≡ cond (uses_of self.now id.now == 0) (Some id.now) None }
     {
-        if self.uses.count(id) == 0 {
+        if self.uses.count(id).all == 0 {
             Some(*id)
         } else {
             None
         }
+    }
+    /// Whether an object has a description for reading.
+    pub fn has_reader(&self, id: &Oid) -> bool
+        ensures { result ≡ has_user (λ s. s.how.reads) self.now id.now }
+    {
+        self.uses.count(id).readers > 0
+    }
+
+    /// Whether an object has a description for writing.
+    pub fn has_writer(&self, id: &Oid) -> bool
+        ensures { result ≡ has_user (λ s. s.how.writes) self.now id.now }
+    {
+        self.uses.count(id).writers > 0
     }
 }

@@ -4,6 +4,7 @@
 mod descriptions;
 mod fifo;
 mod opened;
+mod pipes;
 mod row;
 mod rows;
 mod shared;
@@ -12,5 +13,6 @@ mod uses;
 
 pub use kern_model::NoMemory;
 pub use opened::Opened;
+pub use pipes::PipeError;
 pub use shared::How;
 pub use table::{FdError, FdTable};

@@ -7,7 +7,7 @@ ghost use Rattle.kern_model.specs.Valid.{IsThere};
 ghost use Rattle.kern_model.specs.declared.limits.TheConstants.{MAX_DESCRIPTIONS, MAX_DESCRIPTORS};
 ghost use Rattle.kern_model.specs.declared.numbers.Did.{Did as Number};
 ghost use Rattle.kern_model.specs.declared.numbers.Pid.{Pid as Process};
-ghost use Rattle.fd_table.specs.Files.{description_at, did_at, drained, how_of, is_no_memory, is_past, left_with, next_in, no_files, open_refusal, opened_at, opened_for, with_lowest, with_offset, with_opened, with_row};
+ghost use Rattle.fd_table.specs.Files.{any_on, description_at, did_at, drained, how_of, is_no_memory, is_past, left_with, next_in, no_files, open_refusal, opened_at, opened_for, with_lowest, with_offset, with_opened, with_row};
 ghost use Rattle.fd_table.specs.Descriptions.{description_of};
 ghost use Rattle.fd_table.specs.Rows.{fd_count, row_of};
 
@@ -326,5 +326,18 @@ impl FdTable {
     {
         self.descriptions.hold(&did);
         self.rows.set(who, fd, did);
+    }
+    /// Whether an object has a description for reading.
+    pub fn has_reader(&self, id: &Oid) -> bool
+        ensures { result ≡ any_on self.now (λ d. d.reads) id.now }
+    {
+        self.descriptions.has_reader(id)
+    }
+
+    /// Whether an object has a description for writing.
+    pub fn has_writer(&self, id: &Oid) -> bool
+        ensures { result ≡ any_on self.now (λ d. d.writes) id.now }
+    {
+        self.descriptions.has_writer(id)
     }
 }

@@ -1,29 +1,80 @@
 // How many descriptions each object has.
-ghost use Rattle.std.specs.Prelude.{◌≡◌, ◌+◌, ◌≤◌, IsOk, IsSome, OnErr, OnOk, cond};
+ghost use Rattle.std.specs.Prelude.{◌≡◌, ◌+◌, IfOk, IsOk, IsSome, OnErr, OnOk, cond};
 ghost use Rattle.std.specs.FinMap as map;
 ghost use Rattle.kern_model.specs.Keys.{same_oid};
 ghost use Rattle.kern_model.specs.Maps.{get_or};
 ghost use Rattle.kern_model.specs.declared.numbers.Oid.{Oid as Number};
+ghost use Rattle.fd_table.specs.Uses.{Includes, more_if, no_use, with_more};
 
+use crate::shared::How;
 use kern_model::{NoMemory, Oid};
 use std::alloc::Global;
 use std::collections::BTreeMap;
 use std::marker::Model;
 
+/// How many descriptions an object has.
+#[derive(Clone, Copy, Debug, PartialEq, Eq)]
+pub struct UseCount {
+    pub all: usize,
+    /// How many of them are open for reading.
+    pub readers: usize,
+    /// How many of them are open for writing.
+    pub writers: usize,
+}
+
+// No description.
+const NO_USE: UseCount = UseCount {
+    all: 0,
+    readers: 0,
+    writers: 0,
+};
+
+// A number, with one more where a description is counted in it.
+fn one_more(count: usize, counts: bool) -> Result<usize, NoMemory>
+    ensures { IfOk result (λ n. n ≡ count + cond counts 1 0) }
+{
+    count.checked_add(usize::from(counts)).ok_or(NoMemory)
+}
+
+impl UseCount {
+    // One description more.
+    fn plus(self, how: How) -> Result<UseCount, NoMemory>
+        ensures { IfOk result (λ n. n ≡ with_more how self) }
+    {
+        Ok(UseCount {
+            all: one_more(self.all, true)?,
+            readers: one_more(self.readers, how.reads)?,
+            writers: one_more(self.writers, how.writes)?,
+        })
+    }
+
+    // One description less.
+    fn minus(self, how: How) -> UseCount
+        requires { Includes self how }
+        ensures { self ≡ with_more how result }
+    {
+        UseCount {
+            all: self.all - 1,
+            readers: self.readers - usize::from(how.reads),
+            writers: self.writers - usize::from(how.writes),
+        }
+    }
+}
+
 /// How many descriptions each object has. One without descriptions is not kept.
 #[derive(Drop)]
 pub struct Uses {
-    kept: BTreeMap<Oid, usize>,
+    kept: BTreeMap<Oid, UseCount>,
 }
 
 impl Model for Uses {
-    ghost use Rattle.std.specs.Prelude.{ℕ};
     ghost use Rattle.std.specs.FinMap as map;
     ghost use Rattle.std.specs.Coded.{codes};
     ghost use Rattle.lab_lattice.specs.Label.{label_code};
     ghost use Rattle.kern_model.specs.Keys.{oid_cmp};
+    ghost use Rattle.fd_table.specs.declared.uses.UseCount.{UseCount};
 
-    ghost Value = { map.FinMap oid_cmp ℕ };
+    ghost Value = { map.FinMap oid_cmp UseCount };
 
     ghost coded = { map.code (Prim.hlevel (codes, label_code)) (Prim.hlevel (codes, label_code)) };
 
@@ -42,21 +93,21 @@ impl Uses {
 
     /// How many descriptions an object has.
     #[tactic(auto, unfolding(kern_model::specs::Maps::get_or))]
-    pub fn count(&self, id: &Oid) -> usize
-        ensures { result ≡ get_or self.now id.now 0 }
+    pub fn count(&self, id: &Oid) -> UseCount
+        ensures { result ≡ get_or self.now id.now no_use }
     {
-        self.get(id).unwrap_or(0)
+        self.get(id).unwrap_or(NO_USE)
     }
 
     // The count that is kept of an object, if there is one.
-    fn get(&self, id: &Oid) -> Option<usize>
+    fn get(&self, id: &Oid) -> Option<UseCount>
         ensures { result ≡ map.get self.now id.now }
     {
         self.kept.get(id).copied()
     }
 
     // Puts a count in place of what was there. Where one is there, it takes no memory.
-    fn set(&mut self, id: Oid, count: usize) -> Result<(), NoMemory>
+    fn set(&mut self, id: Oid, count: UseCount) -> Result<(), NoMemory>
         ensures ok { OnOk result (self.new ≡ map.insert self.old id count) }
         ensures err { OnErr result (self.new ≡ self.old) }
         ensures replaced { IsSome (map.get self.old id) → IsOk result }
@@ -73,26 +124,23 @@ impl Uses {
     }
 
     /// Counts one description more.
-    pub fn add_one(&mut self, id: &Oid) -> Result<(), NoMemory>
-        ensures ok { OnOk result ((q : Number) → get_or self.new q 0 ≡ cond (same_oid id.now q) 1 0 + get_or self.old q 0) }
+    pub fn add_one(&mut self, id: &Oid, how: How) -> Result<(), NoMemory>
+        ensures ok { OnOk result ((q : Number) → get_or self.new q no_use ≡ more_if (same_oid id.now q) how (get_or self.old q no_use)) }
         ensures err { OnErr result (self.new ≡ self.old) }
     {
-        let count = self.count(id);
-        if count == usize::MAX {
-            return Err(NoMemory);
-        }
-        self.set(*id, count + 1)
+        let count = self.count(id).plus(how)?;
+        self.set(*id, count)
     }
 
     /// Counts one description less. It takes no memory.
-    pub fn remove_one(&mut self, id: &Oid)
-        requires { 1 ≤ get_or self.old id.now 0 }
-        ensures { (q : Number) → get_or self.old q 0 ≡ cond (same_oid id.now q) 1 0 + get_or self.new q 0 }
+    pub fn remove_one(&mut self, id: &Oid, how: How)
+        requires { Includes (get_or self.old id.now no_use) how }
+        ensures { (q : Number) → get_or self.old q no_use ≡ more_if (same_oid id.now q) how (get_or self.new q no_use) }
     {
-        let count = self.count(id);
-        if count <= 1 {
+        let count = self.count(id).minus(how);
+        if count == NO_USE {
             self.remove(id);
-        } else if self.set(*id, count - 1).is_err() {
+        } else if self.set(*id, count).is_err() {
             unreachable!();
         }
     }

@@ -15,6 +15,7 @@ use Rattle.std.proofs.lemmas.Bool.Decides.{nat_tests}
 use Rattle.std.proofs.lemmas.Cmp.{tied_itself}
 use Rattle.std.proofs.lemmas.List.Sums.{sum_by-cons}
 use Rattle.kern_model.specs.Maps.{any_entry, count_entries}
+use Rattle.kern_model.proofs.Selections.{get-remove_same}
 use Rattle.kern_model.proofs.MapLemmas.{same_key, never_some, some_same}
 
 -- ---- lists
@@ -85,29 +86,7 @@ module _ {K X : Type 0} (R : K → K → Ordering) (p : K → X → Bool) where
       ] none
 
 module _ {K X : Type 0} {R : K → K → Ordering} (o : IsTotalOrder R) where
-  -- what is there already may be put there once more
-  pub insert_same : IsAntisymmetric R → (m : FinMap R X) (k : K) (x : X) → table.get m k ≡ Some x → table.insert m k x ≡ m
-  insert_same exact m k x e = same_map o exact _ _ (λ q.
-      get-insert o m k x q
-      ∙ elim (eq_by_cmp R q k) as (λ b. eq_by_cmp R q k ≡ b → cond b (Some x) (table.get m q) ≡ table.get m q) [
-        | true ↦ λ t. sym (ap (table.get m) (same_key exact q k t) ∙ e)
-        | false ↦ λ _. refl
-      ] refl)
-
-  -- what is absent may be removed
-  pub remove_absent : IsAntisymmetric R → (m : FinMap R X) (k : K) → table.get m k ≡ None → table.remove m k ≡ m
-  remove_absent exact m k e = same_map o exact _ _ (λ q.
-      get-remove o m k q
-      ∙ elim (eq_by_cmp R q k) as (λ b. eq_by_cmp R q k ≡ b → cond b None (table.get m q) ≡ table.get m q) [
-        | true ↦ λ t. sym (ap (table.get m) (same_key exact q k t) ∙ e)
-        | false ↦ λ _. refl
-      ] refl)
-
-  -- what was removed is not there
-  pub gone : (m : FinMap R X) (k : K) → table.get (table.remove m k) k ≡ None
-  gone m k = get-remove o m k k ∙ ap (λ r. cond (is_eq r) None (table.get m k)) (tied_itself o k)
-
-  -- and may be put back
+  -- what is there may be removed and put back
   pub insert-remove : IsAntisymmetric R → (m : FinMap R X) (k : K) (x : X) → table.get m k ≡ Some x → table.insert (table.remove m k) k x ≡ m
   insert-remove exact m k x e = same_map o exact _ _ (λ q.
       get-insert o (table.remove m k) k x q ∙ ap (cond (eq_by_cmp R q k) (Some x)) (get-remove o m k q)
@@ -139,7 +118,7 @@ module _ {K X : Type 0} {R : K → K → Ordering} (p : K → X → Bool) where
     module _ (exact : IsAntisymmetric R) where
       -- an entry that goes counted where it passes
       pub count_entries-remove : (m : FinMap R X) (k : K) (x : X) → table.get m k ≡ Some x → count_entries p m ≡ cond (p k x) 1 0 + count_entries p (table.remove m k)
-      count_entries-remove m k x e = ap (count_entries p) (sym (insert-remove o exact m k x e)) ∙ count_entries-insert (table.remove m k) k x (gone o m k)
+      count_entries-remove m k x e = ap (count_entries p) (sym (insert-remove o exact m k x e)) ∙ count_entries-insert (table.remove m k) k x (get-remove_same o m k)
 
       -- where none passes, what is there does not
       passes_counted : (es : List (K × X)) (k : K) (x : X) → find R k es ≡ Some x → p k x ≡ true → 1 ≤ passing p es

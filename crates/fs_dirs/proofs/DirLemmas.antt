@@ -20,13 +20,13 @@ use Rattle.fs_path.specs.Name.{Name}
 use Rattle.kern_model.specs.declared.numbers.Oid.{Oid}
 use Rattle.kern_model.specs.Keys.{Spot, oid_cmp, spot_cmp, same_oid}
 use Rattle.kern_model.proofs.KeyLaws.{oid_cmp_total, oid_cmp_exact, spot_cmp_total, spot_cmp_exact}
-use Rattle.kern_model.proofs.MapLemmas.{same_key, get_or-found, get_or-absent, get_or-same}
+use Rattle.kern_model.proofs.MapLemmas.{same_key, get_or-found, get_or-absent, get_or-same, insert-same}
 use Rattle.kern_model.proofs.TableLemmas.{get_at, one_set}
 use Rattle.kern_model.specs.Entries.{entry_count, names_in}
 use Rattle.kern_model.specs.Maps.{count_entries}
 use Rattle.fs_dirs.specs.Directory.{name_cmp}
 use Rattle.fs_dirs.specs.Entries.{Contents, at_spots, contents_of, entries_alone, entries_of, objects_in}
-use Rattle.fs_dirs.proofs.CountLemmas.{count_chosen, insert_same, no_entries}
+use Rattle.fs_dirs.proofs.CountLemmas.{count_chosen, no_entries}
 
 -- ---- lists of entries in order
 both : (a b : Bool) → T a → T b → T (a && b)
@@ -290,4 +290,4 @@ module _ (ds : List (Oid × Contents)) (dirs : FinMap oid_cmp Contents) (view : 
 
   -- and the same one, where the directory is as it was
   pub dirs_kept : (ds' : List (Oid × Contents)) (m old : Contents) → ((q : Oid) → lookup (is_at (oid_cmp q)) ds' ≡ cond (is_at (oid_cmp dir) q) (Some m) (lookup (is_at (oid_cmp q)) ds)) → m ≡ old → Some old ≡ lookup (is_at (oid_cmp dir)) ds → table.from_entries {R = oid_cmp} ds' ≡ dirs
-  dirs_kept ds' m old h same is = dirs_set ds' m h ∙ ap (table.insert dirs dir) same ∙ insert_same oid_cmp_total oid_cmp_exact dirs dir old (dir_found (Some old) is)
+  dirs_kept ds' m old h same is = dirs_set ds' m h ∙ ap (table.insert dirs dir) same ∙ insert-same oid_cmp_total oid_cmp_exact dirs dir old (dir_found (Some old) is)

@@ -15,11 +15,12 @@ use Rattle.kern_model.specs.Entries.{holder}
 use Rattle.kern_model.specs.Keys.{Spot, oid_cmp, spot_cmp, same_oid}
 use Rattle.kern_model.specs.Valid.{IsThere}
 use Rattle.kern_model.proofs.KeyLaws.{oid_cmp_total, oid_cmp_exact, spot_cmp_total, spot_cmp_exact}
-use Rattle.kern_model.proofs.MapLemmas.{same_key, some_same, get-insert_same, get-insert_kept}
+use Rattle.kern_model.proofs.MapLemmas.{same_key, some_same, get-insert_same, get-insert_kept, remove-absent}
 use Rattle.fs_dirs.specs.Entries.{AreKept, entries_alone, IsLinked, dir_of, linked, name_count, unlinked, with_links, without_name}
 use Rattle.fs_dirs.specs.declared.links.Links.{Links}
 use Rattle.fs_dirs.specs.declared.links.Links.TheVariants.{One, Shared}
-use Rattle.fs_dirs.proofs.CountLemmas.{count_entries-empty, count_entries-insert, count_entries-remove, none_passing, only_passing, insert-remove, gone, remove_absent}
+use Rattle.kern_model.proofs.Selections.{get-remove_same}
+use Rattle.fs_dirs.proofs.CountLemmas.{count_entries-empty, count_entries-insert, count_entries-remove, none_passing, only_passing, insert-remove}
 
 one_more : (b : Bool) (n m : ℕ) → b ≡ true → m ≡ cond b 1 0 + n → m ≡ 1 + n
 one_more true n m t e = e
@@ -110,7 +111,7 @@ module _ (entries : FinMap spot_cmp Oid) (dir : Oid) (name : Name) (id : Oid) (t
   -- there is one entry less
   pub one_less : table.len entries ≡ table.len after_remove + 1
   one_less = ap table.len (sym (insert-remove spot_cmp_total spot_cmp_exact entries (dir, name) id there)) ∙ len-insert spot_cmp_total after_remove (dir, name) id
-      ∙ ap (λ (w : Option Oid). cond (is_some w) (table.len after_remove) (table.len after_remove + 1)) (gone spot_cmp_total entries (dir, name))
+      ∙ ap (λ (w : Option Oid). cond (is_some w) (table.len after_remove) (table.len after_remove + 1)) (get-remove_same spot_cmp_total entries (dir, name))
 
   -- with what is left of the object's names, each object's are kept
   pub kept-remove : (links : FinMap oid_cmp Links) (total : ℕ) → AreKept entries links total → AreKept after_remove (with_links links id (unlinked (table.get links id))) (total - 1)
@@ -144,7 +145,7 @@ module _ (entries : FinMap spot_cmp Oid) (dir : Oid) (name : Name) (links : FinM
 
   -- with what is left of the object's names, each object's are kept
   pub kept-without : (w : Option Oid) → table.get entries (dir, name) ≡ w → AreKept (table.remove entries (dir, name)) (without_name links w) (cond (is_some w) (total - 1) total)
-  kept-without None is = subst (λ (m : FinMap spot_cmp Oid). AreKept m links total) (sym (remove_absent spot_cmp_total spot_cmp_exact entries (dir, name) is)) kept
+  kept-without None is = subst (λ (m : FinMap spot_cmp Oid). AreKept m links total) (sym (remove-absent spot_cmp_total spot_cmp_exact entries (dir, name) is)) kept
   kept-without (Some id) is = kept-remove entries dir name id is links total kept
 
 -- ---- which directory holds an object

@@ -15,7 +15,8 @@ use Rattle.kern_model.proofs.MapLemmas.{same_key, get-insert_same, get-insert_ke
 use Rattle.fs_dirs.specs.Entries.{AreKept, HasShared, IsLinked, name_count, relinked, unlinked, with_links, without_name}
 use Rattle.fs_dirs.specs.declared.links.Links.{Links}
 use Rattle.fs_dirs.specs.declared.links.Links.TheVariants.{One, Shared}
-use Rattle.fs_dirs.proofs.CountLemmas.{count_entries-insert, count_entries-remove, gone}
+use Rattle.fs_dirs.proofs.CountLemmas.{count_entries-insert, count_entries-remove}
+use Rattle.kern_model.proofs.Selections.{get-remove_same}
 use Rattle.fs_dirs.proofs.LinkLemmas.{get-with_links, has_links, kept-remove, kept_spot, one_less}
 
 -- ---- tables
@@ -116,7 +117,7 @@ module _ (entries : FinMap spot_cmp Oid) (dir : Oid) (name : Name) (into : Oid) 
   kept-relocated (Some other) is =
       let names = without_name links (Some other) in
       subst (λ (m : FinMap spot_cmp Oid). AreKept m (with_links names id (relinked (table.get names id) into)) (total - 1)) (insert-remove_first spot_cmp_total spot_cmp_exact entries (dir, name) (into, new) apart id)
-      (kept-moved (table.remove entries (into, new)) dir name into new id still_there (gone spot_cmp_total entries (into, new)) names (total - 1) (kept-remove entries into new other is links total kept))
+      (kept-moved (table.remove entries (into, new)) dir name into new id still_there (get-remove_same spot_cmp_total entries (into, new)) names (total - 1) (kept-remove entries into new other is links total kept))
 
 -- ---- which objects have had several names
 -- after a name goes

@@ -52,6 +52,20 @@ impl<T: Drop> List<T> {
         self.kept.as_slice()
     }
 
+    /// The items in order, in a vector.
+    pub fn into_vec(self) -> Vec<T>
+        ensures { result.items ≡ self }
+    {
+        self.kept
+    }
+
+    /// Gives back the memory that its items do not need.
+    pub fn shrink_to_fit(&mut self)
+        ensures { self.new ≡ self.old }
+    {
+        self.kept.shrink_to_fit();
+    }
+
     /// Removes all items.
     pub fn clear(&mut self)
         ensures { self.new ≡ [] }

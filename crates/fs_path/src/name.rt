@@ -8,7 +8,8 @@ ghost use Rattle.std.specs.Cmp.Lexicographic.{slice_cmp, pointwise};
 ghost use Rattle.std.specs.Ordering.{nat_cmp, on, as_partial_cmp};
 ghost use Rattle.fs_path.specs.Name.{is_name, is_name_byte, is_dots};
 
-use crate::{ByteList, NoMemory, Steps};
+use crate::{NoMemory, Steps};
+use smallvec::SmallVec;
 use std::alloc::Global;
 use std::cmp::Ordering;
 use std::marker::Model;
@@ -17,11 +18,14 @@ use std::sync::ledger::Ledger;
 /// The most bytes that a name has.
 pub(crate) const MAX_NAME: usize = 63;
 
+// The most bytes of a name that takes no memory of its own.
+const SHORT_NAME: usize = 16;
+
 /// The name of an entry in a directory: 1 to 63 bytes, none of them 0 or `/`, and neither `.` nor `..`.
 /// It is seen as its bytes, and names are ordered as these are.
-#[derive(Debug, Drop)]
+#[derive(Debug)]
 pub struct Name {
-    kept: ByteList,
+    kept: SmallVec<u8, SHORT_NAME>,
 }
 
 impl Model for Name {
@@ -30,9 +34,16 @@ impl Model for Name {
 
     ghost Value = { List ℕ };
 
-    ghost view = { λ n. n.kept };
+    ghost view = { λ n. n.kept.items };
 
-    ghost invariant = { λ n. is_name n.kept ≡ true };
+    ghost invariant = { λ n. is_name n.kept.items ≡ true };
+}
+
+// Written out, so that a drop is one call, whether or not the bytes have memory of their own.
+impl Drop for Name {
+    fn drop(self) {
+        let Name { kept: _ } = self;
+    }
 }
 
 // Whether bytes are `.` or `..`.
@@ -70,7 +81,7 @@ impl Name {
         requires { is_name bytes.now ≡ true }
         ensures { IfOk result (λ name. name ≡ bytes.now) }
     {
-        let kept = ByteList::from_slice(alloc, bytes)?;
+        let kept = SmallVec::from_slice(alloc, bytes)?;
         Ok(Name { kept })
     }
 
@@ -90,7 +101,7 @@ impl Name {
         ensures name { is_name result.now ≡ true }
         ensures short { length result.now ≤ 63 }
     {
-        self.kept.items()
+        self.kept.as_slice()
     }
 
     /// The order of two names, by their bytes. It counts as one comparison.
@@ -106,8 +117,7 @@ impl Name {
     pub fn copy(&self) -> Result<Name, NoMemory>
         ensures { IfOk result (λ name. name ≡ self.now) }
     {
-        let kept = self.kept.copy()?;
-        Ok(Name { kept })
+        Name::of(*self.kept.allocator(), self.bytes())
     }
 }
 

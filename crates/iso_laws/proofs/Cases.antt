@@ -34,7 +34,7 @@ use Rattle.kern_model.specs.Walk.{on_path, read_object, last_place}
 use Rattle.kern_model.specs.Valid.{IsValid, IsDir}
 use Rattle.iso_laws.proofs.Rows.{Ends, Passes, Gives, ends_given}
 use Rattle.iso_laws.proofs.Sight.{IsNamed, IsOpen, ends_reach}
-use Rattle.iso_laws.proofs.files.Closing.{has_fd, without_fd}
+use Rattle.iso_laws.proofs.files.Closed.{has_fd, without_fd}
 use Rattle.iso_laws.proofs.tree.Changes.{IsFresh}
 use Rattle.iso_laws.proofs.tree.Moves.{IsMove}
 

@@ -22,7 +22,8 @@ use Rattle.kern_model.proofs.KeyLaws.{pid_cmp_exact}
 use Rattle.iso_laws.proofs.Part.{part_changes, first_high, part_of_high}
 use Rattle.iso_laws.proofs.Rows.{Passes}
 use Rattle.iso_laws.proofs.Sight.{IsOpen, open_object_is, write_side, equal_side}
-use Rattle.iso_laws.proofs.files.Closing.{has_fd, without_fd, closing_hidden}
+use Rattle.iso_laws.proofs.files.Closing.{closing_hidden}
+use Rattle.iso_laws.proofs.files.Closed.{has_fd, without_fd}
 use Rattle.iso_laws.proofs.processes.Ending.{ending_hidden}
 use Rattle.iso_laws.proofs.Cases.{Cases}
 

@@ -33,13 +33,14 @@ use Rattle.kern_model.specs.Isolation.{low, crosses, Kept}
 use Rattle.kern_model.specs.Valid.{IsValid, IsThere}
 use Rattle.kern_model.proofs.MapLemmas.{some_same, never_some, get-insert_same, get_or-found, each-insert, each-remove}
 use Rattle.kern_model.proofs.KeyLaws.{oid_cmp_total}
-use Rattle.iso_laws.proofs.KindLemmas.{stream_fifo}
+use Rattle.kern_model.proofs.KindLemmas.{stream_fifo}
 use Rattle.iso_laws.proofs.Rows.{Passes}
 use Rattle.iso_laws.proofs.Sight.{IsOpen, open_object_is, same_side, new_side, read_low, write_side}
 use Rattle.iso_laws.proofs.Changes.{KeptProcess, kept_of, kept_process, kept_object, kept_description, kept_beside}
-use Rattle.iso_laws.proofs.files.Closing.{has_fd, without_fd, kept_closed}
+use Rattle.iso_laws.proofs.files.Closing.{kept_closed}
+use Rattle.iso_laws.proofs.files.Closed.{has_fd, without_fd}
 use Rattle.iso_laws.proofs.processes.Ending.{kept_ended}
-use Rattle.iso_laws.proofs.tree.Changes.{next_absent}
+use Rattle.kern_model.proofs.StateLemmas.{next_absent}
 use Rattle.iso_laws.proofs.Cases.{Cases, IsMaking, IsOpening, IsRelabelling}
 
 -- a label that a check allowed the caller is on the same side as its own

@@ -1,5 +1,4 @@
 pub mod AllLemmas
-pub mod KindLemmas
 pub mod PrefixLemmas
 pub mod Part
 pub mod Rows

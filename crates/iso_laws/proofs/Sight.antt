@@ -3,7 +3,7 @@ use Rattle.std.specs.Prelude.{◌≡◌, ℕ, ◌+◌, Bool, true, false, not, �
 use Rattle.std.specs.Option.{option_map, option_and_then}
 use Rattle.std.specs.List.{list_all, list_any}
 use Rattle.std.proofs.Common.{sym, ◌∙◌, ap, subst}
-use Rattle.std.proofs.lemmas.Bool.{and_parts, not-false}
+use Rattle.std.proofs.lemmas.Bool.{and_parts, not-false, false_from_ne_true}
 use Rattle.std.specs.FinMap as map
 use Rattle.cap_bits.specs.declared.cap.Cap.{Cap}
 use Rattle.cap_bits.specs.declared.cap.Cap.TheVariants as cap
@@ -35,8 +35,8 @@ use Rattle.kern_model.specs.Step.{subject}
 use Rattle.kern_model.specs.Isolation.{low, crosses, is_mac, differ, differs_from, Kept}
 use Rattle.kern_model.specs.Valid.{IsValid, IsThere, IsDir}
 use Rattle.kern_model.proofs.MapLemmas.{get-select_kept, get-select_dropped, get_or-found, get_or-absent, get_or-same, never_some, some_same}
-use Rattle.iso_laws.proofs.KindLemmas.{dir_kind}
 use Rattle.iso_laws.proofs.Part.{by_number, shown, low_oid, low_pid, low_did, low_spot, same}
+use Rattle.kern_model.proofs.StateLemmas.{dir_there}
 use Rattle.iso_laws.proofs.Rows.{Alike, Ends, Passes, alike_same, alike_hidden, alike_refuse, alike_missing, ends_need, ends_refuse, ends_missing}
 
 -- a check whose rule fails is exercised or denied
@@ -65,22 +65,17 @@ crossed l a c with fails named mac apart passes =
     ] (failed_verdict a c fails)
 
 -- ---- labels
--- a test that cannot hold is false
-pub not_true : (b : Bool) → (b ≡ true → ⊥) → b ≡ false
-not_true true h = absurd (h refl)
-not_true false h = refl
-
 -- what a Low label dominates is Low
 pub low_below : (l x y : Label) → low l x ≡ true → dominates x y ≡ true → low l y ≡ true
 low_below l x y h d = dominates_through l x y h d
 
 -- a Low label dominates no label that is not Low
 pub not_below : (l x y : Label) → low l x ≡ true → low l y ≡ false → dominates x y ≡ false
-not_below l x y h n = not_true _ (λ d. let no : true ≡ false = sym (low_below l x y h d) ∙ n in cc)
+not_below l x y h n = false_from_ne_true _ (λ d. let no : true ≡ false = sym (low_below l x y h d) ∙ n in cc)
 
 -- top is not Low where a label that it dominates is not
 pub top_hidden : (l top y : Label) → dominates top y ≡ true → low l y ≡ false → low l top ≡ false
-top_hidden l top y d n = not_true _ (λ h. let no : true ≡ false = sym (low_below l top y h d) ∙ n in cc)
+top_hidden l top y d n = false_from_ne_true _ (λ h. let no : true ≡ false = sym (low_below l top y h d) ∙ n in cc)
 
 equal_bools : (a b : Bool) → (a ≡ true → b ≡ true) → (b ≡ true → a ≡ true) → a ≡ b
 equal_bools true b f g = sym (f refl)
@@ -130,14 +125,6 @@ pub root_low : (l : Label) → low l root.label ≡ true
 root_low l = dominates_bottom l
 
 -- ---- what is there
--- what reads as a directory is there
-pub dir_there : (s : State) (id : Oid) → is_dir (object_at s id).kind ≡ true → IsDir s.objects id
-dir_there s id h =
-    elim (map.get s.objects id) as (λ w. map.get s.objects id ≡ w → IsDir s.objects id) [
-      | None ↦ λ e. let no : false ≡ true = ap (λ (o : Object). is_dir o.kind) (sym (get_or-absent s.objects id (stub_object s.top) e)) ∙ h in cc
-      | Some o ↦ λ e. record { object = o; is = e; dir = dir_kind o.kind (ap (λ (x : Object). is_dir x.kind) (sym (get_or-found s.objects id (stub_object s.top) o e)) ∙ h) }
-    ] refl
-
 -- an object that a path may lead to: it is there, and is no pipe
 pub record IsNamed (s : State) (id : Oid) : Type 0 where
   pub object : Object
@@ -277,7 +264,7 @@ module _ (l : Label) (s : State) (kept : Kept l s) (who : Pid) (p : Process) (is
 
   -- an object that is not Low cannot be written by a Low process
   pub write_fails : same_label p.label (object_at s id).label ≡ false
-  write_fails = not_true _ (λ same.
+  write_fails = false_from_ne_true _ (λ same.
       let side : true ≡ false = sym is_low ∙ same_side l p.label (object_at s id).label same ∙ ap (low l) label_at ∙ hidden_label in
       cc)
 
@@ -301,7 +288,7 @@ pub equal_side : (l : Label) (a : Subject) (c : Check) → cap_of c.name ≡ Som
 equal_side l a c named rule passes =
     elim (same_label a.label c.thing_label) as (λ b. same_label a.label c.thing_label ≡ b → low l a.label ≡ low l c.thing_label) [
       | true ↦ λ same. same_side l a.label c.thing_label same
-      | false ↦ λ other. differ_false _ _ (not_true (differ (low l a.label) (low l c.thing_label)) (λ apart. crossed l a c cap.MacWrite (rule ∙ other) named refl apart passes))
+      | false ↦ λ other. differ_false _ _ (false_from_ne_true (differ (low l a.label) (low l c.thing_label)) (λ apart. crossed l a c cap.MacWrite (rule ∙ other) named refl apart passes))
     ] refl
 
 -- what passes the mac_write of a process is on its side
@@ -337,7 +324,7 @@ module _ (l : Label) (s : State) (kept : Kept l s) (valid : IsValid s) (who : Pi
             let top : low l s.top ≡ false = top_high l s kept who p is_low id there h valid in
             let stub_label : (object_at (by_number l s) (stub s.top)).label ≡ s.top = ap (λ o. o.label) (object_stub l s top) in
             let fails' : same_label p.label (object_at (by_number l s) (stub s.top)).label ≡ false =
-            ap (same_label p.label) stub_label ∙ not_true _ (λ same. let side : true ≡ false = sym is_low ∙ same_side l p.label s.top same ∙ top in cc) in
+            ap (same_label p.label) stub_label ∙ false_from_ne_true _ (λ same. let side : true ≡ false = sym is_low ∙ same_side l p.label s.top same ∙ top in cc) in
             alike_hidden (crosses l) l s.top (subject who p) (mac_write s p id place) (mac_write (by_number l s) p (stub s.top) place) r (r' (stub s.top)) refl refl
             (failed_verdict (subject who p) (mac_write (by_number l s) p (stub s.top) place) fails' ∙ sym (failed_verdict (subject who p) (mac_write s p id place) (write_fails l s kept who p is_low id there h)))
             (write_crosses l s kept who p is_low id there h place)

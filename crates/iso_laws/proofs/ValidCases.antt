@@ -1,7 +1,7 @@
 -- A valid state stays valid, by each kind of effect.
 use Rattle.std.specs.Prelude.{◌≡◌, ◌≤◌, ◌&&◌, length, Bool, true, [], Some, refl}
 use Rattle.std.proofs.Common.{sym, ◌∙◌, ap, subst, arith}
-use Rattle.std.proofs.lemmas.Bool.{true≢false, and_from}
+use Rattle.std.proofs.lemmas.Bool.{true≢false, and_from, not-true}
 use Rattle.std.proofs.lemmas.Cmp.{tied_itself}
 use Rattle.std.specs.Ordering.{is_eq}
 use Rattle.std.specs.FinMap as map
@@ -25,11 +25,11 @@ use Rattle.iso_laws.proofs.Changes.{valid_process}
 use Rattle.kern_model.proofs.Selections.{one_passes}
 use Rattle.iso_laws.proofs.attributes.Labels.{valid_relabelled}
 use Rattle.iso_laws.proofs.files.Changes.{valid_moved, valid_content, valid_shared, valid_opened}
-use Rattle.iso_laws.proofs.files.Closing.{valid_close}
+use Rattle.iso_laws.proofs.files.Closed.{valid_close}
 use Rattle.iso_laws.proofs.files.Pipes.{valid_piped}
 use Rattle.iso_laws.proofs.processes.Ending.{valid_ended}
 use Rattle.iso_laws.proofs.processes.Forking.{valid_forked, valid_awaited}
-use Rattle.iso_laws.proofs.tree.Changes.{no_dir_is, not_true_false, valid_drop, valid_link, valid_made}
+use Rattle.iso_laws.proofs.tree.Changes.{no_dir_is, valid_drop, valid_link, valid_made}
 use Rattle.iso_laws.proofs.tree.Moves.{valid_move}
 use Rattle.iso_laws.proofs.Cases.{Cases}
 
@@ -77,7 +77,7 @@ valid_cases bad s valid who p is =
             fds = own.fds;
           });
       leave = λ dir name id place written is_dir at empty. valid_drop s valid (dir, name) id at empty;
-      enter = λ dir name id place written is_dir free standing named no_dir few order fits. valid_link s valid dir name id is_dir free standing named.object named.is (not_true_false _ no_dir) named.no_pipe few order (fits tt);
+      enter = λ dir name id place written is_dir free standing named no_dir few order fits. valid_link s valid dir name id is_dir free standing named.object named.is (not-true _ no_dir) named.no_pipe few order (fits tt);
       move = λ dir name id into new place there_place written is_dir written_there move fits. valid_move s valid dir name id into new move (fits tt);
       make = λ dir name o place making. valid_made s valid p dir name o making.fresh making.is_dir making.free making.standing own.below making.left making.order (making.named tt);
       open_existing = λ id flags place may. valid_opened s valid who p is (record { object = id; reads = flags.r; writes = flags.w; appends = flags.a; offset = 0 }) may.named.object may.named.is (no_dir_is may.named.object may.no_dir) may.room.descriptor may.room.number;

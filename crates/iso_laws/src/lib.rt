@@ -1,7 +1,8 @@
 //! The laws of isolation, on the definitions alone. A label is Low for `l` where `l` dominates it. What
 //! crosses `l` is an exercise of one of the five capabilities that override the rules on labels, between
 //! labels of which some are Low and some are not. Each law is stated in `specs/Laws.antt`. Those of isolation, and that a
-//! valid state stays valid, are for the calls with laws, which `specs/LawCalls.antt` names; the others are for every call.
+//! valid state stays valid, are for the calls with laws: all but an `open` by flags that no call may have
+//! (`specs/LawCalls.antt`). The others are for every call.
 #![tactic(auto)]
 
 ghost use Rattle.iso_laws.specs.Laws.{LowStepReply, LowStepRecords, LowStepState, OtherStep, KeptStep, ValidStep};

@@ -144,10 +144,17 @@ all_can w is = record { room = all_room MAX_PROCS (λ l. procs_at l w.procs) is.
 rest_from : {X : Type 0} (xs : List X) (i : ℕ) (x : X) → i < length xs → x ≡ get_or xs i x → drop i xs ≡ x ∷ drop (i + 1) xs
 rest_from xs i x h is = drop-cons xs i x h ∙ ap (λ y. y ∷ drop (suc i) xs) (sym is) ∙ ap (λ n. x ∷ drop n xs) (sym (add-one i))
 
+-- the first object of some has a number, where there is room for all
+pub first_numbered : (s : State) (o : WorldObject) (os : List WorldObject) → RoomForObjects s.object_numbers (o ∷ os) → drawn s.object_numbers o.label < MAX_OBJECTS
+first_numbered s o os room = first_room (λ (x : WorldObject). x.label) MAX_OBJECTS s.object_numbers o os room
+
+-- there is room for the others after it is made
+pub others_room : (s t : State) (o : WorldObject) (os : List WorldObject) → t ≡ boot_object s o → RoomForObjects s.object_numbers (o ∷ os) → RoomForObjects t.object_numbers os
+others_room s t o os booted room = subst (λ m. RoomForObjects m os) (sym (ap (λ u. u.object_numbers) booted ∙ object_draws s o)) (less_room (λ (x : WorldObject). x.label) MAX_OBJECTS s.object_numbers o os room)
+
 -- the first object that is left has a number
 pub object_room : (s : State) (os : List WorldObject) (i : ℕ) (o : WorldObject) → i < length os → o ≡ get_or os i o → RoomForObjects s.object_numbers (drop i os) → drawn s.object_numbers o.label < MAX_OBJECTS
-object_room s os i o h is room =
-    first_room (λ (x : WorldObject). x.label) MAX_OBJECTS s.object_numbers o (drop (i + 1) os) (subst (λ xs. RoomForObjects s.object_numbers xs) (rest_from os i o h is) room)
+object_room s os i o h is room = first_numbered s o (drop (i + 1) os) (subst (λ xs. RoomForObjects s.object_numbers xs) (rest_from os i o h is) room)
 
 -- the first process that is left can start
 module _ (s : State) (ws : List WorldProc) (i : ℕ) (w : WorldProc) (h : i < length ws) (is : w ≡ get_or ws i w) (can : CanStart s.process_numbers (drop i ws)) where
@@ -162,8 +169,7 @@ module _ (s t : State) (os : List WorldObject) (i : ℕ) (o : WorldObject) (h : 
   objects_step = ap (λ u. boot_objects u (drop (i + 1) os)) booted ∙ ap (boot_objects s) (sym (rest_from os i o h is))
 
   pub objects_room : RoomForObjects s.object_numbers (drop i os) → RoomForObjects t.object_numbers (drop (i + 1) os)
-  objects_room room = subst (λ m. RoomForObjects m (drop (i + 1) os)) (sym (ap (λ u. u.object_numbers) booted ∙ object_draws s o))
-      (less_room (λ (x : WorldObject). x.label) MAX_OBJECTS s.object_numbers o (drop (i + 1) os) (subst (λ xs. RoomForObjects s.object_numbers xs) (rest_from os i o h is) room))
+  objects_room room = others_room s t o (drop (i + 1) os) booted (subst (λ xs. RoomForObjects s.object_numbers xs) (rest_from os i o h is) room)
 
 module _ (s t : State) (ws : List WorldProc) (i : ℕ) (w : WorldProc) (h : i < length ws) (is : w ≡ get_or ws i w) (booted : t ≡ boot_process s w) where
   pub processes_step : boot_processes t (drop (i + 1) ws) ≡ boot_processes s (drop i ws)

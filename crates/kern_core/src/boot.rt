@@ -13,7 +13,7 @@ ghost use Rattle.kern_core.specs.Starts.{CanStart};
 use crate::from_world::creds_from;
 use crate::loading::Loading;
 use fs_dirs::root_directory;
-use kern_model::{NoMemory, Pid, Rec, RecList, World, WorldProc};
+use kern_model::{NoMemory, Pid, ProcList, Rec, RecList, World, WorldProc};
 use proc_table::ProcError;
 use std::alloc::Global;
 use sys_lookup::Shared;
@@ -27,6 +27,23 @@ pub fn furnish(alloc: Global, world: &World) -> Result<Shared, NoMemory>
     let mut loading = Loading::new(alloc, world.bound, world.top)?;
     loading.boot_objects(world.objects.items())?;
     loading.load(alloc)
+}
+
+/// The state that has the objects of a world, and no process, and the processes of that world. The world is used up.
+pub fn furnish_from(alloc: Global, world: World) -> Result<(Shared, ProcList), NoMemory>
+    requires { IsWorld world }
+    ensures { IfOk result (λ made. (state_of made.0 ≡ furnished world) × (made.1 ≡ world.procs)) }
+{
+    let World {
+        top,
+        bound,
+        objects,
+        procs,
+    } = world;
+    let mut loading = Loading::new(alloc, bound, top)?;
+    loading.take_objects(objects)?;
+    let shared = loading.load(alloc)?;
+    Ok((shared, procs))
 }
 
 /// Makes the processes of a world, in order, and returns a record for each.

@@ -12,7 +12,7 @@ ghost use Rattle.kern_model.specs.World.{IsWorld};
 ghost use Rattle.sys_lookup.specs.Shared as held;
 ghost use Rattle.kern_core.specs.Built.{is_built};
 
-use crate::boot::{boot_processes, furnish};
+use crate::boot::{boot_processes, furnish, furnish_from};
 use crate::calls::play;
 use cap_bits::CapState;
 use kern_model::{Call, NoMemory, Outcome, Pid, PidList, RecList, World};
@@ -44,6 +44,25 @@ impl Kernel {
     {
         let mut shared = furnish(alloc, world)?;
         let recs = boot_processes(alloc, &mut shared, world.procs.items())?;
+        let kernel = Kernel {
+            alloc,
+            shared,
+            failed: false,
+        };
+        Ok((kernel, recs))
+    }
+
+    /// The same as [`boot`](Kernel::boot). It uses the world up, so that the world and the kernel take less memory at a time.
+    #[tactic(auto, unfolding(crate::specs::Kernel::state_of, crate::specs::Kernel::has_failed))]
+    pub fn boot_from(alloc: Global, world: World) -> Result<(Kernel, RecList), NoMemory>
+        requires world { IsWorld world }
+        ensures state { IfOk result (λ b. state_of b.0 ≡ boot world) }
+        ensures recs { IfOk result (λ b. b.1 ≡ boot_recs world) }
+        ensures valid { IfOk result (λ b. IsValid (state_of b.0)) }
+        ensures sound { IfOk result (λ b. has_failed b.0 ≡ false) }
+    {
+        let (mut shared, procs) = furnish_from(alloc, world)?;
+        let recs = boot_processes(alloc, &mut shared, procs.items())?;
         let kernel = Kernel {
             alloc,
             shared,

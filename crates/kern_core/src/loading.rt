@@ -13,7 +13,7 @@ use cap_bits::CapSet;
 use fd_table::FdTable;
 use fs_dirs::{Spot, Spots, Tree, root_directory};
 use fs_nodes::{NodeError, Nodes};
-use kern_model::{Name, NoMemory, Oid, WorldObject};
+use kern_model::{Attr, Body, Name, NoMemory, ObjectList, Oid, Path, WorldObject};
 use lab_lattice::Label;
 use proc_table::Procs;
 use std::alloc::Global;
@@ -48,7 +48,25 @@ impl Loading {
         ensures { OnOk result (state_loaded self.new ≡ boot_objects (state_loaded self.old) objects.now) }
     {
         for object in objects {
-            self.boot_object(object)?;
+            let body = copy_body(&object.body)?;
+            self.boot_object(&object.path, object.label, object.attr, body)?;
+        }
+        Ok(())
+    }
+
+    /// Makes the objects of a world, in order, and frees what it does not keep of each as soon as that object is made.
+    pub fn take_objects(&mut self, objects: ObjectList) -> Result<(), NoMemory>
+        requires { RoomForObjects self.old.nodes.table.numbers objects }
+        ensures { OnOk result (state_loaded self.new ≡ boot_objects (state_loaded self.old) objects) }
+    {
+        for object in objects.into_vec() {
+            let WorldObject {
+                path,
+                label,
+                attr,
+                body,
+            } = object;
+            self.boot_object(&path, label, attr, body)?;
         }
         Ok(())
     }
@@ -75,13 +93,18 @@ impl Loading {
     }
 
     // Makes an object under the next number of its label, and its entry.
-    fn boot_object(&mut self, object: &WorldObject) -> Result<(), NoMemory>
-        requires { drawn self.old.nodes.table.numbers object.now.label < MAX_OBJECTS }
-        ensures { OnOk result (state_loaded self.new ≡ boot_object (state_loaded self.old) object.now) }
+    fn boot_object(
+        &mut self,
+        path: &Path,
+        label: Label,
+        attr: Attr,
+        body: Body,
+    ) -> Result<(), NoMemory>
+        requires { drawn self.old.nodes.table.numbers label < MAX_OBJECTS }
+        ensures { OnOk result (state_loaded self.new ≡ boot_object (state_loaded self.old) (record { path = path.now; label = label; attr = attr; body = body })) }
     {
-        let spot = self.spot_of(root_directory(), object.path.components())?;
-        let body = copy_body(&object.body)?;
-        let id = match self.nodes.create(object.label, object.attr, body) {
+        let spot = self.spot_of(root_directory(), path.components())?;
+        let id = match self.nodes.create(label, attr, body) {
             Ok(id) => id,
             Err(NodeError::Full) => unreachable!(),
             Err(NodeError::NoMemory(e)) => return Err(e),

@@ -1,5 +1,6 @@
 pub mod ItemLaws
 pub mod KeyLaws
+pub mod KindLemmas
 pub mod MapLemmas
 pub mod NamedLaws
 pub mod RowLemmas

@@ -177,6 +177,26 @@ module _ {K X : Type 0} {R : K → K → Ordering} (o : IsTotalOrder R) (exact :
         | false ↦ λ _. refl
       ] refl)
 
+-- a change that changes nothing
+module _ {K X : Type 0} {R : K → K → Ordering} (o : IsTotalOrder R) (exact : IsAntisymmetric R) (m : FinMap R X) (k : K) where
+  -- what is there may be set again
+  pub insert-same : (x : X) → map.get m k ≡ Some x → map.insert m k x ≡ m
+  insert-same x e = same_map o exact _ _ (λ q.
+      get-insert o m k x q
+      ∙ elim (eq_by_cmp R q k) as (λ b. eq_by_cmp R q k ≡ b → cond b (Some x) (map.get m q) ≡ map.get m q) [
+        | true ↦ λ t. sym (ap (map.get m) (same_key exact q k t) ∙ e)
+        | false ↦ λ _. refl
+      ] refl)
+
+  -- what is absent may be removed
+  pub remove-absent : map.get m k ≡ None → map.remove m k ≡ m
+  remove-absent e = same_map o exact _ _ (λ q.
+      get-remove o m k q
+      ∙ elim (eq_by_cmp R q k) as (λ b. eq_by_cmp R q k ≡ b → cond b None (map.get m q) ≡ map.get m q) [
+        | true ↦ λ t. sym (ap (map.get m) (same_key exact q k t) ∙ e)
+        | false ↦ λ _. refl
+      ] refl)
+
 -- what holds of each entry of a map, after a change of the map
 module _ {K X : Type 0} {R : K → K → Ordering} (o : IsTotalOrder R) (exact : IsAntisymmetric R) (P : K → X → Type 0) (m : FinMap R X) (each : (k : K) (x : X) → map.get m k ≡ Some x → P k x) where
   pub each-insert : (k : K) (x : X) → P k x → (q : K) (y : X) → map.get (map.insert m k x) q ≡ Some y → P q y

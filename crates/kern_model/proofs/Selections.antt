@@ -14,7 +14,7 @@ use Rattle.std.proofs.lemmas.Bool.{or_parts, true≢false}
 use Rattle.std.proofs.lemmas.List.Sums.{sum_by-cons, count_by-le-length}
 use Rattle.std.proofs.lemmas.Cmp.{tied_itself}
 use Rattle.kern_model.specs.Maps.{with_entry, selected, select, any_entry, count_entries}
-use Rattle.kern_model.proofs.MapLemmas.{each-entries, same_key, some_same, get-select, get-insert_same, remove-insert, count_entries-one, head_T, tail_T}
+use Rattle.kern_model.proofs.MapLemmas.{each-entries, same_key, some_same, get-select, get-insert_same, remove-insert, count_entries-one, head_T, tail_T, count_entries-none}
 use Rattle.kern_model.proofs.TableLemmas.{both_T}
 
 -- what a test says of the entry, if there is one
@@ -213,10 +213,6 @@ module _ {K X : Type 0} {R : K → K → Ordering} (o : IsTotalOrder R) (exact :
         | false ↦ λ _ g. let rest = some_counted es k x g t in omega (arith, one_first e es, rest)
       ] refl f
 
-  pub count_none : (m : FinMap R X) → ((k : K) (x : X) → map.get m k ≡ Some x → p k x ≡ false) → count_entries p m ≡ 0
-  unfolding count_entries
-  count_none m h = none_counted (map.entries m) (each-entries o exact (λ (k : K) (x : X). p k x ≡ false) m h)
-
   pub count_some : (m : FinMap R X) (k : K) (x : X) → map.get m k ≡ Some x → p k x ≡ true → 1 ≤ count_entries p m
   unfolding count_entries
   count_some m k x e t = some_counted (map.entries m) k x (sym (get-entries m k) ∙ e) t
@@ -333,7 +329,7 @@ module _ {K X : Type 0} {R : K → K → Ordering} (o : IsTotalOrder R) (exact :
 
     pub count_insert_other : p k x ≡ false → count_entries p (map.insert m k x) ≤ count_entries p m
     count_insert_other fail =
-        let none = count_none o exact at_key (map.insert m k x) (λ q y e.
+        let none = count_entries-none o exact at_key (map.insert m k x) (λ q y e.
         elim (eq_by_cmp R q k) as (λ b. eq_by_cmp R q k ≡ b → (b && p q y) ≡ false) [
           | true ↦ λ t.
               let is : y ≡ x = some_same y x (sym e ∙ ap (map.get (map.insert m k x)) (same_key exact q k t) ∙ get-insert_same o m k x) in

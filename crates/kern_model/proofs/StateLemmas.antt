@@ -4,19 +4,12 @@ use Rattle.std.specs.FinMap as map
 use Rattle.std.proofs.Common.{ap, sym, ◌∙◌, arith}
 use Rattle.lab_lattice.specs.Label.{Label}
 use Rattle.kern_model.specs.declared.numbers.Oid.{Oid}
-use Rattle.kern_model.specs.declared.objects.Kind.{Kind}
-use Rattle.kern_model.specs.declared.objects.Kind.TheVariants as kind
 use Rattle.kern_model.specs.declared.objects.Object.{Object}
 use Rattle.kern_model.specs.Kinds.{is_dir}
 use Rattle.kern_model.specs.State.{State, next_object, object_at, stub_object}
 use Rattle.kern_model.specs.Valid.{IsDir, IsValid}
+use Rattle.kern_model.proofs.KindLemmas.{dir_kind}
 use Rattle.kern_model.proofs.MapLemmas.{get_or-absent, get_or-found}
-
-dir_kind : (k : Kind) → is_dir k ≡ true → k ≡ kind.Dir
-dir_kind kind.Dir h = refl
-dir_kind kind.File h = cc
-dir_kind kind.Fifo h = cc
-dir_kind kind.Pipe h = cc
 
 -- what reads as a directory is there
 pub dir_there : (s : State) (id : Oid) → is_dir (object_at s id).kind ≡ true → IsDir s.objects id

@@ -23,7 +23,7 @@ use Rattle.world_text.specs.Reading.{Reading, Accepted, Refused as Stopped, Ende
 use Rattle.labsys.specs.declared.status.InputEnd.TheVariants.{Refused}
 use Rattle.labsys.specs.declared.status.Part.TheVariants as part
 use Rattle.labsys.specs.declared.status.Refusal.TheVariants as refusal
-use Rattle.labsys.specs.Input.{Accepted as AcceptedWorld, Script, Input, no_world, script, item_of, after_line, script_from, has_fifo, input_by, input_of}
+use Rattle.labsys.specs.Input.{Accepted as AcceptedWorld, Script, Input, no_world, script, item_of, after_line, script_from, input_by, input_of}
 
 -- ---- scripts
 
@@ -60,18 +60,13 @@ same_some : (w a : WorldText) → Some w ≡ Some a → w ≡ a
 same_some w a e = cc
 
 module _ (over : Bool) (a : WorldText) where
-  by_fifo : (b : Bool) (w : WorldText) (s : Script) → IsPlayable w s
-      → Input.accepted (cond b (no_world (Refused 0 part.World refusal.NotBuilt)) (record { accepted = Some w; script = s })) ≡ Some a
-      → IsPlayable a (Input.script (cond b (no_world (Refused 0 part.World refusal.NotBuilt)) (record { accepted = Some w; script = s })))
-  by_fifo true w s is e = absurd (cc)
-  by_fifo false w s is e = subst (λ (v : WorldText). IsPlayable v s) (same_some w a e) is
-
   by_reading : (text : List ℕ) (r : Reading) → read_text text ≡ r → (input_by over r).accepted ≡ Some a → IsPlayable a (input_by over r).script
   by_reading text (Accepted w n ls) is e =
-      by_fifo (has_fifo w.world) w (script_from over w.policy n ls) (record {
+      let s = script_from over w.policy n ls in
+      subst (λ (v : WorldText). IsPlayable v s) (same_some w a e) (record {
         world = accepted_world text w n ls is;
-        script = subst (λ (top : Label). MayBePlayed top (script_from over w.policy n ls)) (sym (accepted_top text w n ls is)) (script_played w.policy over n ls);
-      }) e
+        script = subst (λ (top : Label). MayBePlayed top s) (sym (accepted_top text w n ls is)) (script_played w.policy over n ls);
+      })
   by_reading text (Stopped n why) is e = absurd (cc)
   by_reading text (Ended n last) is e = absurd (cc)
 

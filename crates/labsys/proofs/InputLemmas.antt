@@ -29,7 +29,7 @@ use Rattle.script_text.specs.declared.line.Line.{Line}
 use Rattle.script_text.specs.declared.line.Line.TheVariants.{Blank, One}
 use Rattle.script_text.specs.declared.fault.LineError.{LineError}
 use Rattle.script_text.specs.Line as script_lines
-use Rattle.labsys.specs.Input.{Input, Script, script, item_of, no_world, cut_off, after_line, script_from, has_fifo, of_world, input_by, read_input, input_of}
+use Rattle.labsys.specs.Input.{Input, Script, script, item_of, no_world, cut_off, after_line, script_from, of_world, input_by, read_input, input_of}
 use Rattle.labsys.specs.Texts.{last_text}
 use Rattle.labsys.specs.Counts.{counts, counted_by}
 use Rattle.labsys.specs.Order.{to_out, order_by, order_of}
@@ -121,7 +121,7 @@ has_piece n expecting (last ∷ []) = tt
 has_piece n expecting (line ∷ next ∷ ls) = parse_pieces (parse_line expecting line) n next ls _ (λ expecting. has_piece (n + 1) expecting (next ∷ ls))
 
 world_not : (w : WorldText) (n : ℕ) (l : List ℕ) (ls : List (List ℕ)) → InputNot (of_world true w n (l ∷ ls))
-world_not w n l ls = elim (has_fifo w.world) as (λ b. InputNot (cond b (no_world (Refused 0 part.World refusal.NotBuilt)) (record { accepted = Some w; script = script_from true w.policy n (l ∷ ls) }))) [ true ↦ λ e. cc | false ↦ script_not w.policy n l ls ]
+world_not w n l ls = script_not w.policy n l ls
 
 input_not : (r : Reading) → HasPiece r → InputNot (input_by true r)
 input_not (Accepted w n []) h = absurd h

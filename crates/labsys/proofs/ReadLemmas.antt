@@ -36,10 +36,10 @@ prefix_world text w n rest = by_reading (read_text text)
     by_reading (Stopped m why) h = absurd h
     by_reading (Ended m last) h = absurd h
 
-pub reads_world : (over : Bool) (text : List ℕ) (w : WorldText) (n : ℕ) (rest : Bor (List ℕ)) → read_text text ≡ Accepted w n (pieces 10 rest.now) → has_fifo w.world ≡ false → length rest.now + n ≤ length text + 1
+pub reads_world : (over : Bool) (text : List ℕ) (w : WorldText) (n : ℕ) (rest : Bor (List ℕ)) → read_text text ≡ Accepted w n (pieces 10 rest.now) → length rest.now + n ≤ length text + 1
     → Reads over text (record { read = w; script = record { number = n; text = rest; over = over } })
-reads_world over text w n rest is plain numbered = record {
-  says = ap (input_by over) is ∙ ap (λ b. cond b (no_world (Refused 0 part.World refusal.NotBuilt)) (record { accepted = Some w; script = script_from over w.policy n (pieces 10 rest.now) })) plain;
+reads_world over text w n rest is numbered = record {
+  says = ap (input_by over) is;
   is_world = accepted_world text w n (pieces 10 rest.now) is;
   has_top = accepted_top text w n (pieces 10 rest.now) is;
   numbered = numbered;

@@ -106,16 +106,8 @@ refusal_of fault.RootLabel = refusal.RootLabel
 refusal_of fault.LabelOrder = refusal.LabelOrder
 refusal_of fault.TooMany = refusal.TooMany
 
-abbrev pub is_fifo : Body → Bool
-is_fifo body.Fifo = true
-is_fifo _ = false
-
--- whether a world has a FIFO, which no call can use yet
-abbrev pub has_fifo : World → Bool
-has_fifo w = list_any (λ (o : WorldObject). is_fifo o.body) w.objects
-
 abbrev pub of_world : Bool → WorldText → ℕ → List (List ℕ) → Input
-of_world over w n lines = cond (has_fifo w.world) (no_world (Refused 0 part.World refusal.NotBuilt)) (record { accepted = Some w; script = script_from over w.policy n lines })
+of_world over w n lines = record { accepted = Some w; script = script_from over w.policy n lines }
 
 -- an input, by what was read of its world
 abbrev pub input_by : Bool → world.Reading → Input

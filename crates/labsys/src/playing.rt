@@ -29,6 +29,7 @@ use kern_model::limits::MAX_INPUT;
 use kern_model::{NoMemory, Pid, Rec};
 use script_text::reply_text;
 use std::alloc::Global;
+use world_text::WorldText;
 
 // Writes a piece to the trail.
 fn note<T: Sink>(trail: &mut T, piece: &[u8]) -> Result<(), Fault>
@@ -178,28 +179,30 @@ fn begin<T: Sink>(
     note_all(texts, 0, recs, trail)
 }
 
-// Plays a world that was accepted, with its script.
+// Plays a world that was accepted, with its script. The kernel uses the world up, so that no object is kept twice.
 fn play_world<K: Sink, T: Sink>(
     alloc: Global,
-    world: &ReadWorld,
+    world: ReadWorld<'_>,
     out: &mut K,
     trail: &mut T,
 ) -> Result<InputEnd, Fault>
-    requires world { IsWorld world.now.read.world }
-    requires top { world.now.read.world.top ≡ top_of world.now.read.policy }
-    requires small { world.now.script.number + length world.now.script.text.now ≤ 2 ^ 60 }
-    ensures writes { WritesBoth result (order_by (Some world.now.read) (script_left world.now.read.policy world.now.script))
+    requires world { IsWorld world.read.world }
+    requires top { world.read.world.top ≡ top_of world.read.policy }
+    requires small { world.script.number + length world.script.text.now ≤ 2 ^ 60 }
+    ensures writes { WritesBoth result (order_by (Some world.entry.read) (script_left world.entry.read.policy world.entry.script))
         (sink_view (K.held out.old) (K.faults out.old)) (sink_view (K.held out.new) (K.faults out.new)) (sink_view (T.held trail.old) (T.faults trail.old)) (sink_view (T.held trail.new) (T.faults trail.new)) }
-    ensures ending { IfOk result (λ e. e ≡ (script_left world.now.read.policy world.now.script).ending) }
+    ensures ending { IfOk result (λ e. e ≡ (script_left world.entry.read.policy world.entry.script).ending) }
 {
-    let read = &world.read;
+    let ReadWorld { read, script } = world;
+    let WorldText { policy, world } = read;
+    let bound = world.bound;
     let texts = Texts {
         alloc,
-        policy: &read.policy,
+        policy: &policy,
     };
-    let (mut kernel, recs) = Kernel::boot(alloc, &read.world)?;
-    begin(texts, &read.world.bound, recs.items(), trail)?;
-    play_script(texts, &mut kernel, world.script, out, trail)
+    let (mut kernel, recs) = Kernel::boot_from(alloc, world)?;
+    begin(texts, &bound, recs.items(), trail)?;
+    play_script(texts, &mut kernel, script, out, trail)
 }
 
 // Writes the last line of an input without a world, which is all that is written of it.
@@ -229,7 +232,7 @@ fn play_text<K: Sink, T: Sink>(
     ensures ending { IfOk result (λ e. e ≡ (read_input over text.now).script.ending) }
 {
     match read_world(alloc, text, over) {
-        Ok(world) => play_world(alloc, &world, out, trail),
+        Ok(world) => play_world(alloc, world, out, trail),
         Err(Halt::Ended(ending)) => end_without_world(alloc, ending, out),
         Err(Halt::NoMemory) => Err(Fault::NoMemory),
     }

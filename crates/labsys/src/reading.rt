@@ -1,6 +1,6 @@
 //! An input, read line by line.
 ghost use Rattle.std.specs.Prelude.{◌≡◌, ◌==◌, ◌&&◌, ◌+◌, ◌^◌, ◌<◌, ◌≤◌, None, Some, MatchOption, MatchResult, IfSome, IfOk, length, not};
-ghost use Rattle.labsys.specs.Input.{ends_at, has_fifo, last_piece};
+ghost use Rattle.labsys.specs.Input.{ends_at, last_piece};
 ghost use Rattle.labsys.specs.Reading.{Reads, ReadsNone, IsRefusal, Follows};
 ghost use Rattle.labsys.specs.declared.reading.Halt.TheVariants as halt;
 
@@ -9,7 +9,7 @@ use crate::{InputEnd, Part, Refusal};
 use fs_path::next_line;
 use kern_core::built;
 use kern_model::limits::MAX_LINE;
-use kern_model::{Body, Call, NoMemory, Pid, World};
+use kern_model::{Call, NoMemory, Pid};
 use script_text::{Line, LineError, read_line};
 use std::alloc::Global;
 use world_text::{Prefix, WorldText, read_prefix};
@@ -57,27 +57,12 @@ fn ends_at(last: Unread<'_>, part: Part, why: Refusal) -> InputEnd
     InputEnd::Refused(last.number, part, why)
 }
 
-// Whether a world has a FIFO.
-fn has_fifo(world: &World) -> bool
-    ensures { result ≡ has_fifo world.now }
-{
-    world
-        .objects
-        .items()
-        .iter()
-        .any(|object| matches!(object.body, Body::Fifo))
-}
-
 /// Reads the world of an input; `over` where the input goes on past the limit.
 pub fn read_world(alloc: Global, text: &[u8], over: bool) -> Result<ReadWorld<'_>, Halt>
     ensures { MatchResult result (λ world. Reads over text.now world) (λ halt. ReadsNone over text.now halt) }
 {
     match read_prefix(alloc, text)? {
         Prefix::World(read, number, text) => {
-            if has_fifo(&read.world) {
-                let ending = InputEnd::Refused(0, Part::World, Refusal::NotBuilt);
-                return Err(Halt::Ended(ending));
-            }
             let script = Unread { number, text, over };
             Ok(ReadWorld { read, script })
         }

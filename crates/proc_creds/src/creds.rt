@@ -1,9 +1,12 @@
 // Credentials.
-ghost use Rattle.std.specs.Prelude.{◌≡◌, true, false, IfOk, OnOk, OnErr};
+ghost use Rattle.std.specs.Prelude.{◌≡◌, ◌||◌, true, false, IfOk, OnOk, OnErr};
+ghost use Rattle.cap_bits.specs.CapSet.{is_within};
+ghost use Rattle.kern_model.specs.Exec.{exec_caps};
 ghost use Rattle.kern_model.specs.Rules.{may_become};
+ghost use Rattle.proc_creds.specs.Credentials.{may_be_group, may_be_user, taken_on, with_group, with_user};
 
-use cap_bits::CapState;
-use kern_model::{Ids, Mode, NoMemory};
+use cap_bits::{CapSet, CapState};
+use kern_model::{Gid, Ids, Mode, NoMemory, Uid};
 use lab_lattice::Label;
 use std::marker::Model;
 
@@ -36,7 +39,7 @@ impl Model for Creds {
     ghost invariant = { λ c. is_within c.caps.e c.caps.p ≡ true };
 }
 
-/// The check `cap_grow` does not allow the change.
+/// The rule of the change does not allow it.
 #[derive(Clone, Copy, Debug, PartialEq, Eq)]
 pub struct NotAllowed;
 
@@ -46,6 +49,20 @@ fn may_become(old: &CapState, new: &CapState) -> bool
     ensures { result ≡ may_become old.now new.now }
 {
     new.p.within(&old.p) && new.e.within(&new.p) && new.i.within(&old.i.union(old.p))
+}
+
+// The sets of a process after exec, by those before, those of the file and the bound.
+#[tactic(auto, using(crate::proofs::Within::meet_is_within))]
+fn exec_caps(old: &CapState, file: &CapState, bound: &CapSet) -> CapState
+    ensures formula { result ≡ exec_caps old.now file.now bound.now }
+    ensures within { is_within result.e result.p ≡ true }
+{
+    let permitted = file.p.meet(*bound).union(file.i.meet(old.i));
+    CapState {
+        e: file.e.meet(permitted),
+        i: old.i,
+        p: permitted,
+    }
 }
 
 /// A copy of the users and groups.
@@ -81,6 +98,69 @@ impl Creds {
         }
         self.caps = state;
         Ok(())
+    }
+
+    /// Sets the real, effective and saved user with `all`, and else the effective one, which has to be the real or the saved
+    /// one.
+    pub fn setuid(&mut self, uid: Uid, all: bool) -> Result<(), NotAllowed>
+        ensures set { OnOk result ((all || may_be_user self.old.ids uid ≡ true) × (self.new ≡ record self.old { ids = with_user self.old.ids uid all })) }
+        ensures refused { OnErr result ((all || may_be_user self.old.ids uid ≡ false) × (self.new ≡ self.old)) }
+    {
+        if !all && uid != self.ids.ruid && uid != self.ids.suid {
+            return Err(NotAllowed);
+        }
+        self.ids.euid = uid;
+        if all {
+            self.ids.ruid = uid;
+            self.ids.suid = uid;
+        }
+        Ok(())
+    }
+
+    /// Sets the real, effective and saved group with `all`, and else the effective one, which has to be the real or the saved
+    /// one.
+    pub fn setgid(&mut self, gid: Gid, all: bool) -> Result<(), NotAllowed>
+        ensures set { OnOk result ((all || may_be_group self.old.ids gid ≡ true) × (self.new ≡ record self.old { ids = with_group self.old.ids gid all })) }
+        ensures refused { OnErr result ((all || may_be_group self.old.ids gid ≡ false) × (self.new ≡ self.old)) }
+    {
+        if !all && gid != self.ids.rgid && gid != self.ids.sgid {
+            return Err(NotAllowed);
+        }
+        self.ids.egid = gid;
+        if all {
+            self.ids.rgid = gid;
+            self.ids.sgid = gid;
+        }
+        Ok(())
+    }
+
+    /// Sets the present label.
+    pub fn mac_set(&mut self, label: Label)
+        ensures { self.new ≡ record self.old { label = label } }
+    {
+        self.label = label;
+    }
+
+    /// Takes on the credentials that a program gives: the sets by its sets and the bound, and the effective and saved user and
+    /// group that its set-id bits give.
+    pub fn exec_transform(
+        &mut self,
+        file: &CapState,
+        bound: &CapSet,
+        new_user: Option<Uid>,
+        new_group: Option<Gid>,
+    )
+        ensures { self.new ≡ record self.old { ids = taken_on self.old.ids new_user new_group; caps = exec_caps self.old.caps file.now bound.now } }
+    {
+        self.caps = exec_caps(&self.caps, file, bound);
+        if let Some(user) = new_user {
+            self.ids.euid = user;
+            self.ids.suid = user;
+        }
+        if let Some(group) = new_group {
+            self.ids.egid = group;
+            self.ids.sgid = group;
+        }
     }
 
     /// A copy of the credentials.

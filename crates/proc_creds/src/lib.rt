@@ -1,4 +1,4 @@
-//! The credentials of a process, and the rules by which it changes them.
+//! The credentials of a process, and the rules by which it changes them and by which a program gives it others.
 #![tactic(auto)]
 
 mod creds;

@@ -1,6 +1,7 @@
 //! The living processes by their numbers, and the numbers drawn of each label.
 #![tactic(auto)]
 
+mod ended;
 mod living;
 mod process;
 mod procs;

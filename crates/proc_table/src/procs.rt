@@ -119,6 +119,17 @@ impl Procs {
         process.cwd = cwd;
     }
 
+    /// Sets the audit switch of a living process. It takes no memory.
+    pub fn set_audited(&mut self, who: &Pid, on: bool)
+        requires { IsThere self.old.procs who.now }
+        ensures { (p : Process) → map.get self.old.procs who.now ≡ Some p → self.new ≡ with_process self.old who.now (record p { audited = on }) }
+    {
+        let Some(process) = self.table.living.get_mut(who) else {
+            unreachable!();
+        };
+        process.audited = on;
+    }
+
     /// The numbers of the living processes, by label and then by number.
     pub fn live(&self) -> Result<PidList, NoMemory>
         ensures { IfOk result (λ numbers. numbers ≡ map.keys self.now.procs) }

@@ -2,7 +2,11 @@
 #![tactic(auto)]
 
 mod descriptors;
+mod offsets;
 mod opening;
+mod pipes;
+mod reading;
 
 pub use descriptors::{close, dup, fstat, lseek};
 pub use opening::open;
+pub use pipes::mkfifo;

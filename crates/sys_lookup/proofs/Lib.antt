@@ -2,8 +2,10 @@ pub mod AskLemmas
 pub mod CheckLemmas
 pub mod FdChanges
 pub mod FdLemmas
+pub mod LendLemmas
 pub mod MakeLemmas
 pub mod OpenedLemmas
 pub mod PlayLemmas
+pub mod PlayingLemmas
 pub mod StopLemmas
 pub mod WalkLemmas

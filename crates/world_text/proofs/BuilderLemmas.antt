@@ -1,16 +1,21 @@
 -- The entries at paths and the counts at labels, after one more object or process.
-use Rattle.std.proofs.Common.{◌≡◌, ℕ, ◌+◌, ◌-◌, ◌<◌, Bool, true, false, cond, List, [], ◌∷◌, ◌++◌, length, take, suc, refl, sym, ◌∙◌, ap, arith, Option, Some, None}
-use Rattle.std.specs.Prelude.{unwrap_or, count_by, is_some}
+use Rattle.std.proofs.Common.{◌≡◌, ℕ, ◌+◌, ◌-◌, ◌<◌, Bool, true, false, cond, List, [], ◌∷◌, ◌++◌, length, take, drop, suc, refl, sym, ◌∙◌, ap, arith, Option, Some, None}
+use Rattle.std.specs.Prelude.{unwrap_or, count_by}
 use Rattle.std.specs.Option.{option_map, option_or}
-use Rattle.std.specs.Ordering.{nat_cmp, is_eq}
+use Rattle.std.specs.Ordering.{is_eq}
 use Rattle.std.specs.BTreeMap.{BTreeMap, get, is_at}
 use Rattle.std.specs.declared.cmp.Ordering.{Ordering}
 use Rattle.std.specs.declared.cmp.Ordering.TheVariants.{Less, Equal, Greater}
-use Rattle.std.specs.Cmp.{tied_itself}
-use Rattle.std.specs.Cmp.Lexicographic.{slice_cmp, lists_ties, texts_ties}
+use Rattle.std.specs.Cmp.{tied_itself, both_ways, unsigned_Decides}
+use Rattle.std.specs.Cmp.Lexicographic.{pointwise_decides, texts_ties}
+use Rattle.std.specs.List.{list_all}
 use Rattle.std.proofs.lemmas.Bool.{and_from, and_parts}
+use Rattle.std.proofs.lemmas.List.{take-append-drop}
+use Rattle.std.proofs.lemmas.List.Folds.{list_all-append}
 use Rattle.std.proofs.lemmas.List.Sums.{sum_by-append}
-use Rattle.fs_path.specs.Name.{Name}
+use Rattle.fs_path.specs.Name.{Name, is_name}
+use Rattle.fs_path.specs.Path.{PathValue}
+use Rattle.fs_path.specs.PathText.{parse_path}
 use Rattle.lab_lattice.specs.Label.{Label, dominates, label_cmp}
 use Rattle.lab_lattice.proofs.Labels.{dominates_itself, dominates_both, label_cmp_total, label_cmp_exact}
 use Rattle.kern_model.specs.declared.world.WorldObject.{WorldObject}
@@ -19,7 +24,9 @@ use Rattle.kern_model.specs.Rules.{same_label}
 use Rattle.kern_model.specs.World.{same_names, parent_names, given, objects_at, procs_at}
 use Rattle.world_text.specs.declared.builder.PathEntry.{PathEntry}
 use Rattle.world_text.specs.Placing.{directory_of, is_directory, is_above}
-use Rattle.world_text.specs.PathEntry.{path_entry_of, names_cmp, count_in, is_dir_entry, is_above_entry}
+use Rattle.world_text.specs.PathEntry.{path_entry_of, text_cmp, count_in, is_dir_entry, is_above_entry}
+use Rattle.world_text.specs.Written.{path_text}
+use Rattle.world_text.proofs.WrittenValues.{path_is}
 use Rattle.kern_model.proofs.WorldLemmas.{names_same}
 
 -- ---- counts
@@ -72,8 +79,17 @@ procs_counted old new procs more w updates is before l =
 
 -- ---- entries at paths
 
-names_tie : (a b : List Name) → same_names a b ≡ is_eq (names_cmp a b)
-names_tie a b = lists_ties (slice_cmp nat_cmp) texts_ties a b
+-- the texts of two paths are equal exactly where their names are
+texts_tie : (a b : List Name) → list_all is_name a ≡ true → list_all is_name b ≡ true → is_eq (text_cmp (path_text a) (path_text b)) ≡ same_names a b
+texts_tie a b h k = both_ways _ _ to_names to_texts
+  where
+    to_names : is_eq (text_cmp (path_text a) (path_text b)) ≡ true → same_names a b ≡ true
+    to_names e =
+        let texts : path_text a ≡ path_text b = (pointwise_decides unsigned_Decides (path_text a) (path_text b)).0 (texts_ties (path_text a) (path_text b) ∙ e) in
+        (pointwise_decides (pointwise_decides unsigned_Decides) a b).1 (ap (λ (p : PathValue). p.names) (sym (path_is a h) ∙ ap parse_path texts ∙ path_is b k))
+
+    to_texts : same_names a b ≡ true → is_eq (text_cmp (path_text a) (path_text b)) ≡ true
+    to_texts e = sym (texts_ties (path_text a) (path_text b)) ∙ (pointwise_decides unsigned_Decides (path_text a) (path_text b)).1 (ap path_text (names_same a b e))
 
 either : (b : Bool) (o : WorldObject) (x y : Option WorldObject) → cond b (Some o) (option_or x y) ≡ option_or (cond b (Some o) x) y
 either true o x y = refl
@@ -87,12 +103,15 @@ or_none : (x : Option WorldObject) → option_or x None ≡ x
 or_none None = refl
 or_none (Some o) = refl
 
--- one more object has the entry at its path, where there was none
-pub stands_more : (old new : BTreeMap (List Name) PathEntry) (objects more : List WorldObject) (o : WorldObject) (names : List Name) (s : PathEntry)
-    → ((q : List Name) → get names_cmp new q ≡ cond (is_at (names_cmp names) q) (Some s) (get names_cmp old q)) → names ≡ o.path.names → s ≡ path_entry_of o → more ≡ objects ++ o ∷ []
-    → given objects o.path.names ≡ None → ((q : List Name) → get names_cmp old q ≡ option_map path_entry_of (given objects q)) → (q : List Name) → get names_cmp new q ≡ option_map path_entry_of (given more q)
-stands_more old new objects more o names s updates named is grown free before q =
-    updates q ∙ (λ i. cond (is_eq (names_cmp (named i) q)) (Some (is i)) (before q i)) ∙ ap (λ t. cond t (Some (path_entry_of o)) (option_map path_entry_of (given objects q))) (sym (names_tie o.path.names q))
+-- one more object has the entry at the text of its path, where there was none
+pub stands_more : (old new : BTreeMap (List ℕ) PathEntry) (objects more : List WorldObject) (o : WorldObject) (key : List ℕ) (s : PathEntry)
+    → ((t : List ℕ) → get text_cmp new t ≡ cond (is_at (text_cmp key) t) (Some s) (get text_cmp old t)) → key ≡ path_text o.path.names → s ≡ path_entry_of o → more ≡ objects ++ o ∷ []
+    → list_all is_name o.path.names ≡ true → given objects o.path.names ≡ None
+    → ((q : List Name) → list_all is_name q ≡ true → get text_cmp old (path_text q) ≡ option_map path_entry_of (given objects q))
+    → (q : List Name) → list_all is_name q ≡ true → get text_cmp new (path_text q) ≡ option_map path_entry_of (given more q)
+stands_more old new objects more o key s updates text is grown named free before q h =
+    updates (path_text q) ∙ (λ i. cond (is_eq (text_cmp (text i) (path_text q))) (Some (is i)) (before q h i))
+    ∙ ap (λ t. cond t (Some (path_entry_of o)) (option_map path_entry_of (given objects q))) (texts_tie o.path.names q named h)
     ∙ by_test (same_names o.path.names q) refl ∙ sym (ap (option_map path_entry_of) (ap (λ (os : List WorldObject). given os q) grown ∙ given_after objects o q))
   where
     by_test : (v : Bool) → same_names o.path.names q ≡ v
@@ -106,6 +125,10 @@ stands_more old new objects more o names s updates named is grown free before q 
         ∙ sym (ap (λ t. option_map path_entry_of (option_or (given objects q) (cond t (Some o) None))) e ∙ ap (option_map path_entry_of) (or_none (given objects q)))
 
 -- ---- directories
+
+-- the first of some names are names
+pub first_named : (n : ℕ) (names : List Name) → list_all is_name names ≡ true → list_all is_name (take n names) ≡ true
+first_named n names h = (and_parts _ _ (sym (list_all-append is_name (take n names) (drop n names)) ∙ ap (list_all is_name) (take-append-drop n names) ∙ h)).0
 
 parent_taken : (n : Name) (ns : List Name) → parent_names (n ∷ ns) ≡ take (length ns) (n ∷ ns)
 parent_taken n [] = refl
@@ -126,7 +149,3 @@ stands_as_dir (Some o) = refl
 pub stands_above : (l : Label) (o : Option WorldObject) → is_above_entry l (option_map path_entry_of o) ≡ is_above l o
 stands_above l None = refl
 stands_above l (Some o) = refl
-
-pub is_given : (o : Option WorldObject) → is_some (option_map path_entry_of o) ≡ is_some o
-is_given None = refl
-is_given (Some o) = refl

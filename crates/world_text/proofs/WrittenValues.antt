@@ -166,7 +166,8 @@ starts_absolute : (names : List Name) → starts_with ◌==◌ (path_text names)
 starts_absolute [] = refl
 starts_absolute (n ∷ ns) = refl
 
-path_is : (names : List Name) → list_all is_name names ≡ true → parse_path (path_text names) ≡ record { absolute = true; names = names }
+-- the text of names is that of the absolute path with these names
+pub path_is : (names : List Name) → list_all is_name names ≡ true → parse_path (path_text names) ≡ record { absolute = true; names = names }
 unfolding parse_path
 path_is names h =
     let parsed = ap names_of (components_round_trip names h) ∙ names_placed 1 names in

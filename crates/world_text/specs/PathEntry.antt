@@ -2,10 +2,11 @@
 use Rattle.std.specs.Prelude.{◌≡◌, ℕ, Bool, true, false, List, Option, None, Some, unwrap_or}
 use Rattle.std.specs.BTreeMap.{BTreeMap, get}
 use Rattle.std.specs.Cmp.Lexicographic.{slice_cmp}
+use Rattle.std.specs.List.{list_all}
 use Rattle.std.specs.Option.{option_map}
 use Rattle.std.specs.Ordering.{nat_cmp}
 use Rattle.std.specs.declared.cmp.Ordering.{Ordering}
-use Rattle.fs_path.specs.Name.{Name}
+use Rattle.fs_path.specs.Name.{Name, is_name}
 use Rattle.lab_lattice.specs.Label.{Label, dominates, label_cmp}
 use Rattle.kern_model.specs.declared.world.WorldObject.{WorldObject}
 use Rattle.kern_model.specs.Kinds.{kind_of}
@@ -13,22 +14,23 @@ use Rattle.kern_model.specs.Kinds.{is_dir}
 use Rattle.kern_model.specs.World.{given, objects_at, procs_at}
 use Rattle.world_text.specs.declared.builder.PathEntry.{PathEntry}
 use Rattle.world_text.specs.Tree.{Tree}
+use Rattle.world_text.specs.Written.{path_text}
 
 -- what is kept of an object at its path
 abbrev pub path_entry_of : WorldObject → PathEntry
 path_entry_of o = record { is_dir = is_dir (kind_of o.body); label = o.label }
 
--- the order of paths in the index
-abbrev pub names_cmp : List Name → List Name → Ordering
-names_cmp = slice_cmp (slice_cmp nat_cmp)
+-- the order of the index, by the texts of paths
+abbrev pub text_cmp : List ℕ → List ℕ → Ordering
+text_cmp = slice_cmp nat_cmp
 
 -- how many are counted at a label
 abbrev pub count_in : BTreeMap Label ℕ → Label → ℕ
 count_in counts l = unwrap_or (get label_cmp counts l) 0
 
--- the index says what was given, and the counts how many objects and processes have a label
-pub record IsIndexed (t : Tree) (index : BTreeMap (List Name) PathEntry) (object_counts proc_counts : BTreeMap Label ℕ) : Type 0 where
-  pub stands : (q : List Name) → get names_cmp index q ≡ option_map path_entry_of (given t.objects q)
+-- the index says at the text of each path what was given, and the counts how many objects and processes have a label
+pub record IsIndexed (t : Tree) (index : BTreeMap (List ℕ) PathEntry) (object_counts proc_counts : BTreeMap Label ℕ) : Type 0 where
+  pub stands : (q : List Name) → list_all is_name q ≡ true → get text_cmp index (path_text q) ≡ option_map path_entry_of (given t.objects q)
   pub objects_are : (l : Label) → count_in object_counts l ≡ objects_at l t.objects
   pub procs_are : (l : Label) → count_in proc_counts l ≡ procs_at l t.procs
 

@@ -1,6 +1,8 @@
 // Objects and processes of a world as they are read.
-ghost use Rattle.std.specs.Prelude.{◌≡◌, ◌+◌, ◌<◌, ◌==◌, ◌&&◌, ◌||◌, not, [], ◌∷◌, ◌++◌, nat_le, is_some, IfOk, OnOk, cond, length, None};
+ghost use Rattle.std.specs.Prelude.{◌≡◌, ◌+◌, ◌<◌, ◌==◌, ◌&&◌, ◌||◌, not, [], ◌∷◌, ◌++◌, nat_le, is_some, true, IfOk, OnOk, cond, length, None};
+ghost use Rattle.std.specs.List.{list_all};
 ghost use Rattle.std.specs.Option.{option_map};
+ghost use Rattle.fs_path.specs.Name.{is_name};
 ghost use Rattle.lab_lattice.specs.Label.{Label, bottom, dominates};
 ghost use Rattle.kern_model.specs.declared.limits.TheConstants.{MAX_OBJECTS, MAX_PROCS};
 ghost use Rattle.kern_model.specs.Kinds.{kind_of, is_dir};
@@ -8,9 +10,11 @@ ghost use Rattle.kern_model.specs.Rules.{same_label};
 ghost use Rattle.kern_model.specs.World.{given, objects_at, procs_at};
 ghost use Rattle.world_text.specs.PathEntry.{path_entry_of, count_in, is_dir_entry, is_above_entry};
 ghost use Rattle.world_text.specs.Placing.{directory_of, is_root, object_fault, process_fault};
+ghost use Rattle.world_text.specs.Written.{path_text};
 
+use crate::writing::path_text;
 use crate::{NoMemory, WorldFault};
-use fs_path::{List, Name, NameList, Path};
+use fs_path::{ByteList, List, Name, Path};
 use kern_model::limits::{MAX_OBJECTS, MAX_PROCS};
 use kern_model::{Body, ObjectList, ProcList, WorldObject, WorldProc};
 use lab_lattice::{Label, Lattice, bottom};
@@ -105,14 +109,12 @@ fn is_wrong_root(object: &WorldObject) -> bool
     is_root(&object.path) && !may_be_root(object)
 }
 
-fn copy_names(alloc: Global, names: &[Name]) -> Result<NameList, NoMemory>
-    ensures { IfOk result (λ copies. copies ≡ names.now) }
+// The key of a path in the index: its text.
+fn key_of(alloc: Global, names: &[Name]) -> Result<ByteList, NoMemory>
+    ensures { IfOk result (λ key. key ≡ path_text names.now) }
 {
-    let mut copies = List::new(alloc);
-    for name in names {
-        copies.push(name.copy()?)?;
-    }
-    Ok(copies)
+    let text = path_text(alloc, names)?;
+    ByteList::from_slice(alloc, text.as_slice())
 }
 
 /// Objects and processes in the order of their lines, with an index of their paths and counts at each label, so that no
@@ -121,7 +123,7 @@ fn copy_names(alloc: Global, names: &[Name]) -> Result<NameList, NoMemory>
 pub struct WorldBuilder {
     objects: ObjectList,
     procs: ProcList,
-    index: BTreeMap<NameList, PathEntry>,
+    index: BTreeMap<ByteList, PathEntry>,
     object_counts: Counts,
     proc_counts: Counts,
 }
@@ -165,17 +167,20 @@ impl WorldBuilder {
     }
 
     // What stands at a path of these names.
-    fn entry_at(&self, names: &NameList) -> Option<PathEntry>
-        ensures { result ≡ option_map path_entry_of (given self.now.objects names.now) }
+    fn entry_at(&self, alloc: Global, names: &[Name]) -> Result<Option<PathEntry>, NoMemory>
+        requires { list_all is_name names.now ≡ true }
+        ensures { IfOk result (λ entry. entry ≡ option_map path_entry_of (given self.now.objects names.now)) }
     {
-        self.index.get(names).copied()
+        let key = key_of(alloc, names)?;
+        Ok(self.index.get(&key).copied())
     }
 
     // Whether an object with this path was given.
-    fn is_given(&self, path: &Path) -> bool
-        ensures { result ≡ is_some (given self.now.objects path.now.names) }
+    fn is_given(&self, alloc: Global, path: &Path) -> Result<bool, NoMemory>
+        ensures { IfOk result (λ given_before. given_before ≡ is_some (given self.now.objects path.now.names)) }
     {
-        self.entry_at(&path.names).is_some()
+        let entry = self.entry_at(alloc, path.components())?;
+        Ok(entry.is_some())
     }
 
     // What stands at the path of the directory. The root has none.
@@ -186,8 +191,7 @@ impl WorldBuilder {
         if names.is_empty() {
             return Ok(None);
         }
-        let parent = copy_names(alloc, &names[..names.len() - 1])?;
-        Ok(self.entry_at(&parent))
+        self.entry_at(alloc, &names[..names.len() - 1])
     }
 
     // Whether no number of the label is left for an object.
@@ -212,7 +216,8 @@ impl WorldBuilder {
     ) -> Result<Option<WorldFault>, NoMemory>
         ensures { IfOk result (λ fault. fault ≡ object_fault self.now object.now) }
     {
-        if self.is_given(&object.path) {
+        let repeated = self.is_given(alloc, &object.path)?;
+        if repeated {
             return Ok(Some(WorldFault::Repeated));
         }
         let directory = self.directory_of(alloc, &object.path)?;
@@ -251,8 +256,8 @@ impl WorldBuilder {
         ensures { IfOk result (λ builder. builder ≡ record self { objects = self.objects ++ object ∷ [] }) }
     {
         let mut builder = self;
-        let names = copy_names(alloc, object.path.components())?;
-        builder.index.insert(names, path_entry_of(&object))?;
+        let key = key_of(alloc, object.path.components())?;
+        builder.index.insert(key, path_entry_of(&object))?;
         count_one(&mut builder.object_counts, &object.label)?;
         builder.objects.push(object)?;
         Ok(builder)

@@ -16,8 +16,8 @@ use lab_text::{Policy, Word};
 use line_text::LineWriter;
 use std::alloc::Global;
 
-// The text of an absolute path with these names.
-fn path_text(alloc: Global, names: &[Name]) -> Result<Vec<u8>, NoMemory>
+/// The text of an absolute path with these names.
+pub fn path_text(alloc: Global, names: &[Name]) -> Result<Vec<u8>, NoMemory>
     ensures { IfOk result (λ text. text.items ≡ path_text names.now) }
 {
     let mut text = Vec::new(alloc);

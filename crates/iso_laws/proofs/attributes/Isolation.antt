@@ -1,7 +1,7 @@
 -- The calls on attributes: a Low process in the state and in its part, and what the changes satisfy.
 use Rattle.std.specs.Prelude.{◌≡◌, ℕ, ◌==◌, ◌&&◌, ◌||◌, not, Bool, true, false, List, [], ◌∷◌, None, Some, refl, cond}
 use Rattle.std.proofs.Common.{sym, ◌∙◌, ap, subst}
-use Rattle.std.proofs.lemmas.Bool.{and_parts, not-false, true≢false}
+use Rattle.std.proofs.lemmas.Bool.{and_parts, not-false, true≢false, not-true}
 use Rattle.std.specs.FinMap as map
 use Rattle.cap_bits.specs.declared.state.CapState.{CapState}
 use Rattle.fs_path.specs.Path.{PathValue}
@@ -37,7 +37,6 @@ use Rattle.iso_laws.proofs.Part.{by_number, part_changes, part_of_low}
 use Rattle.iso_laws.proofs.Rows.{Gives, alike_cond, alike_refuse, alike_same, gives_open, ends_cond, ends_give, ends_need, ends_open, ends_refuse, ends_soft}
 use Rattle.iso_laws.proofs.Sight.{ends_reach, is_open, met_rule, object_low, open_object_is}
 use Rattle.iso_laws.proofs.attributes.Labels.{above_low}
-use Rattle.iso_laws.proofs.tree.Changes.{not_true_false}
 use Rattle.iso_laws.proofs.tree.Entries.{empty_low}
 use Rattle.iso_laws.proofs.tree.Isolation.{has_no_entries, permissions_are_mode}
 
@@ -199,7 +198,7 @@ module _ (bad : Rec → Bool) (s : State) (valid : IsValid s) (who : Pid) (p : P
       let keeps = and_parts _ _ (met_rule bad (subject who p) (relabelled_order s id new place) refl order) in
       ends_give bad (subject who p) P cases.none _ _ _
       (cases.relabel id o new place at written
-      (record { allowed = allowed; above = keeps.0; no_root = not_true_false _ keeps.1; no_entries = has_no_entries bad s valid who p is fit P cases id full }) args)))))))
+      (record { allowed = allowed; above = keeps.0; no_root = not-true _ keeps.1; no_entries = has_no_entries bad s valid who p is fit P cases id full }) args)))))))
 
   pub mac_set_file_meets : (path : PathValue) (new : Label) → (fit → dominates s.top new ≡ true) → Meets bad who p P (mac_set_file_row s who p path new)
   mac_set_file_meets path new args = on_there path (set_label s who p new) (set_label_meets new args)

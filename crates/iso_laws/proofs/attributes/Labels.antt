@@ -4,7 +4,7 @@ use Rattle.std.specs.Ordering.{is_eq}
 use Rattle.std.specs.FinMap as map
 use Rattle.std.specs.FinMap.{FinMap, get-insert}
 use Rattle.std.proofs.Common.{sym, ◌∙◌, ap}
-use Rattle.std.proofs.lemmas.Bool.{true≢false, and_parts, not-false}
+use Rattle.std.proofs.lemmas.Bool.{true≢false, and_parts, not-false, false_from_ne_true, not-true}
 use Rattle.std.proofs.lemmas.Cmp.{tied_itself}
 use Rattle.lab_lattice.specs.Label.{Label, dominates}
 use Rattle.kern_model.specs.declared.numbers.Did.{Did}
@@ -23,9 +23,8 @@ use Rattle.kern_model.proofs.KeyLaws.{oid_cmp_total, oid_cmp_exact, spot_cmp_tot
 use Rattle.kern_model.proofs.MapLemmas.{each-insert, get-insert_same, get_or-found, same_key, some_same}
 use Rattle.iso_laws.proofs.Part.{by_number, shown, low_spot}
 use Rattle.kern_model.proofs.Selections.{test_after, any_entry-select, none_passes}
-use Rattle.iso_laws.proofs.Sight.{not_true, object_low}
+use Rattle.iso_laws.proofs.Sight.{object_low}
 use Rattle.iso_laws.proofs.files.Changes.{content_of, open_ended, open_object}
-use Rattle.iso_laws.proofs.tree.Changes.{not_true_false}
 use Rattle.iso_laws.proofs.tree.Entries.{holder_low, shown_is}
 
 -- a label is above the directories that hold a Low object in the part where it is in the state
@@ -37,7 +36,7 @@ module _ (l : Label) (s : State) (kept : Kept l s) (valid : IsValid s) (id : Oid
       ap not (any_entry-select spot_cmp_total spot_cmp_exact (where_key (low_spot l) (shown l s.top)) (p s) (p (by_number l s)) s.entries (λ spot at e.
       elim (low l spot.0.label) as (λ b. low l spot.0.label ≡ b → test_after (p (by_number l s)) spot (cond b (Some (shown l s.top at)) None) ≡ p s spot at) [
         | true ↦ λ h. λ i. shown_is l s kept valid id there is_low at i && not (dominates new (object_low l s spot.0 h i).label)
-        | false ↦ λ high. sym (not_true (p s spot at) (λ t.
+        | false ↦ λ high. sym (false_from_ne_true (p s spot at) (λ t.
             true≢false (sym (holder_low l s kept valid id there is_low spot (e ∙ ap (λ (q : Oid). Some q) (same_key oid_cmp_exact at id (and_parts _ _ t).0))) ∙ high)))
       ] refl))
 
@@ -76,7 +75,7 @@ module _ (s : State) (valid : IsValid s) (id : Oid) (o : Object) (is : map.get s
   holder_below : (spot : Spot) (dir : Object) → map.get s.entries spot ≡ Some id → map.get s.objects spot.0 ≡ Some dir → dominates new dir.label ≡ true
   unfolding is_above_holders
   holder_below spot dir e dir_is =
-      let none = none_passes spot_cmp_total spot_cmp_exact (λ (at : Spot) (q : Oid). same_oid q id && not (dominates new (object_at s at.0).label)) s.entries (not_true_false _ above) spot id e in
+      let none = none_passes spot_cmp_total spot_cmp_exact (λ (at : Spot) (q : Oid). same_oid q id && not (dominates new (object_at s at.0).label)) s.entries (not-true _ above) spot id e in
       let at_dir : object_at s spot.0 ≡ dir = get_or-found s.objects spot.0 (stub_object s.top) dir dir_is in
       not-false _ (ap (λ b. b && not (dominates new dir.label)) (sym (ap is_eq (tied_itself oid_cmp_total id))) ∙ ap (λ (d : Object). same_oid id id && not (dominates new d.label)) (sym at_dir) ∙ none)
 
@@ -84,7 +83,7 @@ module _ (s : State) (valid : IsValid s) (id : Oid) (o : Object) (is : map.get s
   next_entry spot q e =
       let old : IsValidEntry s spot q = valid.entries spot q e in
       -- it holds no entry
-      let elsewhere : same_oid spot.0 id ≡ false = none_passes spot_cmp_total spot_cmp_exact (λ (at : Spot) (x : Oid). same_oid at.0 id) s.entries (not_true_false _ empty) spot q e in
+      let elsewhere : same_oid spot.0 id ≡ false = none_passes spot_cmp_total spot_cmp_exact (λ (at : Spot) (x : Oid). same_oid at.0 id) s.entries (not-true _ empty) spot q e in
       let dir_is : map.get objects spot.0 ≡ Some old.dir = other_is spot.0 elsewhere ∙ old.dir_is in
       elim (same_oid q id) as (λ b. same_oid q id ≡ b → IsValidEntry next_state spot q) [
         | true ↦ λ t.
@@ -159,7 +158,7 @@ module _ (s : State) (valid : IsValid s) (id : Oid) (o : Object) (is : map.get s
       let was_dir : (q : Oid) (x : Object) → map.get objects q ≡ Some x → x.kind ≡ kind.Dir → IsDir s.objects q =
       each-insert oid_cmp_total oid_cmp_exact (λ (q : Oid) (x : Object). x.kind ≡ kind.Dir → IsDir s.objects q) s.objects (λ q x e dir. record { object = x; is = e; dir = dir }) id relabelled (λ dir. record { object = o; is = is; dir = dir }) in
       record {
-        root_is = record { object = r.object; is = other_is root (not_true _ (λ t. true≢false (ap is_eq (sym (tied_itself oid_cmp_total id)) ∙ ap (same_oid id) (sym (same_key oid_cmp_exact root id t)) ∙ no_root))) ∙ r.is; root_dir = r.root_dir; root_label = r.root_label };
+        root_is = record { object = r.object; is = other_is root (false_from_ne_true _ (λ t. true≢false (ap is_eq (sym (tied_itself oid_cmp_total id)) ∙ ap (same_oid id) (sym (same_key oid_cmp_exact root id t)) ∙ no_root))) ∙ r.is; root_dir = r.root_dir; root_label = r.root_label };
         objects = next_object;
         entries = next_entry;
         one_entry = λ a b q x e g q_is q_dir. let dir = was_dir q x q_is q_dir in valid.one_entry a b q dir.object e g dir.is dir.dir;

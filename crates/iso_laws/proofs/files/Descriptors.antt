@@ -7,7 +7,7 @@ use Rattle.std.specs.FinMap as table
 use Rattle.std.specs.FinMap.{FinMap, find, is_sorted, get-entries, entries_sorted, nat_cmp-IsAntisymmetric}
 use Rattle.std.specs.FinMap.Entries.{below_all}
 use Rattle.std.proofs.Common.{sym, ◌∙◌, ap, arith, T}
-use Rattle.std.proofs.lemmas.Bool.{and_parts, ltb-true, eqb-true, eqb-false}
+use Rattle.std.proofs.lemmas.Bool.{and_parts, ltb-true, eqb-true, eqb-false, false_from_ne_true}
 use Rattle.std.proofs.lemmas.List.{length-map}
 use Rattle.lab_lattice.specs.Label.{Label}
 use Rattle.kern_model.specs.declared.limits.TheConstants.{MAX_DESCRIPTORS}
@@ -24,7 +24,6 @@ use Rattle.kern_model.proofs.KeyLaws.{oid_cmp_exact, did_cmp_total, did_cmp_exac
 use Rattle.kern_model.proofs.MapLemmas.{head_T, tail_T, same_key, get_or-found}
 use Rattle.iso_laws.proofs.Part.{by_number, low_did, same}
 use Rattle.kern_model.proofs.Selections.{test_after, any_entry-select}
-use Rattle.iso_laws.proofs.Sight.{not_true}
 
 -- ---- the lowest free descriptor
 gap_few : (n : ℕ) (ks : List ℕ) → first_gap n ks ≤ n + length ks
@@ -40,7 +39,7 @@ gap_from n (k ∷ ks) =
     elim (k == n) as (λ b. n ≤ cond b (first_gap (n + 1) ks) n) [ true ↦ omega (arith, rest) | false ↦ omega arith ]
 
 other_number : (a b : ℕ) → (a ≡ b → ⊥) → eq_by_cmp nat_cmp a b ≡ false
-other_number a b other = not_true _ (λ t. other (same_key nat_cmp-IsAntisymmetric a b t))
+other_number a b other = false_from_ne_true _ (λ t. other (same_key nat_cmp-IsAntisymmetric a b t))
 
 module _ {X : Type 0} where
   abbrev AreFrom : ℕ → List (ℕ × X) → Type 0
@@ -114,7 +113,7 @@ module _ (l : Label) (s : State) (kept : Kept l s) (valid : IsValid s) (id : Oid
       any_entry-select did_cmp_total did_cmp_exact (where_key (low_did l) (same {X = Description})) p p s.descriptions (λ did d is.
       elim (low l did.label) as (λ b. low l did.label ≡ b → test_after p did (cond b (Some d) None) ≡ p did d) [
         | true ↦ λ _. refl
-        | false ↦ λ high. sym (not_true (p did d) (λ t.
+        | false ↦ λ high. sym (false_from_ne_true (p did d) (λ t.
             let on : low l did.label ≡ true = on_stream_low did d is (same_key oid_cmp_exact d.object id (and_parts _ _ t).0) in
             let no : true ≡ false = sym on ∙ high in cc))
       ] refl)

@@ -31,12 +31,13 @@ use Rattle.kern_model.specs.Stat.{stat_of}
 use Rattle.kern_model.specs.Step.{subject}
 use Rattle.kern_model.specs.Valid.{IsValid, IsValidObject}
 use Rattle.iso_laws.proofs.Cases.{Cases, Meets, OfChanges, meets_given}
-use Rattle.iso_laws.proofs.KindLemmas.{other_kind}
+use Rattle.kern_model.proofs.KindLemmas.{other_kind}
 use Rattle.iso_laws.proofs.LowRows.{Same, AreSeen, seen_self, low_itself, low_by, low_check, low_answer, low_descriptor}
 use Rattle.iso_laws.proofs.Part.{by_number, first_low, part_of_low}
 use Rattle.iso_laws.proofs.Rows.{Gives, Passes, alike_cond, alike_give, alike_need_if, alike_refuse, ends_cond, ends_give, ends_need, ends_need_if, ends_open, ends_refuse, ends_soft, gives_cond}
 use Rattle.iso_laws.proofs.Sight.{IsOpen, descriptions_drawn_low, drawn_low, is_open, object_low, open_object_is, open_no_dir}
-use Rattle.iso_laws.proofs.files.Closing.{has_fd, without_fd, closing_low}
+use Rattle.iso_laws.proofs.files.Closing.{closing_low}
+use Rattle.iso_laws.proofs.files.Closed.{has_fd, without_fd}
 pub use Rattle.iso_laws.proofs.files.Opening.{open_low, open_meets}
 use Rattle.iso_laws.proofs.files.Descriptors.{any_open_low}
 use Rattle.iso_laws.proofs.tree.Entries.{stat_of_low}

@@ -34,7 +34,7 @@ use Rattle.kern_model.specs.Step.{subject}
 use Rattle.kern_model.specs.Valid.{IsValid, IsThere, IsDir}
 use Rattle.kern_model.specs.Walk.{Found, Start, Entry, last_place, dir_place}
 use Rattle.iso_laws.proofs.Cases.{Cases, Meets, HasRoom, IsOpening}
-use Rattle.iso_laws.proofs.KindLemmas.{file_kind}
+use Rattle.kern_model.proofs.KindLemmas.{file_kind}
 use Rattle.iso_laws.proofs.LowRows.{Same}
 use Rattle.iso_laws.proofs.Part.{by_number, shown, part_changes, part_changes-append, part_of_low}
 use Rattle.iso_laws.proofs.Rows.{alike_cond, alike_give, alike_need_if, alike_refuse, alike_soft, ends_cond, ends_give, ends_need_if, ends_refuse, ends_soft}

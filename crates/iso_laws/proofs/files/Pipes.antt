@@ -23,13 +23,14 @@ use Rattle.kern_model.specs.Kinds.{object_with}
 use Rattle.kern_model.specs.State.{State, Process, SetProcess, SetDescription, DrawDescription, changed_by, drawn, next_description, next_object, root}
 use Rattle.kern_model.specs.Valid.{IsValid, IsReached, IsValidObject}
 use Rattle.kern_model.proofs.KeyLaws.{oid_cmp_total, oid_cmp_exact, pid_cmp_total, pid_cmp_exact, spot_cmp_total, spot_cmp_exact}
-use Rattle.kern_model.proofs.MapLemmas.{each-insert, get-insert_same, get-insert_kept, get_or-found, never_some}
+use Rattle.kern_model.proofs.MapLemmas.{each-insert, get-insert_same, get-insert_kept, get_or-found, never_some, count_entries-none}
 use Rattle.kern_model.proofs.TableLemmas.{each_set_at}
 use Rattle.iso_laws.proofs.Leading.{leads_kept}
-use Rattle.kern_model.proofs.Selections.{count_none, insert-insert}
+use Rattle.kern_model.proofs.Selections.{insert-insert}
 use Rattle.iso_laws.proofs.ValidLemmas.{still_drawn, next_drawn, still_below}
 use Rattle.iso_laws.proofs.files.Changes.{valid_opened}
-use Rattle.iso_laws.proofs.tree.Changes.{distinct, next_absent, tree_entry, tree_object, valid_tree, with_tree}
+use Rattle.kern_model.proofs.StateLemmas.{next_absent}
+use Rattle.iso_laws.proofs.tree.Changes.{distinct, tree_entry, tree_object, valid_tree, with_tree}
 
 -- ---- an object is made that no entry leads to
 module _ (s : State) (valid : IsValid s) (who : Pid) (p : Process) (is : map.get s.procs who ≡ Some p) where
@@ -55,7 +56,7 @@ module _ (s : State) (valid : IsValid s) (who : Pid) (p : Process) (is : map.get
   still_reached q r = record { names = r.names; lead = leads_kept s drawn_state (λ at x e. e) root r.names q r.lead }
 
   no_names : link_count s new ≡ 0
-  no_names = count_none spot_cmp_total spot_cmp_exact (λ (at : Spot) (x : Oid). same_oid x new) s.entries (λ at q e.
+  no_names = count_entries-none spot_cmp_total spot_cmp_exact (λ (at : Spot) (x : Oid). same_oid x new) s.entries (λ at q e.
       let entry = valid.entries at q e in
       distinct q new (λ same. never_some (map.get s.objects new) entry.object (next_absent s valid p.label) (ap (map.get s.objects) (sym same) ∙ entry.object_is)))
 

@@ -5,7 +5,7 @@ use Rattle.std.specs.Ordering.{eq_by_cmp, is_eq}
 use Rattle.std.specs.FinMap as table
 use Rattle.std.specs.FinMap.{FinMap, find, get-insert, get-remove, get-entries}
 use Rattle.std.proofs.Common.{sym, ◌∙◌, ap, subst, arith, inl, inr}
-use Rattle.std.proofs.lemmas.Bool.{and_parts, or_cases, or_parts, true≢false}
+use Rattle.std.proofs.lemmas.Bool.{and_parts, or_cases, or_parts, true≢false, false_from_ne_true}
 use Rattle.std.proofs.lemmas.Cmp.{tied_itself}
 use Rattle.lab_lattice.specs.Label.{Label}
 use Rattle.kern_model.specs.declared.calls.Ending.{Ending}
@@ -24,9 +24,9 @@ use Rattle.iso_laws.proofs.Changes.{KeptProcess, kept_of, kept_process}
 use Rattle.iso_laws.proofs.ClosingLemmas.{each_closing}
 use Rattle.iso_laws.proofs.Part.{by_number, low_pid, same, part_changes, part_changes-append, first_low, first_high, part_of_low, part_of_high, change_label, changed_by-append}
 use Rattle.kern_model.proofs.Selections.{list_after, flat_map-select, get-remove_other}
-use Rattle.iso_laws.proofs.Sight.{not_true}
 use Rattle.iso_laws.proofs.files.Changes.{IsValidAlone}
-use Rattle.iso_laws.proofs.files.Closing.{Carries, over_changes, part_changes-flat_map, closing_low, closing_hidden, kept_closed, closed, valid_closed}
+use Rattle.iso_laws.proofs.files.Closing.{Carries, over_changes, part_changes-flat_map, closing_low, closing_hidden, kept_closed}
+use Rattle.iso_laws.proofs.files.Closed.{closed, valid_closed}
 
 pub is_pid_some : (a : Pid) (o : Option Pid) → is_pid a o ≡ true → o ≡ Some a
 is_pid_some a None h = absurd (true≢false (sym h))
@@ -173,7 +173,7 @@ module _ (s : State) (valid : IsValid s) (who : Pid) (p : Process) (is : table.g
       all_each (λ (e : Pid × Process). is_left who p e ≡ true → P (SetProcess e.0 (left_by who p how e.0 e.1))) P (survives who p how)
       (λ e h. all_when P (is_left who p e) (SetProcess e.0 (left_by who p how e.0 e.1) ∷ []) (λ t. (h t, tt))) (table.entries s.procs)
       (each-entries pid_cmp_total pid_cmp_exact (λ (q : Pid) (x : Process). is_left who p (q, x) ≡ true → P (SetProcess q (left_by who p how q x))) s.procs
-      (λ q x e t. h q x e (not_true _ (λ same. true≢false (sym (and_parts _ _ t).0 ∙ ap not same)))))
+      (λ q x e t. h q x e (false_from_ne_true _ (λ same. true≢false (sym (and_parts _ _ t).0 ∙ ap not same)))))
 
   ended_is : changed_by s (ending_of s who p how) ≡ closed s valid (is_of who) living
   unfolding ending_of
@@ -285,7 +285,7 @@ module _ (s : State) (valid : IsValid s) (who : Pid) (p : Process) (is : table.g
         | true ↦ λ _ none. absurd (never_some None r refl none)
         | false ↦ λ apart at.
             let there = (valid.procs q x e).parent r at in
-            let other : eq_by_cmp pid_cmp r who ≡ false = not_true _ (λ t. true≢false (ap is_eq (sym (tied_itself pid_cmp_total who)) ∙ ap (same_pid who) (sym (same_key pid_cmp_exact r who t)) ∙ ap (is_pid who) (sym at) ∙ apart)) in
+            let other : eq_by_cmp pid_cmp r who ≡ false = false_from_ne_true _ (λ t. true≢false (ap is_eq (sym (tied_itself pid_cmp_total who)) ∙ ap (same_pid who) (sym (same_key pid_cmp_exact r who t)) ∙ ap (is_pid who) (sym at) ∙ apart)) in
             record { value = left_by who p how r there.value; is = other_lives r there.value there.is other }
       ] refl
 

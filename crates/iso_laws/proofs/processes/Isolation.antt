@@ -1,7 +1,7 @@
 -- The calls on processes: a Low process in the state and in its part, and what the changes satisfy.
 use Rattle.std.specs.Prelude.{◌≡◌, ℕ, ◌+◌, ◌==◌, ◌&&◌, not, nat_le, length, Bool, true, false, List, [], ◌∷◌, Option, None, Some, refl, cond}
 use Rattle.std.proofs.Common.{sym, ◌∙◌, ap, subst, arith, inl, inr}
-use Rattle.std.proofs.lemmas.Bool.{and_parts, leb-false, true≢false}
+use Rattle.std.proofs.lemmas.Bool.{and_parts, leb-false, true≢false, false_from_ne_true}
 use Rattle.std.specs.FinMap as map
 use Rattle.std.specs.FinSet.{contains-is_subset, contains-intersection}
 use Rattle.cap_bits.specs.Laws.{cap_cmp_total}
@@ -37,7 +37,7 @@ use Rattle.iso_laws.proofs.LowRows.{Same, AreSeen, seen_self, low_itself, low_by
 use Rattle.iso_laws.proofs.Part.{by_number, low_pid, same, part_changes, part_of_low}
 use Rattle.iso_laws.proofs.Rows.{Gives, Passes, alike_fail, alike_give, alike_hidden, alike_need, alike_need_if, alike_refuse, gives_need_if, ends_need, ends_give, ends_need_if, ends_refuse}
 use Rattle.kern_model.proofs.Selections.{test_after, any_entry-select}
-use Rattle.iso_laws.proofs.Sight.{equal_side, get_process, met_rule, not_true, processes_drawn_low}
+use Rattle.iso_laws.proofs.Sight.{equal_side, get_process, met_rule, processes_drawn_low}
 use Rattle.iso_laws.proofs.processes.Ending.{is_pid_some, ending_low}
 
 module _ (l : Label) (s : State) (kept : Kept l s) (valid : IsValid s) (who : Pid) (p : Process) (is : map.get s.procs who ≡ Some p) (is_low : low l p.label ≡ true) where
@@ -94,7 +94,7 @@ module _ (l : Label) (s : State) (kept : Kept l s) (valid : IsValid s) (who : Pi
       any_entry-select pid_cmp_total pid_cmp_exact (where_key (low_pid l) (same {X = Process})) p_of p_of s.procs (λ q x e.
       elim (low l q.label) as (λ b. low l q.label ≡ b → test_after p_of q (cond b (Some x) None) ≡ p_of q x) [
         | true ↦ λ _. refl
-        | false ↦ λ high. sym (not_true (p_of q x) (λ t. true≢false (sym (sym (kept.parents q who x e (is_pid_some who x.parent t)) ∙ kept.procs who p is ∙ is_low) ∙ high)))
+        | false ↦ λ high. sym (false_from_ne_true (p_of q x) (λ t. true≢false (sym (sym (kept.parents q who x e (is_pid_some who x.parent t)) ∙ kept.procs who p is ∙ is_low) ∙ high)))
       ] refl)
 
   -- the caller forks a process with the number after n

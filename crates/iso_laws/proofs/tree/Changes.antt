@@ -6,7 +6,7 @@ use Rattle.std.specs.Ordering.{eq_by_cmp, is_eq}
 use Rattle.std.specs.FinMap as map
 use Rattle.std.specs.FinMap.{FinMap}
 use Rattle.std.proofs.Common.{sym, ◌∙◌, ap, subst, arith, inl, inr}
-use Rattle.std.proofs.lemmas.Bool.{true≢false, and_parts, and_from, ltb-true}
+use Rattle.std.proofs.lemmas.Bool.{true≢false, and_parts, and_from, ltb-true, false_from_ne_true, not-true}
 use Rattle.std.proofs.lemmas.Cmp.{tied_itself}
 use Rattle.cap_bits.specs.State.{no_flags}
 use Rattle.fs_path.specs.Name.{Name, is_name}
@@ -27,20 +27,16 @@ use Rattle.kern_model.specs.Maps.{any_entry}
 use Rattle.kern_model.specs.State.{State, Process, Description, DropEntry, SetEntry, changed, changed_by, drawn, next_object, look, object_at, stub_object, root}
 use Rattle.kern_model.specs.Valid.{IsValid, IsDir, IsDrawn, AreFew, IsReached, IsHeld, IsValidObject, IsValidEntry, IsValidEnd, IsValidProcess, IsValidDescription, leads}
 use Rattle.kern_model.proofs.KeyLaws.{oid_cmp_total, oid_cmp_exact, spot_cmp_total, spot_cmp_exact}
-use Rattle.kern_model.proofs.MapLemmas.{same_key, some_same, never_some, each-remove, each-insert, get-insert_same, get-insert_kept, get_or-found}
+use Rattle.kern_model.proofs.MapLemmas.{same_key, some_same, never_some, each-remove, each-insert, get-insert_same, get-insert_kept, get_or-found, count_entries-none}
 use Rattle.kern_model.proofs.TableLemmas.{each_set_at}
 use Rattle.iso_laws.proofs.Leading.{leads_step, leads_kept, leads_on}
-use Rattle.iso_laws.proofs.Sight.{not_true}
-use Rattle.kern_model.proofs.Selections.{none_passes, none_pass, count_none, count_remove, count_insert, count_insert_other, get-remove_same, get-remove_other}
+use Rattle.kern_model.proofs.Selections.{none_passes, none_pass, count_remove, count_insert, count_insert_other, get-remove_same, get-remove_other}
+use Rattle.kern_model.proofs.StateLemmas.{next_absent}
 use Rattle.iso_laws.proofs.ValidLemmas.{still_drawn, next_drawn, still_below}
-
-pub not_true_false : (b : Bool) → not b ≡ true → b ≡ false
-not_true_false true h = sym h
-not_true_false false h = refl
 
 -- different numbers compare unequal
 pub distinct : (a b : Oid) → (a ≡ b → ⊥) → same_oid a b ≡ false
-distinct a b other = not_true _ (λ t. other (same_key oid_cmp_exact a b t))
+distinct a b other = false_from_ne_true _ (λ t. other (same_key oid_cmp_exact a b t))
 
 -- numbers that compare unequal are different
 pub never_same : (a b : Oid) → same_oid a b ≡ false → a ≡ b → ⊥
@@ -49,7 +45,7 @@ never_same a b other same = true≢false (ap is_eq (sym (tied_itself oid_cmp_tot
 -- an object that is no directory has no entries
 pub no_entries : (s : State) → IsValid s → (id : Oid) → is_dir (object_at s id).kind ≡ false → is_empty s id ≡ true
 no_entries s valid id no_dir = ap not (none_pass spot_cmp_total spot_cmp_exact (λ (spot : Spot) (at : Oid). same_oid spot.0 id) s.entries (λ spot at e.
-    not_true (same_oid spot.0 id) (λ t.
+    false_from_ne_true (same_oid spot.0 id) (λ t.
     let entry : IsValidEntry s spot at = valid.entries spot at e in
     let is : map.get s.objects id ≡ Some entry.dir = ap (map.get s.objects) (sym (same_key oid_cmp_exact spot.0 id t)) ∙ entry.dir_is in
     let no : true ≡ false = ap is_dir (sym entry.is_dir) ∙ ap (λ (o : Object). is_dir o.kind) (sym (get_or-found s.objects id (stub_object s.top) entry.dir is)) ∙ no_dir in
@@ -61,7 +57,7 @@ none_in s dir name empty =
     elim (look s dir name) as (λ w. look s dir name ≡ w → w ≡ None) [
       | None ↦ λ _. refl
       | Some id ↦ λ e.
-          absurd (never_same dir dir (none_passes spot_cmp_total spot_cmp_exact (λ (spot : Spot) (at : Oid). same_oid spot.0 dir) s.entries (not_true_false _ empty) (dir, name) id e) refl)
+          absurd (never_same dir dir (none_passes spot_cmp_total spot_cmp_exact (λ (spot : Spot) (at : Oid). same_oid spot.0 dir) s.entries (not-true _ empty) (dir, name) id e) refl)
     ] refl
 
 -- ---- other objects and entries
@@ -196,15 +192,15 @@ module _ (s : State) (valid : IsValid s) (spot : Spot) (id : Oid) (is : map.get 
   still_removed : (q : Oid) → is_removed s q ≡ true → is_removed next_state q ≡ true
   still_removed q h =
       let parts = and_parts (not (same_oid q root)) (not (is_held s q)) h in
-      and_from _ _ parts.0 (ap not (still_none (λ (at : Spot) (to : Oid). same_oid to q) (not_true_false _ parts.1)))
+      and_from _ _ parts.0 (ap not (still_none (λ (at : Spot) (to : Oid). same_oid to q) (not-true _ parts.1)))
 
   still_empty : (q : Oid) → is_empty s q ≡ true → is_empty next_state q ≡ true
-  still_empty q h = ap not (still_none (λ (at : Spot) (to : Oid). same_oid at.0 q) (not_true_false _ h))
+  still_empty q h = ap not (still_none (λ (at : Spot) (to : Oid). same_oid at.0 q) (not-true _ h))
 
   -- a directory that the entry led to is removed
   removed_now : (o : Object) → map.get s.objects id ≡ Some o → o.kind ≡ kind.Dir → is_removed next_state id ≡ true
-  removed_now o o_is dir = and_from _ _ (ap not (not_true (same_oid id root) (λ t. (valid.entries spot id is).no_root (same_key oid_cmp_exact id root t))))
-      (ap not (none_pass spot_cmp_total spot_cmp_exact (λ (at : Spot) (to : Oid). same_oid to id) left (λ at q e. not_true (same_oid q id) (λ t.
+  removed_now o o_is dir = and_from _ _ (ap not (false_from_ne_true (same_oid id root) (λ t. (valid.entries spot id is).no_root (same_key oid_cmp_exact id root t))))
+      (ap not (none_pass spot_cmp_total spot_cmp_exact (λ (at : Spot) (to : Oid). same_oid to id) left (λ at q e. false_from_ne_true (same_oid q id) (λ t.
       let led : map.get s.entries at ≡ Some id = was at q e ∙ ap (λ (x : Oid). Some x) (same_key oid_cmp_exact q id t) in
       let same : at ≡ spot = valid.one_entry at spot id o led is o_is dir in
       never_some (map.get left at) q (ap (map.get left) same ∙ gone) e))))
@@ -276,8 +272,8 @@ module _ (s : State) (valid : IsValid s) (objects : FinMap oid_cmp Object) (obje
     | inr gone ↦
         let parts = and_parts (not (same_oid q root)) (not (is_held s q)) gone.0 in
         inr (
-          and_from _ _ parts.0 (ap not (none_more (λ (at : Spot) (x : Oid). same_oid x q) (not_true_false _ parts.1) (distinct to q other))),
-          ap not (none_more (λ (at : Spot) (x : Oid). same_oid at.0 q) (not_true_false _ gone.1) (distinct dir q (λ same.
+          and_from _ _ parts.0 (ap not (none_more (λ (at : Spot) (x : Oid). same_oid x q) (not-true _ parts.1) (distinct to q other))),
+          ap not (none_more (λ (at : Spot) (x : Oid). same_oid at.0 q) (not-true _ gone.1) (distinct dir q (λ same.
               let no : true ≡ false = sym gone.0 ∙ ap (is_removed s) (sym same) ∙ standing in
               cc))),
         )
@@ -343,14 +339,6 @@ pub record IsFresh (p : Process) (o : Object) : Type 0 where
   pub bytes : o.bytes ≡ []
   pub no_pipe : o.kind ≡ kind.Pipe → ⊥
 
--- no object has the next number
-pub next_absent : (s : State) → IsValid s → (l : Label) → map.get s.objects (next_object s l) ≡ None
-next_absent s valid l =
-    elim (map.get s.objects (next_object s l)) as (λ w. map.get s.objects (next_object s l) ≡ w → w ≡ None) [
-      | None ↦ λ _. refl
-      | Some x ↦ λ e. absurd (omega (arith, (valid.objects (next_object s l) x e).drawn_already.1))
-    ] refl
-
 module _ (s : State) (valid : IsValid s) (p : Process) (dir : Oid) (name : Name) (o : Object) (fresh : IsFresh p o) (dir_is : IsDir s.objects dir) (free : look s dir name ≡ None) (standing : is_removed s dir ≡ false) where
   abbrev new : Oid
   new = next_object s p.label
@@ -374,7 +362,7 @@ module _ (s : State) (valid : IsValid s) (p : Process) (dir : Oid) (name : Name)
   is_other q x e same = never_some (map.get s.objects new) x (next_absent s valid p.label) (ap (map.get s.objects) same ∙ e)
 
   no_names : link_count s new ≡ 0
-  no_names = count_none spot_cmp_total spot_cmp_exact (λ (at : Spot) (x : Oid). same_oid x new) s.entries (λ at q e. let entry = valid.entries at q e in distinct q new (λ same. is_other q entry.object entry.object_is (sym same)))
+  no_names = count_entries-none spot_cmp_total spot_cmp_exact (λ (at : Spot) (x : Oid). same_oid x new) s.entries (λ at q e. let entry = valid.entries at q e in distinct q new (λ same. is_other q entry.object entry.object_is (sym same)))
 
   made_object : dominates s.top p.label ≡ true → (q : Oid) (x : Object) → map.get more_objects q ≡ Some x → IsValidObject made_state q x
   made_object below = each-insert oid_cmp_total oid_cmp_exact (IsValidObject made_state) s.objects

@@ -18,14 +18,15 @@ use Rattle.kern_model.proofs.KeyLaws.{oid_cmp_exact, spot_cmp_total, spot_cmp_ex
 use Rattle.kern_model.proofs.MapLemmas.{same_key}
 use Rattle.iso_laws.proofs.Part.{by_number, shown, low_spot}
 use Rattle.kern_model.proofs.Selections.{test_after, list_after, any_entry-select, count_entries-select, flat_map-select}
-use Rattle.iso_laws.proofs.Sight.{low_below, not_true, object_low}
+use Rattle.std.proofs.lemmas.Bool.{false_from_ne_true}
+use Rattle.iso_laws.proofs.Sight.{low_below, object_low}
 
 pub true_is_not_false : true ≡ false → ⊥
 true_is_not_false e = cc
 
 -- a directory that is not Low differs from one that is
 pub other_dir : (l : Label) (id : Oid) → low l id.label ≡ true → (dir : Oid) → low l dir.label ≡ false → same_oid dir id ≡ false
-other_dir l id is_low dir high = not_true (same_oid dir id) (λ t. true_is_not_false (sym is_low ∙ ap (λ (d : Oid). low l d.label) (sym (same_key oid_cmp_exact dir id t)) ∙ high))
+other_dir l id is_low dir high = false_from_ne_true (same_oid dir id) (λ t. true_is_not_false (sym is_low ∙ ap (λ (d : Oid). low l d.label) (sym (same_key oid_cmp_exact dir id t)) ∙ high))
 
 module _ (l : Label) (s : State) (id : Oid) (is_low : low l id.label ≡ true) where
   -- an entry is in a Low directory in the part exactly where it is in the state
@@ -58,7 +59,7 @@ module _ (l : Label) (s : State) (id : Oid) (is_low : low l id.label ≡ true) w
 -- the names of a Low object are in Low directories
 module _ (l : Label) (s : State) (kept : Kept l s) (valid : IsValid s) (id : Oid) (there : IsThere s.objects id) (is_low : low l id.label ≡ true) where
   no_stub : same_oid (stub s.top) id ≡ false
-  no_stub = not_true _ (λ t. let none : 0 ≡ id.n = ap (λ (q : Oid). q.n) (same_key oid_cmp_exact (stub s.top) id t) in absurd (omega (arith, none, (valid.objects id there.value there.is).drawn_already.0)))
+  no_stub = false_from_ne_true _ (λ t. let none : 0 ≡ id.n = ap (λ (q : Oid). q.n) (same_key oid_cmp_exact (stub s.top) id t) in absurd (omega (arith, none, (valid.objects id there.value there.is).drawn_already.0)))
 
   pub shown_is : (at : Oid) → same_oid (shown l s.top at) id ≡ same_oid at id
   shown_is at =
@@ -77,7 +78,7 @@ module _ (l : Label) (s : State) (kept : Kept l s) (valid : IsValid s) (id : Oid
   leads_to spot at e =
       elim (low l spot.0.label) as (λ b. low l spot.0.label ≡ b → test_after (λ (at_spot : Spot) (to : Oid). same_oid to id) spot (cond b (Some (shown l s.top at)) None) ≡ same_oid at id) [
         | true ↦ λ _. shown_is at
-        | false ↦ λ high. sym (not_true (same_oid at id) (λ t. true_is_not_false (sym (holder_low spot (e ∙ ap (λ (q : Oid). Some q) (same_key oid_cmp_exact at id t))) ∙ high)))
+        | false ↦ λ high. sym (false_from_ne_true (same_oid at id) (λ t. true_is_not_false (sym (holder_low spot (e ∙ ap (λ (q : Oid). Some q) (same_key oid_cmp_exact at id t))) ∙ high)))
       ] refl
 
   pub link_count_low : link_count (by_number l s) id ≡ link_count s id

@@ -5,7 +5,7 @@ use Rattle.std.specs.Ordering.{is_eq}
 use Rattle.std.specs.FinMap as map
 use Rattle.std.specs.FinMap.{FinMap}
 use Rattle.std.proofs.Common.{sym, ◌∙◌, ap, subst, arith, inl, inr}
-use Rattle.std.proofs.lemmas.Bool.{true≢false, and_parts, and_from, or_left, or_right, true_from_ne_false}
+use Rattle.std.proofs.lemmas.Bool.{true≢false, and_parts, and_from, or_left, or_right, true_from_ne_false, false_from_ne_true, not-true}
 use Rattle.std.proofs.lemmas.Cmp.{tied_itself}
 use Rattle.fs_path.specs.Name.{Name}
 use Rattle.lab_lattice.specs.Label.{Label}
@@ -22,8 +22,7 @@ use Rattle.kern_model.proofs.KeyLaws.{oid_cmp_total, oid_cmp_exact, spot_cmp_tot
 use Rattle.kern_model.proofs.MapLemmas.{same_key, some_same, never_some, each-remove, each-entries, get_or-found}
 use Rattle.iso_laws.proofs.Part.{by_number, shown, low_spot}
 use Rattle.kern_model.proofs.Selections.{test_after, find_none, find_only, find-select, count_entries-select, none_passes, none_pass, count_removed, count_at_most, get-remove_other}
-use Rattle.iso_laws.proofs.Sight.{not_true}
-use Rattle.iso_laws.proofs.tree.Changes.{never_same, not_true_false}
+use Rattle.iso_laws.proofs.tree.Changes.{never_same}
 use Rattle.iso_laws.proofs.tree.Entries.{leads_to, holder_low}
 
 -- ---- who holds an object
@@ -133,13 +132,13 @@ module _ (s : State) (valid : IsValid s) where
   -- no directory holds the root
   root_free : is_held s root ≡ false
   root_free = none_pass spot_cmp_total spot_cmp_exact (λ (spot : Spot) (to : Oid). same_oid to root) s.entries (λ spot id e.
-      not_true _ (λ t. (valid.entries spot id e).no_root (same_key oid_cmp_exact id root t)))
+      false_from_ne_true _ (λ t. (valid.entries spot id e).no_root (same_key oid_cmp_exact id root t)))
 
   -- each directory has a depth
   depth_of : (id : Oid) → IsDir s.objects id → (n : ℕ) × IsDeep s s.entries n id
   depth_of id dir = elim ((valid.objects id dir.object dir.is).reached dir.dir) as (λ w. (n : ℕ) × IsDeep s s.entries n id) [
     | inl r ↦ (length r.names + 0, leads_deeper r.names root id 0 (length r.names + 0) refl root_free r.lead)
-    | inr gone ↦ (0, not_true_false _ (and_parts _ _ gone.0).1)
+    | inr gone ↦ (0, not-true _ (and_parts _ _ gone.0).1)
   ]
 
   -- a directory has at most one depth
@@ -159,7 +158,7 @@ module _ (s : State) (valid : IsValid s) where
       let there = from is.spot x is.is in
       record {
         spot = is.spot;
-        is = get-remove_other spot_cmp_total es deep.spot is.spot (not_true _ (λ t.
+        is = get-remove_other spot_cmp_total es deep.spot is.spot (false_from_ne_true _ (λ t.
             let same : x ≡ id = some_same x id (sym is.is ∙ ap (map.get es) (same_key spot_cmp_exact is.spot deep.spot t) ∙ deep.is) in
             let depth : suc n ≡ suc m = one_depth es from (suc n) (suc m) x x_dir is (subst (λ (y : Oid). IsDeep s es (suc m) y) (sym same) deep) in
             absurd (omega (arith, less, depth)))) ∙ is.is;

@@ -1,7 +1,7 @@
 -- The calls on entries: a Low process in the state and in its part, and what the changes satisfy.
 use Rattle.std.specs.Prelude.{◌≡◌, ℕ, ◌+◌, ◌/◌, ◌%◌, ◌==◌, ◌≤◌, ◌&&◌, nat_le, nat_lt, Bool, true, false, not, List, [], ◌∷◌, Option, None, Some, refl, cond}
 use Rattle.std.proofs.Common.{sym, ◌∙◌, ap, subst, arith, inl, inr}
-use Rattle.std.proofs.lemmas.Bool.{and_from, and_cases, le-leb, leb-false, not-false}
+use Rattle.std.proofs.lemmas.Bool.{and_from, and_cases, le-leb, leb-false, not-false, not-true}
 use Rattle.std.proofs.lemmas.Nat.{and_le_l, and_le_r}
 use Rattle.std.specs.Int.{bit_not, w16}
 use Rattle.std.specs.List.{list_all}
@@ -46,7 +46,7 @@ use Rattle.iso_laws.proofs.LowRows.{Same, seen_self, low_itself, low_check, low_
 use Rattle.iso_laws.proofs.Part.{by_number, shown, part_changes, part_of_low}
 use Rattle.iso_laws.proofs.Rows.{Passes, alike_same, alike_refuse, alike_give, alike_fail, alike_missing, ends_fail, ends_give, ends_need, ends_refuse, ends_missing}
 use Rattle.iso_laws.proofs.Sight.{alike_reach, alike_walk, alike_enter, alike_mac_read, alike_mac_write, ends_enter, ends_walk, ends_reach, object_low, drawn_low, shown_low, led_there, part_found, Seen, FoundIn, met_rule}
-use Rattle.iso_laws.proofs.tree.Changes.{no_entries, not_true_false}
+use Rattle.iso_laws.proofs.tree.Changes.{no_entries}
 use Rattle.iso_laws.proofs.tree.Holders.{under_low, not_led}
 use Rattle.iso_laws.proofs.tree.Entries.{names_low, empty_low, link_count_low, removed_low, stat_of_low}
 
@@ -303,7 +303,7 @@ module _ (bad : Rec → Bool) (s : State) (valid : IsValid s) (who : Pid) (p : P
       (meets_entry_of_object (λ dir name id. leave_from s p path dir id (Need (unlink_dir s id (last_place (λ n. First n) path)) (Commit (DropEntry (dir, name) ∷ []) answer.Nothing None)))
       (λ dir name id is_dir at. meets_leave path dir id _ (λ written. ends_need bad (subject who p) P cases.none _ _ (λ passes.
       ends_give bad (subject who p) P cases.none _ answer.Nothing None
-      (cases.leave dir name id place written is_dir at (no_entries s valid id (not_true_false _ (met_rule bad (subject who p) (unlink_dir s id (last_place (λ n. First n) path)) refl passes))))))) path.names)
+      (cases.leave dir name id place written is_dir at (no_entries s valid id (not-true _ (met_rule bad (subject who p) (unlink_dir s id (last_place (λ n. First n) path)) refl passes))))))) path.names)
 
   -- the row goes on from a name that nothing has
   meets_new_name : (names : List Name) (k : Oid → Name → Row) → ((dir : Oid) (name : Name) → IsDir s.objects dir → look s dir name ≡ None → (list_all is_name names ≡ true → is_name name ≡ true) → Meets bad who p P (k dir name))

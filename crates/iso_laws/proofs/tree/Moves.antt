@@ -5,7 +5,7 @@ use Rattle.std.specs.Ordering.{eq_by_cmp}
 use Rattle.std.specs.FinMap as map
 use Rattle.std.specs.FinMap.{FinMap}
 use Rattle.std.proofs.Common.{sym, ◌∙◌, ap, subst, arith, inl, inr}
-use Rattle.std.proofs.lemmas.Bool.{true≢false, and_parts, and_from}
+use Rattle.std.proofs.lemmas.Bool.{true≢false, and_parts, and_from, false_from_ne_true, not-true}
 use Rattle.fs_path.specs.Name.{Name, is_name}
 use Rattle.lab_lattice.specs.Label.{dominates}
 use Rattle.kern_model.specs.declared.numbers.Oid.{Oid}
@@ -19,9 +19,8 @@ use Rattle.kern_model.specs.Valid.{IsValid, IsDir, IsReached, IsValidObject, IsV
 use Rattle.kern_model.proofs.KeyLaws.{oid_cmp_exact, spot_cmp_total, spot_cmp_exact}
 use Rattle.kern_model.proofs.MapLemmas.{same_key, some_same, never_some, each-remove, each-insert, get-insert_same, get-insert_kept, get_or-found}
 use Rattle.iso_laws.proofs.Leading.{leads_step, leads_kept, leads_on, leads_append}
-use Rattle.iso_laws.proofs.Sight.{not_true}
 use Rattle.kern_model.proofs.Selections.{none_passes, none_pass, count_remove, count_removed, count_insert, count_insert_other, get-remove_same, get-remove_other, get-remove_none, insert-over_removed}
-use Rattle.iso_laws.proofs.tree.Changes.{with_tree, tree_object, tree_entry, valid_tree, valid_drop, standing_reached, distinct, never_same, none_in, not_true_false}
+use Rattle.iso_laws.proofs.tree.Changes.{with_tree, tree_object, tree_entry, valid_tree, valid_drop, standing_reached, distinct, never_same, none_in}
 
 -- an entry may move to a spot of a directory that is neither removed nor below what moves; what is there is another thing, without entries
 pub record IsMove (s : State) (dir : Oid) (name : Name) (id into : Oid) (new : Name) : Type 0 where
@@ -112,13 +111,13 @@ module _ (s : State) (valid : IsValid s) (dir : Oid) (name : Name) (id into : Oi
   still_removed : (q : Oid) → is_removed s q ≡ true → is_removed moved_state q ≡ true
   still_removed q gone =
       let parts = and_parts (not (same_oid q root)) (not (is_held s q)) gone in
-      let none : is_held s q ≡ false = not_true_false _ parts.1 in
+      let none : is_held s q ≡ false = not-true _ parts.1 in
       let other : same_oid id q ≡ false = none_passes spot_cmp_total spot_cmp_exact (λ (at : Spot) (to : Oid). same_oid to q) s.entries none (dir, name) id move.at in
       and_from _ _ parts.0 (ap not (none_moved (λ (at : Spot) (to : Oid). same_oid to q) none other))
 
   still_empty : (q : Oid) → is_removed s q ≡ true → is_empty s q ≡ true → is_empty moved_state q ≡ true
   still_empty q gone empty =
-      ap not (none_moved (λ (at : Spot) (to : Oid). same_oid at.0 q) (not_true_false _ empty) (distinct into q (λ same. true≢false (sym gone ∙ ap (is_removed s) (sym same) ∙ move.standing))))
+      ap not (none_moved (λ (at : Spot) (to : Oid). same_oid at.0 q) (not-true _ empty) (distinct into q (λ same. true≢false (sym gone ∙ ap (is_removed s) (sym same) ∙ move.standing))))
 
   moved_object : (q : Oid) (o : Object) → map.get s.objects q ≡ Some o → IsValidObject moved_state q o
   moved_object q o e =
@@ -190,18 +189,18 @@ module _ (s : State) (valid : IsValid s) (dir : Oid) (name : Name) (id into : Oi
   elsewhere : (spot : Spot) (q : Oid) → (q ≡ t → ⊥) → map.get s.entries spot ≡ Some q → map.get cleared spot ≡ Some q
   elsewhere spot q other e =
       let apart : eq_by_cmp spot_cmp spot (into, new) ≡ false =
-      not_true _ (λ same. other (some_same q t (sym e ∙ ap (map.get s.entries) (same_key spot_cmp_exact spot (into, new) same) ∙ at))) in
+      false_from_ne_true _ (λ same. other (some_same q t (sym e ∙ ap (map.get s.entries) (same_key spot_cmp_exact spot (into, new) same) ∙ at))) in
       get-remove_other spot_cmp_total s.entries (into, new) spot apart ∙ e
 
   -- the directory that gets the entry is not what gives way, for that has no entries
   into_stands : is_removed cleared_state into ≡ false
-  into_stands = not_true _ (λ gone.
+  into_stands = false_from_ne_true _ (λ gone.
       let parts = and_parts (not (same_oid into root)) (not (is_held cleared_state into)) gone in
       let none : is_held s into ≡ false =
-      none_pass spot_cmp_total spot_cmp_exact (λ (spot : Spot) (to : Oid). same_oid to into) s.entries (λ spot q e. not_true (same_oid q into) (λ same.
+      none_pass spot_cmp_total spot_cmp_exact (λ (spot : Spot) (to : Oid). same_oid to into) s.entries (λ spot q e. false_from_ne_true (same_oid q into) (λ same.
       let leads_here : map.get s.entries spot ≡ Some into = e ∙ ap (λ (x : Oid). Some x) (same_key oid_cmp_exact q into same) in
       let other : into ≡ t → ⊥ = λ is_t. never_some (look s t new) t (none_in s t new (move.gives_way t at).1) (ap (λ (x : Oid). look s x new) (sym is_t) ∙ at) in
-      never_same into into (none_passes spot_cmp_total spot_cmp_exact (λ (at_spot : Spot) (to : Oid). same_oid to into) cleared (not_true_false _ parts.1) spot into (elsewhere spot into other leads_here)) refl)) in
+      never_same into into (none_passes spot_cmp_total spot_cmp_exact (λ (at_spot : Spot) (to : Oid). same_oid to into) cleared (not-true _ parts.1) spot into (elsewhere spot into other leads_here)) refl)) in
       true≢false (sym (and_from _ _ parts.0 (ap not none)) ∙ move.standing))
 
   move_cleared : IsMove cleared_state dir name id into new

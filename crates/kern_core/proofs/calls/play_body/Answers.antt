@@ -10,7 +10,7 @@ use Rattle.sys_lookup.specs.declared.effect.Effect.{Effect}
 use Rattle.sys_lookup.specs.PlaysRow.{PlaysRow}
 use Rattle.sys_lookup.specs.Shared.{holding, state_of}
 use Rattle.sys_lookup.proofs.PlayLemmas.{caller_plays, commits}
-use Rattle.sys_tree.proofs.PlayingLemmas.{plays_as, names_as}
+use Rattle.sys_lookup.proofs.PlayingLemmas.{plays_as, names_as}
 use Rattle.kern_core.proofs.calls.play_body.Goals as goal
 
 pub returns-in-MacGetFile-clause-played : goal.returns-in-MacGetFile-clause-played

@@ -11,13 +11,13 @@ returns-in_err-kernel-clause-writes g c = λ source. out_of_memory _ _ _ c.from_
 
 pub returns-in_err-begin-clause-writes : goal.returns-in_err-begin-clause-writes
 returns-in_err-begin-clause-writes g c = λ source. in_order _ _ _ _ _
-    (world_order c.args.world.now.read _ c.items.result.now (c.items.ensures ∙ c.in_ok-kernel.ensures.recs) (state_of c.in_ok-kernel.kernel) c.in_ok-kernel.ensures.state)
+    (world_order c.args.world.read _ c.items.result.now (c.items.ensures ∙ c.in_ok-kernel.ensures.recs) (state_of c.in_ok-kernel.kernel) c.in_ok-kernel.ensures.state)
     (stops _ _ _ _ _ _ (c.in_err-begin.ensures source _) c.from_residual-in_err-begin.ensures.1)
 
 pub play_script-requires-clause-top : goal.play_script-requires-clause-top
-play_script-requires-clause-top g c = ap (λ (s : State). s.top) c.in_ok-kernel.ensures.state ∙ top_boot c.args.world.now.read.world ∙ c.requires.top
+play_script-requires-clause-top g c = ap (λ (s : State). s.top) c.in_ok-kernel.ensures.state ∙ top_boot c.args.world.read.world ∙ c.requires.top
 
 pub returns-clause-writes : goal.returns-clause-writes
 returns-clause-writes g c = λ source. in_order c.play_script.result _ _ _ _
-    (world_order c.args.world.now.read _ c.items.result.now (c.items.ensures ∙ c.in_ok-kernel.ensures.recs) (state_of c.in_ok-kernel.kernel) c.in_ok-kernel.ensures.state)
+    (world_order c.args.world.read _ c.items.result.now (c.items.ensures ∙ c.in_ok-kernel.ensures.recs) (state_of c.in_ok-kernel.kernel) c.in_ok-kernel.ensures.state)
     (goes_on c.play_script.result _ _ _ _ _ (c.in_ok-begin.ensures source _) (c.play_script.ensures.writes source))

@@ -4,7 +4,7 @@ use Rattle.kern_model.specs.State.{Process}
 use Rattle.kern_model.specs.TreeRows.{readdir_row, stat_row}
 use Rattle.sys_lookup.specs.Shared.{holding, state_of}
 use Rattle.sys_lookup.proofs.PlayLemmas.{caller_plays}
-use Rattle.sys_tree.proofs.PlayingLemmas.{plays_as, names_as}
+use Rattle.sys_lookup.proofs.PlayingLemmas.{plays_as, names_as}
 use Rattle.sys_tree.proofs.playing.play.Goals as goal
 
 pub returns-in-Mkdir-clause-played : goal.returns-in-Mkdir-clause-played

@@ -7,4 +7,4 @@ use Rattle.fd_table.proofs.descriptions.Descriptions.hold.Goals as goal
 pub invariant_of-self : goal.invariant_of-self
 invariant_of-self c =
     subst (λ (m : SharedTable). AreCounted m c.self.inside.uses) (sym c.replace.ensures)
-    (counted-replace c.self.inside.shared c.self.inside.uses c.self.invariant c.args.did.now c.in-Some.shared (sym c.get.ensures ∙ c.in-Some.is) (record c.in-Some.shared { holders = c.in-Some.shared.holders + 1 }) refl)
+    (counted-replace c.self.inside.shared c.self.inside.uses c.self.invariant c.args.did.now c.in-Some.shared (sym c.get.ensures ∙ c.in-Some.is) (record c.in-Some.shared { holders = c.in-Some.shared.holders + 1 }) refl refl)

@@ -1,8 +1,9 @@
 use Rattle.std.specs.Prelude.{◌≡◌, None}
 use Rattle.std.specs.FinMap as map
 use Rattle.std.specs.FinMap.{FinMap}
-use Rattle.std.proofs.Common.{ap, sym, ◌∙◌, subst, ℕ}
+use Rattle.std.proofs.Common.{ap, sym, ◌∙◌, subst}
 use Rattle.kern_model.specs.Keys.{oid_cmp}
+use Rattle.fd_table.specs.declared.uses.UseCount.{UseCount}
 use Rattle.fd_table.specs.Descriptions.{AreCounted, SharedTable, made_for}
 use Rattle.kern_model.proofs.KeyLaws.{did_cmp_total, did_cmp_exact}
 use Rattle.kern_model.proofs.MapLemmas.{remove-insert}
@@ -15,7 +16,7 @@ invariant_of-self-in-Err c =
     let none : map.get shared c.args.did.now ≡ None = ap (λ (m : SharedTable). map.get m c.args.did.now) c.self.view_is ∙ c.requires in
     let same : c.remove.new.self ≡ shared =
     c.remove.ensures ∙ ap (λ (m : SharedTable). map.remove m c.args.did.now) c.in_ok-set.ensures.ok ∙ remove-insert did_cmp_total did_cmp_exact shared c.args.did.now (made_for c.args.object c.args.how) none in
-    subst (λ (m : SharedTable). AreCounted m c.add_one.new.self) (sym same) (subst (λ (m : FinMap oid_cmp ℕ). AreCounted shared m) (sym c.in-Err.ensures.err) c.self.invariant)
+    subst (λ (m : SharedTable). AreCounted m c.add_one.new.self) (sym same) (subst (λ (m : FinMap oid_cmp UseCount). AreCounted shared m) (sym c.in-Err.ensures.err) c.self.invariant)
 
 pub returns-in-Err-clause-err : goal.returns-in-Err-clause-err
 returns-in-Err-clause-err c =

@@ -1,9 +1,11 @@
 use Rattle.std.specs.FinMap as map
 use Rattle.std.specs.FinMap.{FinMap}
-use Rattle.std.proofs.Common.{ap, sym, ◌∙◌, ℕ}
+use Rattle.std.proofs.Common.{ap, sym, ◌∙◌}
 use Rattle.kern_model.specs.Keys.{oid_cmp}
 use Rattle.kern_model.specs.Maps.{get_or}
-use Rattle.fd_table.specs.Descriptions.{SharedTable, uses_of}
+use Rattle.fd_table.specs.declared.uses.UseCount.{UseCount}
+use Rattle.fd_table.specs.Uses.{no_use}
+use Rattle.fd_table.specs.Descriptions.{SharedTable, count_of}
 use Rattle.std.specs.FinMap.{get-empty}
 use Rattle.kern_model.proofs.MapLemmas.{get_or-absent}
 use Rattle.fd_table.proofs.UseLemmas.{none_used}
@@ -11,5 +13,5 @@ use Rattle.fd_table.proofs.descriptions.Descriptions.new.Goals as goal
 
 pub invariant_of-result : goal.invariant_of-result
 invariant_of-result c = λ id.
-    ap (λ (m : FinMap oid_cmp ℕ). get_or m id 0) c.new-2.ensures ∙ get_or-absent map.empty id 0 (get-empty oid_cmp id)
-    ∙ sym (ap (λ (m : SharedTable). uses_of m id) c.new.ensures ∙ none_used id)
+    ap (λ (m : FinMap oid_cmp UseCount). get_or m id no_use) c.new-2.ensures ∙ get_or-absent map.empty id no_use (get-empty oid_cmp id)
+    ∙ sym (ap (λ (m : SharedTable). count_of m id) c.new.ensures ∙ none_used id)

@@ -11,7 +11,7 @@ use Rattle.fd_table.proofs.descriptions.Descriptions.release.Goals as goal
 pub invariant_of-self : goal.invariant_of-self
 invariant_of-self c =
     subst (λ (m : SharedTable). AreCounted m c.self.inside.uses) (sym c.replace.ensures)
-    (counted-replace c.self.inside.shared c.self.inside.uses c.self.invariant c.args.did.now c.in-Some.shared (sym c.get.ensures ∙ c.in-Some.is) (record c.in-Some.shared { holders = c.in-Some.shared.holders - 1 }) refl)
+    (counted-replace c.self.inside.shared c.self.inside.uses c.self.invariant c.args.did.now c.in-Some.shared (sym c.get.ensures ∙ c.in-Some.is) (record c.in-Some.shared { holders = c.in-Some.shared.holders - 1 }) refl refl)
 
 pub returns-then-shared-gt1-clause-unused : goal.returns-then-shared-gt1-clause-unused
 returns-then-shared-gt1-clause-unused c s is =

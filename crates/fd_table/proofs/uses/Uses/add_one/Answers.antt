@@ -1,10 +1,13 @@
 use Rattle.std.specs.FinMap.{FinMap}
-use Rattle.std.proofs.Common.{ap, ◌∙◌, ℕ}
+use Rattle.std.proofs.Common.{ap, ◌∙◌}
 use Rattle.kern_model.specs.Keys.{oid_cmp}
 use Rattle.kern_model.specs.Maps.{get_or}
+use Rattle.fd_table.specs.declared.uses.UseCount.{UseCount}
+use Rattle.fd_table.specs.Uses.{no_use, with_more}
 use Rattle.fd_table.proofs.Counting.{on_ok, one_more}
 use Rattle.fd_table.proofs.uses.Uses.add_one.Goals as goal
 
 pub returns-clause-ok : goal.returns-clause-ok
 returns-clause-ok c = on_ok c.set.result
-    (λ e q. ap (λ (m : FinMap oid_cmp ℕ). get_or m q 0) e ∙ one_more c.args.self.now c.args.id.now c.count-count.result c.count-count.ensures q) c.set.ensures.ok
+    (λ e q. ap (λ (m : FinMap oid_cmp UseCount). get_or m q no_use) e
+    ∙ one_more c.args.self.now c.args.id.now c.args.how c.in_ok-count.count (c.in_ok-count.ensures ∙ ap (with_more c.args.how) c.count.ensures) q) c.set.ensures.ok

@@ -3,8 +3,8 @@ use Rattle.std.specs.FinMap as map
 use Rattle.std.proofs.lemmas.Cmp.{nat_list_cmp_total}
 use Rattle.fs_dirs.specs.Directory.{AreSorted, Boxed, IsAt, IsGap, directory_of}
 use Rattle.fs_dirs.specs.declared.directory.Entry.{Entry}
-use Rattle.fs_dirs.proofs.Sorted.{remove_absent}
 use Rattle.fs_dirs.proofs.Names.{found, absent, sorted_removed, map_removed, names_exact}
+use Rattle.kern_model.proofs.MapLemmas.{remove-absent}
 use Rattle.fs_dirs.proofs.directory.Directory.remove.Goals as goal
 
 pub invariant_of-self : goal.invariant_of-self
@@ -31,4 +31,4 @@ pub returns-in-Err-clause-removed : goal.returns-in-Err-clause-removed
 returns-in-Err-clause-removed c =
     let gap = subst (λ (es : List Boxed). IsGap es c.args.name.now c.in-Err.field-0) c.deref.ensures.value c.in-Err.ensures.absent in
     let none = absent c.self.inside.entries.items c.self.invariant c.args.name.now c.in-Err.field-0 gap in
-    sym (remove_absent nat_list_cmp_total names_exact c.args.self.now c.args.name.now (ap (λ m. map.get m c.args.name.now) (sym c.self.view_is) ∙ none))
+    sym (remove-absent nat_list_cmp_total names_exact c.args.self.now c.args.name.now (ap (λ m. map.get m c.args.name.now) (sym c.self.view_is) ∙ none))

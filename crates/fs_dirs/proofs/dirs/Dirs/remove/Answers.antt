@@ -10,8 +10,8 @@ use Rattle.kern_model.specs.Keys.{oid_cmp}
 use Rattle.kern_model.proofs.KeyLaws.{spot_cmp_total, spot_cmp_exact}
 use Rattle.fs_dirs.specs.Directory.{name_cmp}
 use Rattle.fs_dirs.specs.Entries.{Contents, entries_of}
-use Rattle.fs_dirs.proofs.CountLemmas.{remove_absent}
 use Rattle.fs_dirs.proofs.DirLemmas.{contents_absent, contents_found, dirs_set, entries_of-remove, get-entries_of}
+use Rattle.kern_model.proofs.MapLemmas.{remove-absent}
 use Rattle.fs_dirs.proofs.dirs.Dirs.remove.Goals as goal
 
 pub returns-in_default-clause-found : goal.returns-in_default-clause-found
@@ -29,7 +29,7 @@ returns-in_default-clause-removed c =
     let absent = contents_absent c.self.inside.kept.entries dirs c.self.view_is dir (sym (ap option_copied_mut c.in_default.is) ∙ c.get_mut.ensures.value) in
     let view = ap (λ (t : BTreeMap Oid Contents). map.from_entries {R = oid_cmp} t.entries) c.get_mut.follows.holds-at-none ∙ c.self.view_is in
     let none : map.get (entries_of dirs) (dir, name) ≡ None = get-entries_of dirs dir name ∙ ap (λ (m : Contents). map.get m name) absent ∙ get-empty name_cmp name in
-    ap entries_of view ∙ sym (remove_absent spot_cmp_total spot_cmp_exact (entries_of dirs) (dir, name) none)
+    ap entries_of view ∙ sym (remove-absent spot_cmp_total spot_cmp_exact (entries_of dirs) (dir, name) none)
 
 pub returns-clause-found : goal.returns-clause-found
 unfolding oid_cmp

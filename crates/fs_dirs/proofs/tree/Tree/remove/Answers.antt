@@ -2,9 +2,9 @@ use Rattle.std.proofs.Common.{◌≡◌, ◌∙◌, sym}
 use Rattle.kern_model.proofs.KeyLaws.{spot_cmp_total, spot_cmp_exact}
 use Rattle.fs_dirs.specs.Tree.{TreeView}
 use Rattle.fs_dirs.proofs.Answering.{same_err}
-use Rattle.fs_dirs.proofs.CountLemmas.{remove_absent}
 use Rattle.fs_dirs.proofs.TreeLemmas.{tree_removed}
 use Rattle.fs_dirs.proofs.tree.Tree.remove.Goals.{in-Some, in-None}
+use Rattle.kern_model.proofs.MapLemmas.{remove-absent}
 use Rattle.fs_dirs.proofs.tree.Tree.remove.Goals as goal
 
 pub invariant_of-self : goal.invariant_of-self
@@ -17,7 +17,7 @@ returns-clause-err c =
     elim c.match-remove.branch [
       | in-Some w ↦ same_err same_tree c.match-remove.result _ w.result-is tt
       | in-None w ↦
-          let same = c.remove.ensures.entries ∙ remove_absent spot_cmp_total spot_cmp_exact c.self.inside.entries.entries (c.args.dir.now, c.args.name.now) (sym c.remove.ensures.found ∙ w.in-None.is) in
+          let same = c.remove.ensures.entries ∙ remove-absent spot_cmp_total spot_cmp_exact c.self.inside.entries.entries (c.args.dir.now, c.args.name.now) (sym c.remove.ensures.found ∙ w.in-None.is) in
           let both : ◌≡◌ {A = TreeView} (record { nodes = c.self.inside.nodes; entries = c.remove.new.self.entries }) (record { nodes = c.self.inside.nodes; entries = c.self.inside.entries.entries }) =
           (λ i. record { nodes = c.self.inside.nodes; entries = same i }) in
           same_err same_tree c.match-remove.result _ w.result-is (both ∙ c.self.view_is)

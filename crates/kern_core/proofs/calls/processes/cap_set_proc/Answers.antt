@@ -11,7 +11,7 @@ use Rattle.proc_table.specs.Procs.{creds_of, starting, under_creds, with_creds}
 use Rattle.chk_rules.proofs.Steps.{equal_check}
 use Rattle.sys_lookup.specs.Shared.{state_of, with_fds}
 use Rattle.sys_lookup.proofs.CheckLemmas.{holds_where_passed}
-use Rattle.kern_core.proofs.LendLemmas.{creds_left, creds_lent, creds_same, creds_there}
+use Rattle.sys_lookup.proofs.LendLemmas.{creds_left, creds_lent, creds_same, creds_there}
 use Rattle.sys_lookup.proofs.PlayLemmas.{need_plays, need_stops_row, commits}
 use Rattle.kern_core.proofs.calls.processes.cap_set_proc.Goals as goal
 

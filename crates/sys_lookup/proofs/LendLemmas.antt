@@ -7,10 +7,9 @@ use Rattle.kern_model.specs.declared.numbers.Pid.{Pid}
 use Rattle.kern_model.specs.Keys.{pid_cmp}
 use Rattle.kern_model.specs.State.{Process}
 use Rattle.kern_model.proofs.KeyLaws.{pid_cmp_total, pid_cmp_exact}
-use Rattle.kern_model.proofs.MapLemmas.{some_same}
+use Rattle.kern_model.proofs.MapLemmas.{some_same, insert-same}
 use Rattle.proc_creds.specs.Credentials.{Credentials}
 use Rattle.fd_table.specs.Rows.{AllFds}
-use Rattle.fs_dirs.proofs.CountLemmas.{insert_same}
 use Rattle.proc_table.specs.Procs.{creds_of, set_creds, under_creds, with_creds}
 use Rattle.sys_lookup.specs.Shared.{with_fds}
 use Rattle.sys_lookup.proofs.FdLemmas.{StandsIn, in_table, stands_in, with_fds-process}
@@ -28,7 +27,7 @@ module _ (procs : FinMap pid_cmp Process) (rows : AllFds) (who : Pid) (p : Proce
 
   -- where they are as they were, so is all
   pub creds_same : with_fds (under_creds procs who (creds_of p)) rows ≡ with_fds procs rows
-  creds_same = creds_left (creds_of p) ∙ insert_same pid_cmp_total pid_cmp_exact (with_fds procs rows) who p there
+  creds_same = creds_left (creds_of p) ∙ insert-same pid_cmp_total pid_cmp_exact (with_fds procs rows) who p there
 
   -- the credentials that are lent are those of the process
   pub creds_lent : (c : Credentials) → Some c ≡ option_map creds_of (map.get procs who) → creds_of p ≡ c

@@ -1,0 +1,2 @@
+pub mod ExecLemmas
+pub mod Within

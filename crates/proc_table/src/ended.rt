@@ -1,0 +1,99 @@
+// The children of a process that ended.
+ghost use Rattle.std.specs.Prelude.{◌≡◌, ◌+◌, ◌<◌, ◌^◌, ◌==◌, [], ◌∷◌, ◌++◌, length, IfOk, MatchOption};
+
+use kern_model::{Ending, NoMemory, Pid};
+use std::alloc::Global;
+use std::collections::LinkedList;
+use std::marker::Model;
+
+/// A place in a list of ended children. It is made before the child ends, so that ending takes no memory.
+#[derive(Debug, Drop)]
+pub struct Place {
+    kept: LinkedList<(Pid, Ending)>,
+}
+
+impl Model for Place {
+    ghost use Rattle.std.specs.Prelude.{◌≡◌, List, length};
+    ghost use Rattle.std.specs.Coded.{codes};
+    ghost use Rattle.lab_lattice.specs.Label.{label_code};
+    ghost use Rattle.kern_model.specs.declared.calls.Ending.{Ending};
+    ghost use Rattle.kern_model.specs.declared.numbers.Pid.{Pid};
+
+    ghost Value = { List (Pid × Ending) };
+
+    ghost coded = { Prim.hlevel (codes, label_code) };
+
+    ghost view = { λ p. p.kept };
+
+    ghost invariant = { λ p. length p.kept ≡ 1 };
+}
+
+impl Place {
+    /// A place for a child.
+    pub fn new(alloc: Global, child: Pid) -> Result<Self, NoMemory> {
+        let mut kept = LinkedList::new(alloc);
+        // The ending is written when the child ends.
+        kept.push_back((child, Ending::Kill))?;
+        Ok(Place { kept })
+    }
+}
+
+/// Children that ended and were not awaited, with how each ended, the first to end first.
+#[derive(Debug, Drop)]
+pub struct EndedList {
+    kept: LinkedList<(Pid, Ending)>,
+}
+
+impl Model for EndedList {
+    ghost use Rattle.std.specs.Prelude.{List};
+    ghost use Rattle.std.specs.Coded.{codes};
+    ghost use Rattle.lab_lattice.specs.Label.{label_code};
+    ghost use Rattle.kern_model.specs.declared.calls.Ending.{Ending};
+    ghost use Rattle.kern_model.specs.declared.numbers.Pid.{Pid};
+
+    ghost Value = { List (Pid × Ending) };
+
+    ghost coded = { Prim.hlevel (codes, label_code) };
+
+    ghost view = { λ l. l.kept };
+}
+
+impl EndedList {
+    /// No child. It does not allocate.
+    pub fn new(alloc: Global) -> Self
+        ensures { result ≡ [] }
+    {
+        EndedList {
+            kept: LinkedList::new(alloc),
+        }
+    }
+
+    /// Whether the list is empty.
+    pub fn is_empty(&self) -> bool
+        ensures { result ≡ (length self.now == 0) }
+    {
+        self.kept.is_empty()
+    }
+
+    /// Appends a child, in the place that was made for it. It takes no memory.
+    pub fn add(&mut self, place: Place, child: Pid, ending: Ending)
+        requires { length self.old + 1 < 2 ^ 63 }
+        ensures { self.new ≡ self.old ++ (child, ending) ∷ [] }
+    {
+        let Place { mut kept } = place;
+        let Some(slot) = kept.front_mut() else {
+            unreachable!();
+        };
+        *slot = (child, ending);
+        if self.kept.append(&mut kept).is_err() {
+            unreachable!();
+        }
+    }
+
+    /// Takes the child that ended first off the list, if there is one. It takes no memory.
+    pub fn take_first(&mut self) -> Option<(Pid, Ending)>
+        ensures { MatchOption result ((self.old ≡ []) × (self.new ≡ [])) (λ first. self.old ≡ first ∷ self.new) }
+    {
+        self.kept.pop_front()
+    }
+}

@@ -1,0 +1,59 @@
+// The call `read`.
+ghost use Rattle.std.specs.Prelude.{◌≡◌, Some, IfOk, IsSome, false, not};
+ghost use Rattle.std.specs.FinMap as map;
+ghost use Rattle.kern_model.specs.Descriptors.{opened};
+ghost use Rattle.kern_model.specs.FileRows.{on_descriptor, read_row, reading};
+ghost use Rattle.kern_model.specs.Row.{Need, Refuse};
+ghost use Rattle.kern_model.specs.Rules.{mac_read};
+ghost use Rattle.kern_model.specs.State.{Process};
+ghost use Rattle.kern_model.specs.Valid.{IsValid};
+ghost use Rattle.kern_model.specs.declared.calls.Errno.TheVariants as errno;
+ghost use Rattle.kern_model.specs.declared.checks.Place.TheVariants as place;
+ghost use Rattle.chk_rules.specs.CheckLog.{CheckLog};
+ghost use Rattle.chk_rules.specs.Ends.{GoesOn};
+ghost use Rattle.fd_table.specs.Files.{opened_at};
+ghost use Rattle.fs_nodes.specs.Nodes.{IsFile};
+ghost use Rattle.sys_lookup.specs.PlaysRow.{PlaysRow};
+ghost use Rattle.sys_lookup.specs.Shared.{process_of, state_of};
+
+use crate::offsets::set_offset;
+use chk_rules::{Checks, Stop, refuse_if};
+use fd_table::Opened;
+use kern_model::{Answer, Errno, Fd, Pid, Place};
+use sys_lookup::{Caller, Effect, Shared, living};
+
+// What the caller may read: a descriptor that is open for reading, on an object that the caller may read by label.
+fn opened_to_read(caller: &Caller<'_>, checks: &mut Checks, fd: Fd) -> Result<Opened, Stop>
+    ensures step { GoesOn checks.old (λ rest. on_descriptor (state_of caller.now.shared.now) (process_of caller.now) fd (λ f. Refuse errno.EBADF (not f.description.reads) (Need (mac_read (state_of caller.now.shared.now) (process_of caller.now) f.description.object place.Handle) (rest f)))) result checks.new }
+    ensures found { IfOk result (λ f. opened (state_of caller.now.shared.now) (process_of caller.now) fd ≡ Some f) }
+{
+    let opened = caller.opened(fd)?;
+    refuse_if(!opened.how.reads, Errno::EBADF)?;
+    caller.read_object(checks, &opened.object, Place::Handle)?;
+    Ok(opened)
+}
+
+// Reads up to `n` bytes of a file from the offset on, which moves after them.
+fn read_file(
+    shared: &mut Shared,
+    who: &Pid,
+    fd: Fd,
+    opened: &Opened,
+    n: u32,
+) -> Result<Effect, Stop>
+    requires valid { ∥ IsValid (state_of shared.old) ∥₁ }
+    requires open { opened_at shared.old.fds who.now fd ≡ Some opened.now }
+    requires file { IsFile (state_of shared.old).objects opened.now.description.object }
+    ensures { (log : CheckLog) → PlaysRow (state_of shared.old) log (reading (state_of shared.old) opened.now n) result (state_of shared.new) log }
+{
+    let bytes = shared
+        .tree
+        .nodes()
+        .read_at(&opened.object, opened.offset, n)?;
+    let end = opened.offset + bytes.items().len() as u32;
+    set_offset(shared, who, fd, end);
+    Ok(Effect {
+        answer: Answer::Bytes(bytes),
+        own: None,
+    })
+}
