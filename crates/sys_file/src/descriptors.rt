@@ -1,7 +1,7 @@
 // The calls `close`, `dup`, `lseek` and `fstat`.
-ghost use Rattle.std.specs.Prelude.{◌≡◌, ◌≤◌, Some, IfOk, IsSome, false, length};
+ghost use Rattle.std.specs.Prelude.{◌≡◌, ◌≤◌, ◌+ℤ◌, ℕ, ℤ, pos, None, Some, IfOk, IsSome, false, true, length};
 ghost use Rattle.std.specs.FinMap as map;
-ghost use Rattle.kern_model.specs.Descriptors.{opened};
+ghost use Rattle.kern_model.specs.Descriptors.{Opened as Open, opened};
 ghost use Rattle.kern_model.specs.FileRows.{base_of, close_row, dup_row, fstat_row, lseek_row, on_descriptor, open_object};
 ghost use Rattle.kern_model.specs.Kinds.{is_stream};
 ghost use Rattle.kern_model.specs.Row.{Need, Refuse};
@@ -14,12 +14,14 @@ ghost use Rattle.kern_model.specs.declared.limits.TheConstants.{MAX_FILE_BYTES};
 ghost use Rattle.kern_model.specs.declared.numbers.Pid.{Pid as Number};
 ghost use Rattle.chk_rules.specs.CheckLog.{CheckLog};
 ghost use Rattle.chk_rules.specs.Ends.{GoesOn};
-ghost use Rattle.sys_lookup.specs.Owners.{HasOwners};
+ghost use Rattle.fd_table.specs.Files.{is_past, opened_at};
+ghost use Rattle.sys_file.specs.Owners.{HasOwners};
+ghost use Rattle.sys_file.specs.Seeking.{moves};
 ghost use Rattle.sys_lookup.specs.PlaysRow.{PlaysRow};
 ghost use Rattle.sys_lookup.specs.Shared.{process_of, state_of};
 
 use chk_rules::{Checks, Stop, refuse_if};
-use fd_table::{FdError, Opened};
+use fd_table::Opened;
 use kern_model::{Answer, Errno, Fd, Oid, Pid, Place, Whence};
 use sys_lookup::{Caller, Effect, Shared, living};
 
@@ -63,10 +65,8 @@ pub fn dup(shared: &mut Shared, who: &Pid, fd: Fd) -> Result<Effect, Stop>
             answer: Answer::Number(lowest),
             own: None,
         }),
-        Err(FdError::TooMany) => Err(Stop::Refused(Errno::EMFILE)),
-        Err(FdError::NotOpen | FdError::Full | FdError::PastEnd | FdError::NoMemory(_)) => {
-            unreachable!()
-        }
+        // The descriptor is open, so all descriptors are.
+        Err(_) => Err(Stop::Refused(Errno::EMFILE)),
     }
 }
 
@@ -103,20 +103,32 @@ pub fn lseek(
     };
     let opened = opened_to_seek(&caller, checks, fd)?;
     let size = file_size(shared, &opened.object);
-    let base = i64::from(base_of(&opened, from, size));
-    let Some(to) = base.checked_add(offset) else {
-        return Err(Stop::Refused(Errno::EINVAL));
-    };
+    match sum(base_of(&opened, from, size), offset) {
+        Some(to) => move_to(shared, who, fd, to, size),
+        None => Err(Stop::Refused(Errno::EINVAL)),
+    }
+}
+
+// Moves the offset of a descriptor on a file of so many bytes, or refuses where it is not within them.
+fn move_to(shared: &mut Shared, who: &Pid, fd: Fd, to: i64, size: u32) -> Result<Effect, Stop>
+    ensures { (f : Open) (log : CheckLog) → opened_at shared.old.fds who.now fd ≡ Some f → PlaysRow (state_of shared.old) log (moves f to size) result (state_of shared.new) log }
+{
     match shared.fds.seek(who, fd, to, size) {
         Ok(offset) => Ok(Effect {
             answer: Answer::Number(offset),
             own: None,
         }),
-        Err(FdError::PastEnd) => Err(Stop::Refused(Errno::EINVAL)),
-        Err(FdError::NotOpen | FdError::TooMany | FdError::Full | FdError::NoMemory(_)) => {
-            unreachable!()
-        }
+        // The descriptor is open, so the offset is not within the file.
+        Err(_) => Err(Stop::Refused(Errno::EINVAL)),
     }
+}
+
+// The sum of a base and an offset, where it is no larger than an offset may be.
+fn sum(base: u32, offset: i64) -> Option<i64>
+    ensures some { (z : ℤ) → result ≡ Some z → z ≡ pos base +ℤ offset }
+    ensures none { (size : ℕ) → size ≤ MAX_FILE_BYTES → result ≡ None → is_past (pos base +ℤ offset) size ≡ true }
+{
+    i64::from(base).checked_add(offset)
 }
 
 // What `lseek` moves in: a descriptor on an object that the caller may read by label, and that has offsets.

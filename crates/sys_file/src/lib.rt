@@ -5,8 +5,10 @@ mod descriptors;
 mod offsets;
 mod opening;
 mod pipes;
+mod playing;
 mod reading;
 
 pub use descriptors::{close, dup, fstat, lseek};
 pub use opening::open;
 pub use pipes::mkfifo;
+pub use playing::play;

@@ -1,23 +1,26 @@
 // The call `open`.
-ghost use Rattle.std.specs.Prelude.{◌≡◌, None, Some, IfOk, IsSome, OnOk, false, true};
+ghost use Rattle.std.specs.Prelude.{◌≡◌, ◌&&◌, [], None, Some, IfOk, IsSome, OnOk, false, true};
 ghost use Rattle.std.specs.FinMap as map;
 ghost use Rattle.kern_model.specs.Arguments.{are_names};
 ghost use Rattle.kern_model.specs.Descriptors.{lowest_free};
 ghost use Rattle.kern_model.specs.Entries.{is_removed};
 ghost use Rattle.kern_model.specs.FileRows.{has_descriptions, has_free_descriptors, open_row, opening};
+ghost use Rattle.kern_model.specs.Kinds.{is_fifo, is_file};
 ghost use Rattle.kern_model.specs.State.{Process, SetObject, State, changed, changed_by, look};
 ghost use Rattle.kern_model.specs.Valid.{IsDir, IsThere, IsValid};
-ghost use Rattle.kern_model.specs.Walk.{start_of, walk};
+ghost use Rattle.kern_model.specs.Walk.{last_place, start_of, walk};
 ghost use Rattle.kern_model.specs.declared.numbers.Oid.{Oid as Number};
 ghost use Rattle.kern_model.specs.declared.objects.Object.{Object};
 ghost use Rattle.chk_rules.specs.CheckLog.{CheckLog};
 ghost use Rattle.chk_rules.specs.Ends.{GoesOn};
+ghost use Rattle.fd_table.specs.Files.{is_no_memory};
 ghost use Rattle.fs_nodes.specs.Nodes.{IsFile};
 ghost use Rattle.sys_lookup.specs.PlaysRow.{PlaysRow};
 ghost use Rattle.sys_lookup.specs.Shared.{metadata_of, process_of, state_of};
-ghost use Rattle.sys_lookup.specs.Walks.{place_in};
+ghost use Rattle.sys_lookup.specs.Walks.{IsLedTo, place_in};
 ghost use Rattle.sys_lookup.specs.declared.argument.PathArgument.TheVariants as argument;
-ghost use Rattle.sys_file.specs.Opening.{CanBeEmptied, EmptiesFiles, IsTarget, allowed_by_kind, allowed_by_label, allowed_by_mode, opens_new, opens_present, to_absent, to_content, to_present, to_target};
+ghost use Rattle.sys_file.specs.declared.opening.Target.TheVariants as target;
+ghost use Rattle.sys_file.specs.Opening.{CanBeEmptied, EmptiesFiles, IsTarget, allowed_by_kind, allowed_by_label, allowed_by_mode, emptying, opens_new, opens_present, to_absent, to_content, to_present, to_target};
 
 use chk_rules::{Checks, Stop, refuse_if};
 use fd_table::{FdError, How};
@@ -89,17 +92,30 @@ fn find_target(
     ensures target { IfOk result (IsTarget (state_of caller.now.shared.now) (start_of (process_of caller.now) path.now)) }
 {
     match caller.walk(checks, PathArgument::First, path)? {
+        Found::Start(id) => present(caller, checks, path, flags, id),
         Found::Entry(dir, name, None) => {
             let place = PathArgument::First.dir_place(path);
             may_make(caller, checks, flags, &dir, place)?;
             Ok(Target::Absent(dir, name))
         }
-        Found::Start(id) | Found::Entry(_, _, Some(id)) => {
-            let place = PathArgument::First.last_place(path);
-            let content = may_open(caller, checks, flags, &id, place)?;
-            Ok(Target::Present(id, content))
-        }
+        Found::Entry(_, _, Some(id)) => present(caller, checks, path, flags, id),
     }
+}
+
+// An object at the end of a path, where the caller may open it.
+fn present(
+    caller: &Caller<'_>,
+    checks: &mut Checks,
+    path: &Path,
+    flags: OpenFlags,
+    id: Oid,
+) -> Result<Target, Stop>
+    ensures step { GoesOn checks.old (λ rest. to_present (state_of caller.now.shared.now) (process_of caller.now) flags id (last_place (place_in argument.First) path.now) (λ kept. rest (target.Present id kept))) result checks.new }
+    ensures target { (start : Number) → IsLedTo (state_of caller.now.shared.now) start id → IfOk result (IsTarget (state_of caller.now.shared.now) start) }
+{
+    let place = PathArgument::First.last_place(path);
+    let content = may_open(caller, checks, flags, &id, place)?;
+    Ok(Target::Present(id, content))
 }
 
 // Refuses that a file is made in a directory, unless it is asked for and the caller may.
@@ -129,7 +145,7 @@ fn may_open(
     ensures files { IfOk result (EmptiesFiles (state_of caller.now.shared.now) id.now) }
 {
     let object = caller.shared.metadata(id);
-    refuse_if(flags.c && flags.x, Errno::EEXIST)?;
+    refuse_if(both(flags.c, flags.x), Errno::EEXIST)?;
     label_allows(caller, checks, flags, &object, place)?;
     kind_allows(caller, checks, flags, &object, place)?;
     mode_allows(caller, checks, flags, &object, place)?;
@@ -162,8 +178,10 @@ fn kind_allows(
 {
     refuse_if(object.is_directory(), Errno::EISDIR)?;
     let fifo = is_fifo(object.kind);
-    refuse_if(fifo && flags.r && flags.w, Errno::EINVAL)?;
-    caller.mac_write_if(fifo && flags.r, checks, object, place)
+    let two_ways = both(flags.r, flags.w);
+    refuse_if(both(fifo, two_ways), Errno::EINVAL)?;
+    let drains = both(fifo, flags.r);
+    caller.mac_write_if(drains, checks, object, place)
 }
 
 // Checks that the caller may open an object by its mode.
@@ -191,12 +209,19 @@ fn content_after(
     ensures step { (s : State) (id : Number) → object.now ≡ metadata_of s id → GoesOn checks.old (to_content s flags id place) result checks.new }
     ensures files { (s : State) (id : Number) → object.now ≡ metadata_of s id → IfOk result (EmptiesFiles s id) }
 {
-    if flags.t && is_file(object.kind) {
+    if both(flags.t, is_file(object.kind)) {
         let attr = caller.kept_attr(checks, object, place)?;
         Ok(Content::Emptied(attr))
     } else {
         Ok(Content::Kept)
     }
+}
+
+// Whether both hold.
+fn both(a: bool, b: bool) -> bool
+    ensures { result ≡ (a && b) }
+{
+    a && b
 }
 
 // Whether it is the kind of a FIFO.
@@ -228,9 +253,7 @@ fn open_present(
     ensures { (p : Process) (log : CheckLog) → map.get (state_of shared.old).procs who.now ≡ Some p → PlaysRow (state_of shared.old) log (opens_present (state_of shared.old) who.now p flags id.now content) result (state_of shared.new) log }
 {
     let fd = describe(shared, who, id, flags)?;
-    if let Content::Emptied(attr) = content {
-        empty(shared, id, attr);
-    }
+    set_content(shared, id, content);
     Ok(Effect {
         answer: Answer::Number(fd),
         own: None,
@@ -279,16 +302,25 @@ fn describe(shared: &mut Shared, who: &Pid, id: &Oid, flags: OpenFlags) -> Resul
     requires free { (p : Process) → map.get (state_of shared.old).procs who.now ≡ Some p → has_free_descriptors p 1 ≡ true }
     requires left { (p : Process) → map.get (state_of shared.old).procs who.now ≡ Some p → has_descriptions (state_of shared.old) p 1 ≡ true }
     ensures fd { (p : Process) → map.get (state_of shared.old).procs who.now ≡ Some p → IfOk result (λ fd. fd ≡ lowest_free p.fds) }
+    ensures objects { (state_of shared.new).objects ≡ (state_of shared.old).objects }
     ensures described { (p : Process) → map.get (state_of shared.old).procs who.now ≡ Some p → OnOk result (state_of shared.new ≡ changed_by (state_of shared.old) (opening (state_of shared.old) who.now p id.now flags)) }
 {
-    let label = living(shared, who).creds.label;
+    let process = living(shared, who);
+    let label = process.creds.label;
     shared.fds.reserve(who)?;
     match shared.fds.open_at_lowest(who, &label, *id, how(flags)) {
         Ok(fd) => Ok(fd),
-        Err(FdError::NoMemory(e)) => Err(e),
-        Err(FdError::NotOpen | FdError::TooMany | FdError::Full | FdError::PastEnd) => {
-            unreachable!()
-        }
+        Err(e) => Err(no_memory(e)),
+    }
+}
+
+// The want of memory that an error is.
+fn no_memory(e: FdError) -> NoMemory
+    requires { is_no_memory e ≡ true }
+{
+    match e {
+        FdError::NoMemory(e) => e,
+        _ => unreachable!(),
     }
 }
 
@@ -300,6 +332,17 @@ fn how(flags: OpenFlags) -> How
         reads: flags.r,
         writes: flags.w,
         appends: flags.a,
+    }
+}
+
+// Does to an object's content what becomes of it. It takes no memory.
+fn set_content(shared: &mut Shared, id: &Oid, content: Content)
+    requires { CanBeEmptied (state_of shared.old) id.now content }
+    ensures { state_of shared.new ≡ changed_by (state_of shared.old) (emptying (state_of shared.old) id.now content) }
+{
+    match content {
+        Content::Kept => (),
+        Content::Emptied(attr) => empty(shared, id, attr),
     }
 }
 

@@ -1,5 +1,4 @@
 pub mod Making
-pub mod Owners
 pub mod PlaysRow
 pub mod Rewriting
 pub mod Shared
