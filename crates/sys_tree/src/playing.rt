@@ -41,19 +41,27 @@ pub fn play(
         Call::Chdir(path) => chdir(shared, checks, who, path),
         Call::Readdir(path) => {
             let process = living(shared, who);
-            readdir(&Caller {
-        shared,
-        who: *who,
-        process,
-    }, checks, path)
+            readdir(
+                &Caller {
+                    shared,
+                    who: *who,
+                    process,
+                },
+                checks,
+                path,
+            )
         }
         Call::Stat(path) => {
             let process = living(shared, who);
-            stat(&Caller {
-        shared,
-        who: *who,
-        process,
-    }, checks, path)
+            stat(
+                &Caller {
+                    shared,
+                    who: *who,
+                    process,
+                },
+                checks,
+                path,
+            )
         }
         _ => unreachable!(),
     }
