@@ -33,11 +33,11 @@ module _ (s : State) (valid : ∥ IsValid s ∥₁) (did : Did) (d : Description
       elim (map.get s.objects d.object) as (λ w. map.get s.objects d.object ≡ w → IsFile s.objects d.object) [
         | None ↦ λ none. absurd (∥∥₁_elim valid (λ a b. absurd a) (λ v. let x = v.descriptions did d there in never_some (map.get s.objects d.object) x.object none x.object_is))
         | Some o ↦ λ is. record {
-            object = o;
-            is = is;
-            file = file_kind o.kind (ap (λ (x : Object). is_stream x.kind) (sym (object_is s d.object o is)) ∙ no_stream)
+          object = o;
+          is = is;
+          file = file_kind o.kind (ap (λ (x : Object). is_stream x.kind) (sym (object_is s d.object o is)) ∙ no_stream)
               (λ dir. ∥∥₁_elim valid (λ a b. absurd a) (λ v. let x = v.descriptions did d there in x.no_dir (ap (λ (y : Object). y.kind) (some_same x.object o (sym x.object_is ∙ is)) ∙ dir)));
-          }
+        }
       ] refl
 
 -- a file of a valid state has few bytes
