@@ -1,0 +1,85 @@
+use Rattle.std.proofs.Common.{◌≡◌, ◌∙◌, ◌≤◌, ◌+ℤ◌, ap, sym, refl, subst, ℕ, ℤ, pos, length, true, Err, Result}
+use Rattle.kern_model.specs.declared.calls.Errno.TheVariants.{EINVAL}
+use Rattle.kern_model.specs.declared.calls.Whence.{Whence}
+use Rattle.kern_model.specs.declared.limits.TheConstants.{MAX_FILE_BYTES}
+use Rattle.kern_model.specs.declared.numbers.Oid.{Oid}
+use Rattle.kern_model.specs.declared.objects.Object.{Object}
+use Rattle.kern_model.specs.Descriptors.{Opened}
+use Rattle.kern_model.specs.FileRows.{base_of, lseek_row, open_object}
+use Rattle.kern_model.specs.Row.{Row}
+use Rattle.kern_model.specs.State.{State, object_at}
+use Rattle.chk_rules.specs.declared.stop.Stop.{Stop}
+use Rattle.chk_rules.specs.declared.stop.Stop.TheVariants as stop
+use Rattle.fd_table.specs.Files.{is_past}
+use Rattle.sys_lookup.specs.declared.effect.Effect.{Effect}
+use Rattle.sys_lookup.specs.PlaysRow.{PlaysRow}
+use Rattle.sys_lookup.specs.Shared.{holding, state_of}
+use Rattle.sys_lookup.proofs.PlayLemmas.{caller_plays, then_plays, stops_row, refuse_stops_row}
+use Rattle.sys_file.proofs.ObjectLemmas.{few_bytes, file_there, object_is}
+use Rattle.sys_file.proofs.ReferLemmas.{open_there, referred}
+use Rattle.sys_file.proofs.RefuseLemmas.{refuses}
+use Rattle.sys_file.specs.Seeking.{moves}
+use Rattle.sys_file.proofs.descriptors.lseek.Goals as goal
+
+-- the row after the checks
+abbrev seeking : State → Whence → ℤ → Opened → Row
+seeking s from offset f = moves f (pos (base_of s f from) +ℤ offset) (length (open_object s f).bytes)
+
+pub returns-in_err-opened : goal.returns-in_err-opened
+returns-in_err-opened c = λ p there.
+    let s = state_of c.args.shared.now in
+    let who = c.args.who.now in
+    let q = holding c.args.shared.now.fds.rows who c.living-process.result.now in
+    caller_plays (λ x. lseek_row s who x c.args.fd c.args.from c.args.offset) who q p c.living-process.ensures.found there
+    (stops_row {rest = seeking s c.args.from c.args.offset} c.from_residual.result c.from_residual.ensures.1 refl c.in_err-opened.ensures.step)
+
+pub file_size-size-requires : goal.file_size-size-requires
+file_size-size-requires c =
+    let h = c.args.shared.now in
+    let s = state_of h in
+    let f = c.in_ok-opened.opened in
+    let at = referred h c.args.who.now c.living-process.result.now c.args.fd f c.in_ok-opened.ensures.found in
+    let file = file_there s c.requires.valid f.did f.description at.description c.in_ok-opened.ensures.no_stream in
+    let few : length file.object.bytes ≤ MAX_FILE_BYTES = few_bytes s c.requires.valid f.description.object file.object file.is file.file in
+    subst (λ (id : Oid). length (object_at s id).bytes ≤ MAX_FILE_BYTES) (sym (λ i. (c.opened.view_is i).description.object))
+    (subst (λ (o : Object). length o.bytes ≤ MAX_FILE_BYTES) (sym (object_is s f.description.object file.object file.is)) few)
+
+pub returns-in-Some : goal.returns-in-Some
+returns-in-Some c = λ p there.
+    let h = c.args.shared.now in
+    let s = state_of h in
+    let who = c.args.who.now in
+    let q = holding h.fds.rows who c.living-process.result.now in
+    let f = c.in_ok-opened.opened in
+    let log = c.opened_to_seek.new.checks in
+    let size : c.file_size-size.result ≡ length (open_object s f).bytes = c.file_size-size.ensures ∙ (λ i. length (object_at s (c.opened.view_is i).description.object).bytes) in
+    let base : c.base_of.result ≡ base_of s f c.args.from = c.base_of.ensures s size in
+    let to : c.in-Some.to ≡ (pos (base_of s f c.args.from) +ℤ c.args.offset) = c.in-Some.ensures.some c.in-Some.to refl ∙ ap (λ (n : ℕ). pos n +ℤ c.args.offset) base in
+    let r = c.move_to.result in
+    let t = state_of c.move_to.new.shared in
+    caller_plays (λ x. lseek_row s who x c.args.fd c.args.from c.args.offset) who q p c.living-process.ensures.found there
+    (then_plays {rest = seeking s c.args.from c.args.offset} c.in_ok-opened.ensures.step
+    (subst (λ (z : ℤ). PlaysRow s log (moves f z (length (open_object s f).bytes)) r t log) to
+    (subst (λ (n : ℕ). PlaysRow s log (moves f c.in-Some.to n) r t log) size
+    (c.move_to.ensures f log (open_there h who c.living-process.result.now c.args.fd f c.in_ok-opened.ensures.found)))))
+
+pub returns-in-None : goal.returns-in-None
+returns-in-None c = λ p there.
+    let h = c.args.shared.now in
+    let s = state_of h in
+    let who = c.args.who.now in
+    let q = holding h.fds.rows who c.living-process.result.now in
+    let f = c.in_ok-opened.opened in
+    let log = c.opened_to_seek.new.checks in
+    let at = referred h who c.living-process.result.now c.args.fd f c.in_ok-opened.ensures.found in
+    let file = file_there s c.requires.valid f.did f.description at.description c.in_ok-opened.ensures.no_stream in
+    let few : length file.object.bytes ≤ MAX_FILE_BYTES = few_bytes s c.requires.valid f.description.object file.object file.is file.file in
+    let small : length (open_object s f).bytes ≤ MAX_FILE_BYTES = subst (λ (o : Object). length o.bytes ≤ MAX_FILE_BYTES) (sym (object_is s f.description.object file.object file.is)) few in
+    let size : c.file_size-size.result ≡ length (open_object s f).bytes = c.file_size-size.ensures ∙ (λ i. length (object_at s (c.opened.view_is i).description.object).bytes) in
+    let base : c.base_of.result ≡ base_of s f c.args.from = c.base_of.ensures s size in
+    let past : is_past (pos (base_of s f c.args.from) +ℤ c.args.offset) (length (open_object s f).bytes) ≡ true =
+    ap (λ (n : ℕ). is_past (pos n +ℤ c.args.offset) (length (open_object s f).bytes)) (sym base) ∙ c.in-None.ensures.none (length (open_object s f).bytes) small refl in
+    let r : Result Effect Stop = Err (stop.Refused EINVAL) in
+    caller_plays (λ x. lseek_row s who x c.args.fd c.args.from c.args.offset) who q p c.living-process.ensures.found there
+    (then_plays {rest = seeking s c.args.from c.args.offset} c.in_ok-opened.ensures.step
+    (refuse_stops_row r refl refl (refuses past)))

@@ -1,0 +1,37 @@
+use Rattle.std.proofs.Common.{◌≡◌, ◌∙◌, ◌&&◌, ap, subst, Bool, ⊤, Result}
+use Rattle.kern_model.specs.declared.calls.Errno.TheVariants.{EISDIR, EINVAL}
+use Rattle.kern_model.specs.declared.checks.Check.{Check}
+use Rattle.kern_model.specs.Kinds.{is_dir, is_fifo}
+use Rattle.kern_model.specs.Row.{Row, Refuse, need_if}
+use Rattle.kern_model.specs.Rules.{mac_write}
+use Rattle.kern_model.specs.State.{object_at}
+use Rattle.chk_rules.specs.CheckLog.{CheckLog}
+use Rattle.chk_rules.specs.Ends.{GoesOn}
+use Rattle.chk_rules.specs.declared.stop.Stop.{Stop}
+use Rattle.chk_rules.proofs.Steps.{equal_refusal, refuse_goes, refuse_stops}
+use Rattle.sys_lookup.specs.declared.shared.Metadata.{Metadata}
+use Rattle.sys_lookup.specs.Shared.{metadata_of, process_of}
+use Rattle.sys_file.proofs.opening.kind_allows.Goals as goal
+
+equal_asked : {a b : CheckLog} {r : Result ⊤ Stop} {check : Check} {x y : Bool} → x ≡ y → GoesOn a (λ (rest : ⊤ → Row). need_if x check (rest tt)) r b → GoesOn a (λ (rest : ⊤ → Row). need_if y check (rest tt)) r b
+equal_asked {a = a} {b = b} {r = r} {check = check} same step = subst (λ z. GoesOn a (λ (rest : ⊤ → Row). need_if z check (rest tt)) r b) same step
+
+pub returns-in_err-refuse_if : goal.returns-in_err-refuse_if
+returns-in_err-refuse_if c = λ s id same.
+    refuse_stops c.from_residual.result c.from_residual.ensures.1 (equal_refusal (c.is_directory.ensures ∙ ap (λ (m : Metadata). is_dir m.kind) same) (c.in_err-refuse_if.ensures c.args.checks.now))
+
+pub returns-in_err-refuse_if-2 : goal.returns-in_err-refuse_if-2
+returns-in_err-refuse_if-2 c = λ s id same.
+    let log = c.args.checks.now in
+    let fifo = c.is_fifo-fifo.ensures ∙ ap (λ (m : Metadata). is_fifo m.kind) same in
+    refuse_goes (equal_refusal (c.is_directory.ensures ∙ ap (λ (m : Metadata). is_dir m.kind) same) (c.in_ok-refuse_if.ensures log))
+    (refuse_stops c.from_residual-in_err-refuse_if-2.result c.from_residual-in_err-refuse_if-2.ensures.1
+    (equal_refusal (c.both.ensures ∙ (λ i. fifo i && c.both-two_ways.ensures i)) (c.in_err-refuse_if-2.ensures log)))
+
+pub returns : goal.returns
+returns c = λ s id same.
+    let log = c.args.checks.now in
+    let fifo = c.is_fifo-fifo.ensures ∙ ap (λ (m : Metadata). is_fifo m.kind) same in
+    refuse_goes (equal_refusal (c.is_directory.ensures ∙ ap (λ (m : Metadata). is_dir m.kind) same) (c.in_ok-refuse_if.ensures log))
+    (refuse_goes (equal_refusal (c.both.ensures ∙ (λ i. fifo i && c.both-two_ways.ensures i)) (c.in_ok-refuse_if-2.ensures log))
+    (equal_asked (c.both-drains.ensures ∙ (λ i. fifo i && c.args.flags.r)) (c.mac_write_if.ensures s id same)))

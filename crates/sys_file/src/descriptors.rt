@@ -1,0 +1,163 @@
+// The calls `close`, `dup`, `lseek` and `fstat`.
+ghost use Rattle.std.specs.Prelude.{◌≡◌, ◌≤◌, ◌+ℤ◌, ℕ, ℤ, pos, None, Some, IfOk, IsSome, false, true, length};
+ghost use Rattle.std.specs.FinMap as map;
+ghost use Rattle.kern_model.specs.Descriptors.{Opened as Open, opened};
+ghost use Rattle.kern_model.specs.FileRows.{base_of, close_row, dup_row, fstat_row, lseek_row, on_descriptor, open_object};
+ghost use Rattle.kern_model.specs.Kinds.{is_stream};
+ghost use Rattle.kern_model.specs.Row.{Need, Refuse};
+ghost use Rattle.kern_model.specs.Rules.{mac_read};
+ghost use Rattle.kern_model.specs.State.{Process, State, object_at};
+ghost use Rattle.kern_model.specs.Valid.{IsValid};
+ghost use Rattle.kern_model.specs.declared.calls.Errno.TheVariants as errno;
+ghost use Rattle.kern_model.specs.declared.checks.Place.TheVariants as place;
+ghost use Rattle.kern_model.specs.declared.limits.TheConstants.{MAX_FILE_BYTES};
+ghost use Rattle.kern_model.specs.declared.numbers.Pid.{Pid as Number};
+ghost use Rattle.chk_rules.specs.CheckLog.{CheckLog};
+ghost use Rattle.chk_rules.specs.Ends.{GoesOn};
+ghost use Rattle.fd_table.specs.Files.{is_past, opened_at};
+ghost use Rattle.sys_file.specs.Owners.{HasOwners};
+ghost use Rattle.sys_file.specs.Seeking.{moves};
+ghost use Rattle.sys_lookup.specs.PlaysRow.{PlaysRow};
+ghost use Rattle.sys_lookup.specs.Shared.{process_of, state_of};
+
+use chk_rules::{Checks, Stop, refuse_if};
+use fd_table::Opened;
+use kern_model::{Answer, Errno, Fd, Oid, Pid, Place, Whence};
+use sys_lookup::{Caller, Effect, Shared, living};
+
+/// `close`: a descriptor closes. What it refers to goes, where no other descriptor refers to it. It takes no memory.
+pub fn close(shared: &mut Shared, who: &Pid, fd: Fd) -> Result<Effect, Stop>
+    requires valid { ∥ IsValid (state_of shared.old) ∥₁ }
+    requires owners { HasOwners shared.old }
+    requires living { IsSome (map.get (state_of shared.old).procs who.now) }
+    ensures { (p : Process) (log : CheckLog) → map.get (state_of shared.old).procs who.now ≡ Some p → PlaysRow (state_of shared.old) log (close_row (state_of shared.old) who.now p fd) result (state_of shared.new) log }
+{
+    let process = living(shared, who);
+    let caller = Caller {
+        shared,
+        who: *who,
+        process,
+    };
+    caller.opened(fd)?;
+    if shared.fds.close(who, fd, &mut shared.tree).is_err() {
+        unreachable!();
+    }
+    Ok(Effect {
+        answer: Answer::Nothing,
+        own: None,
+    })
+}
+
+/// `dup`: a further descriptor, the lowest that is free, on the same description. It takes no memory.
+pub fn dup(shared: &mut Shared, who: &Pid, fd: Fd) -> Result<Effect, Stop>
+    requires { IsSome (map.get (state_of shared.old).procs who.now) }
+    ensures { (p : Process) (log : CheckLog) → map.get (state_of shared.old).procs who.now ≡ Some p → PlaysRow (state_of shared.old) log (dup_row (state_of shared.old) who.now p fd) result (state_of shared.new) log }
+{
+    let process = living(shared, who);
+    let caller = Caller {
+        shared,
+        who: *who,
+        process,
+    };
+    caller.opened(fd)?;
+    match shared.fds.dup(who, fd) {
+        Ok(lowest) => Ok(Effect {
+            answer: Answer::Number(lowest),
+            own: None,
+        }),
+        // The descriptor is open, so all descriptors are.
+        Err(_) => Err(Stop::Refused(Errno::EMFILE)),
+    }
+}
+
+/// `fstat`: what is reported of the object that a descriptor refers to.
+pub fn fstat(caller: &Caller<'_>, checks: &mut Checks, fd: Fd) -> Result<Effect, Stop>
+    ensures { (who : Number) → PlaysRow (state_of caller.now.shared.now) checks.old (fstat_row (state_of caller.now.shared.now) who (process_of caller.now) fd) result (state_of caller.now.shared.now) checks.new }
+{
+    let opened = caller.opened(fd)?;
+    caller.read_object(checks, &opened.object, Place::Handle)?;
+    Ok(Effect {
+        answer: Answer::Stat(caller.shared.report(&opened.object)),
+        own: None,
+    })
+}
+
+/// `lseek`: the offset of a descriptor on a file moves, within the file's bytes.
+pub fn lseek(
+    shared: &mut Shared,
+    checks: &mut Checks,
+    who: &Pid,
+    fd: Fd,
+    from: Whence,
+    offset: i64,
+) -> Result<Effect, Stop>
+    requires valid { ∥ IsValid (state_of shared.old) ∥₁ }
+    requires living { IsSome (map.get (state_of shared.old).procs who.now) }
+    ensures { (p : Process) → map.get (state_of shared.old).procs who.now ≡ Some p → PlaysRow (state_of shared.old) checks.old (lseek_row (state_of shared.old) who.now p fd from offset) result (state_of shared.new) checks.new }
+{
+    let process = living(shared, who);
+    let caller = Caller {
+        shared,
+        who: *who,
+        process,
+    };
+    let opened = opened_to_seek(&caller, checks, fd)?;
+    let size = file_size(shared, &opened.object);
+    match sum(base_of(&opened, from, size), offset) {
+        Some(to) => move_to(shared, who, fd, to, size),
+        None => Err(Stop::Refused(Errno::EINVAL)),
+    }
+}
+
+// Moves the offset of a descriptor on a file of so many bytes, or refuses where it is not within them.
+fn move_to(shared: &mut Shared, who: &Pid, fd: Fd, to: i64, size: u32) -> Result<Effect, Stop>
+    ensures { (f : Open) (log : CheckLog) → opened_at shared.old.fds who.now fd ≡ Some f → PlaysRow (state_of shared.old) log (moves f to size) result (state_of shared.new) log }
+{
+    match shared.fds.seek(who, fd, to, size) {
+        Ok(offset) => Ok(Effect {
+            answer: Answer::Number(offset),
+            own: None,
+        }),
+        // The descriptor is open, so the offset is not within the file.
+        Err(_) => Err(Stop::Refused(Errno::EINVAL)),
+    }
+}
+
+// The sum of a base and an offset, where it is no larger than an offset may be.
+fn sum(base: u32, offset: i64) -> Option<i64>
+    ensures some { (z : ℤ) → result ≡ Some z → z ≡ pos base +ℤ offset }
+    ensures none { (size : ℕ) → size ≤ MAX_FILE_BYTES → result ≡ None → is_past (pos base +ℤ offset) size ≡ true }
+{
+    i64::from(base).checked_add(offset)
+}
+
+// What `lseek` moves in: a descriptor on an object that the caller may read by label, and that has offsets.
+fn opened_to_seek(caller: &Caller<'_>, checks: &mut Checks, fd: Fd) -> Result<Opened, Stop>
+    ensures step { GoesOn checks.old (λ rest. on_descriptor (state_of caller.now.shared.now) (process_of caller.now) fd (λ f. Need (mac_read (state_of caller.now.shared.now) (process_of caller.now) f.description.object place.Handle) (Refuse errno.ESPIPE (is_stream (open_object (state_of caller.now.shared.now) f).kind) (rest f)))) result checks.new }
+    ensures found { IfOk result (λ f. opened (state_of caller.now.shared.now) (process_of caller.now) fd ≡ Some f) }
+    ensures no_stream { IfOk result (λ f. is_stream (open_object (state_of caller.now.shared.now) f).kind ≡ false) }
+{
+    let opened = caller.opened(fd)?;
+    let object = caller.read_object(checks, &opened.object, Place::Handle)?;
+    refuse_if(object.is_stream(), Errno::ESPIPE)?;
+    Ok(opened)
+}
+
+// How many bytes an object contains that is no stream.
+fn file_size(shared: &Shared, id: &Oid) -> u32
+    requires { length (object_at (state_of shared.now) id.now).bytes ≤ MAX_FILE_BYTES }
+    ensures { result ≡ length (object_at (state_of shared.now) id.now).bytes }
+{
+    shared.byte_count(id) as u32
+}
+
+// From where an offset is counted in a file of so many bytes.
+fn base_of(opened: &Opened, from: Whence, size: u32) -> u32
+    ensures { (s : State) → size ≡ length (open_object s opened.now).bytes → result ≡ base_of s opened.now from }
+{
+    match from {
+        Whence::Set => 0,
+        Whence::Cur => opened.offset,
+        Whence::End => size,
+    }
+}

@@ -1,0 +1,53 @@
+// The calls on descriptors, and those that open or make what descriptors refer to, as one.
+ghost use Rattle.std.specs.Prelude.{◌≡◌, Some, IsSome, true};
+ghost use Rattle.std.specs.FinMap as map;
+ghost use Rattle.kern_model.specs.Arguments.{has_names};
+ghost use Rattle.kern_model.specs.State.{Process};
+ghost use Rattle.kern_model.specs.Table.{row};
+ghost use Rattle.kern_model.specs.Valid.{IsValid};
+ghost use Rattle.sys_lookup.specs.PlaysRow.{PlaysRow};
+ghost use Rattle.sys_lookup.specs.Shared.{state_of};
+ghost use Rattle.sys_file.specs.Owners.{HasOwners};
+ghost use Rattle.sys_file.specs.Playing.{is_file_call};
+
+use crate::descriptors::{close, dup, fstat, lseek};
+use crate::opening::open;
+use crate::pipes::mkfifo;
+use chk_rules::{Checks, Stop};
+use kern_model::{Call, Pid};
+use std::alloc::Global;
+use sys_lookup::{Caller, Effect, Shared, living};
+
+/// Plays a call of a living process on descriptors, or one that opens or makes what descriptors refer to.
+pub fn play(
+    alloc: Global,
+    shared: &mut Shared,
+    checks: &mut Checks,
+    who: &Pid,
+    call: &Call,
+) -> Result<Effect, Stop>
+    requires call { is_file_call call.now ≡ true }
+    requires valid { ∥ IsValid (state_of shared.old) ∥₁ }
+    requires owners { HasOwners shared.old }
+    requires living { IsSome (map.get (state_of shared.old).procs who.now) }
+    ensures played { (p : Process) → map.get (state_of shared.old).procs who.now ≡ Some p → PlaysRow (state_of shared.old) checks.old (row (state_of shared.old) who.now p call.now) result (state_of shared.new) checks.new }
+    ensures names { has_names call.now ≡ true }
+{
+    match call {
+        Call::OpenPath(path, flags, mode) => open(alloc, shared, checks, who, path, *flags, *mode),
+        Call::Close(fd) => close(shared, who, *fd),
+        Call::Lseek(fd, from, offset) => lseek(shared, checks, who, *fd, *from, *offset),
+        Call::Dup(fd) => dup(shared, who, *fd),
+        Call::Mkfifo(path, mode) => mkfifo(shared, checks, who, path, *mode),
+        Call::Fstat(fd) => {
+            let process = living(shared, who);
+            let caller = Caller {
+                shared,
+                who: *who,
+                process,
+            };
+            fstat(&caller, checks, *fd)
+        }
+        _ => unreachable!(),
+    }
+}
