@@ -189,9 +189,8 @@ impl Nodes {
         write_over(&mut object.bytes, at, bytes)
     }
 
-    /// The bytes of a file from an offset on: `n` of them, or all that are left where fewer are.
+    /// The bytes of an object from an offset on: `n` of them, or all that are left where fewer are.
     pub fn read_at(&self, id: &Oid, at: u32, n: u32) -> Result<ByteList, NoMemory>
-        requires { IsFile self.now.table.objects id.now }
         ensures { (o : Value) → map.get self.now.table.objects id.now ≡ Some o → IfOk result (λ bytes. bytes ≡ take n (drop at o.bytes)) }
     {
         let Some(object) = self.get(id) else {

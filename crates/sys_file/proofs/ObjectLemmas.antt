@@ -1,10 +1,10 @@
 -- The objects that open descriptors refer to.
-use Rattle.std.specs.Prelude.{◌≡◌, ◌≤◌, true, false, Option, None, Some, length, refl}
+use Rattle.std.specs.Prelude.{◌≡◌, ◌≤◌, Bool, true, false, Option, None, Some, length, refl}
 use Rattle.std.specs.FinMap as map
 use Rattle.std.proofs.Common.{ap, sym, ◌∙◌}
 use Rattle.std.proofs.Math.Bridge.{le_prop}
 use Rattle.std.proofs.Math.Logic.{∥∥₁_elim}
-use Rattle.kern_model.specs.declared.limits.TheConstants.{MAX_FILE_BYTES}
+use Rattle.kern_model.specs.declared.limits.TheConstants.{MAX_FILE_BYTES, MAX_PIPE_BYTES}
 use Rattle.kern_model.specs.declared.numbers.Did.{Did}
 use Rattle.kern_model.specs.declared.numbers.Oid.{Oid}
 use Rattle.kern_model.specs.declared.objects.Kind.{Kind}
@@ -15,6 +15,8 @@ use Rattle.kern_model.specs.State.{State, Description, object_at, stub_object}
 use Rattle.kern_model.specs.Valid.{IsValid}
 use Rattle.kern_model.proofs.MapLemmas.{get_or-absent, get_or-found, never_some, some_same}
 use Rattle.fs_nodes.specs.Nodes.{IsFile, IsStream}
+use Rattle.sys_lookup.specs.Shared.{metadata_of}
+use Rattle.sys_lookup.specs.declared.shared.Metadata.{Metadata}
 
 -- what is there is what is read
 pub object_is : (s : State) (id : Oid) (o : Object) → map.get s.objects id ≡ Some o → object_at s id ≡ o
@@ -43,3 +45,22 @@ module _ (s : State) (valid : ∥ IsValid s ∥₁) (did : Did) (d : Description
 -- a file of a valid state has few bytes
 pub few_bytes : (s : State) → ∥ IsValid s ∥₁ → (id : Oid) (o : Object) → map.get s.objects id ≡ Some o → o.kind ≡ kind.File → length o.bytes ≤ MAX_FILE_BYTES
 few_bytes s valid id o is file = ∥∥₁_elim valid le_prop (λ v. (v.objects id o is).file_bytes file)
+
+-- what is read as a stream is there
+pub stream_there : (s : State) (id : Oid) → is_stream (object_at s id).kind ≡ true → IsStream s.objects id
+stream_there s id stream =
+    elim (map.get s.objects id) as (λ w. map.get s.objects id ≡ w → IsStream s.objects id) [
+      | None ↦ λ none.
+          let stub = get_or-absent s.objects id (stub_object s.top) none in
+          let no : false ≡ true = ap (λ (o : Object). is_stream o.kind) (sym stub) ∙ stream in
+          cc
+      | Some o ↦ λ is. record { object = o; is = is; stream = ap (λ (x : Object). is_stream x.kind) (sym (object_is s id o is)) ∙ stream }
+    ] refl
+
+-- whether it is a stream, as metadata says
+pub stream_is : (s : State) {id at : Oid} {m : Metadata} {b c : Bool} → id ≡ at → m ≡ metadata_of s id → b ≡ is_stream m.kind → b ≡ c → is_stream (object_at s at).kind ≡ c
+stream_is s same is reads known = ap (λ x. is_stream (object_at s x).kind) (sym same) ∙ ap (λ (m : Metadata). is_stream m.kind) (sym is) ∙ sym reads ∙ known
+
+-- few bytes wait in a stream of a valid state
+pub few_wait : (s : State) → ∥ IsValid s ∥₁ → (id : Oid) (o : Object) → map.get s.objects id ≡ Some o → is_stream o.kind ≡ true → length o.bytes ≤ MAX_PIPE_BYTES
+few_wait s valid id o is stream = ∥∥₁_elim valid le_prop (λ v. (v.objects id o is).stream_bytes stream)

@@ -7,8 +7,11 @@ mod opening;
 mod pipes;
 mod playing;
 mod reading;
+mod writing;
 
 pub use descriptors::{close, dup, fstat, lseek};
 pub use opening::open;
 pub use pipes::mkfifo;
 pub use playing::play;
+pub use reading::read;
+pub use writing::write;

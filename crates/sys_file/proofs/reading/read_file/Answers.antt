@@ -6,28 +6,26 @@ use Rattle.kern_model.specs.declared.objects.Object.{Object}
 use Rattle.kern_model.specs.Descriptors.{Opened}
 use Rattle.kern_model.specs.FileRows.{moved, open_object, reading, taken_from}
 use Rattle.kern_model.specs.Kinds.{is_stream}
-use Rattle.kern_model.specs.Row.{Row, Commit}
-use Rattle.kern_model.specs.State.{State, SetObject, changed}
+use Rattle.kern_model.specs.Row.{Row}
+use Rattle.kern_model.specs.State.{State, changed}
 use Rattle.chk_rules.specs.declared.stop.Stop.{Stop}
 use Rattle.sys_lookup.specs.declared.effect.Effect.{Effect}
 use Rattle.sys_lookup.proofs.PlayLemmas.{no_memory_row, commits}
 use Rattle.sys_lookup.specs.PlaysRow.{PlaysRow}
 use Rattle.sys_lookup.specs.Shared.{state_of}
 use Rattle.sys_file.proofs.ObjectLemmas.{few_bytes, object_is}
+use Rattle.sys_file.proofs.ReadLemmas.{from_file, from_stream}
 use Rattle.sys_file.proofs.reading.read_file.Goals as goal
 
 -- what is read is no longer than what was asked for, and than what is left
 read_few : (bytes : List ℕ) (at n : ℕ) → length (take n (drop at bytes)) ≡ min n (length bytes - at)
 read_few bytes at n = length-take n (drop at bytes) ∙ ap (min n) (length-drop at bytes)
 
--- bytes come out of a file from the offset, which moves after them
-abbrev coming : Opened → List ℕ → Row
-coming f bytes = Commit (moved f (f.description.offset + length bytes) ∷ []) (answer.Bytes bytes) None
-
-reading_file : (s : State) (f : Opened) (n : ℕ) (bytes : List ℕ) → is_stream (open_object s f).kind ≡ false → bytes ≡ taken_from (open_object s f) f n → coming f bytes ≡ reading s f n
+-- the row of a file
+reading_file : (s : State) (f : Opened) (n : ℕ) (bytes : List ℕ) → is_stream (open_object s f).kind ≡ false → bytes ≡ taken_from (open_object s f) f n → from_file f bytes ≡ reading s f n
 reading_file s f n bytes no_stream is =
-    ap (coming f) is
-    ∙ sym (ap (λ b. cond b (Commit (SetObject f.description.object (record (open_object s f) { bytes = drop n (open_object s f).bytes }) ∷ []) (answer.Bytes (take n (open_object s f).bytes)) None) (coming f (taken_from (open_object s f) f n))) no_stream)
+    ap (from_file f) is
+    ∙ sym (ap (λ b. cond b (from_stream s f n) (from_file f (taken_from (open_object s f) f n))) no_stream)
 
 pub returns-in_err-bytes : goal.returns-in_err-bytes
 returns-in_err-bytes c = λ log. no_memory_row c.from_residual.result c.from_residual.ensures.1

@@ -1,0 +1,153 @@
+// The call `write`.
+ghost use Rattle.std.specs.Prelude.{◌≡◌, ◌+◌, ◌≤◌, None, Some, IfOk, IsSome, OnOk, length, nat_lt, not};
+ghost use Rattle.std.specs.FinMap as map;
+ghost use Rattle.kern_model.specs.Descriptors.{Opened as Description, opened};
+ghost use Rattle.kern_model.specs.FileRows.{moved, on_descriptor, open_object, place_in, putting, write_row, written_over};
+ghost use Rattle.kern_model.specs.Row.{Need, Refuse};
+ghost use Rattle.kern_model.specs.Rules.{mac_write};
+ghost use Rattle.kern_model.specs.State.{Process, SetObject, changed, object_at};
+ghost use Rattle.kern_model.specs.Valid.{IsValid};
+ghost use Rattle.kern_model.specs.declared.calls.Answer.TheVariants as answer;
+ghost use Rattle.kern_model.specs.declared.calls.Errno.TheVariants as errno;
+ghost use Rattle.kern_model.specs.declared.checks.Place.TheVariants as place;
+ghost use Rattle.kern_model.specs.declared.limits.TheConstants.{MAX_FILE_BYTES};
+ghost use Rattle.kern_model.specs.declared.objects.Object.{Object};
+ghost use Rattle.chk_rules.specs.CheckLog.{CheckLog};
+ghost use Rattle.chk_rules.specs.Ends.{GoesOn};
+ghost use Rattle.fd_table.specs.Files.{opened_at};
+ghost use Rattle.fs_nodes.specs.Nodes.{IsFile, IsStream};
+ghost use Rattle.sys_lookup.specs.PlaysRow.{PlaysRow};
+ghost use Rattle.sys_lookup.specs.Shared.{process_of, state_of};
+
+use crate::offsets::set_offset;
+use chk_rules::{Checks, Stop, refuse_if};
+use fd_table::{Opened, PipeError};
+use fs_nodes::WriteError;
+use kern_model::limits::MAX_FILE_BYTES;
+use kern_model::{Answer, Attr, Errno, Fd, Oid, Pid, Place};
+use sys_lookup::{Caller, Effect, NoMemory, Shared, living};
+
+/// `write`: all these bytes go into a file at the offset, or at its end where the descriptor appends, or into a pipe or FIFO.
+pub fn write(
+    shared: &mut Shared,
+    checks: &mut Checks,
+    who: &Pid,
+    fd: Fd,
+    bytes: &[u8],
+) -> Result<Effect, Stop>
+    requires valid { ∥ IsValid (state_of shared.old) ∥₁ }
+    requires living { IsSome (map.get (state_of shared.old).procs who.now) }
+    ensures { (p : Process) → map.get (state_of shared.old).procs who.now ≡ Some p → PlaysRow (state_of shared.old) checks.old (write_row (state_of shared.old) who.now p fd bytes.now) result (state_of shared.new) checks.new }
+{
+    let process = living(shared, who);
+    let caller = Caller {
+        shared,
+        who: *who,
+        process,
+    };
+    let opened = opened_to_write(&caller, checks, fd)?;
+    let object = caller.shared.metadata(&opened.object);
+    if object.is_stream() {
+        return write_stream(shared, &opened, bytes);
+    }
+    let at = place_to_write(shared, &opened, bytes)?;
+    if bytes.is_empty() {
+        return Ok(move_after(shared, who, fd, at, bytes));
+    }
+    let attr = caller.kept_attr(checks, &object, Place::Handle)?;
+    overwrite(shared, &opened.object, at, bytes, attr)?;
+    Ok(move_after(shared, who, fd, at, bytes))
+}
+
+// A descriptor that is open for writing, on an object that the caller may write by label.
+fn opened_to_write(caller: &Caller<'_>, checks: &mut Checks, fd: Fd) -> Result<Opened, Stop>
+    ensures step { GoesOn checks.old (λ rest. on_descriptor (state_of caller.now.shared.now) (process_of caller.now) fd (λ f. Refuse errno.EBADF (not f.description.writes) (Need (mac_write (state_of caller.now.shared.now) (process_of caller.now) f.description.object place.Handle) (rest f)))) result checks.new }
+    ensures found { IfOk result (λ f. opened (state_of caller.now.shared.now) (process_of caller.now) fd ≡ Some f) }
+{
+    let opened = caller.opened(fd)?;
+    refuse_if(!opened.how.writes, Errno::EBADF)?;
+    caller.write_object(checks, &opened.object, Place::Handle)?;
+    Ok(opened)
+}
+
+// Puts bytes at the end of a pipe or FIFO.
+fn write_stream(shared: &mut Shared, opened: &Opened, bytes: &[u8]) -> Result<Effect, Stop>
+    requires { IsStream (state_of shared.old).objects opened.now.description.object }
+    ensures { (log : CheckLog) → PlaysRow (state_of shared.old) log (putting (state_of shared.old) opened.now bytes.now) result (state_of shared.new) log }
+{
+    match shared.fds.pipe_put(&mut shared.tree, &opened.object, bytes) {
+        Ok(()) => Ok(Effect {
+            answer: Answer::Number(bytes.len() as u32),
+            own: None,
+        }),
+        Err(PipeError::Broken) => Err(Stop::Refused(Errno::EPIPE)),
+        Err(PipeError::Again) => Err(Stop::Refused(Errno::EAGAIN)),
+        Err(PipeError::NoMemory(e)) => Err(Stop::NoMemory(e)),
+    }
+}
+
+// Where bytes go into a file, if they may.
+fn place_to_write(shared: &Shared, opened: &Opened, bytes: &[u8]) -> Result<u32, Stop>
+    requires valid { ∥ IsValid (state_of shared.now) ∥₁ }
+    requires file { IsFile (state_of shared.now).objects opened.now.description.object }
+    ensures step { (log : CheckLog) → GoesOn log (λ rest. Refuse errno.EINVAL (nat_lt (length (open_object (state_of shared.now) opened.now).bytes) (place_in (open_object (state_of shared.now) opened.now) opened.now)) (Refuse errno.EFBIG (nat_lt MAX_FILE_BYTES (place_in (open_object (state_of shared.now) opened.now) opened.now + length bytes.now)) (rest (place_in (open_object (state_of shared.now) opened.now) opened.now)))) result log }
+    ensures within { IfOk result (λ at. at ≤ length (open_object (state_of shared.now) opened.now).bytes) }
+    ensures few { IfOk result (λ at. at + length bytes.now ≤ MAX_FILE_BYTES) }
+{
+    let size = shared.byte_count(&opened.object) as u32;
+    let at = place_in_file(opened, size);
+    refuse_if(at > size, Errno::EINVAL)?;
+    refuse_if(at as usize + bytes.len() > MAX_FILE_BYTES, Errno::EFBIG)?;
+    Ok(at)
+}
+
+// Where bytes go into a file of this size: at its end where the descriptor appends, else at the offset.
+fn place_in_file(opened: &Opened, size: u32) -> u32
+    ensures { (o : Object) → size ≡ length o.bytes → result ≡ place_in o opened.now }
+{
+    if opened.how.appends {
+        size
+    } else {
+        opened.offset
+    }
+}
+
+// Writes bytes into a file from a place on, and gives it these attributes.
+fn overwrite(
+    shared: &mut Shared,
+    id: &Oid,
+    at: u32,
+    bytes: &[u8],
+    attr: Attr,
+) -> Result<(), NoMemory>
+    requires file { IsFile (state_of shared.old).objects id.now }
+    requires within { at ≤ length (object_at (state_of shared.old) id.now).bytes }
+    requires few { at + length bytes.now ≤ MAX_FILE_BYTES }
+    ensures files { shared.new.fds ≡ shared.old.fds }
+    ensures written { OnOk result (state_of shared.new ≡ changed (state_of shared.old) (SetObject id.now (record (object_at (state_of shared.old) id.now) { attr = attr; bytes = written_over (object_at (state_of shared.old) id.now).bytes at bytes.now }))) }
+{
+    match shared.tree.write_at(id, at, bytes) {
+        Ok(()) => {
+            shared.tree.set_attr(id, attr);
+            Ok(())
+        }
+        Err(WriteError::NoMemory(e)) => Err(e),
+        Err(WriteError::PastEnd) => unreachable!(),
+        Err(WriteError::TooBig) => unreachable!(),
+    }
+}
+
+// Moves the offset after bytes that are written from a place on, and answers their number.
+fn move_after(shared: &mut Shared, who: &Pid, fd: Fd, at: u32, bytes: &[u8]) -> Effect
+    requires open { IsSome (opened_at shared.old.fds who.now fd) }
+    requires few { at + length bytes.now ≤ MAX_FILE_BYTES }
+    ensures moved { (f : Description) → opened_at shared.old.fds who.now fd ≡ Some f → state_of shared.new ≡ changed (state_of shared.old) (moved f (at + length bytes.now)) }
+    ensures effect { result ≡ record { answer = answer.Number (length bytes.now); own = None } }
+{
+    let count = bytes.len() as u32;
+    set_offset(shared, who, fd, at + count);
+    Effect {
+        answer: Answer::Number(count),
+        own: None,
+    }
+}
