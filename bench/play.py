@@ -5,12 +5,14 @@
 
 First scripts of doubling length on a world of one file and one process, up to the limit of an input, of one call and of
 three; then worlds of doubling size, up to the limits of a label, with one call for each file; then worlds that fill an input
-up to its limit, all files in one directory or 32 names deep. It prints the rows of the table in README.md: wall time, and the
-most memory that the run held at a time.
+up to its limit, all files in one directory or 32 names deep; then scripts on directories. It prints the rows of the table in
+README.md: wall time, and the most memory that the run held at a time. `bench/play.py directories` prints the last rows alone.
 """
 import os
 import pathlib
+import random
 import subprocess
+import sys
 import tempfile
 import time
 
@@ -51,6 +53,43 @@ def filled_world(size, depth):
     return b"".join(lines + [b"script\n"])
 
 
+OPEN = HEAD + b"dir /d 0777 10 10 unc\n"
+CALLER = b'proc unc 10 10 - "="\nscript\n'
+
+
+def changed_names(names, shuffled):
+    """This many names in one directory, made, looked up, linked and removed, in order or in random order."""
+    order = list(range(names))
+    if shuffled:
+        random.Random(1).shuffle(order)
+    lines = [b"file /f 0644 10 10 unc \"x\"\n", CALLER, b"1@unc chdir /d\n"]
+    for call in (b"mkdir n%05d 0755", b"stat n%05d", b"rmdir n%05d"):
+        lines += [b"1@unc " + call % n + b"\n" for n in order]
+    for n in order[:1000]:
+        lines += [b"1@unc link /f l%05d\n" % n, b"1@unc unlink l%05d\n" % n]
+    return OPEN + b"".join(lines)
+
+
+def deep_paths(calls):
+    """Calls on paths of 32 names, in a tree of 24 chains of directories."""
+    world = [b"dir %s 0755 10 10 unc\n" % b"".join(b"/n%02d-%02d" % (chain, i) for i in range(depth)) for chain in range(24) for depth in range(1, 32)]
+    paths = [b"".join(b"/n%02d-%02d" % (chain, i) for i in range(31)) + b"/absent" for chain in range(24)]
+    return HEAD + b"".join(world) + CALLER + b"".join(b"1@unc stat %s\n" % paths[n % 24] for n in range(calls))
+
+
+def moved_below(depth, calls):
+    """A chain of directories, and a directory that moves to its end and back."""
+    chain = b"1@unc mkdir d 0755\n1@unc chdir d\n" * depth
+    moves = b"1@unc rename /a b\n1@unc rename b /a\n" * (calls // 2)
+    return HEAD + b"dir /a 0777 10 10 unc\ndir /a/in 0777 10 10 unc\n" + CALLER + chain + moves
+
+
+def listed(calls):
+    """A directory of 10,000 names that is listed this often."""
+    names = b"".join(b"file /d/f%05d 0644 10 10 unc \"x\"\n" % n for n in range(10_000))
+    return OPEN + names + CALLER + b"1@unc readdir /d\n" * calls
+
+
 def run(folder, text):
     """The status, the seconds and the MiB of one run."""
     path = pathlib.Path(folder) / "input"
@@ -69,10 +108,27 @@ def show(folder, title, text):
     print(f"| {title} | {len(text):,} | {seconds:.2f} | {resident:,.0f} MiB |{ended}", flush=True)
 
 
+def directories(folder):
+    """The rows of scripts on directories."""
+    for shuffled in (False, True):
+        for names in (7_500, 15_000, 30_000, 60_000):
+            order = "in random order" if shuffled else "in order"
+            show(folder, f"{names:,} names in one directory, {order}", changed_names(names, shuffled))
+    for calls in (10_000, 20_000, 40_000):
+        show(folder, f"{calls:,} calls on paths of 32 names", deep_paths(calls))
+    for depth in (7_500, 15_000, 30_000, 60_000):
+        show(folder, f"a chain of {depth:,} directories, and as many moves to its end", moved_below(depth, depth))
+    for calls in (50, 100, 200):
+        show(folder, f"a directory of 10,000 names, listed {calls} times", listed(calls))
+
+
 def main():
     with tempfile.TemporaryDirectory() as folder:
         run(folder, long_script(1000))  # builds the program, if it is not built
         print("| Input | Bytes | Seconds | Resident |\n|---|---|---|---|")
+        if sys.argv[1:] == ["directories"]:
+            directories(folder)
+            return
         for part in (32, 16, 8, 4, 2, 1):
             text = long_script(LIMIT // part)
             show(folder, f"{text.count(b'mac_get_file'):,} calls", text)
@@ -86,6 +142,7 @@ def main():
             for part in (8, 4, 2, 1):
                 text = filled_world(LIMIT // part, depth)
                 show(folder, f"{text.count(b'file '):,} files, {depth} names deep", text)
+        directories(folder)
 
 
 if __name__ == "__main__":
