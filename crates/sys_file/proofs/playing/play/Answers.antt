@@ -1,7 +1,7 @@
-use Rattle.std.proofs.Common.{refl, rules, subst, ℤ, w64}
+use Rattle.std.proofs.Common.{refl, rules, subst, ℕ, ℤ, List, w64}
 use Rattle.std.proofs.lemmas.Int.{to_z-of_z}
 use Rattle.kern_model.specs.Arguments.{has_names}
-use Rattle.kern_model.specs.FileRows.{fstat_row, lseek_row}
+use Rattle.kern_model.specs.FileRows.{fstat_row, lseek_row, write_row}
 use Rattle.kern_model.specs.State.{Process}
 use Rattle.sys_lookup.specs.PlaysRow.{PlaysRow}
 use Rattle.sys_lookup.specs.Shared.{holding, state_of}
@@ -56,3 +56,20 @@ returns-in-Fstat-clause-played c p there =
 pub returns-in-Fstat-clause-names : goal.returns-in-Fstat-clause-names
 unfolding has_names
 returns-in-Fstat-clause-names c = names_as c.in-Fstat.is refl
+
+pub returns-in-Read-clause-played : goal.returns-in-Read-clause-played
+returns-in-Read-clause-played c p there = plays_as (state_of c.args.shared.now) c.args.who.now p c.in-Read.is (c.read.ensures p there)
+
+pub returns-in-Read-clause-names : goal.returns-in-Read-clause-names
+unfolding has_names
+returns-in-Read-clause-names c = names_as c.in-Read.is refl
+
+pub returns-in-Write-clause-played : goal.returns-in-Write-clause-played
+returns-in-Write-clause-played c p there =
+    plays_as (state_of c.args.shared.now) c.args.who.now p c.in-Write.is
+    (subst (λ (bytes : List ℕ). PlaysRow (state_of c.args.shared.now) c.args.checks.now (write_row (state_of c.args.shared.now) c.args.who.now p c.in-Write.fd bytes) c.write.result (state_of c.write.new.shared) c.write.new.checks) c.items.ensures
+    (c.write.ensures p there))
+
+pub returns-in-Write-clause-names : goal.returns-in-Write-clause-names
+unfolding has_names
+returns-in-Write-clause-names c = names_as c.in-Write.is refl
