@@ -32,14 +32,14 @@ pub returns-in_err-opened-in-Descriptor-clause-step : goal.returns-in_err-opened
 returns-in_err-opened-in-Descriptor-clause-step c =
     let k = c.args.caller.now in
     subst (λ (o : ObjectArgument). GoesOn c.args.checks.now (finding (state_of k.shared.now) (process_of k) o) c.from_residual.result c.args.checks.now) (sym c.in-Descriptor.is)
-    (stops_there {next = λ (f : Opened) rest. rest (f.description.object, Handle)} c.from_residual.result c.from_residual.ensures.1 (c.in_err-opened-in-Descriptor.ensures c.args.checks.now))
+    (stops_there {next = λ (f : Opened) rest. rest (f.description.object, Handle)} c.from_residual.result c.from_residual.ensures.1 (c.in_err-opened-in-Descriptor.ensures.step c.args.checks.now))
 
 pub returns-in_ok-opened-in-Descriptor-clause-step : goal.returns-in_ok-opened-in-Descriptor-clause-step
 returns-in_ok-opened-in-Descriptor-clause-step c =
     let k = c.args.caller.now in
     let id = c.opened-in-Descriptor.inside.object in
     subst (λ (o : ObjectArgument). GoesOn c.args.checks.now (finding (state_of k.shared.now) (process_of k) o) (Ok (id, Handle)) c.args.checks.now) (sym c.in-Descriptor.is)
-    (then_goes {next = λ (f : Opened) rest. rest (f.description.object, Handle)} (c.in_ok-opened-in-Descriptor.ensures c.args.checks.now)
+    (then_goes {next = λ (f : Opened) rest. rest (f.description.object, Handle)} (c.in_ok-opened-in-Descriptor.ensures.step c.args.checks.now)
     (gives (ap (λ (f : Opened). (f.description.object, Handle)) c.opened-in-Descriptor.view_is)))
 
 pub returns-in_ok-opened-in-Descriptor-clause-there : goal.returns-in_ok-opened-in-Descriptor-clause-there
@@ -48,4 +48,4 @@ returns-in_ok-opened-in-Descriptor-clause-there c = λ valid living.
     let s = state_of k.shared.now in
     let log = c.args.checks.now in
     subst (λ (f : Opened). IsThere s.objects f.description.object) (sym c.opened-in-Descriptor.view_is)
-    (descriptor_there s valid (process_of k) c.in-Descriptor.fd c.in_ok-opened-in-Descriptor.opened log log (c.in_ok-opened-in-Descriptor.ensures log))
+    (descriptor_there s valid (process_of k) c.in-Descriptor.fd c.in_ok-opened-in-Descriptor.opened log log (c.in_ok-opened-in-Descriptor.ensures.step log))
