@@ -70,7 +70,7 @@ returns c = λ p log there.
       description_numbers = (left i).numbers;
       objects = emptied i;
       entries = c.close.ensures.rest.1 i;
-      object_numbers = c.close.ensures.rest.0 i
+      object_numbers = c.close.ensures.rest.0 i;
     })
     ∙ (λ i. record s { procs = with_fds h.procs.procs rows; descriptions = (left_with h.fds rows).descriptions; objects = drained h.fds.descriptions (left i).descriptions s.objects })
     ∙ (λ i. record s { procs = with_fds-row h.procs.procs h.fds.rows who process fewer c.living-process.ensures.there i; descriptions = (left_with h.fds rows).descriptions; objects = drained h.fds.descriptions (left_with h.fds rows).descriptions s.objects })
