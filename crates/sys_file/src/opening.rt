@@ -93,12 +93,14 @@ fn find_target(
 {
     match caller.walk(checks, PathArgument::First, path)? {
         Found::Start(id) => present(caller, checks, path, flags, id),
-        Found::Entry(dir, name, None) => {
-            let place = PathArgument::First.dir_place(path);
-            may_make(caller, checks, flags, &dir, place)?;
-            Ok(Target::Absent(dir, name))
-        }
-        Found::Entry(_, _, Some(id)) => present(caller, checks, path, flags, id),
+        Found::Entry(dir, name, object) => match object {
+            Some(id) => present(caller, checks, path, flags, id),
+            None => {
+                let place = PathArgument::First.dir_place(path);
+                may_make(caller, checks, flags, &dir, place)?;
+                Ok(Target::Absent(dir, name))
+            }
+        },
     }
 }
 
@@ -177,10 +179,8 @@ fn kind_allows(
     ensures { (s : State) (id : Number) → object.now ≡ metadata_of s id → GoesOn checks.old (λ rest. allowed_by_kind s (process_of caller.now) flags id place (rest tt)) result checks.new }
 {
     refuse_if(object.is_directory(), Errno::EISDIR)?;
-    let fifo = is_fifo(object.kind);
-    let two_ways = both(flags.r, flags.w);
-    refuse_if(both(fifo, two_ways), Errno::EINVAL)?;
-    let drains = both(fifo, flags.r);
+    let drains = both(is_fifo(object.kind), flags.r);
+    refuse_if(both(drains, flags.w), Errno::EINVAL)?;
     caller.mac_write_if(drains, checks, object, place)
 }
 

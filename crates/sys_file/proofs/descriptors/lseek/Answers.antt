@@ -1,4 +1,5 @@
-use Rattle.std.proofs.Common.{◌≡◌, ◌∙◌, ◌≤◌, ◌+ℤ◌, ap, sym, refl, subst, ℕ, ℤ, pos, length, true, Err, Result}
+use Rattle.std.proofs.Common.{◌≡◌, ◌∙◌, ◌≤◌, ◌+ℤ◌, rules, w64, to_z, of_z, ap, sym, refl, subst, ℕ, ℤ, pos, length, true, Err, Result}
+use Rattle.std.proofs.lemmas.Int.{to_z-of_z}
 use Rattle.kern_model.specs.declared.calls.Errno.TheVariants.{EINVAL}
 use Rattle.kern_model.specs.declared.calls.Whence.{Whence}
 use Rattle.kern_model.specs.declared.limits.TheConstants.{MAX_FILE_BYTES}
@@ -54,13 +55,15 @@ returns-in-Some c = λ p there.
     let log = c.opened_to_seek.new.checks in
     let size : c.file_size-size.result ≡ length (open_object s f).bytes = c.file_size-size.ensures ∙ (λ i. length (object_at s (c.opened.view_is i).description.object).bytes) in
     let base : c.base_of.result ≡ base_of s f c.args.from = c.base_of.ensures s size in
-    let to : c.in-Some.to ≡ (pos (base_of s f c.args.from) +ℤ c.args.offset) = c.in-Some.ensures.some c.in-Some.to refl ∙ ap (λ (n : ℕ). pos n +ℤ c.args.offset) base in
+    let offset : to_z w64 (of_z w64 c.args.offset) ≡ c.args.offset = to_z-of_z w64 c.args.offset (search rules) in
+    let to : c.in-Some.to ≡ (pos (base_of s f c.args.from) +ℤ c.args.offset) = c.in-Some.ensures.some c.in-Some.to refl ∙ (λ i. pos (base i) +ℤ offset i) in
+    let passed : to_z w64 (of_z w64 c.in-Some.to) ≡ (pos (base_of s f c.args.from) +ℤ c.args.offset) = to_z-of_z w64 c.in-Some.to (search rules) ∙ to in
     let r = c.move_to.result in
     let t = state_of c.move_to.new.shared in
     caller_plays (λ x. lseek_row s who x c.args.fd c.args.from c.args.offset) who q p c.living-process.ensures.found there
     (then_plays {rest = seeking s c.args.from c.args.offset} c.in_ok-opened.ensures.step
-    (subst (λ (z : ℤ). PlaysRow s log (moves f z (length (open_object s f).bytes)) r t log) to
-    (subst (λ (n : ℕ). PlaysRow s log (moves f c.in-Some.to n) r t log) size
+    (subst (λ (z : ℤ). PlaysRow s log (moves f z (length (open_object s f).bytes)) r t log) passed
+    (subst (λ (n : ℕ). PlaysRow s log (moves f (to_z w64 (of_z w64 c.in-Some.to)) n) r t log) size
     (c.move_to.ensures f log (open_there h who c.living-process.result.now c.args.fd f c.in_ok-opened.ensures.found)))))
 
 pub returns-in-None : goal.returns-in-None
@@ -77,8 +80,9 @@ returns-in-None c = λ p there.
     let small : length (open_object s f).bytes ≤ MAX_FILE_BYTES = subst (λ (o : Object). length o.bytes ≤ MAX_FILE_BYTES) (sym (object_is s f.description.object file.object file.is)) few in
     let size : c.file_size-size.result ≡ length (open_object s f).bytes = c.file_size-size.ensures ∙ (λ i. length (object_at s (c.opened.view_is i).description.object).bytes) in
     let base : c.base_of.result ≡ base_of s f c.args.from = c.base_of.ensures s size in
+    let offset : to_z w64 (of_z w64 c.args.offset) ≡ c.args.offset = to_z-of_z w64 c.args.offset (search rules) in
     let past : is_past (pos (base_of s f c.args.from) +ℤ c.args.offset) (length (open_object s f).bytes) ≡ true =
-    ap (λ (n : ℕ). is_past (pos n +ℤ c.args.offset) (length (open_object s f).bytes)) (sym base) ∙ c.in-None.ensures.none (length (open_object s f).bytes) small refl in
+    (λ i. is_past (pos (sym base i) +ℤ sym offset i) (length (open_object s f).bytes)) ∙ c.in-None.ensures.none (length (open_object s f).bytes) small refl in
     let r : Result Effect Stop = Err (stop.Refused EINVAL) in
     caller_plays (λ x. lseek_row s who x c.args.fd c.args.from c.args.offset) who q p c.living-process.ensures.found there
     (then_plays {rest = seeking s c.args.from c.args.offset} c.in_ok-opened.ensures.step

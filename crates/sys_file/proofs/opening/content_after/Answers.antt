@@ -28,27 +28,19 @@ known s id place empties rest = cond empties (kept_attr s id place (λ attr. emp
 empties : (found asked file : Bool) (m : Metadata) (s : State) (id : Oid) → found ≡ (asked && file) → file ≡ is_file m.kind → m ≡ metadata_of s id → found ≡ (asked && is_file (object_at s id).kind)
 empties found asked file m s id both is same = both ∙ ap (λ b. asked && b) (is ∙ ap (λ (x : Metadata). is_file x.kind) same)
 
-second_holds : (a b : Bool) → (a && b) ≡ true → b ≡ true
-second_holds true b e = e
-second_holds false b e = let no : false ≡ true = e in cc
-
 pub returns-in_err-attr-clause-step : goal.returns-in_err-attr-clause-step
 returns-in_err-attr-clause-step c = λ s id same.
     let found = empties c.both.result c.args.flags.t c.is_file.result c.args.object.now s id c.both.ensures c.is_file.ensures same in
     subst (λ b. GoesOn c.args.checks.now (known s id c.args.place b) c.from_residual.result c.kept_attr.new.checks) (sym c.if-both.true ∙ found)
     (stops_there {next = emptied} c.from_residual.result c.from_residual.ensures.1 (c.in_err-attr.ensures s id same))
 
-pub returns-then-both-clause-step : goal.returns-then-both-clause-step
-returns-then-both-clause-step c = λ s id same.
-    let found = empties c.both.result c.args.flags.t c.is_file.result c.args.object.now s id c.both.ensures c.is_file.ensures same in
-    subst (λ b. GoesOn c.args.checks.now (known s id c.args.place b) (Ok (content.Emptied c.in_ok-attr.attr)) c.kept_attr.new.checks) (sym c.if-both.true ∙ found)
-    (then_goes {next = emptied} (c.in_ok-attr.ensures s id same) (gives refl))
-
 pub returns-else-both-clause-step : goal.returns-else-both-clause-step
 returns-else-both-clause-step c = λ s id same.
     let found = empties c.both.result c.args.flags.t c.is_file.result c.args.object.now s id c.both.ensures c.is_file.ensures same in
     subst (λ b. GoesOn c.args.checks.now (known s id c.args.place b) (Ok content.Kept) c.args.checks.now) (sym c.if-both.false ∙ found) (gives refl)
 
-pub returns-then-both-clause-files : goal.returns-then-both-clause-files
-returns-then-both-clause-files c = λ s id same.
-    second_holds c.args.flags.t (is_file (object_at s id).kind) (sym (empties c.both.result c.args.flags.t c.is_file.result c.args.object.now s id c.both.ensures c.is_file.ensures same) ∙ c.if-both.true)
+pub returns-in_ok-attr-clause-step : goal.returns-in_ok-attr-clause-step
+returns-in_ok-attr-clause-step c = λ s id same.
+    let found = empties c.both.result c.args.flags.t c.is_file.result c.args.object.now s id c.both.ensures c.is_file.ensures same in
+    subst (λ b. GoesOn c.args.checks.now (known s id c.args.place b) (Ok (content.Emptied c.in_ok-attr.attr)) c.kept_attr.new.checks) (sym c.if-both.true ∙ found)
+    (then_goes {next = emptied} (c.in_ok-attr.ensures s id same) (gives refl))

@@ -1,4 +1,5 @@
-use Rattle.std.proofs.Common.{◌≡◌, ◌∙◌, ◌&&◌, ap, subst, Bool, ⊤, Result}
+use Rattle.std.proofs.Common.{◌≡◌, ◌∙◌, ◌&&◌, ap, subst, Bool, Result}
+use Rattle.std.specs.Prelude.{⊤}
 use Rattle.kern_model.specs.declared.calls.Errno.TheVariants.{EISDIR, EINVAL}
 use Rattle.kern_model.specs.declared.checks.Check.{Check}
 use Rattle.kern_model.specs.Kinds.{is_dir, is_fifo}
@@ -13,8 +14,8 @@ use Rattle.sys_lookup.specs.declared.shared.Metadata.{Metadata}
 use Rattle.sys_lookup.specs.Shared.{metadata_of, process_of}
 use Rattle.sys_file.proofs.opening.kind_allows.Goals as goal
 
-equal_asked : {a b : CheckLog} {r : Result ⊤ Stop} {check : Check} {x y : Bool} → x ≡ y → GoesOn a (λ (rest : ⊤ → Row). need_if x check (rest tt)) r b → GoesOn a (λ (rest : ⊤ → Row). need_if y check (rest tt)) r b
-equal_asked {a = a} {b = b} {r = r} {check = check} same step = subst (λ z. GoesOn a (λ (rest : ⊤ → Row). need_if z check (rest tt)) r b) same step
+equal_asked : {a b : CheckLog} {r : Result ⊤ Stop} (check : Check) {x y : Bool} → x ≡ y → GoesOn a (λ (rest : ⊤ → Row). need_if x check (rest tt)) r b → GoesOn a (λ (rest : ⊤ → Row). need_if y check (rest tt)) r b
+equal_asked {a = a} {b = b} {r = r} check same step = subst (λ z. GoesOn a (λ (rest : ⊤ → Row). need_if z check (rest tt)) r b) same step
 
 pub returns-in_err-refuse_if : goal.returns-in_err-refuse_if
 returns-in_err-refuse_if c = λ s id same.
@@ -23,15 +24,15 @@ returns-in_err-refuse_if c = λ s id same.
 pub returns-in_err-refuse_if-2 : goal.returns-in_err-refuse_if-2
 returns-in_err-refuse_if-2 c = λ s id same.
     let log = c.args.checks.now in
-    let fifo = c.is_fifo-fifo.ensures ∙ ap (λ (m : Metadata). is_fifo m.kind) same in
+    let drains = c.both-drains.ensures ∙ (λ i. (c.is_fifo.ensures ∙ ap (λ (m : Metadata). is_fifo m.kind) same) i && c.args.flags.r) in
     refuse_goes (equal_refusal (c.is_directory.ensures ∙ ap (λ (m : Metadata). is_dir m.kind) same) (c.in_ok-refuse_if.ensures log))
     (refuse_stops c.from_residual-in_err-refuse_if-2.result c.from_residual-in_err-refuse_if-2.ensures.1
-    (equal_refusal (c.both.ensures ∙ (λ i. fifo i && c.both-two_ways.ensures i)) (c.in_err-refuse_if-2.ensures log)))
+    (equal_refusal (c.both.ensures ∙ (λ i. drains i && c.args.flags.w)) (c.in_err-refuse_if-2.ensures log)))
 
 pub returns : goal.returns
 returns c = λ s id same.
     let log = c.args.checks.now in
-    let fifo = c.is_fifo-fifo.ensures ∙ ap (λ (m : Metadata). is_fifo m.kind) same in
+    let drains = c.both-drains.ensures ∙ (λ i. (c.is_fifo.ensures ∙ ap (λ (m : Metadata). is_fifo m.kind) same) i && c.args.flags.r) in
     refuse_goes (equal_refusal (c.is_directory.ensures ∙ ap (λ (m : Metadata). is_dir m.kind) same) (c.in_ok-refuse_if.ensures log))
-    (refuse_goes (equal_refusal (c.both.ensures ∙ (λ i. fifo i && c.both-two_ways.ensures i)) (c.in_ok-refuse_if-2.ensures log))
-    (equal_asked (c.both-drains.ensures ∙ (λ i. fifo i && c.args.flags.r)) (c.mac_write_if.ensures s id same)))
+    (refuse_goes (equal_refusal (c.both.ensures ∙ (λ i. drains i && c.args.flags.w)) (c.in_ok-refuse_if-2.ensures log))
+    (equal_asked (mac_write s (process_of c.args.caller.now) id c.args.place) drains (c.mac_write_if.ensures s id same)))

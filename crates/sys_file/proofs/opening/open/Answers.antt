@@ -49,18 +49,18 @@ returns-in_err-may_open-clause-played c = λ p there.
     (subst (λ (row : Row). PlaysRow s log row c.from_residual.result s log) (row_is s who q c.args.path.now c.args.flags c.args.mode)
     (stops_row {rest = λ _. finding s who q c.args.path.now c.args.flags m} c.from_residual.result c.from_residual.ensures.1 refl (c.in_err-may_open.ensures.step log)))
 
-pub returns-in_err-find_target-clause-played : goal.returns-in_err-find_target-clause-played
-returns-in_err-find_target-clause-played c = λ p there.
+pub returns-in_err-id-clause-played : goal.returns-in_err-id-clause-played
+returns-in_err-id-clause-played c = λ p there.
     let s = state_of c.args.shared.now in
     let who = c.args.who.now in
     let q = holding c.args.shared.now.fds.rows who c.living-process.result.now in
     let m = unwrap_or c.args.mode 0 in
     let log = c.args.checks.now in
-    let r = c.from_residual-in_err-find_target.result in
+    let r = c.from_residual-in_err-id.result in
     caller_plays (λ x. open_row s who x c.args.path.now c.args.flags c.args.mode) who q p c.living-process.ensures.found there
     (subst (λ (row : Row). PlaysRow s log row r s c.find_target.new.checks) (row_is s who q c.args.path.now c.args.flags c.args.mode)
     (then_plays {rest = λ _. finding s who q c.args.path.now c.args.flags m} (c.in_ok-may_open.ensures.step log)
-    (stops_row {rest = opens_target s who q c.args.flags m} r c.from_residual-in_err-find_target.ensures.1 refl c.in_err-find_target.ensures.step)))
+    (stops_row {rest = opens_target s who q c.args.flags m} r c.from_residual-in_err-id.ensures.1 refl c.in_err-id.ensures.step)))
 
 pub returns-in-Present-clause-played : goal.returns-in-Present-clause-played
 returns-in-Present-clause-played c = λ p there.
@@ -75,7 +75,7 @@ returns-in-Present-clause-played c = λ p there.
     caller_plays (λ x. open_row s who x c.args.path.now c.args.flags c.args.mode) who q p c.living-process.ensures.found there
     (subst (λ (row : Row). PlaysRow s log row r t after) (row_is s who q c.args.path.now c.args.flags c.args.mode)
     (then_plays {rest = λ _. finding s who q c.args.path.now c.args.flags m} (c.in_ok-may_open.ensures.step log)
-    (then_plays {rest = opens_target s who q c.args.flags m} c.in_ok-find_target.ensures.step
+    (then_plays {rest = opens_target s who q c.args.flags m} c.in_ok-id.ensures.step
     (subst (λ (x : Target). PlaysRow s after (opens_target s who q c.args.flags m x) r t after) (sym c.in-Present.is)
     (c.open_present.ensures q after (sym c.living-process.ensures.found))))))
 
@@ -92,7 +92,7 @@ returns-in-Absent-clause-played c = λ p there.
     caller_plays (λ x. open_row s who x c.args.path.now c.args.flags c.args.mode) who q p c.living-process.ensures.found there
     (subst (λ (row : Row). PlaysRow s log row r t after) (row_is s who q c.args.path.now c.args.flags c.args.mode)
     (then_plays {rest = λ _. finding s who q c.args.path.now c.args.flags m} (c.in_ok-may_open.ensures.step log)
-    (then_plays {rest = opens_target s who q c.args.flags m} c.in_ok-find_target.ensures.step
+    (then_plays {rest = opens_target s who q c.args.flags m} c.in_ok-id.ensures.step
     (subst (λ (x : Target). PlaysRow s after (opens_target s who q c.args.flags m x) r t after) (sym c.in-Absent.is)
     (subst (λ (n : ℕ). PlaysRow s after (opens_target s who q c.args.flags n (target.Absent c.in-Absent.dir c.in-Absent.name)) r t after) c.unwrap_or-mode.ensures
     (c.open_new.ensures q after (sym c.living-process.ensures.found)))))))
@@ -110,7 +110,7 @@ open_present-requires-clause-file c =
     let s = state_of c.args.shared.now in
     let who = c.args.who.now in
     let q = holding c.args.shared.now.fds.rows who c.living-process.result.now in
-    let is = subst (IsTarget s (start_of q c.args.path.now)) c.in-Present.is c.in_ok-find_target.ensures.target in
+    let is = subst (IsTarget s (start_of q c.args.path.now)) c.in-Present.is c.in_ok-id.ensures.target in
     can_be_emptied s c.requires.valid who q (sym c.living-process.ensures.found) c.args.path.now c.in-Present.id is.0 c.in-Present.content is.1
 
 pub open_new-requires-clause-free : goal.open_new-requires-clause-free
@@ -125,16 +125,16 @@ pub open_new-requires-clause-dir : goal.open_new-requires-clause-dir
 open_new-requires-clause-dir c =
     let s = state_of c.args.shared.now in
     let q = holding c.args.shared.now.fds.rows c.args.who.now c.living-process.result.now in
-    (subst (IsTarget s (start_of q c.args.path.now)) c.in-Absent.is c.in_ok-find_target.ensures.target).0.is_dir
+    (subst (IsTarget s (start_of q c.args.path.now)) c.in-Absent.is c.in_ok-id.ensures.target).0.is_dir
 
 pub open_new-requires-clause-stands : goal.open_new-requires-clause-stands
 open_new-requires-clause-stands c =
     let s = state_of c.args.shared.now in
     let q = holding c.args.shared.now.fds.rows c.args.who.now c.living-process.result.now in
-    (subst (IsTarget s (start_of q c.args.path.now)) c.in-Absent.is c.in_ok-find_target.ensures.target).1
+    (subst (IsTarget s (start_of q c.args.path.now)) c.in-Absent.is c.in_ok-id.ensures.target).1
 
 pub open_new-requires-clause-absent : goal.open_new-requires-clause-absent
 open_new-requires-clause-absent c =
     let s = state_of c.args.shared.now in
     let q = holding c.args.shared.now.fds.rows c.args.who.now c.living-process.result.now in
-    (subst (IsTarget s (start_of q c.args.path.now)) c.in-Absent.is c.in_ok-find_target.ensures.target).0.leads
+    (subst (IsTarget s (start_of q c.args.path.now)) c.in-Absent.is c.in_ok-id.ensures.target).0.leads

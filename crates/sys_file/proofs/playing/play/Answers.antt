@@ -1,7 +1,9 @@
-use Rattle.std.proofs.Common.{refl}
+use Rattle.std.proofs.Common.{refl, rules, subst, ℤ, w64}
+use Rattle.std.proofs.lemmas.Int.{to_z-of_z}
 use Rattle.kern_model.specs.Arguments.{has_names}
-use Rattle.kern_model.specs.FileRows.{fstat_row}
+use Rattle.kern_model.specs.FileRows.{fstat_row, lseek_row}
 use Rattle.kern_model.specs.State.{Process}
+use Rattle.sys_lookup.specs.PlaysRow.{PlaysRow}
 use Rattle.sys_lookup.specs.Shared.{holding, state_of}
 use Rattle.sys_lookup.proofs.PlayLemmas.{caller_plays}
 use Rattle.sys_lookup.proofs.PlayingLemmas.{plays_as, names_as}
@@ -22,7 +24,10 @@ unfolding has_names
 returns-in-Close-clause-names c = names_as c.in-Close.is refl
 
 pub returns-in-Lseek-clause-played : goal.returns-in-Lseek-clause-played
-returns-in-Lseek-clause-played c p there = plays_as (state_of c.args.shared.now) c.args.who.now p c.in-Lseek.is (c.lseek.ensures p there)
+returns-in-Lseek-clause-played c p there =
+    plays_as (state_of c.args.shared.now) c.args.who.now p c.in-Lseek.is
+    (subst (λ (z : ℤ). PlaysRow (state_of c.args.shared.now) c.args.checks.now (lseek_row (state_of c.args.shared.now) c.args.who.now p c.in-Lseek.fd c.in-Lseek.from z) c.lseek.result (state_of c.lseek.new.shared) c.lseek.new.checks) (to_z-of_z w64 c.in-Lseek.offset (search rules))
+    (c.lseek.ensures p there))
 
 pub returns-in-Lseek-clause-names : goal.returns-in-Lseek-clause-names
 unfolding has_names
