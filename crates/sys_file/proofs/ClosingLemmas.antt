@@ -1,18 +1,17 @@
 -- Descriptors close in a valid state.
 use Rattle.std.specs.Prelude.{◌≡◌, ℕ, Bool, true, false, Some, refl}
 use Rattle.std.specs.Cmp.{nat_cmp_total}
-use Rattle.std.specs.FinMap as map
 use Rattle.std.specs.FinMap.{nat_cmp-IsAntisymmetric}
-use Rattle.std.specs.Ordering.{is_eq, nat_cmp}
-use Rattle.std.proofs.Common.{ap, sym, ◌∙◌, subst}
+use Rattle.std.specs.Ordering.{is_eq}
+use Rattle.std.proofs.Common.{ap, sym, ◌∙◌}
 use Rattle.std.proofs.Math.Logic.{∥∥₁_elim, ∥∥₁_map}
 use Rattle.std.proofs.lemmas.Bool.{true≢false}
 use Rattle.std.proofs.lemmas.Cmp.{tied_itself}
 use Rattle.kern_model.specs.declared.numbers.Did.{Did}
 use Rattle.kern_model.specs.declared.numbers.Pid.{Pid}
-use Rattle.kern_model.specs.Keys.{did_cmp, same_did}
+use Rattle.kern_model.specs.Keys.{same_did}
 use Rattle.kern_model.specs.Maps.{any_entry}
-use Rattle.kern_model.specs.State.{State, Process, Description}
+use Rattle.kern_model.specs.State.{State, Process}
 use Rattle.kern_model.specs.Valid.{IsHeld, IsValid}
 use Rattle.kern_model.proofs.KeyLaws.{did_cmp_total, did_cmp_exact, pid_cmp_total, pid_cmp_exact}
 use Rattle.kern_model.proofs.MapLemmas.{same_key}

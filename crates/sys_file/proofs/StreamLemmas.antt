@@ -1,15 +1,14 @@
 -- The rows of bytes that go into pipes and FIFOs, and come out of them.
-use Rattle.std.specs.Prelude.{◌≡◌, ◌≤◌, ◌<◌, ◌+◌, ◌==◌, ◌&&◌, ◌++◌, ℕ, ⊤, Bool, true, false, not, nat_lt, List, [], ◌∷◌, None, Some, Result, Ok, Err, IfErr, length, drop, take, refl}
+use Rattle.std.specs.Prelude.{◌≡◌, ◌+◌, ◌==◌, ◌&&◌, ◌++◌, ℕ, ⊤, Bool, true, false, not, nat_lt, List, [], ◌∷◌, None, Some, Result, Ok, Err, IfErr, length, drop, take, refl}
 use Rattle.std.specs.FinMap as map
-use Rattle.std.proofs.Common.{ap, sym, ◌∙◌, subst, arith}
-use Rattle.std.proofs.lemmas.Bool.{ltb-true, ltb-false}
+use Rattle.std.proofs.Common.{ap, sym, subst}
 use Rattle.kern_model.specs.declared.calls.Answer.TheVariants as answer
 use Rattle.kern_model.specs.declared.calls.Errno.{Errno}
 use Rattle.kern_model.specs.declared.calls.Errno.TheVariants.{EAGAIN, EPIPE}
 use Rattle.kern_model.specs.declared.limits.TheConstants.{MAX_PIPE_BYTES}
 use Rattle.kern_model.specs.declared.objects.Object.{Object}
 use Rattle.kern_model.specs.Descriptors.{Opened, any_open}
-use Rattle.kern_model.specs.FileRows.{open_object, putting}
+use Rattle.kern_model.specs.FileRows.{putting}
 use Rattle.kern_model.specs.Row.{Row, Commit, Refuse, judge}
 use Rattle.kern_model.specs.State.{State, SetObject, changed}
 use Rattle.chk_rules.specs.CheckLog.{CheckLog}

@@ -1,12 +1,12 @@
 -- The row of `write` after its first checks.
-use Rattle.std.specs.Prelude.{◌≡◌, ℕ, ◌+◌, ◌==◌, ⊤, Bool, true, false, nat_lt, List, [], ◌∷◌, None, Result, Ok, Err, length, cond, refl}
+use Rattle.std.specs.Prelude.{◌≡◌, ℕ, ◌+◌, ◌==◌, ⊤, Bool, true, false, List, [], ◌∷◌, None, Result, Ok, Err, length, cond, refl}
 use Rattle.std.specs.Result.{IsErrAnd}
-use Rattle.std.proofs.Common.{ap, sym, subst}
+use Rattle.std.proofs.Common.{sym, subst}
 use Rattle.kern_model.specs.declared.calls.Answer.TheVariants as answer
 use Rattle.kern_model.specs.declared.checks.Place.TheVariants.{Handle}
 use Rattle.kern_model.specs.declared.objects.Attr.{Attr}
 use Rattle.kern_model.specs.Descriptors.{Opened}
-use Rattle.kern_model.specs.FileRows.{moved, open_object, place_in, putting, rewritten, writing, written_over}
+use Rattle.kern_model.specs.FileRows.{moved, open_object, putting, rewritten, writing, written_over}
 use Rattle.kern_model.specs.Kinds.{is_stream}
 use Rattle.kern_model.specs.declared.calls.Errno.{Errno}
 use Rattle.kern_model.specs.declared.numbers.Pid.{Pid}

@@ -1,4 +1,4 @@
-use Rattle.std.proofs.Common.{◌≡◌, ◌∙◌, ◌==◌, ◌&&◌, ap, sym, refl, subst, ◌∷◌, None, ℕ, List, Bool, true, false, Result, Ok, Err, IsOk, IsSome}
+use Rattle.std.proofs.Common.{◌≡◌, ◌∙◌, ◌==◌, ◌&&◌, sym, refl, subst, ◌∷◌, None, ℕ, List, true, Result, Ok, Err, IsOk, IsSome}
 use Rattle.std.specs.Result.{is_err}
 use Rattle.std.proofs.lemmas.Bool.{true≢false}
 use Rattle.std.specs.FinMap as map
@@ -8,8 +8,8 @@ use Rattle.kern_model.specs.Descriptors.{Descriptor, Opened, closing}
 use Rattle.kern_model.specs.FileRows.{close_row}
 use Rattle.kern_model.specs.Keys.{same_pid}
 use Rattle.kern_model.specs.Row.{Row, Commit}
-use Rattle.kern_model.specs.State.{State, Process, Change, SetProcess, Description}
-use Rattle.fd_table.specs.Files.{OpenFiles, drained, left_with}
+use Rattle.kern_model.specs.State.{State, Process, Change, SetProcess}
+use Rattle.fd_table.specs.Files.{drained, left_with}
 use Rattle.fd_table.specs.Rows.{row_of}
 use Rattle.fd_table.proofs.Closing.{close_changes}
 use Rattle.fd_table.proofs.Counting.{where_ok}

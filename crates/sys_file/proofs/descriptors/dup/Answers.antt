@@ -1,5 +1,4 @@
-use Rattle.std.proofs.Common.{◌≡◌, ◌∙◌, ap, sym, refl, subst, ◌+◌, ◌∷◌, [], nat_le, not, Bool, true, false, None, Some, Ok, Err, Result, ℕ, IsSome}
-use Rattle.std.specs.FinMap as map
+use Rattle.std.proofs.Common.{◌≡◌, ◌∙◌, ap, sym, refl, subst, ◌+◌, ◌∷◌, [], nat_le, not, true, false, None, Ok, Err, IsSome}
 use Rattle.kern_model.specs.declared.calls.Answer.TheVariants as answer
 use Rattle.kern_model.specs.declared.calls.Errno.TheVariants.{EMFILE}
 use Rattle.kern_model.specs.declared.limits.TheConstants.{MAX_DESCRIPTORS}

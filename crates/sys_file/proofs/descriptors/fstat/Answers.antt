@@ -1,4 +1,4 @@
-use Rattle.std.proofs.Common.{◌≡◌, refl, subst, [], None, Result}
+use Rattle.std.proofs.Common.{refl, subst, [], None, Result}
 use Rattle.kern_model.specs.declared.calls.Answer.TheVariants as answer
 use Rattle.kern_model.specs.declared.checks.Place.TheVariants.{Handle}
 use Rattle.kern_model.specs.declared.numbers.Oid.{Oid}

@@ -1,4 +1,4 @@
-use Rattle.std.proofs.Common.{◌≡◌, ◌∙◌, ◌≤◌, ◌+ℤ◌, rules, w64, to_z, of_z, ap, sym, refl, subst, ℕ, ℤ, pos, length, true, Err, Result}
+use Rattle.std.proofs.Common.{◌≡◌, ◌∙◌, ◌≤◌, ◌+ℤ◌, rules, w64, to_z, of_z, sym, refl, subst, ℕ, ℤ, pos, length, true, Err, Result}
 use Rattle.std.proofs.lemmas.Int.{to_z-of_z}
 use Rattle.kern_model.specs.declared.calls.Errno.TheVariants.{EINVAL}
 use Rattle.kern_model.specs.declared.calls.Whence.{Whence}

@@ -1,4 +1,4 @@
-use Rattle.std.proofs.Common.{◌≡◌, ◌∙◌, ap, sym, refl, subst, ◌∷◌, [], ℤ, unsigned_abs, rules, w64, to_z, of_z, Bool, true, false, None, Some, IsSome, Ok, Err, Result}
+use Rattle.std.proofs.Common.{◌≡◌, ap, sym, refl, subst, ◌∷◌, [], ℤ, unsigned_abs, rules, w64, to_z, of_z, true, false, None, IsSome, Ok, Err, Result}
 use Rattle.std.proofs.lemmas.Int.{to_z-of_z}
 use Rattle.kern_model.specs.declared.calls.Answer.TheVariants as answer
 use Rattle.kern_model.specs.declared.calls.Errno.TheVariants.{EINVAL}

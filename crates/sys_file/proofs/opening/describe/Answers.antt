@@ -1,6 +1,4 @@
-use Rattle.std.proofs.Common.{◌≡◌, ◌∙◌, ap, sym, subst, ◌+◌, ◌∷◌, [], ℕ, List, Bool, true, false, cond, None, Some, Option, nat_le, Err, refl}
-use Rattle.std.specs.FinMap as map
-use Rattle.std.specs.Result.{IfErr}
+use Rattle.std.proofs.Common.{◌≡◌, ◌∙◌, ap, sym, subst, ◌+◌, ◌∷◌, [], List, true, cond, None, Some, Option, nat_le}
 use Rattle.lab_lattice.specs.Label.{Label}
 use Rattle.kern_model.specs.declared.limits.TheConstants.{MAX_DESCRIPTIONS, MAX_DESCRIPTORS}
 use Rattle.kern_model.specs.declared.numbers.Oid.{Oid}
@@ -12,7 +10,7 @@ use Rattle.kern_model.proofs.MapLemmas.{some_same}
 use Rattle.fd_table.specs.declared.shared.How.{How}
 use Rattle.fd_table.specs.declared.table.FdError.{FdError}
 use Rattle.fd_table.specs.declared.table.FdError.TheVariants as error
-use Rattle.fd_table.specs.Files.{is_no_memory, open_refusal, opened_for}
+use Rattle.fd_table.specs.Files.{opened_for}
 use Rattle.fd_table.specs.Rows.{fd_count}
 use Rattle.sys_lookup.specs.Shared.{holding, state_of}
 use Rattle.sys_lookup.proofs.FdChanges.{ShowTheSame, opened_shows, with_files}

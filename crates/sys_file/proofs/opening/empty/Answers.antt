@@ -1,11 +1,10 @@
-use Rattle.std.proofs.Common.{◌∙◌, ap, sym, [], Some}
+use Rattle.std.proofs.Common.{◌∙◌, ap, []}
 use Rattle.std.specs.FinMap as map
 use Rattle.kern_model.specs.declared.objects.Object.{Object}
-use Rattle.kern_model.specs.State.{State}
 use Rattle.kern_model.proofs.KeyLaws.{oid_cmp_total, oid_cmp_exact}
 use Rattle.kern_model.proofs.MapLemmas.{get-insert_same}
 use Rattle.fd_table.proofs.Loops.{set_twice}
-use Rattle.fs_nodes.specs.Nodes.{NodeTable, with_object}
+use Rattle.fs_nodes.specs.Nodes.{NodeTable}
 use Rattle.sys_lookup.specs.Shared.{state_of}
 use Rattle.sys_file.proofs.opening.empty.Goals as goal
 

@@ -1,17 +1,15 @@
 use Rattle.std.proofs.Common.{◌≡◌, ◌∙◌, ◌&&◌, ap, subst, Bool, Result}
 use Rattle.std.specs.Prelude.{⊤}
-use Rattle.kern_model.specs.declared.calls.Errno.TheVariants.{EISDIR, EINVAL}
 use Rattle.kern_model.specs.declared.checks.Check.{Check}
 use Rattle.kern_model.specs.Kinds.{is_dir, is_fifo}
-use Rattle.kern_model.specs.Row.{Row, Refuse, need_if}
+use Rattle.kern_model.specs.Row.{Row, need_if}
 use Rattle.kern_model.specs.Rules.{mac_write}
-use Rattle.kern_model.specs.State.{object_at}
 use Rattle.chk_rules.specs.CheckLog.{CheckLog}
 use Rattle.chk_rules.specs.Ends.{GoesOn}
 use Rattle.chk_rules.specs.declared.stop.Stop.{Stop}
 use Rattle.chk_rules.proofs.Steps.{equal_refusal, refuse_goes, refuse_stops}
 use Rattle.sys_lookup.specs.declared.shared.Metadata.{Metadata}
-use Rattle.sys_lookup.specs.Shared.{metadata_of, process_of}
+use Rattle.sys_lookup.specs.Shared.{process_of}
 use Rattle.sys_file.proofs.opening.kind_allows.Goals as goal
 
 equal_asked : {a b : CheckLog} {r : Result ⊤ Stop} (check : Check) {x y : Bool} → x ≡ y → GoesOn a (λ (rest : ⊤ → Row). need_if x check (rest tt)) r b → GoesOn a (λ (rest : ⊤ → Row). need_if y check (rest tt)) r b

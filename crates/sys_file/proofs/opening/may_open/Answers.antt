@@ -1,4 +1,3 @@
-use Rattle.kern_model.specs.State.{State, Process}
 use Rattle.chk_rules.proofs.Steps.{equal_refusal, item_goes, item_stops, refuse_goes, refuse_stops}
 use Rattle.sys_lookup.specs.Shared.{process_of, state_of}
 use Rattle.sys_file.specs.Opening.{allowed_by_kind, allowed_by_label, allowed_by_mode}

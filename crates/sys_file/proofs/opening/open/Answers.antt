@@ -1,5 +1,4 @@
-use Rattle.std.proofs.Common.{◌≡◌, ◌∙◌, ap, sym, subst, refl, ℕ, not, Bool, true, Option, None, Some, IsSome, unwrap_or}
-use Rattle.std.specs.FinMap as map
+use Rattle.std.proofs.Common.{◌≡◌, ◌∙◌, sym, subst, refl, ℕ, not, true, Option, None, Some, unwrap_or}
 use Rattle.fs_path.specs.Path.{PathValue}
 use Rattle.kern_model.specs.declared.calls.Errno.TheVariants.{EMFILE, ENFILE}
 use Rattle.kern_model.specs.declared.calls.OpenFlags.{OpenFlags}
@@ -12,7 +11,6 @@ use Rattle.kern_model.specs.Walk.{Found, Start, Entry, start_of, walk}
 use Rattle.kern_model.proofs.MapLemmas.{some_same}
 use Rattle.sys_lookup.specs.PlaysRow.{PlaysRow}
 use Rattle.sys_lookup.specs.Shared.{holding, state_of}
-use Rattle.sys_lookup.specs.Walks.{place_in}
 use Rattle.sys_lookup.proofs.PlayLemmas.{caller_plays, then_plays, stops_row}
 use Rattle.sys_file.proofs.OpenLemmas.{can_be_emptied}
 use Rattle.sys_file.specs.Opening.{IsTarget, opens_target, to_target}

@@ -1,6 +1,5 @@
-use Rattle.std.proofs.Common.{◌≡◌, ◌∙◌, ap, sym, subst, refl, [], ◌++◌, ◌+◌, ℕ, List, None, Some, IsSome, not, true, nat_lt, Result, Ok}
+use Rattle.std.proofs.Common.{◌≡◌, ◌∙◌, ap, sym, subst, ◌++◌, ◌+◌, None, not, nat_lt, Result, Ok}
 use Rattle.std.specs.FinMap as map
-use Rattle.std.specs.FinMap.{FinMap}
 use Rattle.fs_path.specs.Name.{Name}
 use Rattle.lab_lattice.specs.Label.{Label}
 use Rattle.kern_model.specs.declared.calls.Answer.TheVariants as answer
@@ -13,13 +12,10 @@ use Rattle.kern_model.specs.declared.objects.Attr.{Attr}
 use Rattle.kern_model.specs.declared.objects.Body.{Body}
 use Rattle.kern_model.specs.declared.objects.Body.TheVariants as body
 use Rattle.kern_model.specs.Create.{attr_of}
-use Rattle.kern_model.specs.Descriptors.{lowest_free}
-use Rattle.kern_model.specs.FileRows.{has_descriptions, has_free_descriptors, opening, opens}
-use Rattle.kern_model.specs.Keys.{pid_cmp}
+use Rattle.kern_model.specs.FileRows.{opening, opens}
 use Rattle.kern_model.specs.Kinds.{masked}
-use Rattle.kern_model.specs.Row.{Row, Commit, Refuse}
+use Rattle.kern_model.specs.Row.{Row, Refuse}
 use Rattle.kern_model.specs.State.{State, Process, changed_by, drawn}
-use Rattle.kern_model.proofs.MapLemmas.{some_same}
 use Rattle.chk_rules.specs.declared.stop.Stop.{Stop}
 use Rattle.sys_lookup.specs.declared.effect.Effect.{Effect}
 use Rattle.sys_lookup.specs.Making.{making}

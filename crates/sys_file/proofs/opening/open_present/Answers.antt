@@ -1,4 +1,4 @@
-use Rattle.std.proofs.Common.{◌∙◌, ap, subst, sym, refl, ◌++◌, List, [], ◌∷◌, None}
+use Rattle.std.proofs.Common.{◌∙◌, ap, subst, sym, refl, ◌++◌, None}
 use Rattle.kern_model.specs.declared.calls.Answer.TheVariants as answer
 use Rattle.kern_model.specs.declared.numbers.Oid.{Oid}
 use Rattle.kern_model.specs.declared.numbers.Pid.{Pid}

@@ -1,13 +1,11 @@
-use Rattle.std.proofs.Common.{◌≡◌, ◌∙◌, ap, sym, subst, [], List, ◌∷◌}
-use Rattle.kern_model.specs.declared.numbers.Oid.{Oid}
+use Rattle.std.proofs.Common.{◌∙◌, ap, sym, subst, []}
 use Rattle.kern_model.specs.declared.objects.Object.{Object}
-use Rattle.kern_model.specs.State.{State, SetObject, changed, changed_by}
+use Rattle.kern_model.specs.State.{SetObject, changed, changed_by}
 use Rattle.fs_nodes.specs.Nodes.{IsFile}
 use Rattle.sys_lookup.specs.Shared.{state_of}
 use Rattle.sys_file.proofs.ObjectLemmas.{object_is}
 use Rattle.sys_file.specs.Opening.{CanBeEmptied, emptying}
 use Rattle.sys_file.specs.declared.opening.Content.{Content}
-use Rattle.sys_file.specs.declared.opening.Content.TheVariants as content
 use Rattle.sys_file.proofs.opening.set_content.Goals as goal
 
 pub empty-requires : goal.empty-requires

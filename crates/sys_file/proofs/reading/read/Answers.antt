@@ -1,4 +1,4 @@
-use Rattle.std.proofs.Common.{◌≡◌, ◌∙◌, refl}
+use Rattle.std.proofs.Common.{◌∙◌, refl}
 use Rattle.kern_model.specs.Descriptors.{opened}
 use Rattle.kern_model.specs.FileRows.{read_row}
 use Rattle.sys_lookup.proofs.OpenedLemmas.{refers_to}

@@ -6,7 +6,6 @@ use Rattle.kern_model.specs.declared.objects.Object.{Object}
 use Rattle.kern_model.specs.Descriptors.{Opened}
 use Rattle.kern_model.specs.FileRows.{moved, open_object, reading, taken_from}
 use Rattle.kern_model.specs.Kinds.{is_stream}
-use Rattle.kern_model.specs.Row.{Row}
 use Rattle.kern_model.specs.State.{State, changed}
 use Rattle.chk_rules.specs.declared.stop.Stop.{Stop}
 use Rattle.sys_lookup.specs.declared.effect.Effect.{Effect}

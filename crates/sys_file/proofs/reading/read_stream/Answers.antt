@@ -1,4 +1,4 @@
-use Rattle.std.proofs.Common.{◌≡◌, ◌∙◌, ◌==◌, ◌&&◌, ◌≤◌, ap, sym, subst, refl, arith, length, drop, min, take, ℕ, Bool, List, Ok, Err}
+use Rattle.std.proofs.Common.{◌≡◌, ◌∙◌, ◌==◌, ◌&&◌, ◌≤◌, ap, sym, arith, length, drop, min, take, ℕ, List, Err}
 use Rattle.std.specs.FinMap as map
 use Rattle.std.proofs.lemmas.List.{drop_min, length-take, length-take-le}
 use Rattle.kern_model.specs.Descriptors.{any_open}
@@ -6,7 +6,6 @@ use Rattle.kern_model.specs.declared.numbers.Oid.{Oid}
 use Rattle.kern_model.specs.State.{State, SetObject, changed}
 use Rattle.kern_model.specs.Valid.{IsValid}
 use Rattle.fs_nodes.specs.Nodes.{IsStream}
-use Rattle.chk_rules.specs.declared.stop.Stop.TheVariants as stop
 use Rattle.sys_lookup.proofs.PlayLemmas.{no_memory_row}
 use Rattle.sys_lookup.specs.Shared.{state_of}
 use Rattle.sys_file.proofs.ObjectLemmas.{few_wait}

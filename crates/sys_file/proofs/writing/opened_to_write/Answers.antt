@@ -1,4 +1,4 @@
-use Rattle.std.proofs.Common.{◌≡◌, refl, subst, not, Result, Ok}
+use Rattle.std.proofs.Common.{refl, subst, not, Result}
 use Rattle.kern_model.specs.declared.calls.Errno.TheVariants.{EBADF}
 use Rattle.kern_model.specs.declared.checks.Place.TheVariants.{Handle}
 use Rattle.kern_model.specs.declared.numbers.Oid.{Oid}

@@ -1,8 +1,8 @@
-use Rattle.std.proofs.Common.{◌≡◌, ◌∙◌, ◌+◌, ◌<◌, ap, sym, subst, arith, length, Err, Some}
+use Rattle.std.proofs.Common.{◌∙◌, ap, sym, arith, length, Err}
 use Rattle.std.specs.FinMap as map
 use Rattle.kern_model.specs.declared.objects.Object.{Object}
 use Rattle.kern_model.specs.FileRows.{written_over}
-use Rattle.kern_model.specs.State.{SetObject, changed, object_at}
+use Rattle.kern_model.specs.State.{SetObject, changed}
 use Rattle.kern_model.proofs.KeyLaws.{oid_cmp_exact, oid_cmp_total}
 use Rattle.kern_model.proofs.MapLemmas.{get-insert_same}
 use Rattle.fd_table.proofs.Loops.{set_twice}

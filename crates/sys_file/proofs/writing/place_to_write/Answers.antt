@@ -1,9 +1,9 @@
-use Rattle.std.proofs.Common.{◌≡◌, ◌∙◌, ◌+◌, ap, sym, arith, length, nat_lt}
+use Rattle.std.proofs.Common.{◌∙◌, ◌+◌, ap, arith, length, nat_lt}
 use Rattle.std.proofs.lemmas.Bool.{ltb-false}
 use Rattle.kern_model.specs.declared.calls.Errno.TheVariants.{EFBIG, EINVAL}
 use Rattle.kern_model.specs.declared.limits.TheConstants.{MAX_FILE_BYTES}
 use Rattle.kern_model.specs.declared.objects.Object.{Object}
-use Rattle.kern_model.specs.FileRows.{open_object, place_in}
+use Rattle.kern_model.specs.FileRows.{open_object}
 use Rattle.kern_model.specs.State.{object_at}
 use Rattle.chk_rules.proofs.Steps.{equal_refusal, gives, refuse_goes, refuse_stops}
 use Rattle.sys_lookup.specs.Shared.{state_of}

@@ -1,4 +1,4 @@
-use Rattle.std.proofs.Common.{◌≡◌, ◌∙◌, ◌+◌, ap, sym, subst, refl, length, is_some, Ok}
+use Rattle.std.proofs.Common.{◌∙◌, ◌+◌, ap, sym, subst, refl, length, is_some, Ok}
 use Rattle.kern_model.specs.Descriptors.{opened}
 use Rattle.kern_model.specs.FileRows.{moved, write_row, written_over}
 use Rattle.kern_model.specs.State.{SetObject, changed, object_at}
@@ -10,7 +10,7 @@ use Rattle.sys_lookup.specs.declared.effect.Effect.{Effect}
 use Rattle.sys_lookup.specs.PlaysRow.{PlaysRow}
 use Rattle.sys_lookup.specs.Shared.{holding, metadata_of, state_of}
 use Rattle.sys_file.proofs.ObjectLemmas.{file_there, stream_is, stream_there}
-use Rattle.sys_file.proofs.WriteLemmas.{going_in, into_file, into_stream, none_written, put_in, rewriting_at, some_stopped, some_written}
+use Rattle.sys_file.proofs.WriteLemmas.{going_in, into_file, into_stream, none_written, rewriting_at, some_stopped, some_written}
 use Rattle.sys_file.proofs.writing.write.Goals as goal
 
 pub returns-in_err-opened : goal.returns-in_err-opened

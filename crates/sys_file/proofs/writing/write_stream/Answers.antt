@@ -1,4 +1,4 @@
-use Rattle.std.proofs.Common.{◌≡◌, ◌∙◌, ◌+◌, ◌++◌, ap, sym, refl, length, nat_lt, Bool, Err}
+use Rattle.std.proofs.Common.{◌∙◌, ◌+◌, ◌++◌, ap, sym, refl, length, nat_lt, Err}
 use Rattle.std.specs.FinMap as map
 use Rattle.std.proofs.lemmas.Bool.{ltb-false, ltb-true}
 use Rattle.kern_model.specs.declared.limits.TheConstants.{MAX_PIPE_BYTES}
