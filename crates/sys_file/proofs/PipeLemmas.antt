@@ -1,5 +1,5 @@
 -- What a pipe with its two descriptions makes of a state.
-use Rattle.std.specs.Prelude.{◌≡◌, ◌+◌, ◌≤◌, ℕ, Bool, true, false, cond, not, nat_le, [], ◌∷◌, Option, None, Some, IsSome, length, refl}
+use Rattle.std.specs.Prelude.{◌≡◌, ◌+◌, ◌≤◌, ℕ, Bool, true, false, cond, nat_le, Option, None, Some, IsSome, refl}
 use Rattle.std.specs.FinMap as map
 use Rattle.std.specs.FinMap.{contains_key, len-entries, len-insert}
 use Rattle.std.proofs.Common.{ap, sym, ◌∙◌, arith}
@@ -7,15 +7,13 @@ use Rattle.std.proofs.lemmas.Bool.{le-leb, leb-true}
 use Rattle.std.specs.Cmp.{nat_cmp_total}
 use Rattle.lab_lattice.specs.Label.{Label}
 use Rattle.lab_lattice.proofs.Labels.{label_cmp_total, label_cmp_exact}
-use Rattle.kern_model.specs.declared.calls.OpenFlags.{OpenFlags}
-use Rattle.kern_model.specs.declared.limits.TheConstants.{MAX_DESCRIPTIONS, MAX_DESCRIPTORS}
 use Rattle.kern_model.specs.declared.numbers.Did.{Did}
 use Rattle.kern_model.specs.declared.numbers.Oid.{Oid}
 use Rattle.kern_model.specs.declared.numbers.Pid.{Pid}
 use Rattle.kern_model.specs.declared.objects.Body.TheVariants as body
 use Rattle.kern_model.specs.Create.{attr_of, drawing}
 use Rattle.kern_model.specs.Descriptors.{lowest_free, with_descriptor}
-use Rattle.kern_model.specs.FileRows.{has_descriptions, has_free_descriptors, on_pipe, opening, pipe_mode, piped, second_description}
+use Rattle.kern_model.specs.FileRows.{has_free_descriptors, on_pipe, opening, pipe_mode, piped, second_description}
 use Rattle.kern_model.specs.Kinds.{object_with}
 use Rattle.kern_model.specs.State.{State, Process, changed_by, drawn, next_description, next_object}
 use Rattle.kern_model.proofs.KeyLaws.{pid_cmp_total, pid_cmp_exact}

@@ -1,4 +1,4 @@
-use Rattle.std.proofs.Common.{◌≡◌, ◌∙◌, ◌+◌, ap, sym, subst, IsSome, is_some, None, Some, nat_le, true, false}
+use Rattle.std.proofs.Common.{◌≡◌, ◌∙◌, ◌+◌, ap, sym, subst, is_some, None, nat_le, true}
 use Rattle.std.specs.FinMap as map
 use Rattle.kern_model.specs.declared.calls.Answer.TheVariants as answer
 use Rattle.kern_model.specs.declared.limits.TheConstants.{MAX_DESCRIPTIONS, MAX_DESCRIPTORS}
@@ -9,7 +9,6 @@ use Rattle.kern_model.proofs.KeyLaws.{pid_cmp_total}
 use Rattle.kern_model.proofs.MapLemmas.{get-insert_same, some_same}
 use Rattle.sys_lookup.specs.Shared.{state_of}
 use Rattle.sys_file.proofs.PipeLemmas.{both_are, drawn_after, holds, one_left, one_less, with_reader}
-use Rattle.sys_file.specs.Ends.{end_flags}
 use Rattle.sys_file.proofs.pipes.make_pipe.Goals as goal
 
 pub describe-requires-clause-living : goal.describe-requires-clause-living
