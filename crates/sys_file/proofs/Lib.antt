@@ -1,6 +1,7 @@
 pub mod ClosingLemmas
 pub mod ObjectLemmas
 pub mod OpenLemmas
+pub mod PipeLemmas
 pub mod ReadLemmas
 pub mod ReferLemmas
 pub mod RefuseLemmas

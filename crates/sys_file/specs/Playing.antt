@@ -11,6 +11,7 @@ is_file_call (call.Read fd n) = true
 is_file_call (call.Write fd bytes) = true
 is_file_call (call.Lseek fd from offset) = true
 is_file_call (call.Dup fd) = true
+is_file_call call.Pipe = true
 is_file_call (call.Mkfifo path mode) = true
 is_file_call (call.Fstat fd) = true
 is_file_call _ = false

@@ -11,7 +11,7 @@ mod writing;
 
 pub use descriptors::{close, dup, fstat, lseek};
 pub use opening::open;
-pub use pipes::mkfifo;
+pub use pipes::{mkfifo, pipe};
 pub use playing::play;
 pub use reading::read;
 pub use writing::write;

@@ -296,8 +296,8 @@ fn open_new(
     })
 }
 
-// Makes a description of an object, with the lowest free descriptor of a process, which it returns.
-fn describe(shared: &mut Shared, who: &Pid, id: &Oid, flags: OpenFlags) -> Result<Fd, NoMemory>
+/// Makes a description of an object, with the lowest free descriptor of a process, which it returns.
+pub fn describe(shared: &mut Shared, who: &Pid, id: &Oid, flags: OpenFlags) -> Result<Fd, NoMemory>
     requires living { IsSome (map.get (state_of shared.old).procs who.now) }
     requires free { (p : Process) → map.get (state_of shared.old).procs who.now ≡ Some p → has_free_descriptors p 1 ≡ true }
     requires left { (p : Process) → map.get (state_of shared.old).procs who.now ≡ Some p → has_descriptions (state_of shared.old) p 1 ≡ true }

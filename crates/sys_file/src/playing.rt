@@ -12,7 +12,7 @@ ghost use Rattle.sys_file.specs.Playing.{is_file_call};
 
 use crate::descriptors::{close, dup, fstat, lseek};
 use crate::opening::open;
-use crate::pipes::mkfifo;
+use crate::pipes::{mkfifo, pipe};
 use crate::reading::read;
 use crate::writing::write;
 use chk_rules::{Checks, Stop};
@@ -42,6 +42,7 @@ pub fn play(
         Call::Write(fd, bytes) => write(shared, checks, who, *fd, bytes.items()),
         Call::Lseek(fd, from, offset) => lseek(shared, checks, who, *fd, *from, *offset),
         Call::Dup(fd) => dup(shared, who, *fd),
+        Call::Pipe => pipe(shared, who),
         Call::Mkfifo(path, mode) => mkfifo(shared, checks, who, path, *mode),
         Call::Fstat(fd) => {
             let process = living(shared, who);

@@ -1,4 +1,4 @@
-use Rattle.std.proofs.Common.{refl, rules, subst, ℕ, ℤ, List, w64}
+use Rattle.std.proofs.Common.{refl, rules, subst, ℕ, List, ℤ, w64}
 use Rattle.std.proofs.lemmas.Int.{to_z-of_z}
 use Rattle.kern_model.specs.Arguments.{has_names}
 use Rattle.kern_model.specs.FileRows.{fstat_row, lseek_row, write_row}
@@ -23,6 +23,23 @@ pub returns-in-Close-clause-names : goal.returns-in-Close-clause-names
 unfolding has_names
 returns-in-Close-clause-names c = names_as c.in-Close.is refl
 
+pub returns-in-Read-clause-played : goal.returns-in-Read-clause-played
+returns-in-Read-clause-played c p there = plays_as (state_of c.args.shared.now) c.args.who.now p c.in-Read.is (c.read.ensures p there)
+
+pub returns-in-Read-clause-names : goal.returns-in-Read-clause-names
+unfolding has_names
+returns-in-Read-clause-names c = names_as c.in-Read.is refl
+
+pub returns-in-Write-clause-played : goal.returns-in-Write-clause-played
+returns-in-Write-clause-played c p there =
+    plays_as (state_of c.args.shared.now) c.args.who.now p c.in-Write.is
+    (subst (λ (bytes : List ℕ). PlaysRow (state_of c.args.shared.now) c.args.checks.now (write_row (state_of c.args.shared.now) c.args.who.now p c.in-Write.fd bytes) c.write.result (state_of c.write.new.shared) c.write.new.checks) c.items.ensures
+    (c.write.ensures p there))
+
+pub returns-in-Write-clause-names : goal.returns-in-Write-clause-names
+unfolding has_names
+returns-in-Write-clause-names c = names_as c.in-Write.is refl
+
 pub returns-in-Lseek-clause-played : goal.returns-in-Lseek-clause-played
 returns-in-Lseek-clause-played c p there =
     plays_as (state_of c.args.shared.now) c.args.who.now p c.in-Lseek.is
@@ -40,6 +57,13 @@ pub returns-in-Dup-clause-names : goal.returns-in-Dup-clause-names
 unfolding has_names
 returns-in-Dup-clause-names c = names_as c.in-Dup.is refl
 
+pub returns-in-Pipe-clause-played : goal.returns-in-Pipe-clause-played
+returns-in-Pipe-clause-played c p there = plays_as (state_of c.args.shared.now) c.args.who.now p c.in-Pipe.is (c.pipe.ensures p c.args.checks.now there)
+
+pub returns-in-Pipe-clause-names : goal.returns-in-Pipe-clause-names
+unfolding has_names
+returns-in-Pipe-clause-names c = names_as c.in-Pipe.is refl
+
 pub returns-in-Mkfifo-clause-played : goal.returns-in-Mkfifo-clause-played
 returns-in-Mkfifo-clause-played c p there = plays_as (state_of c.args.shared.now) c.args.who.now p c.in-Mkfifo.is (c.mkfifo.ensures.played p there)
 
@@ -56,20 +80,3 @@ returns-in-Fstat-clause-played c p there =
 pub returns-in-Fstat-clause-names : goal.returns-in-Fstat-clause-names
 unfolding has_names
 returns-in-Fstat-clause-names c = names_as c.in-Fstat.is refl
-
-pub returns-in-Read-clause-played : goal.returns-in-Read-clause-played
-returns-in-Read-clause-played c p there = plays_as (state_of c.args.shared.now) c.args.who.now p c.in-Read.is (c.read.ensures p there)
-
-pub returns-in-Read-clause-names : goal.returns-in-Read-clause-names
-unfolding has_names
-returns-in-Read-clause-names c = names_as c.in-Read.is refl
-
-pub returns-in-Write-clause-played : goal.returns-in-Write-clause-played
-returns-in-Write-clause-played c p there =
-    plays_as (state_of c.args.shared.now) c.args.who.now p c.in-Write.is
-    (subst (λ (bytes : List ℕ). PlaysRow (state_of c.args.shared.now) c.args.checks.now (write_row (state_of c.args.shared.now) c.args.who.now p c.in-Write.fd bytes) c.write.result (state_of c.write.new.shared) c.write.new.checks) c.items.ensures
-    (c.write.ensures p there))
-
-pub returns-in-Write-clause-names : goal.returns-in-Write-clause-names
-unfolding has_names
-returns-in-Write-clause-names c = names_as c.in-Write.is refl
