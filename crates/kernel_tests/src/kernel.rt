@@ -120,14 +120,6 @@ fn ask(alloc: Global, kernel: &mut Kernel, who: &Pid, bytes: &[u8]) -> Result<Ou
     Ok(kernel.call(who, &call)?)
 }
 
-// Gives the low file one more name in the root directory.
-#[tactic(auto, unfolding(kern_model::specs::Arguments::is_call))]
-fn link(alloc: Global, kernel: &mut Kernel, who: &Pid, bytes: &[u8]) -> Result<Outcome, Fail> {
-    let path = Path::in_root(alloc, name_of(alloc, b"low")?)?;
-    let to = Path::in_root(alloc, name_of(alloc, bytes)?)?;
-    Ok(kernel.call(who, &Call::Link(path, to))?)
-}
-
 #[tactic(auto, unfolding(kern_model::specs::Arguments::is_call))]
 fn set(kernel: &mut Kernel, who: &Pid, caps: CapState) -> Result<Outcome, Fail> {
     Ok(kernel.call(who, &Call::CapSetProc(caps))?)
@@ -178,10 +170,6 @@ fn refuses(outcome: &Outcome, why: Errno) -> bool {
         Reply::Refused(errno) => *errno == why && outcome.recs.items().is_empty(),
         _ => false,
     }
-}
-
-fn is_done(outcome: &Outcome) -> bool {
-    matches!(&outcome.reply, Reply::Done(Answer::Nothing))
 }
 
 // Whether the label is answered by a capability.
@@ -272,17 +260,5 @@ fn number_without_a_process_is_refused(rt: HostRuntime) -> Result<(), Fail> {
     let outcome = set(&mut kernel, &low(9), CapState::none())?;
     assert!(rt; refuses(&outcome, Errno::ESRCH));
     assert!(rt; built(&Call::CapGetProc) && !built(&Call::Fork));
-    Ok(())
-}
-
-#[test]
-fn a_file_has_at_most_1024_names(rt: HostRuntime) -> Result<(), Fail> {
-    let alloc = rt.alloc();
-    let (mut kernel, _) = booted(alloc)?;
-    for n in 1..1_024u32 {
-        let name = format!(in alloc; "n{n}")?;
-        assert!(rt; is_done(&link(alloc, &mut kernel, &low(1), name.as_bytes())?));
-    }
-    assert!(rt; refuses(&link(alloc, &mut kernel, &low(1), b"n1024")?, Errno::EMLINK));
     Ok(())
 }

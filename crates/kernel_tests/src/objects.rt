@@ -5,7 +5,7 @@ ghost use Rattle.kern_model.specs.declared.objects.Object.{Object};
 ghost use Rattle.fs_nodes.specs.Nodes.{IsFile, IsStream};
 
 use cap_bits::CapState;
-use fs_nodes::{Buffers, NodeError, Nodes};
+use fs_nodes::{Buffers, Nodes};
 use kern_model::{Attr, Body, ByteList, Oid};
 use lab_lattice::bottom;
 use std::alloc::Global;
@@ -61,18 +61,5 @@ fn bytes_wait_in_a_fifo(rt: HostRuntime) -> Result<(), Fail> {
     nodes.put_bytes(&id, b"abc")?;
     let bytes = nodes.object(&id).map(|o| o.bytes.items());
     assert_eq!(rt; bytes, Some(b"abc".as_slice()));
-    Ok(())
-}
-
-#[test]
-fn a_label_has_65535_numbers(rt: HostRuntime) -> Result<(), Fail> {
-    let mut nodes = Nodes::new(rt.alloc())?;
-    for _ in 0..65_535 {
-        assert!(rt; nodes.create(bottom(), attr(), Body::Fifo).is_ok());
-    }
-    assert_eq!(rt;
-        nodes.create(bottom(), attr(), Body::Fifo),
-        Err(NodeError::Full)
-    );
     Ok(())
 }
