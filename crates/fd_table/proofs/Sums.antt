@@ -12,7 +12,7 @@ use Rattle.std.proofs.Common.{ap, sym, ◌∙◌, arith}
 use Rattle.std.proofs.lemmas.Bool.Decides.{nat_tests}
 use Rattle.std.proofs.lemmas.List.Sums.{sum_by-cons}
 use Rattle.kern_model.proofs.Selections.{get-remove_same}
-use Rattle.kern_model.proofs.MapLemmas.{never_some, same_key, insert-same}
+use Rattle.kern_model.proofs.MapLemmas.{never_some, insert-same}
 
 -- ---- maps
 module _ {K X : Type 0} {R : K → K → Ordering} (o : IsTotalOrder R) where

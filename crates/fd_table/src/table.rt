@@ -2,6 +2,7 @@
 ghost use Rattle.std.specs.Prelude.{◌≡◌, ◌+◌, ◌<◌, ◌≤◌, ℕ, true, false, None, Some, Err, IfErr, IfOk, IsOk, IsSome, Ok, OnErr, OnOk, cond, option_map, unsigned_abs};
 ghost use Rattle.std.specs.FinMap as map;
 ghost use Rattle.kern_model.specs.Descriptors.{lowest_free};
+ghost use Rattle.kern_model.specs.Keys.{same_pid};
 ghost use Rattle.kern_model.specs.State.{Description, drawn};
 ghost use Rattle.kern_model.specs.Valid.{IsThere};
 ghost use Rattle.kern_model.specs.declared.limits.TheConstants.{MAX_DESCRIPTIONS, MAX_DESCRIPTORS};
@@ -107,6 +108,7 @@ impl FdTable {
     pub fn reserve(&mut self, who: &Pid) -> Result<(), NoMemory>
         ensures row { OnOk result (IsThere self.new.rows who.now) }
         ensures same { (q : Process) → row_of self.new.rows q ≡ row_of self.old.rows q }
+        ensures others { (q : Process) → same_pid q who.now ≡ false → map.get self.new.rows q ≡ map.get self.old.rows q }
         ensures descriptions { self.new.descriptions ≡ self.old.descriptions }
         ensures numbers { self.new.numbers ≡ self.old.numbers }
     {
@@ -291,6 +293,7 @@ impl FdTable {
         ensures offset { IsSome (did_at self.old who.now fd) → is_past to size ≡ false → result ≡ Ok (unsigned_abs to) }
         ensures moved { (did : Number) (d : Description) → did_at self.old who.now fd ≡ Some did → map.get self.old.descriptions did ≡ Some d → OnOk result (self.new ≡ with_offset self.old did d (unsigned_abs to)) }
         ensures err { OnErr result (self.new ≡ self.old) }
+        ensures rows { self.new.rows ≡ self.old.rows }
     {
         let did = self.did(who, fd).ok_or(FdError::NotOpen)?;
         let offset = offset_within(to, size).ok_or(FdError::PastEnd)?;

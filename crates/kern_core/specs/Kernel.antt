@@ -2,11 +2,11 @@
 use Rattle.std.specs.Prelude.{◌≡◌, ◌⊎◌, Bool, true, false, None}
 use Rattle.std.specs.FinMap as map
 use Rattle.kern_model.specs.declared.calls.Call.{Call}
-use Rattle.kern_model.specs.declared.calls.Call.TheVariants as call
 use Rattle.kern_model.specs.declared.calls.Reply.{Reply}
 use Rattle.kern_model.specs.declared.calls.Reply.TheVariants as reply
 use Rattle.kern_model.specs.declared.numbers.Pid.{Pid}
 use Rattle.kern_model.specs.State.{State}
+use Rattle.sys_lookup.specs.Memory.{takes_no_memory}
 use Rattle.sys_lookup.specs.Shared as held
 use Rattle.kern_core.specs.declared.kernel.Kernel.{Kernel}
 
@@ -23,14 +23,6 @@ abbrev pub IsStopped : Reply → Type 0
 IsStopped (reply.Done answer) = ⊥
 IsStopped (reply.Denied errno check place) = Unit {0}
 IsStopped (reply.Refused errno) = Unit {0}
-
--- a call that takes no memory
-abbrev pub takes_no_memory : Call → Bool
-takes_no_memory call.Getpid = true
-takes_no_memory call.Getppid = true
-takes_no_memory call.CapGetProc = true
-takes_no_memory call.MacGetProc = true
-takes_no_memory _ = false
 
 -- no memory is wanted where no living process has the number, and for a call that takes none
 abbrev pub TakesNoMemory : State → Pid → Call → Type 0

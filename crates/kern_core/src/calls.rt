@@ -6,10 +6,11 @@ ghost use Rattle.kern_model.specs.State.{Process};
 ghost use Rattle.kern_model.specs.Step.{IsPlayed};
 ghost use Rattle.kern_model.specs.Table.{row};
 ghost use Rattle.kern_model.specs.Valid.{IsValid};
+ghost use Rattle.sys_lookup.specs.Memory.{takes_no_memory};
 ghost use Rattle.sys_lookup.specs.PlaysRow.{LeavesNothing, PlaysRow};
 ghost use Rattle.sys_lookup.specs.Shared.{state_of};
 ghost use Rattle.kern_core.specs.Built.{is_built};
-ghost use Rattle.kern_core.specs.Kernel.{TakesNoMemory, takes_no_memory};
+ghost use Rattle.kern_core.specs.Kernel.{TakesNoMemory};
 
 mod processes;
 

@@ -10,7 +10,7 @@ ghost use Rattle.kern_model.specs.State.{Process, State};
 ghost use Rattle.kern_model.specs.Valid.{IsThere, IsValid};
 ghost use Rattle.kern_model.specs.declared.numbers.Oid.{Oid};
 ghost use Rattle.chk_rules.specs.Ends.{GoesOn};
-ghost use Rattle.sys_lookup.specs.PlaysRow.{PlaysRow};
+ghost use Rattle.sys_lookup.specs.PlaysRow.{LeavesNothing, PlaysRow};
 ghost use Rattle.sys_lookup.specs.Shared.{metadata_of, process_of, state_of};
 ghost use Rattle.sys_attr.specs.Objects.{writing};
 ghost use Rattle.sys_attr.specs.declared.objects.ObjectArgument.TheVariants as argument;
@@ -105,7 +105,8 @@ pub fn mode_kept(
 /// `umask`: the caller gets the bits that its new objects do not get. The answer is the old ones. No memory is taken.
 pub fn umask(shared: &mut Shared, checks: &Checks, who: &Pid, mode: Mode) -> Result<Effect, Stop>
     requires living { IsSome (map.get (state_of shared.old).procs who.now) }
-    ensures { (p : Process) → map.get (state_of shared.old).procs who.now ≡ Some p → PlaysRow (state_of shared.old) checks.now (umask_row (state_of shared.old) who.now p mode) result (state_of shared.new) checks.now }
+    ensures played { (p : Process) → map.get (state_of shared.old).procs who.now ≡ Some p → PlaysRow (state_of shared.old) checks.now (umask_row (state_of shared.old) who.now p mode) result (state_of shared.new) checks.now }
+    ensures nothing { LeavesNothing result }
 {
     let Some(creds) = shared.procs.creds_mut(who) else {
         unreachable!();

@@ -5,7 +5,8 @@ ghost use Rattle.kern_model.specs.Arguments.{has_names};
 ghost use Rattle.kern_model.specs.State.{Process};
 ghost use Rattle.kern_model.specs.Table.{row};
 ghost use Rattle.kern_model.specs.Valid.{IsValid};
-ghost use Rattle.sys_lookup.specs.PlaysRow.{PlaysRow};
+ghost use Rattle.sys_lookup.specs.Memory.{takes_no_memory};
+ghost use Rattle.sys_lookup.specs.PlaysRow.{LeavesNothing, PlaysRow};
 ghost use Rattle.sys_lookup.specs.Shared.{state_of};
 ghost use Rattle.sys_attr.specs.Playing.{is_attr_call};
 
@@ -30,6 +31,7 @@ pub fn play(
     requires living { IsSome (map.get (state_of shared.old).procs who.now) }
     ensures played { (p : Process) → map.get (state_of shared.old).procs who.now ≡ Some p → PlaysRow (state_of shared.old) checks.old (row (state_of shared.old) who.now p call.now) result (state_of shared.new) checks.new }
     ensures names { has_names call.now ≡ true }
+    ensures nothing { takes_no_memory call.now ≡ true → LeavesNothing result }
 {
     match call {
         Call::Chmod(path, mode) => chmod(shared, checks, who, path, *mode),

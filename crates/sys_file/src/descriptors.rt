@@ -15,9 +15,8 @@ ghost use Rattle.kern_model.specs.declared.numbers.Pid.{Pid as Number};
 ghost use Rattle.chk_rules.specs.CheckLog.{CheckLog};
 ghost use Rattle.chk_rules.specs.Ends.{GoesOn};
 ghost use Rattle.fd_table.specs.Files.{is_past, opened_at};
-ghost use Rattle.sys_file.specs.Owners.{HasOwners};
 ghost use Rattle.sys_file.specs.Seeking.{moves};
-ghost use Rattle.sys_lookup.specs.PlaysRow.{PlaysRow};
+ghost use Rattle.sys_lookup.specs.PlaysRow.{LeavesNothing, PlaysRow};
 ghost use Rattle.sys_lookup.specs.Shared.{process_of, state_of};
 
 use chk_rules::{Checks, Stop, refuse_if};
@@ -28,9 +27,9 @@ use sys_lookup::{Caller, Effect, Shared, living};
 /// `close`: a descriptor closes. What it refers to goes, where no other descriptor refers to it. It takes no memory.
 pub fn close(shared: &mut Shared, who: &Pid, fd: Fd) -> Result<Effect, Stop>
     requires valid { ∥ IsValid (state_of shared.old) ∥₁ }
-    requires owners { HasOwners shared.old }
     requires living { IsSome (map.get (state_of shared.old).procs who.now) }
-    ensures { (p : Process) (log : CheckLog) → map.get (state_of shared.old).procs who.now ≡ Some p → PlaysRow (state_of shared.old) log (close_row (state_of shared.old) who.now p fd) result (state_of shared.new) log }
+    ensures played { (p : Process) (log : CheckLog) → map.get (state_of shared.old).procs who.now ≡ Some p → PlaysRow (state_of shared.old) log (close_row (state_of shared.old) who.now p fd) result (state_of shared.new) log }
+    ensures nothing { LeavesNothing result }
 {
     let process = living(shared, who);
     let caller = Caller {
@@ -51,7 +50,8 @@ pub fn close(shared: &mut Shared, who: &Pid, fd: Fd) -> Result<Effect, Stop>
 /// `dup`: a further descriptor, the lowest that is free, on the same description. It takes no memory.
 pub fn dup(shared: &mut Shared, who: &Pid, fd: Fd) -> Result<Effect, Stop>
     requires { IsSome (map.get (state_of shared.old).procs who.now) }
-    ensures { (p : Process) (log : CheckLog) → map.get (state_of shared.old).procs who.now ≡ Some p → PlaysRow (state_of shared.old) log (dup_row (state_of shared.old) who.now p fd) result (state_of shared.new) log }
+    ensures played { (p : Process) (log : CheckLog) → map.get (state_of shared.old).procs who.now ≡ Some p → PlaysRow (state_of shared.old) log (dup_row (state_of shared.old) who.now p fd) result (state_of shared.new) log }
+    ensures nothing { LeavesNothing result }
 {
     let process = living(shared, who);
     let caller = Caller {

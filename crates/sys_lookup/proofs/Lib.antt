@@ -4,6 +4,7 @@ pub mod FdChanges
 pub mod FdLemmas
 pub mod LendLemmas
 pub mod MakeLemmas
+pub mod OwnerLemmas
 pub mod OpenedLemmas
 pub mod PlayLemmas
 pub mod PlayingLemmas

@@ -1,4 +1,6 @@
 pub mod Making
+pub mod Memory
+pub mod Owners
 pub mod PlaysRow
 pub mod Rewriting
 pub mod Shared

@@ -1,10 +1,11 @@
 // What the descriptors of the caller refer to, and whether it may open more.
-ghost use Rattle.std.specs.Prelude.{◌≡◌, Some, IfOk, OnOk, not, true};
+ghost use Rattle.std.specs.Prelude.{◌≡◌, Some, IfErr, IfOk, OnOk, not, true};
 ghost use Rattle.kern_model.specs.Descriptors.{opened};
 ghost use Rattle.kern_model.specs.FileRows.{has_descriptions, has_free_descriptors, on_descriptor};
 ghost use Rattle.kern_model.specs.Row.{Refuse};
 ghost use Rattle.kern_model.specs.declared.calls.Errno.TheVariants as errno;
 ghost use Rattle.chk_rules.specs.CheckLog.{CheckLog};
+ghost use Rattle.chk_rules.specs.declared.stop.Stop.TheVariants as stop;
 ghost use Rattle.chk_rules.specs.Ends.{GoesOn};
 ghost use Rattle.sys_lookup.specs.Shared.{process_of, state_of};
 
@@ -19,6 +20,7 @@ impl Caller<'_> {
     pub fn opened(&self, fd: Fd) -> Result<Opened, Stop>
         ensures step { (log : CheckLog) → GoesOn log (on_descriptor (state_of self.now.shared.now) (process_of self.now) fd) result log }
         ensures found { IfOk result (λ f. opened (state_of self.now.shared.now) (process_of self.now) fd ≡ Some f) }
+        ensures refused { IfErr result (λ how. how ≡ stop.Refused errno.EBADF) }
     {
         match self.shared.fds.opened(&self.who, fd) {
             Some(opened) => Ok(opened),

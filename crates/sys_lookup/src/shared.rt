@@ -1,7 +1,7 @@
 // The state that the calls share.
 ghost use Rattle.std.specs.Prelude.{◌≡◌};
 ghost use Rattle.kern_model.specs.Kinds.{is_dir};
-ghost use Rattle.sys_lookup.specs.Shared.{metadata_of, state_of};
+ghost use Rattle.sys_lookup.specs.Owners.{HasOwners};
 
 use cap_bits::{CapSet, CapState};
 use fd_table::FdTable;
@@ -10,7 +10,8 @@ use kern_model::{Attr, Kind, Oid};
 use lab_lattice::Label;
 use proc_table::Procs;
 
-/// The tree, the open files and the processes, the bound of capabilities over exec, and the highest label.
+/// The tree, the open files and the processes, the bound of capabilities over exec, and the highest label. Each process that has
+/// descriptors is living.
 #[derive(Drop)]
 pub struct Shared {
     pub tree: Tree,
@@ -18,6 +19,7 @@ pub struct Shared {
     pub procs: Procs,
     pub bound: CapSet,
     pub top: Label,
+    ghost owners: { ∥ HasOwners procs.procs fds.rows ∥₁ },
 }
 
 /// An object as checks read it: all but its content.
@@ -42,6 +44,8 @@ impl Metadata {
 }
 
 impl Shared {
+    ghost use Rattle.sys_lookup.specs.Shared.{metadata_of, state_of};
+
     /// The metadata of an object, or of the stub where there is none.
     #[tactic(auto, unfolding(kern_model::specs::Maps::get_or))]
     pub fn metadata(&self, id: &Oid) -> Metadata

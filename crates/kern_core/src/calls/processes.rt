@@ -9,9 +9,9 @@ ghost use Rattle.kern_model.specs.Table.{row};
 ghost use Rattle.chk_rules.specs.CheckLog.{CheckLog};
 ghost use Rattle.fd_table.specs.Rows.{AllFds};
 ghost use Rattle.proc_table.specs.Procs.{creds_of};
+ghost use Rattle.sys_lookup.specs.Memory.{takes_no_memory};
 ghost use Rattle.sys_lookup.specs.PlaysRow.{LeavesNothing, PlaysRow};
 ghost use Rattle.sys_lookup.specs.Shared.{holding, state_of};
-ghost use Rattle.kern_core.specs.Kernel.{takes_no_memory};
 ghost use Rattle.kern_core.specs.Own.{is_own_call, own_answer};
 
 use cap_bits::CapState;

@@ -6,6 +6,7 @@ use Rattle.kern_model.specs.State.{SetProcess}
 use Rattle.proc_creds.specs.Credentials.{Credentials}
 use Rattle.proc_table.specs.Procs.{creds_of, under_creds, with_creds}
 use Rattle.sys_lookup.specs.Shared.{state_of, with_fds}
+use Rattle.sys_lookup.proofs.OwnerLemmas.{owners_creds}
 use Rattle.sys_lookup.proofs.LendLemmas.{creds_left, creds_lent, creds_there}
 use Rattle.sys_lookup.proofs.PlayLemmas.{commits, equal_answer}
 use Rattle.sys_attr.proofs.modes.umask.Goals as goal
@@ -15,8 +16,8 @@ unreachable-requires c =
     let h = c.args.shared.now in
     creds_there h.procs.procs h.fds.rows c.args.who.now c.requires.living (sym c.creds_mut.ensures.value ∙ ap option_copied_mut c.in_default.is)
 
-pub returns : goal.returns
-returns c = λ p there.
+pub returns-clause-played : goal.returns-clause-played
+returns-clause-played c = λ p there.
     let h = c.args.shared.now in
     let s = state_of h in
     let who = c.args.who.now in
@@ -28,3 +29,10 @@ returns c = λ p there.
     creds_left h.procs.procs h.fds.rows who p there (record lent { umask = mode }) ∙ ap (λ (x : Credentials). map.insert s.procs who (with_creds p (record x { umask = mode }))) (sym same) in
     equal_answer (ap (λ (x : Credentials). Bits x.umask) (sym same))
     (commits s _ c.args.checks.now (SetProcess who (record p { umask = mode }) ∷ []) (Bits inside.umask) None (λ i. record s { procs = left i }))
+
+pub invariant_of-shared : goal.invariant_of-shared
+invariant_of-shared c =
+    let h = c.args.shared.now in
+    let inside = c.creds.inside in
+    let left : Credentials = record { ids = inside.ids; label = inside.label; caps = inside.caps; umask = c.args.mode } in
+    record { owners = owners_creds h.procs.procs h.fds.rows c.args.who.now left h.owners }

@@ -19,7 +19,7 @@ unfolding has_names
 returns-in-Chown-clause-names c = names_as c.in-Chown.is refl
 
 pub returns-in-Umask-clause-played : goal.returns-in-Umask-clause-played
-returns-in-Umask-clause-played c p there = plays_as (state_of c.args.shared.now) c.args.who.now p c.in-Umask.is (c.umask.ensures p there)
+returns-in-Umask-clause-played c p there = plays_as (state_of c.args.shared.now) c.args.who.now p c.in-Umask.is (c.umask.ensures.played p there)
 
 pub returns-in-Umask-clause-names : goal.returns-in-Umask-clause-names
 unfolding has_names

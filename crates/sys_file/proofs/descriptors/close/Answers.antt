@@ -9,12 +9,14 @@ use Rattle.kern_model.specs.FileRows.{close_row}
 use Rattle.kern_model.specs.Keys.{same_pid}
 use Rattle.kern_model.specs.Row.{Row, Commit}
 use Rattle.kern_model.specs.State.{State, Process, Change, SetProcess}
-use Rattle.fd_table.specs.Files.{drained, left_with}
+use Rattle.fd_table.specs.Files.{OpenFiles, drained, left_with}
 use Rattle.fd_table.specs.Rows.{row_of}
 use Rattle.fd_table.proofs.Closing.{close_changes}
 use Rattle.fd_table.proofs.Counting.{where_ok}
 use Rattle.sys_lookup.specs.Shared.{holding, state_of, with_fds}
 use Rattle.sys_lookup.proofs.FdChanges.{with_fds-row}
+use Rattle.sys_lookup.specs.Owners.{HasOwners}
+use Rattle.sys_lookup.proofs.OwnerLemmas.{owners_row}
 use Rattle.sys_lookup.proofs.PlayLemmas.{caller_plays, then_plays, stops_row, commits}
 use Rattle.sys_file.proofs.ClosingLemmas.{table_shows}
 use Rattle.sys_file.proofs.ReferLemmas.{referred}
@@ -28,8 +30,8 @@ leaving s who p fd = SetProcess who (record p { fds = map.remove p.fds fd }) ∷
 abbrev closes : State → Pid → Process → ℕ → Opened → Row
 closes s who p fd f = Commit (leaving s who p fd) Nothing None
 
-pub returns-in_err-opened : goal.returns-in_err-opened
-returns-in_err-opened c = λ p log there.
+pub returns-in_err-opened-clause-played : goal.returns-in_err-opened-clause-played
+returns-in_err-opened-clause-played c = λ p log there.
     let s = state_of c.args.shared.now in
     let who = c.args.who.now in
     let q = holding c.args.shared.now.fds.rows who c.living-process.result.now in
@@ -48,8 +50,8 @@ unreachable-requires c =
     let ok = c.close.ensures.open (subst IsSome (sym at.did) refl) in
     no_err c.close.result ok (sym c.is_err.ensures.value ∙ c.if-is_err.true)
 
-pub returns : goal.returns
-returns c = λ p log there.
+pub returns-clause-played : goal.returns-clause-played
+returns-clause-played c = λ p log there.
     let h = c.args.shared.now in
     let s = state_of h in
     let who = c.args.who.now in
@@ -74,4 +76,11 @@ returns c = λ p log there.
     })
     ∙ (λ i. record s { procs = with_fds h.procs.procs rows; descriptions = (left_with h.fds rows).descriptions; objects = drained h.fds.descriptions (left i).descriptions s.objects })
     ∙ (λ i. record s { procs = with_fds-row h.procs.procs h.fds.rows who process fewer c.living-process.ensures.there i; descriptions = (left_with h.fds rows).descriptions; objects = drained h.fds.descriptions (left_with h.fds rows).descriptions s.objects })
-    ∙ sym (close_changes s h.fds (table_shows h c.requires.valid c.requires.owners) who fd q))))
+    ∙ sym (close_changes s h.fds (table_shows h c.requires.valid) who fd q))))
+
+pub invariant_of-shared : goal.invariant_of-shared
+invariant_of-shared c =
+    let h = c.args.shared.now in
+    let who = c.args.who.now in
+    let sound = sym c.is_err.ensures.value ∙ c.if-is_err.false in
+    record { owners = subst (λ (t : OpenFiles). ∥ HasOwners h.procs.procs t.rows ∥₁) (sym (where_ok c.close.result sound c.close.ensures.left)) (owners_row h.procs.procs h.fds.rows who (map.remove (row_of h.fds.rows who) c.args.fd) (record { value = c.living-process.result.now; is = c.living-process.ensures.there }) h.owners) }

@@ -22,16 +22,16 @@ use Rattle.sys_file.proofs.descriptors.dup.Goals as goal
 abbrev repeating : State → Pid → Process → Opened → Row
 repeating s who p f = Refuse EMFILE (not (has_free_descriptors p 1)) (Commit (SetProcess who (with_descriptor p f.did) ∷ []) (answer.Number (lowest_free p.fds)) None)
 
-pub returns-in_err-opened : goal.returns-in_err-opened
-returns-in_err-opened c = λ p log there.
+pub returns-in_err-opened-clause-played : goal.returns-in_err-opened-clause-played
+returns-in_err-opened-clause-played c = λ p log there.
     let s = state_of c.args.shared.now in
     let who = c.args.who.now in
     let q = holding c.args.shared.now.fds.rows who c.living-process.result.now in
     caller_plays (λ x. dup_row s who x c.args.fd) who q p c.living-process.ensures.found there
     (stops_row {rest = repeating s who q} c.from_residual.result c.from_residual.ensures.1 refl (c.in_err-opened.ensures.step log))
 
-pub returns-in-Ok : goal.returns-in-Ok
-returns-in-Ok c = λ p log there.
+pub returns-in-Ok-clause-played : goal.returns-in-Ok-clause-played
+returns-in-Ok-clause-played c = λ p log there.
     let h = c.args.shared.now in
     let s = state_of h in
     let who = c.args.who.now in
@@ -55,8 +55,8 @@ returns-in-Ok c = λ p log there.
     ((λ i. record s { procs = with_fds h.procs.procs (c.in-Ok.ensures.made f.did at.did i).rows; descriptions = (c.in-Ok.ensures.made f.did at.did i).descriptions; description_numbers = (c.in-Ok.ensures.made f.did at.did i).numbers })
     ∙ (λ i. record s { procs = with_fds-row h.procs.procs h.fds.rows who c.living-process.result.now (with_lowest (row_of h.fds.rows who) f.did) c.living-process.ensures.there i }))))))
 
-pub returns-in-Err : goal.returns-in-Err
-returns-in-Err c = λ p log there.
+pub returns-in-Err-clause-played : goal.returns-in-Err-clause-played
+returns-in-Err-clause-played c = λ p log there.
     let h = c.args.shared.now in
     let s = state_of h in
     let who = c.args.who.now in

@@ -7,7 +7,9 @@ use Rattle.chk_rules.specs.declared.stop.Stop.{Stop}
 use Rattle.chk_rules.specs.declared.stop.Stop.TheVariants as stop
 use Rattle.fd_table.specs.declared.table.FdError.TheVariants as error
 use Rattle.fd_table.specs.Files.{is_past}
+use Rattle.fd_table.specs.Rows.{AllFds}
 use Rattle.sys_lookup.specs.declared.effect.Effect.{Effect}
+use Rattle.sys_lookup.specs.Owners.{HasOwners}
 use Rattle.sys_lookup.specs.PlaysRow.{PlaysRow}
 use Rattle.sys_lookup.specs.Shared.{state_of, with_fds}
 use Rattle.sys_lookup.proofs.OpenedLemmas.{refers_to}
@@ -58,3 +60,8 @@ returns-in-Err c = λ f log is.
     let kept = c.in-Err.ensures.err in
     subst (λ y. PlaysRow s log (moves f y c.args.size) r t log) same
     (refuse_stops_row r refl (λ i. record s { procs = with_fds h.procs.procs (kept i).rows; descriptions = (kept i).descriptions; description_numbers = (kept i).numbers }) (refuses past))
+
+pub invariant_of-shared : goal.invariant_of-shared
+invariant_of-shared c =
+    let h = c.args.shared.now in
+    record { owners = subst (λ (rows : AllFds). ∥ HasOwners h.procs.procs rows ∥₁) (sym c.seek.ensures.rows) h.owners }

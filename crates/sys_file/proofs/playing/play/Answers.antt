@@ -17,7 +17,7 @@ unfolding has_names
 returns-in-OpenPath-clause-names c = names_as c.in-OpenPath.is c.open.ensures.names
 
 pub returns-in-Close-clause-played : goal.returns-in-Close-clause-played
-returns-in-Close-clause-played c p there = plays_as (state_of c.args.shared.now) c.args.who.now p c.in-Close.is (c.close.ensures p c.args.checks.now there)
+returns-in-Close-clause-played c p there = plays_as (state_of c.args.shared.now) c.args.who.now p c.in-Close.is (c.close.ensures.played p c.args.checks.now there)
 
 pub returns-in-Close-clause-names : goal.returns-in-Close-clause-names
 unfolding has_names
@@ -51,7 +51,7 @@ unfolding has_names
 returns-in-Lseek-clause-names c = names_as c.in-Lseek.is refl
 
 pub returns-in-Dup-clause-played : goal.returns-in-Dup-clause-played
-returns-in-Dup-clause-played c p there = plays_as (state_of c.args.shared.now) c.args.who.now p c.in-Dup.is (c.dup.ensures p c.args.checks.now there)
+returns-in-Dup-clause-played c p there = plays_as (state_of c.args.shared.now) c.args.who.now p c.in-Dup.is (c.dup.ensures.played p c.args.checks.now there)
 
 pub returns-in-Dup-clause-names : goal.returns-in-Dup-clause-names
 unfolding has_names

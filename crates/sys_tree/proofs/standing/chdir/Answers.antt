@@ -1,7 +1,10 @@
-use Rattle.std.proofs.Common.{◌∙◌, refl, [], ◌∷◌, None}
+use Rattle.std.proofs.Common.{◌∙◌, sym, subst, refl, [], ◌∷◌, None}
 use Rattle.kern_model.specs.declared.calls.Answer.TheVariants.{Nothing}
 use Rattle.kern_model.specs.State.{SetProcess}
 use Rattle.kern_model.specs.TreeRows.{chdir_row, stand_in}
+use Rattle.proc_table.specs.Procs.{ProcTable}
+use Rattle.sys_lookup.specs.Owners.{HasOwners}
+use Rattle.sys_lookup.proofs.OwnerLemmas.{owners_process}
 use Rattle.sys_lookup.proofs.PlayLemmas.{caller_plays, then_plays, stops_row, commits}
 use Rattle.sys_lookup.proofs.FdLemmas.{with_fds-process}
 use Rattle.sys_lookup.specs.Shared.{holding, state_of, with_fds}
@@ -29,3 +32,9 @@ returns c = λ p there.
     (commits s _ _ (SetProcess who (record q { cwd = c.in_ok-dir.dir }) ∷ []) Nothing None
     ((λ i. record s { procs = with_fds (moved i).procs h.fds.rows; process_numbers = (moved i).numbers })
     ∙ (λ i. record s { procs = with_fds-process h.procs.procs h.fds.rows who stands i }))))
+
+pub invariant_of-shared : goal.invariant_of-shared
+invariant_of-shared c =
+    let h = c.args.shared.now in
+    let stands = record (c.living-process.result.now) { cwd = c.in_ok-dir.dir } in
+    record { owners = subst (λ (t : ProcTable). ∥ HasOwners t.procs h.fds.rows ∥₁) (sym (c.set_cwd.ensures c.living-process.result.now c.living-process.ensures.there)) (owners_process h.procs.procs h.fds.rows c.args.who.now stands h.owners); }

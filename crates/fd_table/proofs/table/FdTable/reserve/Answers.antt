@@ -1,10 +1,12 @@
 use Rattle.std.specs.Prelude.{is_some}
 use Rattle.std.specs.FinMap as map
-use Rattle.std.proofs.Common.{ap, sym, ◌∙◌}
+use Rattle.std.proofs.Common.{ap, sym, ◌∙◌, cond, Some}
+use Rattle.std.specs.FinMap.{get-insert}
 use Rattle.kern_model.proofs.KeyLaws.{pid_cmp_total}
 use Rattle.kern_model.proofs.MapLemmas.{get-insert_same}
 use Rattle.fd_table.specs.Files.{OpenFiles}
 use Rattle.std.proofs.lemmas.Result.{on_err_weaker, on_ok_weaker}
+use Rattle.fd_table.proofs.Counting.{either_way}
 use Rattle.fd_table.proofs.Holding.{none_if, row_as_before, there_if}
 use Rattle.fd_table.proofs.table.FdTable.reserve.Goals as goal
 
@@ -23,3 +25,11 @@ returns-clause-same c q =
     let who = c.args.who.now in
     let absent = none_if t.rows who (sym (c.has.ensures ∙ ap (λ (u : OpenFiles). is_some (map.get u.rows who)) c.self.view_is) ∙ c.if-has.false) in
     row_as_before t.rows who absent c.add_process.result c.add_process.new.self.rows (on_ok_weaker c.add_process.result (ap (λ (u : OpenFiles). u.rows)) c.add_process.ensures.ok) (on_err_weaker c.add_process.result (ap (λ (u : OpenFiles). u.rows)) c.add_process.ensures.err) q
+
+pub returns-clause-others : goal.returns-clause-others
+returns-clause-others c = λ q other.
+    let rows = c.args.self.now.rows in
+    either_way c.add_process.result
+    (λ added _. ap (λ (t : OpenFiles). map.get t.rows q) added ∙ get-insert pid_cmp_total rows c.args.who.now map.empty q ∙ ap (λ b. cond b (Some map.empty) (map.get rows q)) other)
+    (λ same. ap (λ (t : OpenFiles). map.get t.rows q) same)
+    c.add_process.ensures.ok c.add_process.ensures.ok c.add_process.ensures.err
