@@ -15,6 +15,4 @@ is_built (call.Kill target signal) = false
 is_built (call.Setuid user) = false
 is_built (call.Setgid group) = false
 is_built (call.MacSetProc label) = false
-is_built (call.AudWrite bytes) = false
-is_built (call.AudSwitch on) = false
 is_built _ = true

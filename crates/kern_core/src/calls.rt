@@ -12,6 +12,7 @@ ghost use Rattle.sys_lookup.specs.Shared.{state_of};
 ghost use Rattle.kern_core.specs.Built.{is_built};
 ghost use Rattle.kern_core.specs.Kernel.{TakesNoMemory};
 
+mod auditing;
 mod processes;
 
 use crate::outcome::{no_process, report};
@@ -34,9 +35,7 @@ pub fn built(call: &Call) -> bool
         | Call::Kill(_, _)
         | Call::Setuid(_)
         | Call::Setgid(_)
-        | Call::MacSetProc(_)
-        | Call::AudWrite(_)
-        | Call::AudSwitch(_) => false,
+        | Call::MacSetProc(_) => false,
         _ => true,
     }
 }
@@ -101,6 +100,8 @@ fn play_body(
         | Call::CapSetFd(_, _)
         | Call::MacGetFile(_)
         | Call::MacGetFd(_) => sys_attr::play(shared, checks, who, call),
+        Call::AudWrite(bytes) => auditing::aud_write(shared, checks, who, bytes),
+        Call::AudSwitch(on) => auditing::aud_switch(shared, checks, who, *on),
         Call::CapSetProc(caps) => processes::cap_set_proc(shared, checks, who, *caps),
         Call::Getpid | Call::Getppid | Call::Getids | Call::CapGetProc | Call::MacGetProc =>
             processes::report(living(shared, who), who, call),

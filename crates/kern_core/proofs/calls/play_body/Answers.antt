@@ -23,3 +23,17 @@ returns-in-Getpid-clause-played c = λ p there.
 
 pub returns-in-Getpid-clause-names : goal.returns-in-Getpid-clause-names
 returns-in-Getpid-clause-names c = c.report.ensures.names
+
+pub returns-in-AudWrite-clause-played : goal.returns-in-AudWrite-clause-played
+returns-in-AudWrite-clause-played c p there = plays_as (state_of c.args.shared.now) c.args.who.now p c.in-AudWrite.is (c.aud_write.ensures p there)
+
+pub returns-in-AudWrite-clause-names : goal.returns-in-AudWrite-clause-names
+unfolding has_names
+returns-in-AudWrite-clause-names c = names_as c.in-AudWrite.is refl
+
+pub returns-in-AudSwitch-clause-played : goal.returns-in-AudSwitch-clause-played
+returns-in-AudSwitch-clause-played c p there = plays_as (state_of c.args.shared.now) c.args.who.now p c.in-AudSwitch.is (c.aud_switch.ensures p there)
+
+pub returns-in-AudSwitch-clause-names : goal.returns-in-AudSwitch-clause-names
+unfolding has_names
+returns-in-AudSwitch-clause-names c = names_as c.in-AudSwitch.is refl

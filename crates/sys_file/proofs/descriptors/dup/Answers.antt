@@ -7,10 +7,14 @@ use Rattle.kern_model.specs.Descriptors.{Opened, lowest_free, with_descriptor}
 use Rattle.kern_model.specs.FileRows.{dup_row, has_free_descriptors}
 use Rattle.kern_model.specs.Row.{Row, Refuse, Commit}
 use Rattle.kern_model.specs.State.{State, Process, SetProcess}
+use Rattle.kern_model.specs.Valid.{IsThere}
 use Rattle.chk_rules.specs.declared.stop.Stop.TheVariants as stop
 use Rattle.fd_table.specs.declared.table.FdError.TheVariants as error
-use Rattle.fd_table.specs.Files.{with_lowest}
+use Rattle.fd_table.specs.Files.{OpenFiles, with_lowest}
 use Rattle.fd_table.specs.Rows.{fd_count, row_of}
+use Rattle.fd_table.proofs.Counting.{either_way}
+use Rattle.sys_lookup.specs.Owners.{HasOwners}
+use Rattle.sys_lookup.proofs.OwnerLemmas.{owners_row}
 use Rattle.sys_lookup.specs.Shared.{holding, state_of, with_fds}
 use Rattle.sys_lookup.proofs.FdChanges.{with_fds-row}
 use Rattle.sys_lookup.proofs.PlayLemmas.{caller_plays, then_plays, stops_row, refuse_plays, refuse_stops_row, equal_answer, commits}
@@ -73,3 +77,16 @@ returns-in-Err-clause-played c = λ p log there.
     caller_plays (λ x. dup_row s who x c.args.fd) who q p c.living-process.ensures.found there
     (then_plays {rest = repeating s who q} (c.in_ok-opened.ensures.step log)
     (refuse_stops_row (Err (stop.Refused EMFILE)) refl (λ i. record s { procs = with_fds h.procs.procs (c.in-Err.ensures.err i).rows; descriptions = (c.in-Err.ensures.err i).descriptions; description_numbers = (c.in-Err.ensures.err i).numbers }) (refuses (ap not full))))
+
+pub invariant_of-shared : goal.invariant_of-shared
+invariant_of-shared c =
+    let h = c.args.shared.now in
+    let who = c.args.who.now in
+    let f = c.in_ok-opened.field-0 in
+    let at = referred h who c.living-process.result.now c.args.fd f c.in_ok-opened.ensures.found in
+    let made = c.dup.ensures.made f.did at.did in
+    let there : IsThere h.procs.procs who = record { value = c.living-process.result.now; is = c.living-process.ensures.there } in
+    record { owners = either_way c.dup.result
+      (λ new _. subst (λ (t : OpenFiles). ∥ HasOwners h.procs.procs t.rows ∥₁) (sym new) (owners_row h.procs.procs h.fds.rows who (with_lowest (row_of h.fds.rows who) f.did) there h.owners))
+      (λ same. subst (λ (t : OpenFiles). ∥ HasOwners h.procs.procs t.rows ∥₁) (sym same) h.owners)
+      made made c.dup.ensures.err }

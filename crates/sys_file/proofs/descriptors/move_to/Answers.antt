@@ -12,6 +12,7 @@ use Rattle.sys_lookup.specs.declared.effect.Effect.{Effect}
 use Rattle.sys_lookup.specs.Owners.{HasOwners}
 use Rattle.sys_lookup.specs.PlaysRow.{PlaysRow}
 use Rattle.sys_lookup.specs.Shared.{state_of, with_fds}
+use Rattle.sys_lookup.proofs.FdChanges.{with_files}
 use Rattle.sys_lookup.proofs.OpenedLemmas.{refers_to}
 use Rattle.sys_lookup.proofs.PlayLemmas.{refuse_plays, refuse_stops_row, equal_answer, commits}
 use Rattle.sys_file.proofs.RefuseLemmas.{lets_on, refuses}
@@ -34,7 +35,7 @@ returns-in-Ok c = λ f log is.
     let set : Ok c.in-Ok.offset ≡ Ok (unsigned_abs z) = c.in-Ok.ensures.offset some within in
     let offset : c.in-Ok.offset ≡ unsigned_abs z = cc in
     let moved_to = c.in-Ok.ensures.moved f.did f.description at.did at.description in
-    let t = state_of (record h { fds = c.seek.new.self }) in
+    let t = with_files s h.procs.procs c.seek.new.self in
     let r : Result Effect Stop = Ok (record { answer = answer.Number c.in-Ok.offset; own = None }) in
     subst (λ y. PlaysRow s log (moves f y c.args.size) r t log) same
     (refuse_plays (lets_on within)
@@ -55,7 +56,7 @@ returns-in-Err c = λ f log is.
       | true ↦ λ _. refl
       | false ↦ λ within. let no : Err c.in-Err.field-0 ≡ Ok (unsigned_abs z) = c.in-Err.ensures.offset some within in cc
     ] refl in
-    let t = state_of (record h { fds = c.seek.new.self }) in
+    let t = with_files s h.procs.procs c.seek.new.self in
     let r : Result Effect Stop = Err (stop.Refused EINVAL) in
     let kept = c.in-Err.ensures.err in
     subst (λ y. PlaysRow s log (moves f y c.args.size) r t log) same

@@ -6,12 +6,16 @@ use Rattle.kern_model.specs.declared.numbers.Pid.{Pid}
 use Rattle.kern_model.specs.Descriptors.{with_descriptor}
 use Rattle.kern_model.specs.FileRows.{opening}
 use Rattle.kern_model.specs.State.{State, Process, Change, DrawDescription, SetDescription, SetProcess, changed_by, drawn, next_description}
+use Rattle.kern_model.specs.Valid.{IsThere}
 use Rattle.kern_model.proofs.MapLemmas.{some_same}
 use Rattle.fd_table.specs.declared.shared.How.{How}
 use Rattle.fd_table.specs.declared.table.FdError.{FdError}
 use Rattle.fd_table.specs.declared.table.FdError.TheVariants as error
-use Rattle.fd_table.specs.Files.{opened_for}
+use Rattle.fd_table.specs.Files.{OpenFiles, opened_for}
 use Rattle.fd_table.specs.Rows.{fd_count}
+use Rattle.fd_table.proofs.Counting.{either_way}
+use Rattle.sys_lookup.specs.Owners.{HasOwners}
+use Rattle.sys_lookup.proofs.OwnerLemmas.{owners_others, owners_row}
 use Rattle.sys_lookup.specs.Shared.{holding, state_of}
 use Rattle.sys_lookup.proofs.FdChanges.{ShowTheSame, opened_shows, with_files}
 use Rattle.sys_file.proofs.opening.describe.Goals as goal
@@ -51,3 +55,20 @@ no_memory-requires c =
     ((λ i. cond (nat_le (fd_count (c.reserve.ensures.same who i) + 1) MAX_DESCRIPTORS) (cond (nat_le (drawn (c.reserve.ensures.numbers i) (label_is i) + 1) MAX_DESCRIPTIONS) None (Some error.Full)) (Some error.TooMany))
     ∙ ap (λ b. cond {A = Option FdError} b (cond (nat_le (drawn h.fds.numbers q.label + 1) MAX_DESCRIPTIONS) None (Some error.Full)) (Some error.TooMany)) free
     ∙ ap (λ b. cond {A = Option FdError} b None (Some error.Full)) left)
+
+pub invariant_of-shared : goal.invariant_of-shared
+invariant_of-shared c =
+    let h = c.args.shared.now in
+    record { owners = owners_others h.procs.procs h.fds.rows c.reserve.new.self.rows c.args.who.now (record { value = c.living-process.result.now; is = c.living-process.ensures.there }) c.reserve.ensures.others h.owners }
+
+pub invariant_of-shared-2 : goal.invariant_of-shared-2
+invariant_of-shared-2 c =
+    let h = c.args.shared.now in
+    let who = c.args.who.now in
+    let rows = c.reserve.new.self.rows in
+    let there : IsThere h.procs.procs who = record { value = c.living-process.result.now; is = c.living-process.ensures.there } in
+    let owners = owners_others h.procs.procs h.fds.rows rows who there c.reserve.ensures.others h.owners in
+    record { owners = either_way c.open_at_lowest.result
+      (λ opened _. subst (λ (t : OpenFiles). ∥ HasOwners h.procs.procs t.rows ∥₁) (sym opened) (owners_row h.procs.procs rows who _ there owners))
+      (λ same. subst (λ (t : OpenFiles). ∥ HasOwners h.procs.procs t.rows ∥₁) (sym same) owners)
+      c.open_at_lowest.ensures.opened c.open_at_lowest.ensures.opened c.open_at_lowest.ensures.err }
