@@ -31,3 +31,8 @@ pub invariant_of-shared : goal.invariant_of-shared
 invariant_of-shared c =
     let h = c.args.shared.now in
     record { owners = owners_none _ h.fds.rows (ap (λ (t : OpenFiles). t.rows) c.requires.fds) }
+
+pub invariant_of-shared-2 : goal.invariant_of-shared-2
+invariant_of-shared-2 c =
+    let h = c.args.shared.now in
+    record { owners = owners_none _ h.fds.rows (ap (λ (t : OpenFiles). t.rows) c.requires.fds) }

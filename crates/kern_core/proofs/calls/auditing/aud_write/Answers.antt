@@ -20,7 +20,7 @@ returns-in_err-must c = λ p there.
     (need_stops_row c.from_residual.result c.from_residual.ensures.1 refl (equal_check c.by_capability.ensures c.in_err-must.ensures))
 
 pub returns-in_err-copy : goal.returns-in_err-copy
-returns-in_err-copy c = λ p there. no_memory_row c.from_residual-2.result c.from_residual-2.ensures.1
+returns-in_err-copy c = λ p there. no_memory_row c.from_residual-in_err-copy.result c.from_residual-in_err-copy.ensures.1
 
 pub returns : goal.returns
 returns c = λ p there.

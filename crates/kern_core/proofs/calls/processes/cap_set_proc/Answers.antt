@@ -12,6 +12,7 @@ use Rattle.chk_rules.proofs.Steps.{equal_check}
 use Rattle.sys_lookup.specs.Shared.{state_of, with_fds}
 use Rattle.sys_lookup.proofs.CheckLemmas.{holds_where_passed}
 use Rattle.sys_lookup.proofs.LendLemmas.{creds_left, creds_lent, creds_same, creds_there}
+use Rattle.sys_lookup.proofs.OwnerLemmas.{owners_creds}
 use Rattle.sys_lookup.proofs.PlayLemmas.{need_plays, need_stops_row, commits}
 use Rattle.kern_core.proofs.calls.processes.cap_set_proc.Goals as goal
 
@@ -50,3 +51,13 @@ returns c = λ p there.
     creds_left h.procs.procs h.fds.rows who p there c.cap_set.new.self ∙ ap (λ (x : Credentials). map.insert s.procs who (with_creds p x)) set in
     need_plays (equal_check (c.cap_grow.ensures p same) c.in_ok-must.ensures)
     (commits s _ _ (SetProcess who (record p { caps = caps }) ∷ []) Nothing (Some (CapSetProc who caps)) (λ i. record s { procs = left i }))
+
+pub invariant_of-shared : goal.invariant_of-shared
+invariant_of-shared c =
+    let h = c.args.shared.now in
+    record { owners = owners_creds h.procs.procs h.fds.rows c.args.who.now c.in-Some.creds.now h.owners }
+
+pub invariant_of-shared-2 : goal.invariant_of-shared-2
+invariant_of-shared-2 c =
+    let h = c.args.shared.now in
+    record { owners = owners_creds h.procs.procs h.fds.rows c.args.who.now c.cap_set.new.self h.owners }

@@ -1,6 +1,8 @@
-use Rattle.std.proofs.Common.{◌∙◌}
+use Rattle.std.proofs.Common.{◌∙◌, ap}
 use Rattle.std.specs.FinMap as map
 use Rattle.sys_lookup.specs.Shared.{with_fds}
+use Rattle.fd_table.specs.Files.{OpenFiles}
+use Rattle.sys_lookup.proofs.OwnerLemmas.{owners_none}
 use Rattle.sys_lookup.proofs.FdLemmas.{with_fds-none}
 use Rattle.kern_core.specs.Starts.{state_loaded}
 use Rattle.kern_core.proofs.loading.Loading.load.Goals as goal
@@ -20,3 +22,6 @@ returns-clause-state c =
       top = s.top;
     })
     ∙ (λ i. record s { procs = with_fds-none map.empty i })
+
+pub invariant_of-result : goal.invariant_of-result
+invariant_of-result c = record { owners = owners_none c.new-2.result.procs c.new.result.rows (ap (λ (t : OpenFiles). t.rows) c.new.ensures) }
