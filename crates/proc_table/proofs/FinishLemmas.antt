@@ -49,10 +49,10 @@ module _ (living : FinMap pid_cmp Process) (children : Children) (made : ℕ) (k
         omega (arith, less, some)
 
     -- there is room for one more ended child in each list
-    pub room_left : (q : Pid) (x : Process) → map.get (map.remove living who) q ≡ Some x → length x.ended + map.len (map.remove living who) + 1 ≤ made
+    room_left : (q : Pid) (x : Process) → map.get (map.remove living who) q ≡ Some x → length x.ended + map.len (map.remove living who) + 1 ≤ made
     room_left q x there = let room = each-remove pid_cmp_total pid_cmp_exact (λ (q : Pid) (x : Process). length x.ended + map.len living ≤ made) living kept.room who q x there in omega (arith, room, one_less)
 
-    pub kept_removed : (new : Children) → ((q c : Pid) → is_child new q c ≡ (not (is_pid q p.parent && same_pid c who) && is_child children q c)) → IsKept (map.remove living who) new made
+    kept_removed : (new : Children) → ((q c : Pid) → is_child new q c ≡ (not (is_pid q p.parent && same_pid c who) && is_child children q c)) → IsKept (map.remove living who) new made
     kept_removed new removes = record {
       index = λ q c. index_left who p is new removes None (λ _. refl) q c ∙ ap (λ (o : Option Process). has_parent o q) (sym (get-remove pid_cmp_total living who c));
       room = λ q x there. let room = room_left q x there in omega (arith, room);
@@ -67,7 +67,7 @@ module _ (living : FinMap pid_cmp Process) (children : Children) (made : ℕ) (k
     told_at q (Some x) is = kept_set living children made kept q x is (with_ended who how x) refl
         (let fits = room q x is in let one : length (x.ended ++ (who, how) ∷ []) ≡ length x.ended + 1 = length-append x.ended ((who, how) ∷ []) in omega (arith, fits, one))
 
-    pub kept_told : (o : Option Pid) → IsKept (told living o (with_ended who how)) children made
+    kept_told : (o : Option Pid) → IsKept (told living o (with_ended who how)) children made
     kept_told None = kept
     kept_told (Some q) = told_at q (map.get living q) refl
 

@@ -66,7 +66,7 @@ module _ (living : FinMap pid_cmp Process) (children : Children) (made : ℕ) (k
       few = kept.few;
     }
 
-    -- so there is where its list does not grow
+    -- and so it may where its list does not grow
     pub kept_changed : new.parent ≡ old.parent → length new.ended ≤ length old.ended → IsKept (map.insert living who new) children made
     kept_changed parent shorter = kept_set parent (let room = kept.room who old is in omega (arith, room, shorter))
 
