@@ -12,7 +12,6 @@ use Rattle.std.specs.FinMap.Entries.{by_order}
 use Rattle.std.proofs.Common.{ap, sym, ◌∙◌, arith}
 use Rattle.std.proofs.lemmas.Bool.{true≢false}
 use Rattle.std.proofs.lemmas.Bool.Decides.{nat_tests}
-use Rattle.std.proofs.lemmas.Cmp.{tied_itself}
 use Rattle.std.proofs.lemmas.List.Sums.{sum_by-cons}
 use Rattle.kern_model.specs.Maps.{any_entry, count_entries}
 use Rattle.kern_model.proofs.Selections.{get-remove_same}

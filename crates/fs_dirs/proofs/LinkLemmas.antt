@@ -1,112 +1,246 @@
 -- What is kept of the names of objects, after an entry is set or goes.
-use Rattle.std.specs.Prelude.{◌≡◌, ℕ, ◌+◌, ◌-◌, ◌≤◌, ◌<◌, nat_le, Bool, true, false, Option, Some, None, IfSome, IsSome, cond, is_some, refl}
-use Rattle.std.specs.Ordering.{eq_by_cmp, is_eq}
+use Rattle.std.specs.Prelude.{◌≡◌, ◌&&◌, ◌||◌, not, ℕ, ◌+◌, ◌-◌, ◌≤◌, ◌<◌, ◌==◌, Bool, true, false, List, [], ◌∷◌, ◌++◌, Option, Some, None, IfSome, IsSome, cond, count_by, get_or, is_some, length, refl, slice_get}
+use Rattle.std.specs.Ordering.{is_eq}
+use Rattle.std.specs.List.{find, list_all, list_any, swap_remove}
 use Rattle.std.specs.Option.{option_map}
 use Rattle.std.specs.Cmp.{eq_by_cmp_equiv}
+use Rattle.std.specs.Map.{lookup}
+use Rattle.std.specs.BTreeMap.{is_at}
 use Rattle.std.specs.FinMap as table
-use Rattle.std.specs.FinMap.{FinMap, get-empty, get-insert, get-remove, len-empty, len-insert, same_map}
-use Rattle.std.proofs.Common.{ap, sym, ◌∙◌, subst, arith}
+use Rattle.std.specs.FinMap.{FinMap, get-empty, get-insert, get-remove, len-empty, len-insert}
+use Rattle.std.proofs.Common.{ap, sym, ◌∙◌, subst, arith, set}
 use Rattle.std.proofs.lemmas.Bool.{true≢false}
-use Rattle.std.proofs.lemmas.Bool.Decides.{nat_tests}
 use Rattle.std.proofs.lemmas.Cmp.{tied_itself}
+use Rattle.std.proofs.lemmas.List.Sums.{count_by-le-length, sum_by-set, sum_by-swap_remove, sum_by_push}
 use Rattle.fs_path.specs.Name.{Name}
+use Rattle.kern_model.specs.declared.limits.TheConstants.{MAX_LINKS}
 use Rattle.kern_model.specs.declared.numbers.Oid.{Oid}
 use Rattle.kern_model.specs.Entries.{holder}
 use Rattle.kern_model.specs.Keys.{Spot, oid_cmp, spot_cmp, same_oid}
-use Rattle.kern_model.specs.Valid.{IsThere}
+use Rattle.kern_model.specs.Maps.{any_entry, count_entries}
 use Rattle.kern_model.proofs.KeyLaws.{oid_cmp_total, oid_cmp_exact, spot_cmp_total, spot_cmp_exact}
-use Rattle.kern_model.proofs.MapLemmas.{same_key, some_same, get-insert_same, get-insert_kept, remove-absent}
-use Rattle.fs_dirs.specs.Entries.{AreKept, entries_alone, IsLinked, dir_of, linked, name_count, unlinked, with_links, without_name}
-use Rattle.fs_dirs.specs.declared.links.Links.{Links}
-use Rattle.fs_dirs.specs.declared.links.Links.TheVariants.{One, Shared}
-use Rattle.kern_model.proofs.Selections.{get-remove_same}
-use Rattle.fs_dirs.proofs.CountLemmas.{count_entries-empty, count_entries-insert, count_entries-remove, none_passing, only_passing, insert-remove}
+use Rattle.kern_model.proofs.MapLemmas.{get_or-absent, get_or-found, get_or-same, same_key, remove-absent}
+use Rattle.kern_model.proofs.Selections.{count_remove, get-remove_same}
+use Rattle.kern_model.proofs.TableLemmas.{get_at, one_removed, one_set}
+use Rattle.fs_dirs.specs.Entries.{AreHolders, AreKept, HasLess, HasMore, HasMoved, Holders, IsIn, IsInPlace, IsWith, dirs_at, entries_alone, name_count}
+use Rattle.fs_dirs.proofs.CountLemmas.{any_counted, any_entry-count, count-cons, count_entries-empty, count_entries-insert, count_entries-remove, insert-remove, passing}
 
-one_more : (b : Bool) (n m : ℕ) → b ≡ true → m ≡ cond b 1 0 + n → m ≡ 1 + n
-one_more true n m t e = e
-one_more false n m t e = absurd (true≢false (sym t))
-
-no_more : (b : Bool) (n m : ℕ) → b ≡ false → m ≡ cond b 1 0 + n → m ≡ n
-no_more true n m t e = absurd (true≢false t)
-no_more false n m t e = omega arith
-
-itself : (id : Oid) → same_oid id id ≡ true
+pub itself : (id : Oid) → same_oid id id ≡ true
 itself id = ap is_eq (tied_itself oid_cmp_total id)
+
+-- ---- lists of directories
+-- all are counted by a test that all pass
+pub all_counted : (dirs : List Oid) → count_by (λ (d : Oid). true) dirs ≡ length dirs
+all_counted [] = refl
+all_counted (d ∷ dirs) = let first = count-cons (λ (d : Oid). true) d dirs in let rest = all_counted dirs in omega (arith, first, rest)
+
+-- one more at the end
+pub pushed : (dirs : List Oid) (dir : Oid) (more : List Oid) → more ≡ dirs ++ dir ∷ [] → IsWith dirs dir more
+pushed dirs dir more is test =
+    let e : count_by test more ≡ count_by test (dirs ++ dir ∷ []) = ap (count_by test) is in
+    let one : count_by test (dirs ++ dir ∷ []) ≡ count_by test dirs + cond (test dir) 1 0 = sum_by_push (λ (d : Oid). cond (test d) 1 0) dirs dir in
+    omega (arith, e, one)
+
+-- one taken out
+pub taken_out : (dirs : List Oid) (dir : Oid) (place : ℕ) (d : Oid) → place < length dirs → get_or dirs place d ≡ dir → IsWith (swap_remove dirs place d) dir dirs
+taken_out dirs dir place d within is test =
+    let all : count_by test (swap_remove dirs place d) + cond (test (get_or dirs place d)) 1 0 ≡ count_by test dirs = sum_by-swap_remove (λ (d : Oid). cond (test d) 1 0) dirs place d within in
+    let same : ◌≡◌ {A = ℕ} (cond (test (get_or dirs place d)) 1 0) (cond (test dir) 1 0) = ap (λ (x : Oid). cond {A = ℕ} (test x) 1 0) is in
+    omega (arith, all, same)
+
+-- one put in place of another one
+pub put_over : (dirs : List Oid) (from to : Oid) (place : ℕ) → place < length dirs → get_or dirs place from ≡ from → IsInPlace dirs from to (set dirs place to)
+put_over dirs from to place within is test =
+    let all : count_by test (set dirs place to) + cond (test (get_or dirs place from)) 1 0 ≡ count_by test dirs + cond (test to) 1 0 = sum_by-set (λ (d : Oid). cond (test d) 1 0) dirs place to from within in
+    let same : ◌≡◌ {A = ℕ} (cond (test (get_or dirs place from)) 1 0) (cond (test from) 1 0) = ap (λ (x : Oid). cond {A = ℕ} (test x) 1 0) is in
+    omega (arith, all, same)
+
+-- where one is there, there is some
+pub some_dir : (dirs : List Oid) (dir : Oid) → IsIn dir dirs → 0 < length dirs
+some_dir dirs dir is_in = let few = count_by-le-length (λ (d : Oid). same_oid d dir) dirs in omega (arith, few, is_in)
+
+-- the one directory is the one that is there
+pub only_one : (dirs : List Oid) (dir : Oid) → length dirs ≡ 1 → IsIn dir dirs → dirs ≡ dir ∷ []
+only_one [] dir one is_in = absurd (omega (arith, one))
+only_one (d ∷ []) dir one is_in =
+    elim (same_oid d dir) as (λ b. same_oid d dir ≡ b → d ∷ [] ≡ dir ∷ []) [
+      | true ↦ λ t. ap (λ (x : Oid). x ∷ []) (same_key oid_cmp_exact d dir t)
+      | false ↦ λ f.
+          let none : count_by (λ (x : Oid). same_oid x dir) (d ∷ []) ≡ 0 = count-cons (λ (x : Oid). same_oid x dir) d [] ∙ ap (λ b. cond {A = ℕ} b 1 0 + 0) f in
+          absurd (omega (arith, none, is_in))
+    ] refl
+only_one (d ∷ e ∷ dirs) dir one is_in = absurd (omega (arith, one))
+
+-- the one directory, in place of another one
+pub one_in_place : (dirs : List Oid) (from to : Oid) → length dirs ≡ 1 → IsIn from dirs → IsInPlace dirs from to (to ∷ [])
+one_in_place dirs from to one is_in test =
+    let old : count_by test dirs ≡ cond (test from) 1 0 + 0 = ap (count_by test) (only_one dirs from one is_in) ∙ count-cons test from [] in
+    let new = count-cons test to [] in
+    omega (arith, old, new)
+
+-- with one that is nowhere else
+pub alone : (dir : Oid) (dirs : List Oid) → dirs ≡ dir ∷ [] → IsWith [] dir dirs
+alone dir dirs is test = ap (count_by test) is ∙ count-cons test dir []
+
+nothing_more : (n : ℕ) → n ≡ 0 + n
+nothing_more n = omega arith
+
+-- ---- the names of one object change
+module _ (holders : Holders) (id : Oid) where
+  dirs_set : (dirs : List Oid) (q : Oid) → dirs_at (table.insert holders id dirs) q ≡ cond (same_oid q id) dirs (dirs_at holders q)
+  dirs_set dirs q = elim (same_oid q id) as (λ b. same_oid q id ≡ b → dirs_at (table.insert holders id dirs) q ≡ cond b dirs (dirs_at holders q)) [
+    | true ↦ λ t. get_or-found (table.insert holders id dirs) q [] dirs (get-insert oid_cmp_total holders id dirs q ∙ ap (λ b. cond b (Some dirs) (table.get holders q)) t)
+    | false ↦ λ t. get_or-same (table.insert holders id dirs) holders q [] (get-insert oid_cmp_total holders id dirs q ∙ ap (λ b. cond b (Some dirs) (table.get holders q)) t)
+  ] refl
+
+  dirs_removed : (q : Oid) → dirs_at (table.remove holders id) q ≡ cond (same_oid q id) [] (dirs_at holders q)
+  dirs_removed q = elim (same_oid q id) as (λ b. same_oid q id ≡ b → dirs_at (table.remove holders id) q ≡ cond b [] (dirs_at holders q)) [
+    | true ↦ λ t. get_or-absent (table.remove holders id) q [] (get-remove oid_cmp_total holders id q ∙ ap (λ b. cond b None (table.get holders q)) t)
+    | false ↦ λ t. get_or-same (table.remove holders id) holders q [] (get-remove oid_cmp_total holders id q ∙ ap (λ b. cond b None (table.get holders q)) t)
+  ] refl
+
+  -- what holds of the object's directories now, and of all others as they were, holds of all
+  module _ (dirs : List Oid) (after : Holders) (is : (q : Oid) → dirs_at after q ≡ cond (same_oid q id) dirs (dirs_at holders q)) where
+    each_at : (P : Bool → List Oid → List Oid → Type 0) → P true (dirs_at holders id) dirs → ((old : List Oid) → P false old old) → (q : Oid) → P (same_oid id q) (dirs_at holders q) (dirs_at after q)
+    each_at P here other q =
+        subst (λ (ds : List Oid). P (same_oid id q) (dirs_at holders q) ds) (sym (is q))
+        (subst (λ b. P b (dirs_at holders q) (cond (same_oid q id) dirs (dirs_at holders q))) ((eq_by_cmp_equiv oid_cmp_total).symm q id)
+        (elim (same_oid q id) as (λ b. same_oid q id ≡ b → P b (dirs_at holders q) (cond b dirs (dirs_at holders q))) [
+          | true ↦ λ t. subst (λ (r : Oid). P true (dirs_at holders r) dirs) (sym (same_key oid_cmp_exact q id t)) here
+          | false ↦ λ _. other (dirs_at holders q)
+        ] refl))
+
+    more_at : (dir : Oid) → IsWith (dirs_at holders id) dir dirs → HasMore holders id dir after
+    more_at dir more = each_at (λ (b : Bool) (old new : List Oid). (test : Oid → Bool) → count_by test new ≡ cond (b && test dir) 1 0 + count_by test old) more (λ old test. nothing_more (count_by test old))
+
+    less_at : (dir : Oid) → IsWith dirs dir (dirs_at holders id) → HasMore after id dir holders
+    less_at dir less = each_at (λ (b : Bool) (old new : List Oid). (test : Oid → Bool) → count_by test old ≡ cond (b && test dir) 1 0 + count_by test new) less (λ old test. nothing_more (count_by test old))
+
+    moved_at : (from to : Oid) → IsInPlace (dirs_at holders id) from to dirs → HasMoved holders id from to after
+    moved_at from to moved = each_at (λ (b : Bool) (old new : List Oid). (test : Oid → Bool) → cond (b && test from) 1 0 + count_by test new ≡ cond (b && test to) 1 0 + count_by test old) moved (λ old test. refl)
+
+  pub more_set : (dir : Oid) (dirs : List Oid) → IsWith (dirs_at holders id) dir dirs → HasMore holders id dir (table.insert holders id dirs)
+  more_set dir dirs = more_at dirs (table.insert holders id dirs) (dirs_set dirs) dir
+
+  pub less_set : (dir : Oid) (dirs : List Oid) → IsWith dirs dir (dirs_at holders id) → HasMore (table.insert holders id dirs) id dir holders
+  less_set dir dirs = less_at dirs (table.insert holders id dirs) (dirs_set dirs) dir
+
+  pub less_removed : (dir : Oid) → IsWith [] dir (dirs_at holders id) → HasMore (table.remove holders id) id dir holders
+  less_removed dir = less_at [] (table.remove holders id) dirs_removed dir
+
+  pub moved_set : (from to : Oid) (dirs : List Oid) → IsInPlace (dirs_at holders id) from to dirs → HasMoved holders id from to (table.insert holders id dirs)
+  moved_set from to dirs = moved_at dirs (table.insert holders id dirs) (dirs_set dirs) from to
+
+-- ---- a list of names, and the table that it makes
+module _ (kept : List (Oid × List Oid)) (holders : Holders) (view : table.from_entries {R = oid_cmp} kept ≡ holders) (id : Oid) where
+  pub names_found : (w : Option (List Oid)) → w ≡ lookup (is_at (oid_cmp id)) kept → table.get holders id ≡ w
+  names_found w is = ap (λ (m : Holders). table.get m id) (sym view) ∙ get_at oid_cmp_total kept id ∙ sym is
+
+  pub dirs_found : (dirs : List Oid) → Some dirs ≡ lookup (is_at (oid_cmp id)) kept → dirs_at holders id ≡ dirs
+  dirs_found dirs is = get_or-found holders id [] dirs (names_found (Some dirs) is)
+
+  pub dirs_absent : None ≡ lookup (is_at (oid_cmp id)) kept → dirs_at holders id ≡ []
+  dirs_absent is = get_or-absent holders id [] (names_found None is)
+
+  -- where one of the names is in a directory, they are kept
+  pub never_absent : (dir : Oid) → IsIn dir (dirs_at holders id) → None ≡ lookup (is_at (oid_cmp id)) kept → ⊥
+  never_absent dir is_in is =
+      let none : count_by (λ (d : Oid). same_oid d dir) (dirs_at holders id) ≡ 0 = ap (count_by (λ (d : Oid). same_oid d dir)) (dirs_absent is) in
+      omega (arith, none, is_in)
+
+  pub links_set : (kept' : List (Oid × List Oid)) (dirs : List Oid) → ((q : Oid) → lookup (is_at (oid_cmp q)) kept' ≡ cond (is_at (oid_cmp id) q) (Some dirs) (lookup (is_at (oid_cmp q)) kept)) → table.from_entries {R = oid_cmp} kept' ≡ table.insert holders id dirs
+  links_set kept' dirs h = one_set oid_cmp_total oid_cmp_exact kept kept' id dirs h ∙ ap (λ (t : Holders). table.insert t id dirs) view
+
+  pub links_removed : (kept' : List (Oid × List Oid)) → ((q : Oid) → lookup (is_at (oid_cmp q)) kept' ≡ cond (is_at (oid_cmp id) q) None (lookup (is_at (oid_cmp q)) kept)) → table.from_entries {R = oid_cmp} kept' ≡ table.remove holders id
+  links_removed kept' h = one_removed oid_cmp_total oid_cmp_exact kept kept' id h ∙ ap (λ (t : Holders). table.remove t id) view
+
+-- ---- an object's names, counted
+module _ (entries : FinMap spot_cmp Oid) (id : Oid) (dirs : List Oid) (are : AreHolders entries id dirs) where
+  in_all : (b : Bool) → (b && true) ≡ b
+  in_all true = refl
+  in_all false = refl
+
+  -- there are as many as the object has names
+  pub holder_count : length dirs ≡ name_count entries id
+  holder_count = sym (all_counted dirs) ∙ are (λ (d : Oid). true) ∙ ap (λ (p : Spot → Oid → Bool). count_entries p entries) (λ i (spot : Spot) (at : Oid). in_all (same_oid at id) i)
+
+-- the directory of the one entry that leads to an object
+first_holder : (id dir : Oid) (es : List (Spot × Oid)) → ((test : Oid → Bool) → count_by test (dir ∷ []) ≡ passing (λ (spot : Spot) (at : Oid). same_oid at id && test spot.0) es)
+    → option_map (λ (e : Spot × Oid). e.0.0) (find (λ (e : Spot × Oid). same_oid e.1 id) es) ≡ Some dir
+first_holder id dir [] are = let one : 1 ≡ 0 = are (λ (d : Oid). true) in absurd (omega (arith, one))
+first_holder id dir (e ∷ es) are =
+    elim (same_oid e.1 id) as (λ b. same_oid e.1 id ≡ b → option_map (λ (e : Spot × Oid). e.0.0) (cond b (Some e) (find (λ (e : Spot × Oid). same_oid e.1 id) es)) ≡ Some dir) [
+      | true ↦ λ t.
+          let test : Oid → Bool = λ (d : Oid). same_oid d e.0.0 in
+          let leads : Spot → Oid → Bool = λ (spot : Spot) (at : Oid). same_oid at id && test spot.0 in
+          let step = count-cons (λ (e : Spot × Oid). leads e.0 e.1) e es in
+          let here : ◌≡◌ {A = ℕ} (cond (same_oid e.1 id && same_oid e.0.0 e.0.0) 1 0) 1 = ap (λ b. cond {A = ℕ} (b && same_oid e.0.0 e.0.0) 1 0) t ∙ ap (λ b. cond {A = ℕ} b 1 0) (itself e.0.0) in
+          let all = are test in
+          let one = count-cons test dir [] in
+          elim (same_oid dir e.0.0) as (λ b. same_oid dir e.0.0 ≡ b → Some e.0.0 ≡ Some dir) [
+            | true ↦ λ s. ap Some (sym (same_key oid_cmp_exact dir e.0.0 s))
+            | false ↦ λ f. let none : ◌≡◌ {A = ℕ} (cond (same_oid dir e.0.0) 1 0) 0 = ap (λ b. cond {A = ℕ} b 1 0) f in absurd (omega (arith, step, here, all, one, none))
+          ] refl
+      | false ↦ λ f. first_holder id dir es (λ test. are test ∙ count-cons (λ (e : Spot × Oid). same_oid e.1 id && test e.0.0) e es
+          ∙ ap (λ b. cond {A = ℕ} (b && test e.0.0) 1 0 + passing (λ (spot : Spot) (at : Oid). same_oid at id && test spot.0) es) f
+          ∙ sym (nothing_more (passing (λ (spot : Spot) (at : Oid). same_oid at id && test spot.0) es)))
+    ] refl
+
+no_holder : (id : Oid) (es : List (Spot × Oid)) → ((test : Oid → Bool) → count_by test [] ≡ passing (λ (spot : Spot) (at : Oid). same_oid at id && test spot.0) es)
+    → option_map (λ (e : Spot × Oid). e.0.0) (find (λ (e : Spot × Oid). same_oid e.1 id) es) ≡ None
+no_holder id [] are = refl
+no_holder id (e ∷ es) are =
+    let step = λ (test : Oid → Bool). count-cons (λ (e : Spot × Oid). same_oid e.1 id && test e.0.0) e es in
+    elim (same_oid e.1 id) as (λ b. same_oid e.1 id ≡ b → option_map (λ (e : Spot × Oid). e.0.0) (cond b (Some e) (find (λ (e : Spot × Oid). same_oid e.1 id) es)) ≡ None) [
+      | true ↦ λ t.
+          let first = step (λ (d : Oid). true) in
+          let here : ◌≡◌ {A = ℕ} (cond (same_oid e.1 id && true) 1 0) 1 = ap (λ b. cond {A = ℕ} (b && true) 1 0) t in
+          let none = are (λ (d : Oid). true) in
+          absurd (omega (arith, first, here, none))
+      | false ↦ λ f. no_holder id es (λ test. are test ∙ step test ∙ ap (λ b. cond {A = ℕ} (b && test e.0.0) 1 0 + passing (λ (spot : Spot) (at : Oid). same_oid at id && test spot.0) es) f
+          ∙ sym (nothing_more (passing (λ (spot : Spot) (at : Oid). same_oid at id && test spot.0) es)))
+    ] refl
+
+-- the first of an object's directories, where there is no second, is the one that holds it
+pub holder_first : (entries : FinMap spot_cmp Oid) (id : Oid) (dirs : List Oid) → AreHolders entries id dirs → name_count entries id ≤ 1 → (w : Option Oid) → w ≡ slice_get dirs 0 → w ≡ holder (entries_alone entries) id
+unfolding holder count_entries
+holder_first entries id [] are one w is = is ∙ sym (no_holder id (table.entries entries) are)
+holder_first entries id (d ∷ []) are one w is = is ∙ sym (first_holder id d (table.entries entries) are)
+holder_first entries id (d ∷ e ∷ ds) are one w is = let count = holder_count entries id (d ∷ e ∷ ds) are in absurd (omega (arith, count, one))
 
 -- ---- an entry that is new
 module _ (entries : FinMap spot_cmp Oid) (dir : Oid) (name : Name) (id : Oid) (absent : table.get entries (dir, name) ≡ None) where
   abbrev after_insert : FinMap spot_cmp Oid
   after_insert = table.insert entries (dir, name) id
 
-  counted_insert : (q : Oid) → name_count after_insert q ≡ cond (same_oid id q) 1 0 + name_count entries q
-  counted_insert q = count_entries-insert (λ (spot : Spot) (at : Oid). same_oid at q) spot_cmp_total entries (dir, name) id absent
-
-  linked_same : (l : Option Links) → IsLinked entries id l → IsLinked after_insert id (Some (linked l dir))
-  linked_same None h =
-      let one = one_more (same_oid id id) (name_count entries id) (name_count after_insert id) (itself id) (counted_insert id) in
-      (omega (arith, one, h), record { name = name; is = get-insert_same spot_cmp_total entries (dir, name) id })
-  linked_same (Some (One other)) h = let one = one_more (same_oid id id) (name_count entries id) (name_count after_insert id) (itself id) (counted_insert id) in omega (arith, one, h.0)
-  linked_same (Some (Shared n)) h = let one = one_more (same_oid id id) (name_count entries id) (name_count after_insert id) (itself id) (counted_insert id) in omega (arith, one, h)
-
-  linked_other : (q : Oid) → same_oid id q ≡ false → (l : Option Links) → IsLinked entries q l → IsLinked after_insert q l
-  linked_other q apart None h = no_more (same_oid id q) (name_count entries q) (name_count after_insert q) apart (counted_insert q) ∙ h
-  linked_other q apart (Some (One other)) h = (
-    no_more (same_oid id q) (name_count entries q) (name_count after_insert q) apart (counted_insert q) ∙ h.0,
-    record { name = h.1.name; is = get-insert_kept spot_cmp_total spot_cmp_exact entries (dir, name) id absent (other, h.1.name) q h.1.is },
-  )
-  linked_other q apart (Some (Shared n)) h = no_more (same_oid id q) (name_count entries q) (name_count after_insert q) apart (counted_insert q) ∙ h
+  one_at_most : (b : Bool) → cond b 1 0 ≤ 1
+  one_at_most true = omega arith
+  one_at_most false = omega arith
 
   -- with the object's names, each object's are kept
-  pub kept-insert : (links : FinMap oid_cmp Links) (total : ℕ) → AreKept entries links total → AreKept after_insert (table.insert links id (linked (table.get links id) dir)) (total + 1)
-  kept-insert links total kept = record {
-    linked_so = λ q. subst (IsLinked after_insert q) (sym (get-insert oid_cmp_total links id (linked (table.get links id) dir) q))
-        (elim (same_oid q id) as (λ b. same_oid q id ≡ b → IsLinked after_insert q (cond b (Some (linked (table.get links id) dir)) (table.get links q))) [
-          | true ↦ λ t. subst (λ (r : Oid). IsLinked after_insert r (Some (linked (table.get links id) dir))) (sym (same_key oid_cmp_exact q id t)) (linked_same (table.get links id) (kept.linked_so id))
-          | false ↦ λ f. linked_other q ((eq_by_cmp_equiv oid_cmp_total).symm id q ∙ f) (table.get links q) (kept.linked_so q)
-        ] refl);
+  pub kept-insert : (holders more : Holders) (total : ℕ) → AreKept entries holders total → HasMore holders id dir more → name_count entries id < MAX_LINKS → AreKept after_insert more (total + 1)
+  kept-insert holders more total kept has few = record {
+    holders_are = λ q test. has q test ∙ ap (λ n. cond (same_oid id q && test dir) 1 0 + n) (kept.holders_are q test)
+        ∙ sym (count_entries-insert (λ (spot : Spot) (at : Oid). same_oid at q && test spot.0) spot_cmp_total entries (dir, name) id absent);
+    few = λ q.
+        let counted = count_entries-insert (λ (spot : Spot) (at : Oid). same_oid at q) spot_cmp_total entries (dir, name) id absent in
+        elim (same_oid id q) as (λ b. same_oid id q ≡ b → name_count after_insert q ≤ MAX_LINKS) [
+          | true ↦ λ t.
+              let same : name_count entries q ≡ name_count entries id = ap (name_count entries) (sym (same_key oid_cmp_exact id q t)) in
+              let one = one_at_most (same_oid id q) in
+              omega (arith, counted, same, one, few)
+          | false ↦ λ f.
+              let none : ◌≡◌ {A = ℕ} (cond (same_oid id q) 1 0) 0 = ap (λ b. cond {A = ℕ} b 1 0) f in
+              let before = kept.few q in
+              omega (arith, counted, none, before)
+        ] refl;
     counted = ap (λ n. n + 1) kept.counted ∙ sym (len-insert spot_cmp_total entries (dir, name) id ∙ ap (λ (w : Option Oid). cond (is_some w) (table.len entries) (table.len entries + 1)) absent);
   }
 
 -- ---- an entry that goes
--- the names of an object that are put or removed
-pub get-with_links : (id : Oid) (links : FinMap oid_cmp Links) (l : Option Links) (q : Oid) → table.get (with_links links id l) q ≡ cond (same_oid q id) l (table.get links q)
-get-with_links id links None q = get-remove oid_cmp_total links id q
-get-with_links id links (Some l) q = get-insert oid_cmp_total links id l q
-
 module _ (entries : FinMap spot_cmp Oid) (dir : Oid) (name : Name) (id : Oid) (there : table.get entries (dir, name) ≡ Some id) where
   abbrev after_remove : FinMap spot_cmp Oid
   after_remove = table.remove entries (dir, name)
-
-  counted_remove : (q : Oid) → name_count entries q ≡ cond (same_oid id q) 1 0 + name_count after_remove q
-  counted_remove q = count_entries-remove (λ (spot : Spot) (at : Oid). same_oid at q) spot_cmp_total spot_cmp_exact entries (dir, name) id there
-
-  unlinked_same : (l : Option Links) → IsLinked entries id l → IsLinked after_remove id (unlinked l)
-  unlinked_same None h = let one = one_more (same_oid id id) (name_count after_remove id) (name_count entries id) (itself id) (counted_remove id) in absurd (omega (arith, one, h))
-  unlinked_same (Some (One other)) h = let one = one_more (same_oid id id) (name_count after_remove id) (name_count entries id) (itself id) (counted_remove id) in omega (arith, one, h.0)
-  unlinked_same (Some (Shared n)) h =
-      let one = one_more (same_oid id id) (name_count after_remove id) (name_count entries id) (itself id) (counted_remove id) in
-      elim (nat_le n 1) as (λ b. nat_le n 1 ≡ b → IsLinked after_remove id (cond b None (Some (Shared (n - 1))))) [
-        | true ↦ λ t. let few : n ≤ 1 = grind (arith, nat_tests) in omega (arith, one, h, few)
-        | false ↦ λ f. let many : 1 < n = grind (arith, nat_tests) in omega (arith, one, h, many)
-      ] refl
-
-  -- an entry that leads to another object stays
-  pub kept_spot : (q : Oid) → same_oid id q ≡ false → (spot : Spot) → table.get entries spot ≡ Some q → table.get after_remove spot ≡ Some q
-  kept_spot q apart spot is = get-remove spot_cmp_total entries (dir, name) spot
-      ∙ elim (eq_by_cmp spot_cmp spot (dir, name)) as (λ b. eq_by_cmp spot_cmp spot (dir, name) ≡ b → cond b None (table.get entries spot) ≡ Some q) [
-        | true ↦ λ t.
-            let same : id ≡ q = some_same id q (sym there ∙ ap (table.get entries) (sym (same_key spot_cmp_exact spot (dir, name) t)) ∙ is) in
-            absurd (true≢false (sym (ap (same_oid id) (sym same) ∙ itself id) ∙ apart))
-        | false ↦ λ _. is
-      ] refl
-
-  unlinked_other : (q : Oid) → same_oid id q ≡ false → (l : Option Links) → IsLinked entries q l → IsLinked after_remove q l
-  unlinked_other q apart None h = sym (no_more (same_oid id q) (name_count after_remove q) (name_count entries q) apart (counted_remove q)) ∙ h
-  unlinked_other q apart (Some (One other)) h = (
-    sym (no_more (same_oid id q) (name_count after_remove q) (name_count entries q) apart (counted_remove q)) ∙ h.0,
-    record { name = h.1.name; is = kept_spot q apart (other, h.1.name) h.1.is },
-  )
-  unlinked_other q apart (Some (Shared n)) h = sym (no_more (same_oid id q) (name_count after_remove q) (name_count entries q) apart (counted_remove q)) ∙ h
 
   -- there is one entry less
   pub one_less : table.len entries ≡ table.len after_remove + 1
@@ -114,29 +248,34 @@ module _ (entries : FinMap spot_cmp Oid) (dir : Oid) (name : Name) (id : Oid) (t
       ∙ ap (λ (w : Option Oid). cond (is_some w) (table.len after_remove) (table.len after_remove + 1)) (get-remove_same spot_cmp_total entries (dir, name))
 
   -- with what is left of the object's names, each object's are kept
-  pub kept-remove : (links : FinMap oid_cmp Links) (total : ℕ) → AreKept entries links total → AreKept after_remove (with_links links id (unlinked (table.get links id))) (total - 1)
-  kept-remove links total kept = record {
-    linked_so = λ q. subst (IsLinked after_remove q) (sym (get-with_links id links (unlinked (table.get links id)) q))
-        (elim (same_oid q id) as (λ b. same_oid q id ≡ b → IsLinked after_remove q (cond b (unlinked (table.get links id)) (table.get links q))) [
-          | true ↦ λ t. subst (λ (r : Oid). IsLinked after_remove r (unlinked (table.get links id))) (sym (same_key oid_cmp_exact q id t)) (unlinked_same (table.get links id) (kept.linked_so id))
-          | false ↦ λ f. unlinked_other q ((eq_by_cmp_equiv oid_cmp_total).symm id q ∙ f) (table.get links q) (kept.linked_so q)
-        ] refl);
+  pub kept-remove : (holders less : Holders) (total : ℕ) → AreKept entries holders total → HasMore less id dir holders → AreKept after_remove less (total - 1)
+  kept-remove holders less total kept has = record {
+    holders_are = λ q test.
+        let before = kept.holders_are q test in
+        let more = has q test in
+        let counted = count_entries-remove (λ (spot : Spot) (at : Oid). same_oid at q && test spot.0) spot_cmp_total spot_cmp_exact entries (dir, name) id there in
+        omega (arith, before, more, counted);
+    few = λ q.
+        let fewer = count_remove spot_cmp_total spot_cmp_exact (λ (spot : Spot) (at : Oid). same_oid at q) (dir, name) entries in
+        let before = kept.few q in
+        omega (arith, fewer, before);
     counted = let less = one_less in let same = kept.counted in omega (arith, less, same);
   }
 
-  -- the object has names that are kept
-  pub has_links : (links : FinMap oid_cmp Links) (total : ℕ) → AreKept entries links total → IsThere links id
-  has_links links total kept = elim (table.get links id) as (λ w. table.get links id ≡ w → IsLinked entries id w → IsThere links id) [
-    | None ↦ λ _ h. let one = one_more (same_oid id id) (name_count after_remove id) (name_count entries id) (itself id) (counted_remove id) in absurd (omega (arith, one, h))
-    | Some l ↦ λ e _. record { value = l; is = e }
-  ] refl (kept.linked_so id)
+  -- one of the object's names is in the directory
+  pub name_is_in : (holders : Holders) (total : ℕ) → AreKept entries holders total → IsIn dir (dirs_at holders id)
+  name_is_in holders total kept =
+      let held = kept.holders_are id (λ (d : Oid). same_oid d dir) in
+      let counted = count_entries-remove (λ (spot : Spot) (at : Oid). same_oid at id && same_oid spot.0 dir) spot_cmp_total spot_cmp_exact entries (dir, name) id there in
+      let here : ◌≡◌ {A = ℕ} (cond (same_oid id id && same_oid dir dir) 1 0) 1 = ap (λ b. cond {A = ℕ} (b && same_oid dir dir) 1 0) (itself id) ∙ ap (λ b. cond {A = ℕ} b 1 0) (itself dir) in
+      omega (arith, held, counted, here)
 
 -- ---- an entry that goes, if it is there
-module _ (entries : FinMap spot_cmp Oid) (dir : Oid) (name : Name) (links : FinMap oid_cmp Links) (total : ℕ) (kept : AreKept entries links total) where
-  -- the object has names that are kept
-  pub names_there : (w : Option Oid) → table.get entries (dir, name) ≡ w → IfSome w (λ (id : Oid). IsThere links id)
-  names_there None is = tt
-  names_there (Some id) is = has_links entries dir name id is links total kept
+module _ (entries : FinMap spot_cmp Oid) (dir : Oid) (name : Name) (holders : Holders) (total : ℕ) (kept : AreKept entries holders total) where
+  -- one of the object's names is in the directory
+  pub name_there : (w : Option Oid) → table.get entries (dir, name) ≡ w → IfSome w (λ (id : Oid). IsIn dir (dirs_at holders id))
+  name_there None is = tt
+  name_there (Some id) is = name_is_in entries dir name id is holders total kept
 
   -- where it is there, there is an entry
   pub some_entry : (w : Option Oid) → table.get entries (dir, name) ≡ w → IsSome w → 1 ≤ total
@@ -144,43 +283,48 @@ module _ (entries : FinMap spot_cmp Oid) (dir : Oid) (name : Name) (links : FinM
   some_entry (Some id) is h = let less = one_less entries dir name id is in let counted = kept.counted in omega (arith, less, counted)
 
   -- with what is left of the object's names, each object's are kept
-  pub kept-without : (w : Option Oid) → table.get entries (dir, name) ≡ w → AreKept (table.remove entries (dir, name)) (without_name links w) (cond (is_some w) (total - 1) total)
-  kept-without None is = subst (λ (m : FinMap spot_cmp Oid). AreKept m links total) (sym (remove-absent spot_cmp_total spot_cmp_exact entries (dir, name) is)) kept
-  kept-without (Some id) is = kept-remove entries dir name id is links total kept
-
--- ---- which directory holds an object
-module _ (entries : FinMap spot_cmp Oid) (id : Oid) where
-  held : (l : Option Links) → IsLinked entries id l → ((n : ℕ) → l ≡ Some (Shared n) → ⊥) → dir_of l ≡ holder (entries_alone entries) id
-  unfolding holder
-  held None h single = sym (ap (option_map (λ (e : Spot × Oid). e.0.0)) (none_passing (λ (spot : Spot) (at : Oid). same_oid at id) entries h))
-  held (Some (One dir)) h single =
-      let one : name_count entries id ≤ 1 = let counted : name_count entries id ≡ 1 = h.0 in omega (arith, counted) in
-      sym (ap (option_map (λ (e : Spot × Oid). e.0.0)) (only_passing (λ (spot : Spot) (at : Oid). same_oid at id) spot_cmp_total spot_cmp_exact entries (dir, h.1.name) id one h.1.is (itself id)))
-  held (Some (Shared n)) h single = absurd (single n refl)
-
-  -- the one that is kept, unless the object has had several names
-  pub holder_kept : (links : FinMap oid_cmp Links) (total : ℕ) → AreKept entries links total → ((n : ℕ) → table.get links id ≡ Some (Shared n) → ⊥) → dir_of (table.get links id) ≡ holder (entries_alone entries) id
-  holder_kept links total kept single = held (table.get links id) (kept.linked_so id) single
+  pub kept-without : (w : Option Oid) → table.get entries (dir, name) ≡ w → (less : Holders) → HasLess holders w dir less → AreKept (table.remove entries (dir, name)) less (cond (is_some w) (total - 1) total)
+  kept-without None is less has =
+      subst (λ (m : FinMap spot_cmp Oid). AreKept m less total) (sym (remove-absent spot_cmp_total spot_cmp_exact entries (dir, name) is))
+      (subst (λ (h : Holders). AreKept entries h total) (sym has) kept)
+  kept-without (Some id) is less has = kept-remove entries dir name id is holders less total kept has
 
 -- ---- no entry
 pub nothing_kept : AreKept table.empty table.empty 0
 nothing_kept = record {
-  linked_so = λ q. subst (IsLinked table.empty q) (sym (get-empty oid_cmp q)) (none_counted q);
+  holders_are = λ q test. ap (count_by test) (get_or-absent table.empty q [] (get-empty oid_cmp q)) ∙ sym (count_entries-empty spot_cmp (λ (spot : Spot) (at : Oid). same_oid at q && test spot.0));
+  few = λ q. let none : name_count table.empty q ≡ 0 = count_entries-empty spot_cmp (λ (spot : Spot) (at : Oid). same_oid at q) in omega (arith, none);
   counted = sym (len-empty spot_cmp Oid);
 }
-  where
-    none_counted : (q : Oid) → name_count table.empty q ≡ 0
-    none_counted q = count_entries-empty spot_cmp (λ (spot : Spot) (at : Oid). same_oid at q)
 
--- the names of an object as they were before one was added
-pub links_restored : (links : FinMap oid_cmp Links) (id : Oid) (more : Links) (w : Option Links) → w ≡ table.get links id → with_links (table.insert links id more) id w ≡ links
-links_restored links id more w was = same_map oid_cmp_total oid_cmp_exact _ _ (λ q.
-    get-with_links id (table.insert links id more) w q ∙ ap (cond (same_oid q id) w) (get-insert oid_cmp_total links id more q)
-    ∙ elim (same_oid q id) as (λ b. same_oid q id ≡ b → cond b w (cond b (Some more) (table.get links q)) ≡ table.get links q) [
-      | true ↦ λ t. was ∙ ap (table.get links) (sym (same_key oid_cmp_exact q id t))
-      | false ↦ λ _. refl
-    ] refl)
+-- ---- which directories hold an object
+module _ {X : Type 0} (p : X → Bool) where
+  all_any : (xs : List X) → list_all p xs ≡ not (list_any (λ (x : X). not (p x)) xs)
+  all_any [] = refl
+  all_any (x ∷ xs) = elim (p x) as (λ b. (b && list_all p xs) ≡ not (not b || list_any (λ (x : X). not (p x)) xs)) [
+    | true ↦ all_any xs
+    | false ↦ refl
+  ]
 
--- what is there is not absent
-pub never_both : {X : Type 0} (w : Option X) → IsSome w → w ≡ None → ⊥
-never_both w there none = true≢false (sym there ∙ ap is_some none)
+-- all pass where no entry leads to the object from one that does not
+pub all_hold : (entries : FinMap spot_cmp Oid) (id : Oid) (dirs : List Oid) → AreHolders entries id dirs → (p : Oid → Bool) → list_all p dirs ≡ not (any_entry (λ (spot : Spot) (at : Oid). same_oid at id && not (p spot.0)) entries)
+all_hold entries id dirs are p =
+    all_any p dirs ∙ ap not (any_counted (λ (d : Oid). not (p d)) dirs) ∙ ap (λ n. not (not (n == 0))) (are (λ (d : Oid). not (p d)))
+    ∙ ap not (sym (any_entry-count (λ (spot : Spot) (at : Oid). same_oid at id && not (p spot.0)) entries))
+
+-- ---- a name that is added and taken again
+module _ (entries : FinMap spot_cmp Oid) (holders more after : Holders) (id dir : Oid) (added : HasMore holders id dir more) where
+  -- it is in the directory
+  pub added_is_in : IsIn dir (dirs_at more id)
+  added_is_in =
+      let one = added id (λ (d : Oid). same_oid d dir) in
+      let here : ◌≡◌ {A = ℕ} (cond (same_oid id id && same_oid dir dir) 1 0) 1 = ap (λ b. cond {A = ℕ} (b && same_oid dir dir) 1 0) (itself id) ∙ ap (λ b. cond {A = ℕ} b 1 0) (itself dir) in
+      omega (arith, one, here)
+
+  -- the names are kept as before
+  pub kept_again : HasMore after id dir more → (total : ℕ) → AreKept entries holders total → AreKept entries after total
+  kept_again taken total kept = record {
+    holders_are = λ q test. let one = added q test in let again = taken q test in let before = kept.holders_are q test in omega (arith, one, again, before);
+    few = kept.few;
+    counted = kept.counted;
+  }

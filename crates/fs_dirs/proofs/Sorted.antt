@@ -7,12 +7,11 @@ use Rattle.std.specs.Ordering.{eq_by_cmp, is_eq, is_lt, ordering_reverse}
 use Rattle.std.specs.Cmp.{IsTotalOrder, eq_by_cmp_equiv}
 use Rattle.std.specs.List.{AllWithin, HoldsAt, insert, remove}
 use Rattle.std.specs.FinMap as map
-use Rattle.std.specs.FinMap.{FinMap, IsAntisymmetric, find, put, is_sorted, from_sorted, entries-from_sorted, entries-insert, get-from_sorted, get-remove, same_entries_map, same_map}
+use Rattle.std.specs.FinMap.{IsAntisymmetric, find, put, is_sorted, from_sorted, entries-from_sorted, entries-insert, get-from_sorted, get-remove, same_entries_map, same_map}
 use Rattle.std.specs.FinMap.Entries.{below_all, by_order, where_key, is_sorted-put, is_sorted-where_key, find-where_key}
 use Rattle.std.proofs.lemmas.Bool.{cases_lt}
 use Rattle.std.proofs.lemmas.List.{get_or_default}
 use Rattle.std.proofs.lemmas.Cmp.{alike_right, tied_back}
-use Rattle.kern_model.proofs.MapLemmas.{same_key}
 
 first : (a b : Bool) → T (a && b) → T a
 first true b h = tt

@@ -1,24 +1,22 @@
 -- Entries that are set one by one, in the order of their spots.
-use Rattle.std.specs.Prelude.{◌≡◌, ℕ, ◌+◌, ◌<◌, Bool, true, false, List, [], ◌∷◌, ◌++◌, Option, Some, None, cond, count_by, refl}
+use Rattle.std.specs.Prelude.{◌≡◌, ℕ, ◌+◌, ◌<◌, Bool, List, [], ◌∷◌, ◌++◌, Some, None, cond, count_by, refl}
 use Rattle.std.specs.declared.cmp.Ordering.{Ordering}
 use Rattle.std.specs.declared.cmp.Ordering.TheVariants.{Greater}
 use Rattle.std.specs.Ordering.{is_eq, is_lt, ordering_reverse}
 use Rattle.std.specs.Cmp.{IsTotalOrder}
 use Rattle.std.specs.FinMap as map
-use Rattle.std.specs.FinMap.{FinMap, find, put, is_sorted, entries-insert, entries_sorted, get-entries, get-insert, same_entries_map}
+use Rattle.std.specs.FinMap.{FinMap, find, put, is_sorted, entries-insert, entries_sorted, get-entries, same_entries_map}
 use Rattle.std.specs.FinMap.Entries.{below_all, by_order}
 use Rattle.std.proofs.Common.{ap, sym, ◌∙◌, subst, arith, T}
 use Rattle.std.proofs.lemmas.Cmp.{tied_itself}
 use Rattle.std.proofs.lemmas.List.{append-nil, append_assoc}
 use Rattle.std.proofs.lemmas.List.Sums.{sum_by-append}
 use Rattle.kern_model.specs.declared.numbers.Oid.{Oid}
-use Rattle.kern_model.specs.Keys.{Spot, oid_cmp, spot_cmp, same_oid}
+use Rattle.kern_model.specs.Keys.{Spot, spot_cmp, same_oid}
 use Rattle.kern_model.specs.Maps.{count_entries}
-use Rattle.kern_model.proofs.KeyLaws.{oid_cmp_total, oid_cmp_exact, spot_cmp_total}
-use Rattle.kern_model.proofs.MapLemmas.{head_T, tail_T, same_key, some_same}
-use Rattle.fs_dirs.specs.declared.links.Links.{Links}
-use Rattle.fs_dirs.specs.declared.links.Links.TheVariants.{One, Shared}
-use Rattle.fs_dirs.specs.Entries.{count_of, linked, name_count}
+use Rattle.kern_model.proofs.KeyLaws.{oid_cmp_total, spot_cmp_total}
+use Rattle.kern_model.proofs.MapLemmas.{head_T, tail_T}
+use Rattle.fs_dirs.specs.Entries.{name_count}
 use Rattle.fs_dirs.proofs.CountLemmas.{count-cons, no_entries}
 use Rattle.fs_dirs.proofs.DirLemmas.{is_less}
 
@@ -79,17 +77,3 @@ module _ (entries whole : FinMap spot_cmp Oid) (left : List (Spot × Oid)) (so_f
       let all : count_by leads (map.entries entries ++ (spot, id) ∷ rest) ≡ count_by leads (map.entries entries) + count_by leads ((spot, id) ∷ rest) = sum_by-append (λ (e : Spot × Oid). cond (leads e) 1 0) (map.entries entries) ((spot, id) ∷ rest) in
       let same : count_by leads (map.entries entries ++ (spot, id) ∷ rest) ≡ count_by leads (map.entries whole) = ap (count_by leads) parts in
       omega (arith, one, one_more, all, same)
-
-  -- what has several names so far has several in the end
-  linked_shared : (w : Option Links) → count_of w ≡ name_count entries id → ((n : ℕ) → w ≡ Some (Shared n) → 1 < name_count whole id) → (dir : Oid) (n : ℕ) → linked w dir ≡ Shared n → 1 < name_count whole id
-  linked_shared None counted before dir n e = cc
-  linked_shared (Some (One other)) counted before dir n e = let fewer = fewer_names in omega (arith, counted, fewer)
-  linked_shared (Some (Shared m)) counted before dir n e = before m refl
-
-  pub next_shared : (links after : FinMap oid_cmp Links) (dir : Oid) → count_of (map.get links id) ≡ name_count entries id → ((q : Oid) (n : ℕ) → map.get links q ≡ Some (Shared n) → 1 < name_count whole q)
-      → after ≡ map.insert links id (linked (map.get links id) dir) → (q : Oid) (n : ℕ) → map.get after q ≡ Some (Shared n) → 1 < name_count whole q
-  next_shared links after dir counted before is q n e =
-      elim (same_oid q id) as (λ b. same_oid q id ≡ b → cond b (Some (linked (map.get links id) dir)) (map.get links q) ≡ Some (Shared n) → 1 < name_count whole q) [
-        | true ↦ λ t f. subst (λ (r : Oid). 1 < name_count whole r) (sym (same_key oid_cmp_exact q id t)) (linked_shared (map.get links id) counted (before id) dir n (some_same (linked (map.get links id) dir) (Shared n) f))
-        | false ↦ λ _ f. before q n f
-      ] refl (sym (get-insert oid_cmp_total links id (linked (map.get links id) dir) q) ∙ ap (λ (m : FinMap oid_cmp Links). map.get m q) (sym is) ∙ e)

@@ -1,13 +1,14 @@
 -- A tree stays one where objects change or are made, and where entries come and go.
-use Rattle.std.specs.Prelude.{◌≡◌, ◌≤◌, ◌+◌, ◌||◌, ℕ, suc, Bool, true, false, ◌⊎◌, List, [], ◌∷◌, Option, Some, None, cond, refl}
+use Rattle.std.specs.Prelude.{◌≡◌, ◌≤◌, ◌<◌, ◌&&◌, not, ◌+◌, ◌||◌, ℕ, suc, Bool, true, false, ◌⊎◌, List, [], ◌∷◌, Option, Some, None, cond, refl}
 use Rattle.std.specs.Ordering.{eq_by_cmp}
-use Rattle.std.specs.List.{AllByRecursion, find}
+use Rattle.std.specs.List.{AllByRecursion, find, list_any}
 use Rattle.std.specs.Option.{option_map}
 use Rattle.std.specs.FinMap as map
 use Rattle.std.specs.FinMap.{FinMap, get-empty, get-insert}
 use Rattle.std.proofs.Common.{ap, sym, ◌∙◌, subst, arith, inl, inr}
+use Rattle.std.proofs.lemmas.Bool.{cases_lt}
 use Rattle.fs_path.specs.Name.{Name}
-use Rattle.lab_lattice.specs.Label.{Label, bottom, label_cmp}
+use Rattle.lab_lattice.specs.Label.{Label, bottom, dominates, label_cmp}
 use Rattle.lab_lattice.proofs.Labels.{label_cmp_total, label_cmp_exact}
 use Rattle.kern_model.specs.declared.numbers.Oid.{Oid}
 use Rattle.kern_model.specs.declared.objects.Attr.{Attr}
@@ -16,16 +17,18 @@ use Rattle.kern_model.specs.declared.objects.Object.{Object}
 use Rattle.kern_model.specs.Entries.{holder, is_so_above, is_under_within}
 use Rattle.kern_model.specs.Keys.{Spot, oid_cmp, spot_cmp, same_oid}
 use Rattle.kern_model.specs.Kinds.{object_with}
-use Rattle.kern_model.specs.State.{State, drawn}
+use Rattle.kern_model.specs.Maps.{any_entry}
+use Rattle.kern_model.specs.Rules.{is_above_holders}
+use Rattle.kern_model.specs.State.{State, drawn, object_at, stub_object}
 use Rattle.kern_model.specs.Valid.{IsDir}
 use Rattle.kern_model.proofs.KeyLaws.{oid_cmp_total, oid_cmp_exact, spot_cmp_total, spot_cmp_exact}
 use Rattle.kern_model.proofs.MapLemmas.{each-entries, each-insert, each-remove, get-insert_kept, get-insert_same, get_or-absent, get_or-found, get_or-same, never_some, same_key, some_same}
+use Rattle.kern_model.proofs.Selections.{count_remove}
 use Rattle.fs_nodes.specs.Nodes.{NodeTable, no_nodes, with_new, with_object, next_in}
-use Rattle.fs_dirs.specs.declared.links.Links.{Links}
-use Rattle.fs_dirs.specs.declared.links.Links.TheVariants.{One, Shared}
-use Rattle.fs_dirs.specs.Entries.{EntryTable, count_of, entries_alone, linked, HasShared, name_count, without_name}
+use Rattle.fs_dirs.specs.Entries.{entries_alone, name_count}
 use Rattle.fs_dirs.specs.Tree.{IsNoDir, IsTree, MayBeAdded, TreeView, root_alone}
-use Rattle.fs_dirs.proofs.MoveLemmas.{shared_without}
+use Rattle.fs_dirs.proofs.CountLemmas.{count_entries-empty, count_entries-insert}
+use Rattle.fs_dirs.proofs.MoveLemmas.{no_more}
 
 -- no number is drawn at first
 pub none_drawn : (l : Label) → drawn map.empty l ≡ 0
@@ -66,14 +69,14 @@ module _ (objects : FinMap oid_cmp Object) (id : Oid) (old o : Object) (is : map
     | inr e ↦ record { object = o; is = e.1; no_dir = λ k. d.no_dir (ap (λ (x : Object). x.kind) (some_same d.object old (sym d.is ∙ ap (map.get objects) e.0 ∙ is)) ∙ sym same ∙ k) }
   ]
 
-pub tree_with_object : (table : NodeTable) (t : EntryTable) → IsTree table t → (id : Oid) (old o : Object) → map.get table.objects id ≡ Some old → o.kind ≡ old.kind → IsTree (with_object table id o) t
+pub tree_with_object : (table : NodeTable) (t : FinMap spot_cmp Oid) → IsTree table t → (id : Oid) (old o : Object) → map.get table.objects id ≡ Some old → o.kind ≡ old.kind → IsTree (with_object table id o) t
 tree_with_object table t tree id old o is same = record {
   drawn_already = λ q x e. elim (set_at table.objects id o q x e) [
     | inl f ↦ tree.drawn_already q old (ap (map.get table.objects) f.0 ∙ is)
     | inr f ↦ tree.drawn_already q x f
   ];
   dirs = λ spot at e. still_dir table.objects id old o is same spot.0 (tree.dirs spot at e);
-  single = λ q n e. still_no_dir table.objects id old o is same q (tree.single q n e);
+  single = λ q several. still_no_dir table.objects id old o is same q (tree.single q several);
 }
 
 -- an object is made
@@ -111,61 +114,66 @@ module _ (table : NodeTable) (label : Label) (o : Object) (drawn_already : (id :
     | inr f ↦ let low = drawn_already q x f in let more = more_drawn q.label in omega (arith, low, more)
   ]
 
-pub tree_with_new : (table : NodeTable) (t : EntryTable) → IsTree table t → (label : Label) (o : Object) → IsTree (with_new table label o) t
+pub tree_with_new : (table : NodeTable) (t : FinMap spot_cmp Oid) → IsTree table t → (label : Label) (o : Object) → IsTree (with_new table label o) t
 tree_with_new table t tree label o = record {
   drawn_already = made_drawn table label o tree.drawn_already;
   dirs = λ spot at e. let d = tree.dirs spot at e in record { object = d.object; is = still_there table label o tree.drawn_already spot.0 d.object d.is; dir = d.dir };
-  single = λ q n e. let d = tree.single q n e in record { object = d.object; is = still_there table label o tree.drawn_already q d.object d.is; no_dir = d.no_dir };
+  single = λ q several. let d = tree.single q several in record { object = d.object; is = still_there table label o tree.drawn_already q d.object d.is; no_dir = d.no_dir };
 }
 
 -- ---- the entries
 -- the root alone has no entry
-pub tree_alone : (attr : Attr) (t : EntryTable) → t.entries ≡ map.empty → t.links ≡ map.empty → IsTree (root_alone attr) t
-tree_alone attr t none unlinked = record {
+pub tree_alone : (attr : Attr) (t : FinMap spot_cmp Oid) → t ≡ map.empty → IsTree (root_alone attr) t
+tree_alone attr t none = record {
   drawn_already = subst (λ (table : NodeTable). (id : Oid) (o : Object) → map.get table.objects id ≡ Some o → id.n ≤ drawn table.numbers id.label) (root_made attr)
       (made_drawn no_nodes bottom (object_with bottom attr body.Dir) (λ id o e. absurd (never_some (map.get map.empty id) o (get-empty oid_cmp id) e)));
-  dirs = λ spot at e. absurd (never_some (map.get t.entries spot) at (ap (λ (m : FinMap spot_cmp Oid). map.get m spot) none ∙ get-empty spot_cmp spot) e);
-  single = λ q n e. absurd (never_some (map.get t.links q) (Shared n) (ap (λ (m : FinMap oid_cmp Links). map.get m q) unlinked ∙ get-empty oid_cmp q) e);
+  dirs = λ spot at e. absurd (never_some (map.get t spot) at (ap (λ (m : FinMap spot_cmp Oid). map.get m spot) none ∙ get-empty spot_cmp spot) e);
+  single = λ q several.
+      let empty : name_count t q ≡ 0 = ap (λ (m : FinMap spot_cmp Oid). name_count m q) none ∙ count_entries-empty spot_cmp (λ (spot : Spot) (at : Oid). same_oid at q) in
+      absurd (omega (arith, empty, several));
 }
 
--- where an object that gets one more name has several from then on, it is no directory
-shared_no_dir : (v : TreeView) (t : EntryTable) → IsTree v.nodes.table t → (id : Oid) → MayBeAdded v id → (w : Option Links) → map.get t.links id ≡ w → count_of w ≡ name_count v.entries id → (dir : Oid) (n : ℕ) → linked w dir ≡ Shared n → IsNoDir v.nodes.table.objects id
-shared_no_dir v t tree id may None is counted dir n e = cc
-shared_no_dir v t tree id may (Some (One other)) is counted dir n e = record {
-  object = may.object;
-  is = may.is;
-  no_dir = λ k. let none : name_count v.entries id ≡ 0 = may.one k in absurd (omega (arith, counted, none));
-}
-shared_no_dir v t tree id may (Some (Shared m)) is counted dir n e = tree.single id m is
+-- an object that gets one more name and has several from then on is no directory
+several_no_dir : (v : TreeView) → IsTree v.nodes.table v.entries → (dir : Oid) (name : Name) (id : Oid) → MayBeAdded v id → map.get v.entries (dir, name) ≡ None → (q : Oid) → 1 < name_count (map.insert v.entries (dir, name) id) q → IsNoDir v.nodes.table.objects q
+several_no_dir v tree dir name id may absent q several =
+    let counted = count_entries-insert (λ (spot : Spot) (at : Oid). same_oid at q) spot_cmp_total v.entries (dir, name) id absent in
+    elim (same_oid id q) as (λ b. same_oid id q ≡ b → IsNoDir v.nodes.table.objects q) [
+      | true ↦ λ t.
+          let same : id ≡ q = same_key oid_cmp_exact id q t in
+          let one : ◌≡◌ {A = ℕ} (cond (same_oid id q) 1 0) 1 = ap (λ b. cond {A = ℕ} b 1 0) t in
+          subst (IsNoDir v.nodes.table.objects) same (record {
+            object = may.object;
+            is = may.is;
+            no_dir = λ k. let none : name_count v.entries q ≡ 0 = ap (name_count v.entries) (sym same) ∙ may.one k in absurd (omega (arith, counted, one, none, several));
+          })
+      | false ↦ λ f.
+          let none : ◌≡◌ {A = ℕ} (cond (same_oid id q) 1 0) 0 = ap (λ b. cond {A = ℕ} b 1 0) f in
+          tree.single q (omega (arith, counted, none, several))
+    ] refl
 
-pub tree_added : (v : TreeView) (t : EntryTable) → IsTree v.nodes.table t → (dir : Oid) (name : Name) (id : Oid) → IsDir v.nodes.table.objects dir → MayBeAdded v id → count_of (map.get t.links id) ≡ name_count v.entries id
-    → (t' : EntryTable) → t'.entries ≡ map.insert t.entries (dir, name) id → t'.links ≡ map.insert t.links id (linked (map.get t.links id) dir) → IsTree v.nodes.table t'
-tree_added v t tree dir name id is_dir may counted t' entries links = record {
+pub tree_added : (v : TreeView) → IsTree v.nodes.table v.entries → (dir : Oid) (name : Name) (id : Oid) → IsDir v.nodes.table.objects dir → MayBeAdded v id → map.get v.entries (dir, name) ≡ None → IsTree v.nodes.table (map.insert v.entries (dir, name) id)
+tree_added v tree dir name id is_dir may absent = record {
   drawn_already = tree.drawn_already;
-  dirs = λ spot at e. each-insert spot_cmp_total spot_cmp_exact (λ (spot : Spot) (at : Oid). IsDir v.nodes.table.objects spot.0) t.entries tree.dirs (dir, name) id is_dir spot at (ap (λ (m : FinMap spot_cmp Oid). map.get m spot) (sym entries) ∙ e);
-  single = λ q n e.
-      elim (same_oid q id) as (λ b. same_oid q id ≡ b → cond b (Some (linked (map.get t.links id) dir)) (map.get t.links q) ≡ Some (Shared n) → IsNoDir v.nodes.table.objects q) [
-        | true ↦ λ s f. subst (IsNoDir v.nodes.table.objects) (sym (same_key oid_cmp_exact q id s)) (shared_no_dir v t tree id may (map.get t.links id) refl counted dir n (some_same (linked (map.get t.links id) dir) (Shared n) f))
-        | false ↦ λ _ f. tree.single q n f
-      ] refl (sym (get-insert oid_cmp_total t.links id (linked (map.get t.links id) dir) q) ∙ ap (λ (m : FinMap oid_cmp Links). map.get m q) (sym links) ∙ e);
+  dirs = each-insert spot_cmp_total spot_cmp_exact (λ (spot : Spot) (at : Oid). IsDir v.nodes.table.objects spot.0) v.entries tree.dirs (dir, name) id is_dir;
+  single = several_no_dir v tree dir name id may absent;
 }
 
 -- an entry that goes, if it is there
-pub tree_removed : (table : NodeTable) (t : EntryTable) → IsTree table t → (spot : Spot) (w : Option Oid) (t' : EntryTable) → t'.entries ≡ map.remove t.entries spot → t'.links ≡ without_name t.links w → IsTree table t'
-tree_removed table t tree spot w t' entries links = record {
+pub tree_removed : (table : NodeTable) (t : FinMap spot_cmp Oid) → IsTree table t → (spot : Spot) → IsTree table (map.remove t spot)
+tree_removed table t tree spot = record {
   drawn_already = tree.drawn_already;
-  dirs = λ q at e. each-remove spot_cmp_total spot_cmp_exact (λ (spot : Spot) (at : Oid). IsDir table.objects spot.0) t.entries tree.dirs spot q at (ap (λ (m : FinMap spot_cmp Oid). map.get m q) (sym entries) ∙ e);
-  single = λ q n e. let was = shared_without t.links w q n (ap (λ (m : FinMap oid_cmp Links). map.get m q) (sym links) ∙ e) in tree.single q was.count was.is;
+  dirs = each-remove spot_cmp_total spot_cmp_exact (λ (spot : Spot) (at : Oid). IsDir table.objects spot.0) t tree.dirs spot;
+  single = λ q several. let fewer = count_remove spot_cmp_total spot_cmp_exact (λ (spot : Spot) (at : Oid). same_oid at q) spot t in tree.single q (omega (arith, fewer, several));
 }
 
 -- an entry that moves
-pub tree_moved : (table : NodeTable) (t : EntryTable) → IsTree table t → (spot : Spot) (into : Oid) (new : Name) (id : Oid) → IsDir table.objects into → (t' : EntryTable)
-    → t'.entries ≡ map.insert (map.remove t.entries spot) (into, new) id → ((q : Oid) (n : ℕ) → map.get t'.links q ≡ Some (Shared n) → HasShared t.links q) → IsTree table t'
-tree_moved table t tree spot into new id is_dir t' entries shared = record {
+pub tree_moved : (table : NodeTable) (t : FinMap spot_cmp Oid) → IsTree table t → (dir : Oid) (name : Name) (into : Oid) (new : Name) (id : Oid) → IsDir table.objects into → map.get t (dir, name) ≡ Some id
+    → eq_by_cmp spot_cmp (dir, name) (into, new) ≡ false → IsTree table (map.insert (map.remove t (dir, name)) (into, new) id)
+tree_moved table t tree dir name into new id is_dir there apart = record {
   drawn_already = tree.drawn_already;
-  dirs = λ q at e. each-insert spot_cmp_total spot_cmp_exact (λ (spot : Spot) (at : Oid). IsDir table.objects spot.0) (map.remove t.entries spot)
-      (each-remove spot_cmp_total spot_cmp_exact (λ (spot : Spot) (at : Oid). IsDir table.objects spot.0) t.entries tree.dirs spot) (into, new) id is_dir q at (ap (λ (m : FinMap spot_cmp Oid). map.get m q) (sym entries) ∙ e);
-  single = λ q n e. let was = shared q n e in tree.single q was.count was.is;
+  dirs = each-insert spot_cmp_total spot_cmp_exact (λ (spot : Spot) (at : Oid). IsDir table.objects spot.0) (map.remove t (dir, name))
+      (each-remove spot_cmp_total spot_cmp_exact (λ (spot : Spot) (at : Oid). IsDir table.objects spot.0) t tree.dirs (dir, name)) (into, new) id is_dir;
+  single = λ q several. let fewer = no_more t dir name into new id there apart q in tree.single q (omega (arith, fewer, several));
 }
 
 -- ---- the directories above one
@@ -177,14 +185,40 @@ all_found P p (y ∷ xs) x h e = elim (p y) as (λ b. cond b (Some y) (find p xs
 ] e
 
 -- what holds an object is a directory
-pub holder_dir : (table : NodeTable) (t : EntryTable) → IsTree table t → (id above : Oid) → holder (entries_alone t.entries) id ≡ Some above → IsDir table.objects above
+pub holder_dir : (table : NodeTable) (t : FinMap spot_cmp Oid) → IsTree table t → (id above : Oid) → holder (entries_alone t) id ≡ Some above → IsDir table.objects above
 unfolding holder
 holder_dir table t tree id above h =
-    let each = each-entries spot_cmp_total spot_cmp_exact (λ (spot : Spot) (at : Oid). IsDir table.objects spot.0) t.entries tree.dirs in
-    elim (find (λ (e : Spot × Oid). same_oid e.1 id) (map.entries t.entries)) as (λ w. find (λ (e : Spot × Oid). same_oid e.1 id) (map.entries t.entries) ≡ w → option_map (λ (e : Spot × Oid). e.0.0) w ≡ Some above → IsDir table.objects above) [
+    let each = each-entries spot_cmp_total spot_cmp_exact (λ (spot : Spot) (at : Oid). IsDir table.objects spot.0) t tree.dirs in
+    elim (find (λ (e : Spot × Oid). same_oid e.1 id) (map.entries t)) as (λ w. find (λ (e : Spot × Oid). same_oid e.1 id) (map.entries t) ≡ w → option_map (λ (e : Spot × Oid). e.0.0) w ≡ Some above → IsDir table.objects above) [
       | None ↦ λ _ f. absurd (never_some None above refl f)
-      | Some e ↦ λ found f. subst (IsDir table.objects) (some_same e.0.0 above f) (all_found (λ (e : Spot × Oid). IsDir table.objects e.0.0) (λ (e : Spot × Oid). same_oid e.1 id) (map.entries t.entries) e each found)
+      | Some e ↦ λ found f. subst (IsDir table.objects) (some_same e.0.0 above f) (all_found (λ (e : Spot × Oid). IsDir table.objects e.0.0) (λ (e : Spot × Oid). same_oid e.1 id) (map.entries t) e each found)
     ] refl h
+
+module _ (s t : State) (id : Oid) (label : Label) where
+  list_any_same : (p q : Spot × Oid → Bool) (es : List (Spot × Oid)) → AllByRecursion (λ (e : Spot × Oid). p e ≡ q e) es → list_any p es ≡ list_any q es
+  list_any_same p q [] h = refl
+  list_any_same p q (e ∷ es) h = ap (λ b. b || list_any p es) h.0 ∙ ap (λ b. q e || b) (list_any_same p q es h.1)
+
+  -- where the same objects and entries are, and each entry stands in a directory that is there, the same labels are above
+  pub above_same : (table : NodeTable) → IsTree table t.entries → s.objects ≡ table.objects → t.objects ≡ table.objects → s.entries ≡ t.entries → is_above_holders t id label ≡ is_above_holders s id label
+  unfolding is_above_holders any_entry
+  above_same table tree objects objects' entries =
+      let test : State → Spot × Oid → Bool = λ (x : State) (e : Spot × Oid). same_oid e.1 id && not (dominates label (object_at x e.0.0).label) in
+      let each = each-entries spot_cmp_total spot_cmp_exact (λ (spot : Spot) (at : Oid). test t (spot, at) ≡ test s (spot, at)) t.entries (λ spot at is.
+      let d = tree.dirs spot at is in
+      let here : object_at t spot.0 ≡ d.object = get_or-found t.objects spot.0 (stub_object t.top) d.object (ap (λ (m : FinMap oid_cmp Object). map.get m spot.0) objects' ∙ d.is) in
+      let there : object_at s spot.0 ≡ d.object = get_or-found s.objects spot.0 (stub_object s.top) d.object (ap (λ (m : FinMap oid_cmp Object). map.get m spot.0) objects ∙ d.is) in
+      ap (λ (o : Object). same_oid at id && not (dominates label o.label)) (here ∙ sym there)) in
+      ap not (list_any_same (test t) (test s) (map.entries t.entries) each ∙ ap (λ (m : FinMap spot_cmp Oid). list_any (test s) (map.entries m)) (sym entries))
+
+-- a directory has one name at most
+pub dir_single : (table : NodeTable) (t : FinMap spot_cmp Oid) → IsTree table t → (id : Oid) → IsDir table.objects id → name_count t id ≤ 1
+dir_single table t tree id d = elim (cases_lt 1 (name_count t id)) [
+  | inl several ↦
+      let other = tree.single id several in
+      absurd (other.no_dir (ap (λ (o : Object). o.kind) (some_same other.object d.object (sym other.is ∙ d.is)) ∙ d.dir))
+  | inr few ↦ few
+]
 
 module _ (s : State) (top : Oid) where
   -- a directory that is not the one lies under it where the directory that holds it does, and does not where none holds it
@@ -194,12 +228,12 @@ module _ (s : State) (top : Oid) where
 
 -- ---- bytes that wait
 -- an object is changed, but not its kind, and no number is drawn
-pub tree_streamed : (table new : NodeTable) (t : EntryTable) → IsTree table t → (id : Oid) (old o : Object) → map.get table.objects id ≡ Some old → o.kind ≡ old.kind → new.objects ≡ map.insert table.objects id o → new.numbers ≡ table.numbers → IsTree new t
+pub tree_streamed : (table new : NodeTable) (t : FinMap spot_cmp Oid) → IsTree table t → (id : Oid) (old o : Object) → map.get table.objects id ≡ Some old → o.kind ≡ old.kind → new.objects ≡ map.insert table.objects id o → new.numbers ≡ table.numbers → IsTree new t
 tree_streamed table new t tree id old o is same objects numbers =
     let made : new ≡ with_object table id o = λ i. record { objects = objects i; numbers = numbers i } in
     subst (λ (x : NodeTable). IsTree x t) (sym made) (tree_with_object table t tree id old o is same)
 
-pub tree_same : (table new : NodeTable) (t : EntryTable) → IsTree table t → new.objects ≡ table.objects → new.numbers ≡ table.numbers → IsTree new t
+pub tree_same : (table new : NodeTable) (t : FinMap spot_cmp Oid) → IsTree table t → new.objects ≡ table.objects → new.numbers ≡ table.numbers → IsTree new t
 tree_same table new t tree objects numbers =
     let made : new ≡ table = λ i. record { objects = objects i; numbers = numbers i } in
     subst (λ (x : NodeTable). IsTree x t) (sym made) tree

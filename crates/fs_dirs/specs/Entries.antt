@@ -1,20 +1,20 @@
 -- The entries of all directories, and the names that objects have.
-use Rattle.std.specs.Prelude.{◌≡◌, ℕ, ◌+◌, ◌-◌, nat_le, List, [], ◌∷◌, map, Option, None, Some, cond, refl}
+use Rattle.std.specs.Prelude.{◌≡◌, ◌&&◌, ◌<◌, ◌≤◌, ℕ, ◌+◌, Bool, List, [], ◌∷◌, map, Option, None, Some, cond, count_by}
 use Rattle.std.specs.List.{flat_map}
-use Rattle.std.specs.Coded.{Coded, code_by, coded×}
 use Rattle.std.specs.FinMap as table
 use Rattle.std.specs.FinMap.{FinMap}
 use Rattle.cap_bits.specs.CapSet.{no_caps}
 use Rattle.fs_path.specs.Name.{Name}
 use Rattle.lab_lattice.specs.Label.{bottom}
+use Rattle.kern_model.specs.declared.limits.TheConstants.{MAX_LINKS}
 use Rattle.kern_model.specs.declared.numbers.Oid.{Oid}
 use Rattle.kern_model.specs.Entries.{link_count}
 use Rattle.kern_model.specs.Keys.{Spot, oid_cmp, same_oid, spot_cmp}
-use Rattle.kern_model.specs.Maps.{get_or}
+use Rattle.kern_model.specs.Maps.{count_entries, get_or}
 use Rattle.kern_model.specs.State.{State}
 use Rattle.fs_dirs.specs.Directory.{name_cmp}
-use Rattle.fs_dirs.specs.declared.links.Links.{Links}
-use Rattle.fs_dirs.specs.declared.links.Links.TheVariants.{One, Shared}
+use Rattle.fs_dirs.specs.declared.links.Kept.{Kept}
+use Rattle.fs_dirs.specs.declared.links.Kept.TheVariants.{One, Shared}
 
 -- ---- what directories contain
 
@@ -58,76 +58,54 @@ entries_alone entries = record {
 abbrev pub name_count : FinMap spot_cmp Oid → Oid → ℕ
 name_count entries id = link_count (entries_alone entries) id
 
--- a directory has an entry that leads to an object
-pub record IsHeldBy (entries : FinMap spot_cmp Oid) (id : Oid) (dir : Oid) : Type 0 where
-  pub name : Name
-  pub is : table.get entries (dir, name) ≡ Some id
+-- how many names an object has in directories that pass a test
+abbrev pub count_in : FinMap spot_cmp Oid → Oid → (Oid → Bool) → ℕ
+count_in entries id test = count_entries (λ (spot : Spot) (at : Oid). same_oid at id && test spot.0) entries
 
--- what is kept of an object's names is what the entries say
-abbrev pub IsLinked : FinMap spot_cmp Oid → Oid → Option Links → Type 0
-IsLinked entries id None = name_count entries id ≡ 0
-IsLinked entries id (Some (One dir)) = (name_count entries id ≡ 1) × IsHeldBy entries id dir
-IsLinked entries id (Some (Shared n)) = name_count entries id ≡ n
+-- a list has each directory as often as it holds an object
+abbrev pub AreHolders : FinMap spot_cmp Oid → Oid → List Oid → Type 0
+AreHolders entries id dirs = (test : Oid → Bool) → count_by test dirs ≡ count_in entries id test
 
--- how many names those are
-abbrev pub count_of : Option Links → ℕ
-count_of None = 0
-count_of (Some (One dir)) = 1
-count_of (Some (Shared n)) = n
+-- the directories where the names of an object stand
+abbrev pub dirs_of : Kept → List Oid
+dirs_of (One dir) = dir ∷ []
+dirs_of (Shared dirs) = dirs.items
 
--- and the directory where the one of them stands
-abbrev pub dir_of : Option Links → Option Oid
-dir_of None = None
-dir_of (Some (One dir)) = Some dir
-dir_of (Some (Shared n)) = None
+-- those of each object
+abbrev pub Holders : Type 0
+Holders = FinMap oid_cmp (List Oid)
 
--- with one name more, in a directory
-abbrev pub linked : Option Links → Oid → Links
-linked None dir = One dir
-linked (Some (One other)) dir = Shared 2
-linked (Some (Shared n)) dir = Shared (n + 1)
+-- those of one object; none where none are kept
+abbrev pub dirs_at : Holders → Oid → List Oid
+dirs_at holders id = get_or holders id []
 
--- with one name less
-abbrev pub unlinked : Option Links → Option Links
-unlinked None = None
-unlinked (Some (One dir)) = None
-unlinked (Some (Shared n)) = cond (nat_le n 1) None (Some (Shared (n - 1)))
+-- one of the names of an object stands in a directory
+abbrev pub IsIn : Oid → List Oid → Type 0
+IsIn dir dirs = 0 < count_by (λ (d : Oid). same_oid d dir) dirs
 
--- the same names, the one of them in another directory
-abbrev pub relinked : Option Links → Oid → Option Links
-relinked None dir = None
-relinked (Some (One other)) dir = Some (One dir)
-relinked (Some (Shared n)) dir = Some (Shared n)
+-- the same directories, and one more
+abbrev pub IsWith : List Oid → Oid → List Oid → Type 0
+IsWith dirs dir more = (test : Oid → Bool) → count_by test more ≡ cond (test dir) 1 0 + count_by test dirs
 
--- a table with other names of an object, or none
-abbrev pub with_links : FinMap oid_cmp Links → Oid → Option Links → FinMap oid_cmp Links
-with_links links id None = table.remove links id
-with_links links id (Some l) = table.insert links id l
+-- the same directories, one of them in place of another one
+abbrev pub IsInPlace : List Oid → Oid → Oid → List Oid → Type 0
+IsInPlace dirs from to others = (test : Oid → Bool) → cond (test from) 1 0 + count_by test others ≡ cond (test to) 1 0 + count_by test dirs
 
--- a table in which an object, if there is one, has one name less
-abbrev pub without_name : FinMap oid_cmp Links → Option Oid → FinMap oid_cmp Links
-without_name links None = links
-without_name links (Some id) = with_links links id (unlinked (table.get links id))
+-- the same names of all objects, and one more of one object
+abbrev pub HasMore : Holders → Oid → Oid → Holders → Type 0
+HasMore holders id dir more = (q : Oid) (test : Oid → Bool) → count_by test (dirs_at more q) ≡ cond (same_oid id q && test dir) 1 0 + count_by test (dirs_at holders q)
 
--- an object has had several names
-pub record HasShared (links : FinMap oid_cmp Links) (id : Oid) : Type 0 where
-  pub count : ℕ
-  pub is : table.get links id ≡ Some (Shared count)
+-- the same names of all objects, and one less of an object, if there is one
+abbrev pub HasLess : Holders → Option Oid → Oid → Holders → Type 0
+HasLess holders None dir less = less ≡ holders
+HasLess holders (Some id) dir less = HasMore less id dir holders
 
--- ---- both
+-- the same names of all objects, one of them in another directory
+abbrev pub HasMoved : Holders → Oid → Oid → Oid → Holders → Type 0
+HasMoved holders id from to after = (q : Oid) (test : Oid → Bool) → cond (same_oid id q && test from) 1 0 + count_by test (dirs_at after q) ≡ cond (same_oid id q && test to) 1 0 + count_by test (dirs_at holders q)
 
--- the entries of all directories, and the names of each object that has some
-pub record EntryTable : Type 0 where
-  pub entries : FinMap spot_cmp Oid
-  pub links : FinMap oid_cmp Links
-
--- how they are stored
-abbrev pub entry_table_code : Coded Spot → Coded Oid → Coded Links → Coded EntryTable
-entry_table_code spot oid links =
-    code_by (FinMap spot_cmp Oid × FinMap oid_cmp Links) (coded× (table.code spot oid) (table.code oid links))
-    (λ t. (t.entries, t.links)) (λ p. record { entries = p.0; links = p.1 }) (λ _. refl)
-
--- each object's names are kept, and how many entries there are
-pub record AreKept (entries : FinMap spot_cmp Oid) (links : FinMap oid_cmp Links) (total : ℕ) : Type 0 where
-  pub linked_so : (id : Oid) → IsLinked entries id (table.get links id)
+-- each object's names are kept, few of each, and how many entries there are
+pub record AreKept (entries : FinMap spot_cmp Oid) (holders : Holders) (total : ℕ) : Type 0 where
+  pub holders_are : (id : Oid) → AreHolders entries id (dirs_at holders id)
+  pub few : (id : Oid) → name_count entries id ≤ MAX_LINKS
   pub counted : total ≡ table.len entries

@@ -1,5 +1,5 @@
 -- The tree: the objects, and the entries of the directories among them.
-use Rattle.std.specs.Prelude.{◌≡◌, ◌&&◌, ℕ, Bool, ◌≤◌, ◌<◌, Some, refl}
+use Rattle.std.specs.Prelude.{◌≡◌, ◌&&◌, Bool, ◌≤◌, ◌<◌, Some, refl}
 use Rattle.std.specs.FinMap as map
 use Rattle.std.specs.FinMap.{FinMap}
 use Rattle.std.specs.Coded.{Coded, code_by, coded×}
@@ -16,8 +16,7 @@ use Rattle.kern_model.specs.Kinds.{is_dir, object_with}
 use Rattle.kern_model.specs.State.{State, drawn, object_at, root}
 use Rattle.kern_model.specs.Valid.{IsDir}
 use Rattle.fs_nodes.specs.Nodes.{NodeSlots, NodeTable}
-use Rattle.fs_dirs.specs.declared.links.Links.TheVariants.{Shared}
-use Rattle.fs_dirs.specs.Entries.{EntryTable, entries_alone, name_count}
+use Rattle.fs_dirs.specs.Entries.{entries_alone, name_count}
 
 -- objects with their places, and the entries of directories
 pub record TreeView : Type 0 where
@@ -45,10 +44,10 @@ pub record IsNoDir (objects : FinMap oid_cmp Object) (id : Oid) : Type 0 where
   pub no_dir : object.kind ≡ kind.Dir → ⊥
 
 -- objects have numbers that were drawn, entries stand in directories, and a directory never has several names
-pub record IsTree (table : NodeTable) (t : EntryTable) : Type 0 where
+pub record IsTree (table : NodeTable) (entries : FinMap spot_cmp Oid) : Type 0 where
   pub drawn_already : (id : Oid) (o : Object) → map.get table.objects id ≡ Some o → id.n ≤ drawn table.numbers id.label
-  pub dirs : (spot : Spot) (id : Oid) → map.get t.entries spot ≡ Some id → IsDir table.objects spot.0
-  pub single : (id : Oid) (n : ℕ) → map.get t.links id ≡ Some (Shared n) → IsNoDir table.objects id
+  pub dirs : (spot : Spot) (id : Oid) → map.get entries spot ≡ Some id → IsDir table.objects spot.0
+  pub single : (id : Oid) → 1 < name_count entries id → IsNoDir table.objects id
 
 -- objects have numbers that were drawn, entries stand in directories, an object has few names, and a directory never several
 pub record AreEntries (table : NodeTable) (entries : FinMap spot_cmp Oid) : Type 0 where

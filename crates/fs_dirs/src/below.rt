@@ -29,7 +29,7 @@ pub struct Below {
 impl Below {
     /// The way down from an object. Each of its entries is due.
     pub fn new(alloc: Global, top: &Oid, entries: &Entries) -> Self
-        ensures { (id : Number) → LiesUnder (entries_alone entries.now.entries) id top.now → same_oid id top.now ≡ false → IsUnderDue (entries_alone entries.now.entries) result id }
+        ensures { (id : Number) → LiesUnder (entries_alone entries.now) id top.now → same_oid id top.now ≡ false → IsUnderDue (entries_alone entries.now) result id }
     {
         let mut below = Below {
             due: Vec::new(alloc),
@@ -49,7 +49,7 @@ impl Below {
     /// Looks at one entry that is due. The way down is given up where memory runs out, and where the entry leads to the goal,
     /// since the way up from the goal is not longer.
     pub fn step(&mut self, entries: &Entries, goal: &Oid)
-        ensures { IsUnderDue (entries_alone entries.now.entries) self.old goal.now → IsUnderDue (entries_alone entries.now.entries) self.new goal.now }
+        ensures { IsUnderDue (entries_alone entries.now) self.old goal.now → IsUnderDue (entries_alone entries.now) self.new goal.now }
     {
         if self.look(entries, goal).is_err() {
             self.complete = false;
@@ -58,7 +58,7 @@ impl Below {
 
     // The same. Where it fails, entries that were due may be lost.
     fn look(&mut self, entries: &Entries, goal: &Oid) -> Result<(), NoMemory>
-        ensures { OnOk result (IsUnderDue (entries_alone entries.now.entries) self.old goal.now → IsUnderDue (entries_alone entries.now.entries) self.new goal.now) }
+        ensures { OnOk result (IsUnderDue (entries_alone entries.now) self.old goal.now → IsUnderDue (entries_alone entries.now) self.new goal.now) }
     {
         let Some(due) = self.due.pop() else {
             return Ok(());

@@ -3,15 +3,13 @@ ghost use Rattle.std.specs.Prelude.{◌≡◌, ◌-◌, ◌<◌, ◌≤◌, ℕ,
 ghost use Rattle.std.specs.Ordering.{eq_by_cmp};
 ghost use Rattle.std.specs.FinMap as map;
 ghost use Rattle.kern_model.specs.declared.limits.TheConstants.{MAX_LINKS};
-ghost use Rattle.kern_model.specs.declared.numbers.Oid.{Oid as Number};
 ghost use Rattle.kern_model.specs.Keys.{spot_cmp};
 ghost use Rattle.kern_model.specs.Entries.{entry_count, holder, link_count, names_in};
-ghost use Rattle.fs_dirs.specs.declared.links.Links.TheVariants as links;
 ghost use Rattle.fs_dirs.specs.Directory.{TakesFewSteps};
-ghost use Rattle.fs_dirs.specs.Entries.{count_of, entries_alone, HasShared, linked, objects_in, without_name};
+ghost use Rattle.fs_dirs.specs.Entries.{AreHolders, entries_alone, objects_in};
 
 use crate::dirs::Dirs;
-use crate::links::{LinkTable, count, only_dir, with_name};
+use crate::links::LinkTable;
 use fs_path::{Name, NameList, NoMemory, Steps};
 use kern_model::Oid;
 use std::alloc::Global;
@@ -27,15 +25,18 @@ pub struct Entries {
 }
 
 impl Model for Entries {
+    ghost use Rattle.std.specs.FinMap as map;
     ghost use Rattle.std.specs.Coded.{codes};
     ghost use Rattle.lab_lattice.specs.Label.{label_code};
-    ghost use Rattle.fs_dirs.specs.Entries.{AreKept, EntryTable, entries_of, entry_table_code};
+    ghost use Rattle.kern_model.specs.declared.numbers.Oid.{Oid};
+    ghost use Rattle.kern_model.specs.Keys.{spot_cmp};
+    ghost use Rattle.fs_dirs.specs.Entries.{AreKept, entries_of};
 
-    ghost Value = { EntryTable };
+    ghost Value = { map.FinMap spot_cmp Oid };
 
-    ghost coded = { entry_table_code (Prim.hlevel (codes, label_code)) (Prim.hlevel (codes, label_code)) (Prim.hlevel (codes, label_code)) };
+    ghost coded = { map.code (Prim.hlevel (codes, label_code)) (Prim.hlevel (codes, label_code)) };
 
-    ghost view = { λ e. record { entries = entries_of e.dirs; links = e.names } };
+    ghost view = { λ e. entries_of e.dirs };
 
     ghost invariant = { λ e. AreKept (entries_of e.dirs) e.names e.total };
 }
@@ -54,8 +55,7 @@ fn without_one(total: usize, gone: &Option<Oid>) -> usize
 impl Entries {
     /// No entry.
     pub fn new(alloc: Global) -> Self
-        ensures entries { result.entries ≡ map.empty }
-        ensures links { result.links ≡ map.empty }
+        ensures { result ≡ map.empty }
     {
         Entries {
             dirs: Dirs::new(alloc),
@@ -66,7 +66,7 @@ impl Entries {
 
     /// How many entries there are.
     pub fn total(&self) -> usize
-        ensures { result ≡ map.len self.now.entries }
+        ensures { result ≡ map.len self.now }
     {
         self.total
     }
@@ -78,36 +78,36 @@ impl Entries {
         name: &Name,
         steps: &mut Steps<L>,
     ) -> Option<Oid>
-        ensures found { result ≡ map.get self.now.entries (dir.now, name.now) }
-        ensures counted { TakesFewSteps (entry_count (entries_alone self.now.entries) dir.now) steps.old steps.new }
+        ensures found { result ≡ map.get self.now (dir.now, name.now) }
+        ensures counted { TakesFewSteps (entry_count (entries_alone self.now) dir.now) steps.old steps.new }
     {
         self.dirs.look_counted(dir, name, steps)
     }
 
     /// How many names a directory contains.
     pub fn len(&self, dir: &Oid) -> usize
-        ensures { result ≡ entry_count (entries_alone self.now.entries) dir.now }
+        ensures { result ≡ entry_count (entries_alone self.now) dir.now }
     {
         self.dirs.len(dir)
     }
 
     /// The object to which the name at a place in a directory leads, if it contains so many.
     pub fn object_at(&self, dir: &Oid, place: usize) -> Option<Oid>
-        ensures { result ≡ slice_get (objects_in (entries_alone self.now.entries) dir.now) place }
+        ensures { result ≡ slice_get (objects_in (entries_alone self.now) dir.now) place }
     {
         self.dirs.object_at(dir, place)
     }
 
     /// Copies of the names in a directory, in their order.
     pub fn names(&self, dir: &Oid) -> Result<NameList, NoMemory>
-        ensures { IfOk result (λ names. names ≡ names_in (entries_alone self.now.entries) dir.now) }
+        ensures { IfOk result (λ names. names ≡ names_in (entries_alone self.now) dir.now) }
     {
         self.dirs.names(dir)
     }
 
     /// Where an entry leads, if it is there.
     pub fn look(&self, dir: &Oid, name: &Name) -> Option<Oid>
-        ensures { result ≡ map.get self.now.entries (dir.now, name.now) }
+        ensures { result ≡ map.get self.now (dir.now, name.now) }
     {
         self.look_from::<Brand>(dir, name, Blank::new(1))
     }
@@ -117,43 +117,47 @@ impl Entries {
         requires name { blank.name ≡ L.name }
         requires parts { blank.parts ≡ L.parts }
         requires any { 0 < L.parts }
-        ensures { result ≡ map.get self.now.entries (dir.now, name.now) }
+        ensures { result ≡ map.get self.now (dir.now, name.now) }
     {
         let mut steps = Steps::<L>::new(blank);
         self.look_counted(dir, name, &mut steps)
     }
 
-    /// The directory that holds an object, if one does, where the object never had several names.
-    pub fn holder(&self, id: &Oid) -> Option<Oid>
-        requires { (n : ℕ) → map.get self.now.links id.now ≡ Some (links.Shared n) → ⊥ }
-        ensures { result ≡ holder (entries_alone self.now.entries) id.now }
+    /// The directories that hold an object, each as often as it has names there.
+    pub fn holders(&self, id: &Oid) -> &[Oid]
+        ensures { AreHolders self.now id.now result.now }
     {
-        only_dir(self.names.get(id))
+        self.names.dirs(id)
+    }
+
+    /// The directory that holds an object, if one does, where it has no second name.
+    pub fn holder(&self, id: &Oid) -> Option<Oid>
+        requires { link_count (entries_alone self.now) id.now ≤ 1 }
+        ensures { result ≡ holder (entries_alone self.now) id.now }
+    {
+        self.names.dirs(id).first().copied()
     }
 
     /// How many names an object has.
     pub fn name_count(&self, id: &Oid) -> u32
-        ensures { result ≡ link_count (entries_alone self.now.entries) id.now }
+        ensures { result ≡ link_count (entries_alone self.now) id.now }
     {
-        count(self.names.get(id))
+        self.names.dirs(id).len() as u32
     }
 
     /// Adds an entry.
     pub fn insert(&mut self, dir: &Oid, name: Name, id: &Oid) -> Result<(), NoMemory>
-        requires absent { map.get self.old.entries (dir.now, name) ≡ None }
-        requires few { link_count (entries_alone self.old.entries) id.now < MAX_LINKS }
-        ensures entries { OnOk result (self.new.entries ≡ map.insert self.old.entries (dir.now, name) id.now) }
-        ensures links { OnOk result (self.new.links ≡ map.insert self.old.links id.now (linked (map.get self.old.links id.now) dir.now)) }
+        requires absent { map.get self.old (dir.now, name) ≡ None }
+        requires few { link_count (entries_alone self.old) id.now < MAX_LINKS }
+        ensures ok { OnOk result (self.new ≡ map.insert self.old (dir.now, name) id.now) }
         ensures err { OnErr result (self.new ≡ self.old) }
-        ensures before { count_of (map.get self.old.links id.now) ≡ link_count (entries_alone self.old.entries) id.now }
     {
         if self.total == usize::MAX {
             return Err(NoMemory);
         }
-        let links = self.names.get(id);
-        self.names.set(*id, with_name(&links, *dir))?;
+        self.names.add_name(id, dir)?;
         if let Err(e) = self.dirs.insert(dir, name, id) {
-            self.names.replace(id, links);
+            self.names.take_name(id, dir);
             return Err(e);
         }
         self.total += 1;
@@ -162,12 +166,11 @@ impl Entries {
 
     /// Removes an entry, if it is there, and returns the object to which it led. It takes no memory.
     pub fn remove(&mut self, dir: &Oid, name: &Name) -> Option<Oid>
-        ensures found { result ≡ map.get self.old.entries (dir.now, name.now) }
-        ensures entries { self.new.entries ≡ map.remove self.old.entries (dir.now, name.now) }
-        ensures links { self.new.links ≡ without_name self.old.links result }
+        ensures found { result ≡ map.get self.old (dir.now, name.now) }
+        ensures removed { self.new ≡ map.remove self.old (dir.now, name.now) }
     {
         let removed = self.dirs.remove(dir, name);
-        self.names.drop_name(&removed);
+        self.names.drop_name(&removed, dir);
         self.total = without_one(self.total, &removed);
         removed
     }
@@ -181,17 +184,16 @@ impl Entries {
         new: &Name,
         id: &Oid,
     ) -> Result<(), NoMemory>
-        requires there { map.get self.old.entries (from.now, old.now) ≡ Some id.now }
+        requires there { map.get self.old (from.now, old.now) ≡ Some id.now }
         requires apart { eq_by_cmp spot_cmp (from.now, old.now) (to.now, new.now) ≡ false }
-        ensures entries { OnOk result (self.new.entries ≡ map.insert (map.remove self.old.entries (from.now, old.now)) (to.now, new.now) id.now) }
-        ensures shared { OnOk result ((q : Number) (n : ℕ) → map.get self.new.links q ≡ Some (links.Shared n) → HasShared self.old.links q) }
+        ensures moved { OnOk result (self.new ≡ map.insert (map.remove self.old (from.now, old.now)) (to.now, new.now) id.now) }
         ensures err { OnErr result (self.new ≡ self.old) }
     {
         let replaced = self.look(to, new);
         self.dirs.insert(to, new.copy()?, id)?;
         self.dirs.remove(from, old);
-        self.names.drop_name(&replaced);
-        self.names.move_name(id, to);
+        self.names.drop_name(&replaced, to);
+        self.names.move_name(id, from, to);
         self.total = without_one(self.total, &replaced);
         Ok(())
     }

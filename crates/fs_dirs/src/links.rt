@@ -1,95 +1,160 @@
-// How many names objects have.
-ghost use Rattle.std.specs.Prelude.{◌≡◌, ◌<◌, IfSome, IsOk, IsSome, OnErr, OnOk};
+// Where the names of objects stand.
+ghost use Rattle.std.specs.Prelude.{◌≡◌, ◌<◌, ◌++◌, ◌∷◌, [], IfSome, OnErr, OnOk, get_or, length};
 ghost use Rattle.std.specs.FinMap as map;
-ghost use Rattle.kern_model.specs.Valid.{IsThere};
-ghost use Rattle.fs_dirs.specs.Entries.{count_of, dir_of, linked, relinked, unlinked, with_links, without_name};
+ghost use Rattle.fs_dirs.specs.Entries.{HasLess, HasMore, HasMoved, IsIn, IsInPlace, IsWith, dirs_at};
 
+use crate::numbers::same;
 use fs_path::NoMemory;
 use kern_model::Oid;
 use std::alloc::Global;
 use std::collections::BTreeMap;
 use std::marker::Model;
+use std::slice;
 
-/// The names of an object that has some.
-#[derive(Clone, Copy, Debug, PartialEq, Eq)]
-pub enum Links {
-    /// One name, which stands in this directory.
+// Where the names of one object stand.
+#[derive(Drop)]
+enum Kept {
+    // One name, in this directory.
     One(Oid),
-    /// So many names. The object has had more than one, and where they stand is not kept.
-    Shared(u32),
+    // A name in each of these.
+    Shared(Vec<Oid>),
 }
 
-/// How many names an object has.
-pub fn count(links: Option<Links>) -> u32
-    ensures { result ≡ count_of links }
+/// Where the names of an object stand that has some: each directory as often as it holds the object.
+#[derive(Drop)]
+pub struct Links {
+    kept: Kept,
+}
+
+impl Model for Links {
+    ghost use Rattle.std.specs.Prelude.{List};
+    ghost use Rattle.std.specs.Coded.{codes, coded_list};
+    ghost use Rattle.lab_lattice.specs.Label.{label_code};
+    ghost use Rattle.kern_model.specs.declared.numbers.Oid.{Oid};
+    ghost use Rattle.fs_dirs.specs.Entries.{dirs_of};
+
+    ghost Value = { List Oid };
+
+    ghost coded = { coded_list (Prim.hlevel (codes, label_code)) };
+
+    ghost view = { λ l. dirs_of l.kept };
+}
+
+// The place of a directory among others.
+fn place_of(dirs: &[Oid], dir: &Oid) -> usize
+    requires { IsIn dir.now dirs.now }
+    ensures within { result < length dirs.now }
+    ensures is { get_or dirs.now result dir.now ≡ dir.now }
 {
-    match links {
-        None => 0,
-        Some(Links::One(_)) => 1,
-        Some(Links::Shared(n)) => n,
+    for place in 0..dirs.len() {
+        if same(&dirs[place], dir) {
+            return place;
+        }
+    }
+    unreachable!()
+}
+
+// Takes one directory out of others.
+fn take_out(dirs: &mut Vec<Oid>, dir: &Oid)
+    requires { IsIn dir.now dirs.old.items }
+    ensures { IsWith dirs.new.items dir.now dirs.old.items }
+{
+    let place = place_of(dirs, dir);
+    dirs.swap_remove(place);
+}
+
+// Puts a directory in place of another one.
+fn put_in_place(dirs: &mut Vec<Oid>, from: &Oid, to: &Oid)
+    requires { IsIn from.now dirs.old.items }
+    ensures { IsInPlace dirs.old.items from.now to.now dirs.new.items }
+{
+    let place = place_of(dirs, from);
+    dirs[place] = *to;
+}
+
+impl Links {
+    /// One name.
+    fn one(dir: Oid) -> Links
+        ensures { result ≡ dir ∷ [] }
+    {
+        Links {
+            kept: Kept::One(dir),
+        }
+    }
+
+    /// The directories.
+    fn dirs(&self) -> &[Oid]
+        ensures { result.now ≡ self.now }
+    {
+        match &self.kept {
+            Kept::One(dir) => slice::from_ref(dir),
+            Kept::Shared(dirs) => dirs.as_slice(),
+        }
+    }
+
+    /// Adds a name.
+    fn push(&mut self, alloc: Global, dir: Oid) -> Result<(), NoMemory>
+        ensures ok { OnOk result (self.new ≡ self.old ++ dir ∷ []) }
+        ensures err { OnErr result (self.new ≡ self.old) }
+    {
+        match &mut self.kept {
+            Kept::One(first) => {
+                let dirs = vec![in alloc; *first, dir]?;
+                self.kept = Kept::Shared(dirs);
+            }
+            Kept::Shared(dirs) => dirs.push(dir)?,
+        }
+        Ok(())
+    }
+
+    /// Takes out one name of several, which stands in a directory.
+    fn take_out(&mut self, dir: &Oid)
+        requires several { 1 < length self.old }
+        requires is_in { IsIn dir.now self.old }
+        ensures { IsWith self.new dir.now self.old }
+    {
+        let Kept::Shared(dirs) = &mut self.kept else {
+            unreachable!();
+        };
+        take_out(dirs, dir);
+        if let [last] = dirs.as_slice() {
+            let last = *last;
+            self.kept = Kept::One(last);
+        }
+    }
+
+    /// Moves a name to another directory.
+    fn put_in_place(&mut self, from: &Oid, to: &Oid)
+        requires { IsIn from.now self.old }
+        ensures { IsInPlace self.old from.now to.now self.new }
+    {
+        if let Kept::Shared(dirs) = &mut self.kept {
+            put_in_place(dirs, from, to);
+            return;
+        }
+        self.kept = Kept::One(*to);
     }
 }
 
-/// The directory where the one name stands, where that is kept.
-pub fn only_dir(links: Option<Links>) -> Option<Oid>
-    ensures { result ≡ dir_of links }
-{
-    match links {
-        Some(Links::One(dir)) => Some(dir),
-        _ => None,
-    }
-}
-
-/// The names of an object that gets one more.
-pub fn with_name(links: &Option<Links>, dir: Oid) -> Links
-    requires { count_of links.now < 4_294_967_295 }
-    ensures { result ≡ linked links.now dir }
-{
-    match links {
-        None => Links::One(dir),
-        Some(Links::One(_)) => Links::Shared(2),
-        Some(Links::Shared(n)) => Links::Shared(*n + 1),
-    }
-}
-
-/// The names of an object that loses one.
-pub fn without_name(links: Option<Links>) -> Option<Links>
-    ensures { result ≡ unlinked links }
-{
-    match links {
-        Some(Links::Shared(n)) if n > 1 => Some(Links::Shared(n - 1)),
-        _ => None,
-    }
-}
-
-/// The names of an object whose one name moves to another directory.
-pub fn in_directory(links: Option<Links>, dir: Oid) -> Option<Links>
-    ensures { result ≡ relinked links dir }
-{
-    match links {
-        Some(Links::One(_)) => Some(Links::One(dir)),
-        other => other,
-    }
-}
-
-/// The names of each object that has some.
+/// Where the names of each object stand.
 #[derive(Drop)]
 pub struct LinkTable {
+    alloc: Global,
     kept: BTreeMap<Oid, Links>,
 }
 
 impl Model for LinkTable {
     ghost use Rattle.std.specs.FinMap as map;
-    ghost use Rattle.std.specs.Coded.{codes};
+    ghost use Rattle.std.specs.Coded.{codes, coded_list};
     ghost use Rattle.lab_lattice.specs.Label.{label_code};
     ghost use Rattle.kern_model.specs.Keys.{oid_cmp};
-    ghost use Rattle.fs_dirs.specs.declared.links.Links.{Links};
+    ghost use Rattle.fs_dirs.specs.Entries.{Holders};
 
-    ghost Value = { map.FinMap oid_cmp Links };
+    ghost Value = { Holders };
 
-    ghost coded = { map.code (Prim.hlevel (codes, label_code)) (Prim.hlevel (codes, label_code)) };
+    ghost coded = { map.code (Prim.hlevel (codes, label_code)) (coded_list (Prim.hlevel (codes, label_code))) };
 
-    ghost view = { λ a. map.from_entries a.kept.entries };
+    ghost view = { λ a. map.from_entries {R = oid_cmp} a.kept.entries };
 }
 
 impl LinkTable {
@@ -98,61 +163,67 @@ impl LinkTable {
         ensures { result ≡ map.empty }
     {
         LinkTable {
+            alloc,
             kept: BTreeMap::new(alloc),
         }
     }
 
-    /// The names of an object, if it has some.
-    pub fn get(&self, id: &Oid) -> Option<Links>
-        ensures { result ≡ map.get self.now id.now }
+    /// The directories where the names of an object stand.
+    pub fn dirs(&self, id: &Oid) -> &[Oid]
+        ensures { result.now ≡ dirs_at self.now id.now }
     {
-        self.kept.get(id).copied()
+        match self.kept.get(id) {
+            Some(links) => links.dirs(),
+            None => &[],
+        }
     }
 
-    /// Puts names in place of what was there. Where names are there, it takes no memory.
-    pub fn set(&mut self, id: Oid, links: Links) -> Result<(), NoMemory>
-        ensures ok { OnOk result (self.new ≡ map.insert self.old id links) }
+    /// Adds a name of an object in a directory.
+    pub fn add_name(&mut self, id: &Oid, dir: &Oid) -> Result<(), NoMemory>
+        ensures ok { OnOk result (HasMore self.old id.now dir.now self.new) }
         ensures err { OnErr result (self.new ≡ self.old) }
-        ensures replaced { IsSome (map.get self.old id) → IsOk result }
     {
-        self.kept.insert(id, links)?;
+        let alloc = self.alloc;
+        if let Some(links) = self.kept.get_mut(id) {
+            return links.push(alloc, *dir);
+        }
+        self.kept.insert(*id, Links::one(*dir))?;
         Ok(())
     }
 
-    /// Puts names in place of those that are there, or removes them. It takes no memory.
-    pub fn replace(&mut self, id: &Oid, links: Option<Links>)
-        requires { IsThere self.old id.now }
-        ensures { self.new ≡ with_links self.old id.now links }
+    /// Takes the name in a directory from an object. It takes no memory.
+    pub fn take_name(&mut self, id: &Oid, dir: &Oid)
+        requires { IsIn dir.now (dirs_at self.old id.now) }
+        ensures { HasMore self.new id.now dir.now self.old }
     {
-        match links {
-            None => {
-                self.kept.remove(id);
-            }
-            Some(links) => {
-                if self.set(*id, links).is_err() {
-                    unreachable!();
-                }
-            }
+        if self.dirs(id).len() == 1 {
+            self.kept.remove(id);
+            return;
         }
+        let Some(links) = self.kept.get_mut(id) else {
+            unreachable!();
+        };
+        links.take_out(dir);
     }
 
-    /// Takes a name from an object, if there is one. It takes no memory.
-    pub fn drop_name(&mut self, id: &Option<Oid>)
-        requires { IfSome id.now (λ id. IsThere self.old id) }
-        ensures { self.new ≡ without_name self.old id.now }
+    /// Takes the name in a directory from an object, if there is one. It takes no memory.
+    pub fn drop_name(&mut self, id: &Option<Oid>, dir: &Oid)
+        requires { IfSome id.now (λ id. IsIn dir.now (dirs_at self.old id)) }
+        ensures { HasLess self.old id.now dir.now self.new }
     {
         if let Some(id) = id {
-            let links = without_name(self.get(id));
-            self.replace(id, links);
+            self.take_name(id, dir);
         }
     }
 
-    /// Moves the one name of an object to another directory. It takes no memory.
-    pub fn move_name(&mut self, id: &Oid, dir: &Oid)
-        requires { IsThere self.old id.now }
-        ensures { self.new ≡ with_links self.old id.now (relinked (map.get self.old id.now) dir.now) }
+    /// Moves the name in a directory of an object to another one. It takes no memory.
+    pub fn move_name(&mut self, id: &Oid, from: &Oid, to: &Oid)
+        requires { IsIn from.now (dirs_at self.old id.now) }
+        ensures { HasMoved self.old id.now from.now to.now self.new }
     {
-        let links = in_directory(self.get(id), *dir);
-        self.replace(id, links);
+        let Some(links) = self.kept.get_mut(id) else {
+            unreachable!();
+        };
+        links.put_in_place(from, to);
     }
 }

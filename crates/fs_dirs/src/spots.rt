@@ -1,9 +1,8 @@
 // Entries that stand in no directory yet.
-ghost use Rattle.std.specs.Prelude.{◌≡◌, ◌<◌, ◌≤◌, ℕ, Some, IfOk, OnOk};
+ghost use Rattle.std.specs.Prelude.{◌≡◌, ◌≤◌, IfOk, OnOk};
 ghost use Rattle.std.specs.FinMap as map;
 ghost use Rattle.kern_model.specs.declared.limits.TheConstants.{MAX_LINKS};
 ghost use Rattle.kern_model.specs.declared.numbers.Oid.{Oid as Number};
-ghost use Rattle.fs_dirs.specs.declared.links.Links.TheVariants as links;
 ghost use Rattle.fs_dirs.specs.Entries.{name_count};
 
 use crate::entries::Entries;
@@ -64,8 +63,7 @@ impl Spots {
     // The entries in their directories. They are entered in the order of their spots, so that each is the last one of its directory.
     pub(crate) fn entered(self, alloc: Global) -> Result<Entries, NoMemory>
         requires { (id : Number) → name_count self id ≤ MAX_LINKS }
-        ensures entries { IfOk result (λ entered. entered.entries ≡ self) }
-        ensures shared { IfOk result (λ entered. (id : Number) (n : ℕ) → map.get entered.links id ≡ Some (links.Shared n) → 1 < name_count self id) }
+        ensures { IfOk result (λ entered. entered ≡ self) }
     {
         let mut entries = Entries::new(alloc);
         for (spot, id) in self.kept {

@@ -1,12 +1,15 @@
 // The tree.
 ghost use Rattle.std.specs.Prelude.{◌≡◌, ◌↔◌, ◌<◌, ◌≤◌, ◌+◌, true, false, [], Some, None, Err, IfOk, IsErr, IsSome, OnErr, OnOk, length};
+ghost use Rattle.std.specs.List.{list_all};
 ghost use Rattle.std.specs.Ordering.{eq_by_cmp};
 ghost use Rattle.std.specs.FinMap as map;
 ghost use Rattle.kern_model.specs.declared.numbers.Oid.{Oid as Number};
 ghost use Rattle.kern_model.specs.Entries.{entry_count, is_empty, is_removed, is_under, link_count, names_in};
 ghost use Rattle.kern_model.specs.FileRows.{written_over};
 ghost use Rattle.kern_model.specs.Kinds.{is_dir, object_with};
-ghost use Rattle.kern_model.specs.State.{drawn, look, object_at, root};
+ghost use Rattle.kern_model.specs.Rules.{is_above_holders};
+ghost use Rattle.kern_model.specs.State.{State, drawn, look, object_at, root};
+ghost use Rattle.lab_lattice.specs.Label.{dominates};
 ghost use Rattle.kern_model.specs.Valid.{IsDir, IsThere};
 ghost use Rattle.kern_model.specs.declared.limits.TheConstants.{MAX_FILE_BYTES, MAX_OBJECTS};
 ghost use Rattle.kern_model.specs.declared.objects.Object.{Object as Value};
@@ -23,7 +26,7 @@ use crate::spots::Spots;
 use fs_nodes::{Buffers, NodeError, Nodes, WriteError};
 use fs_path::{Name, NameList, Steps};
 use kern_model::{Attr, Body, Kind, Object, Oid};
-use lab_lattice::{Label, bottom};
+use lab_lattice::{Label, Lattice, bottom};
 use std::alloc::Global;
 use std::marker::Model;
 use std::sync::ledger::Ledger;
@@ -97,7 +100,7 @@ impl Model for Tree {
 
     ghost coded = { tree_code (slots_code (Prim.hlevel (codes, label_code)) (Prim.hlevel (codes, set.code {R = cap_cmp} cap_code, label_code)) label_code) (map.code (Prim.hlevel (codes, label_code)) (Prim.hlevel (codes, label_code))) };
 
-    ghost view = { λ t. record { nodes = t.nodes; entries = t.entries.entries } };
+    ghost view = { λ t. record { nodes = t.nodes; entries = t.entries } };
 
     ghost invariant = { λ t. IsTree t.nodes.table t.entries };
 }
@@ -221,6 +224,31 @@ impl Tree {
         ensures { result ≡ link_count (state_of_tree self.now) id.now }
     {
         self.entries.name_count(id)
+    }
+
+    // Whether a label dominates that of an object.
+    fn is_below(&self, id: &Oid, label: &Label) -> bool
+        ensures { result ≡ dominates label.now (object_at (state_of_tree self.now) id.now).label }
+    {
+        match self.nodes.get(id) {
+            Some(object) => label.dominates(&object.label),
+            None => true,
+        }
+    }
+
+    // Whether a label dominates those of all these objects.
+    fn are_below(&self, ids: &[Oid], label: &Label) -> bool
+        ensures { result ≡ list_all (λ (id : Number). dominates label.now (object_at (state_of_tree self.now) id).label) ids.now }
+    {
+        ids.iter().all(|id| self.is_below(id, label))
+    }
+
+    /// Whether a label dominates those of all directories that hold a name of an object. It looks at the object's names alone. It
+    /// takes no memory.
+    pub fn is_above_holders(&self, id: &Oid, label: &Label) -> bool
+        ensures { (s : State) → s.objects ≡ self.now.nodes.table.objects → s.entries ≡ self.now.entries → result ≡ is_above_holders s id.now label.now }
+    {
+        self.are_below(self.entries.holders(id), label)
     }
 
     /// Whether a directory is not the root, and no directory holds it.

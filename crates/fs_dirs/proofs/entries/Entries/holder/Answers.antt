@@ -1,16 +1,16 @@
-use Rattle.std.proofs.Common.{ap, sym, ◌∙◌}
-use Rattle.std.specs.FinMap as map
+use Rattle.std.specs.Prelude.{◌≤◌, count_by}
+use Rattle.std.proofs.Common.{ap, sym, ◌∙◌, subst}
 use Rattle.std.specs.FinMap.{FinMap}
+use Rattle.kern_model.specs.declared.numbers.Oid.{Oid}
 use Rattle.kern_model.specs.Entries.{holder}
-use Rattle.kern_model.specs.Keys.{oid_cmp}
-use Rattle.fs_dirs.specs.declared.links.Links.{Links}
-use Rattle.fs_dirs.specs.Entries.{EntryTable, dir_of, entries_alone, entries_of}
-use Rattle.fs_dirs.proofs.LinkLemmas.{holder_kept}
+use Rattle.kern_model.specs.Keys.{spot_cmp}
+use Rattle.fs_dirs.specs.Entries.{entries_alone, entries_of, name_count}
+use Rattle.fs_dirs.proofs.LinkLemmas.{holder_first}
 use Rattle.fs_dirs.proofs.entries.Entries.holder.Goals as goal
 
 pub returns : goal.returns
 returns c =
-    let links = ap (λ (t : EntryTable). t.links) c.self.view_is in
-    c.only_dir.ensures ∙ ap dir_of c.get.ensures
-    ∙ holder_kept (entries_of c.self.inside.dirs) c.args.id.now c.self.inside.names c.self.inside.total c.self.invariant (λ n e. c.requires n (ap (λ (m : FinMap oid_cmp Links). map.get m c.args.id.now) (sym links) ∙ e))
-    ∙ ap (λ (t : EntryTable). holder (entries_alone t.entries) c.args.id.now) c.self.view_is
+    let entries = entries_of c.self.inside.dirs in
+    let id = c.args.id.now in
+    holder_first entries id c.dirs.result.now (λ test. ap (count_by test) c.dirs.ensures ∙ c.self.invariant.holders_are id test) (subst (λ (m : FinMap spot_cmp Oid). name_count m id ≤ 1) (sym c.self.view_is) c.requires) c.copied.result (c.copied.ensures ∙ c.first.ensures.value)
+    ∙ ap (λ (m : FinMap spot_cmp Oid). holder (entries_alone m) id) c.self.view_is

@@ -9,5 +9,5 @@ use Rattle.fs_dirs.proofs.tree.Tree.is_empty.Goals as goal
 
 pub returns : goal.returns
 returns c =
-    ap (λ (n : ℕ). n == 0) c.len.ensures ∙ sym (no_entry-count (λ (spot : Spot) (id : Oid). same_oid spot.0 c.args.dir.now) c.self.inside.entries.entries)
+    ap (λ (n : ℕ). n == 0) c.len.ensures ∙ sym (no_entry-count (λ (spot : Spot) (id : Oid). same_oid spot.0 c.args.dir.now) c.self.inside.entries)
     ∙ ap (λ (t : TreeView). is_empty (state_of_tree t) c.args.dir.now) c.self.view_is

@@ -7,7 +7,7 @@ use Rattle.kern_model.specs.Keys.{Spot, spot_cmp}
 use Rattle.kern_model.specs.Valid.{IsDir}
 use Rattle.kern_model.proofs.KeyLaws.{spot_cmp_total, spot_cmp_exact}
 use Rattle.kern_model.proofs.MapLemmas.{same_key}
-use Rattle.fs_dirs.specs.Tree.{TreeView}
+use Rattle.fs_dirs.specs.Tree.{IsTree, TreeView}
 use Rattle.fs_dirs.proofs.CountLemmas.{insert-remove}
 use Rattle.fs_dirs.proofs.TreeLemmas.{tree_moved}
 use Rattle.fs_dirs.proofs.tree.Tree.move_entry.Goals as goal
@@ -24,6 +24,7 @@ returns-then-same_spot-clause-moved c id is =
 
 pub invariant_of-self-2 : goal.invariant_of-self-2
 invariant_of-self-2 c =
-    tree_moved c.self.inside.nodes.table c.self.inside.entries c.self.invariant (c.args.from.now, c.args.old.now) c.args.to.now c.args.new.now c.in-Some.id
+    subst (λ (m : FinMap spot_cmp Oid). IsTree c.self.inside.nodes.table m) (sym c.in_ok-relocate.ensures.moved)
+    (tree_moved c.self.inside.nodes.table c.self.inside.entries c.self.invariant c.args.from.now c.args.old.now c.args.to.now c.args.new.now c.in-Some.id
     (subst (λ (t : TreeView). IsDir t.nodes.table.objects c.args.to.now) (sym c.self.view_is) c.requires)
-    c.relocate.new.self c.in_ok-relocate.ensures.entries c.in_ok-relocate.ensures.shared
+    (sym c.look.ensures ∙ c.in-Some.is) (sym c.same_spot.ensures ∙ c.if-same_spot.false))

@@ -8,5 +8,5 @@ use Rattle.fs_dirs.proofs.tree.Tree.names.Goals as goal
 
 pub returns : goal.returns
 returns c =
-    let same = names_in-same (entries_alone c.self.inside.entries.entries) (state_of_tree c.args.self.now) (ap (λ (t : TreeView). t.entries) c.self.view_is) c.args.dir.now in
+    let same = names_in-same (entries_alone c.self.inside.entries) (state_of_tree c.args.self.now) (ap (λ (t : TreeView). t.entries) c.self.view_is) c.args.dir.now in
     subst (λ (ns : List Name). IfOk c.names.result (λ names. names ≡ ns)) same c.names.ensures

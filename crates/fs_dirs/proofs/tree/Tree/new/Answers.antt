@@ -6,4 +6,4 @@ use Rattle.fs_dirs.proofs.tree.Tree.new.Goals as goal
 
 pub invariant_of-result : goal.invariant_of-result
 invariant_of-result c =
-    subst (λ (table : NodeTable). IsTree table c.new-entries.result) (sym c.in_ok-nodes.ensures) (tree_alone c.args.attr c.new-entries.result c.new-entries.ensures.entries c.new-entries.ensures.links)
+    subst (λ (table : NodeTable). IsTree table c.new-entries.result) (sym c.in_ok-nodes.ensures) (tree_alone c.args.attr c.new-entries.result c.new-entries.ensures)

@@ -10,7 +10,7 @@ use Rattle.fs_dirs.specs.Entries.{entries_alone}
 use Rattle.fs_dirs.specs.Tree.{TreeView, state_of_tree}
 use Rattle.fs_dirs.proofs.BelowLemmas.{none_due, under_lies}
 use Rattle.fs_dirs.proofs.SameEntries.{holder-same}
-use Rattle.fs_dirs.proofs.TreeLemmas.{holder_dir, under_holder}
+use Rattle.fs_dirs.proofs.TreeLemmas.{dir_single, holder_dir, under_holder}
 use Rattle.fs_dirs.proofs.tree.Tree.under.Goals as goal
 use Rattle.fs_dirs.proofs.tree.Tree.under.Goals.{then-left-eq0-via-then-left-eq0, then-left-eq0-via-else-left-eq0+then-is_over}
 
@@ -41,7 +41,7 @@ pub returns-in_default : goal.returns-in_default
 returns-in_default c =
     let s = state_of_tree c.args.self.now in
     let here = c.up.current in
-    let held : holder s here ≡ None = sym (holder-same (entries_alone c.self.inside.entries.entries) s (ap (λ (t : TreeView). t.entries) c.self.view_is) here) ∙ sym c.holder.ensures ∙ c.in_default.is in
+    let held : holder s here ≡ None = sym (holder-same (entries_alone c.self.inside.entries) s (ap (λ (t : TreeView). t.entries) c.self.view_is) here) ∙ sym c.holder.ensures ∙ c.in_default.is in
     let other : same_oid here c.args.top.now ≡ false = sym c.same.ensures ∙ c.up-test.true in
     let left : c.up.left ≡ suc (c.up.left - 1) = omega arith in
     sym (c.up.invariant.same ∙ under_holder s c.args.top.now c.up.left (c.up.left - 1) here None left other held)
@@ -50,7 +50,7 @@ pub up-preserved : goal.up-preserved
 up-preserved c =
     let s = state_of_tree c.args.self.now in
     let here = c.up.current in
-    let held : holder s here ≡ Some c.in-Some.above = sym (holder-same (entries_alone c.self.inside.entries.entries) s (ap (λ (t : TreeView). t.entries) c.self.view_is) here) ∙ sym c.holder.ensures ∙ c.in-Some.is in
+    let held : holder s here ≡ Some c.in-Some.above = sym (holder-same (entries_alone c.self.inside.entries) s (ap (λ (t : TreeView). t.entries) c.self.view_is) here) ∙ sym c.holder.ensures ∙ c.in-Some.is in
     let other : same_oid here c.args.top.now ≡ false = sym c.same.ensures ∙ c.up-test.true in
     let left : c.up.left ≡ suc (c.up.left - 1) = omega arith in
     record {
@@ -61,3 +61,8 @@ up-preserved c =
       due = λ apart under. subst (λ (t : TreeView). IsUnderDue (entries_alone t.entries) c.up.below c.args.dir.now → IsUnderDue (entries_alone t.entries) c.step.new.self c.args.dir.now) c.self.view_is
           c.step.ensures (c.up.invariant.due apart under);
     }
+
+pub holder-requires : goal.holder-requires
+holder-requires c =
+    dir_single c.self.inside.nodes.table c.self.inside.entries c.self.invariant c.up.current
+    (subst (λ (t : TreeView). IsDir t.nodes.table.objects c.up.current) (sym c.self.view_is) c.up.invariant.is_dir)
