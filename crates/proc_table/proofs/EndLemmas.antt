@@ -7,18 +7,12 @@ use Rattle.std.proofs.Common.{sym, ap, ◌∙◌}
 use Rattle.kern_model.specs.declared.calls.Ending.{Ending}
 use Rattle.kern_model.specs.declared.numbers.Pid.{Pid}
 use Rattle.kern_model.specs.Keys.{is_pid, pid_cmp}
-use Rattle.kern_model.specs.Maps.{select}
 use Rattle.kern_model.specs.ProcessRows.{left_by}
 use Rattle.kern_model.specs.State.{Process}
 use Rattle.kern_model.proofs.KeyLaws.{pid_cmp_total, pid_cmp_exact}
 use Rattle.kern_model.proofs.MapLemmas.{same_key}
 use Rattle.kern_model.proofs.Selections.{get-select_each}
-use Rattle.proc_table.specs.Procs.{altered, altered_at, ended_by, parted, with_ended}
-
--- the processes, where the one with a number, if any is given, is changed
-abbrev pub told : FinMap pid_cmp Process → Option Pid → (Process → Process) → FinMap pid_cmp Process
-told procs None f = procs
-told procs (Some q) f = altered procs q f
+use Rattle.proc_table.specs.Procs.{all_parted, altered_at, ended_by, parted, told, with_ended}
 
 module _ (m : FinMap pid_cmp Process) (who : Pid) (how : Ending) where
   -- what becomes of another process, by the parent of the one that ended
@@ -53,7 +47,7 @@ module _ (m : FinMap pid_cmp Process) (who : Pid) (how : Ending) where
 
 -- the steps end as the model says
 pub ended_in_steps : (procs : FinMap pid_cmp Process) (who : Pid) (p : Process) (how : Ending)
-    → select (λ q other. Some (parted who other)) (told (map.remove procs who) p.parent (with_ended who how)) ≡ ended_by procs who p how
+    → all_parted who (told (map.remove procs who) p.parent (with_ended who how)) ≡ ended_by procs who p how
 ended_in_steps procs who p how = same_map pid_cmp_total pid_cmp_exact _ _ (λ q.
     get-select_each pid_cmp_total pid_cmp_exact (λ (q : Pid) (other : Process). parted who other) (told (map.remove procs who) p.parent (with_ended who how)) q
     ∙ each_left (map.remove procs who) who how p.parent q

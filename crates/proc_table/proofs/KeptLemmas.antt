@@ -50,9 +50,9 @@ module _ (living : FinMap pid_cmp Process) (children : Children) (made : ℕ) (k
     same_size : map.len (map.insert living who new) ≡ map.len living
     same_size = len-insert pid_cmp_total living who new ∙ ap (λ (o : Option Process). cond (is_some o) (map.len living) (map.len living + 1)) is
 
-    -- a living process may change, but for its parent, and its list of ended children may not grow
-    pub kept_changed : new.parent ≡ old.parent → length new.ended ≤ length old.ended → IsKept (map.insert living who new) children made
-    kept_changed parent shorter = record {
+    -- a living process may change, but for its parent, while there is room for its list of ended children
+    pub kept_set : new.parent ≡ old.parent → length new.ended + map.len living ≤ made → IsKept (map.insert living who new) children made
+    kept_set parent fits = record {
       index = λ q c. kept.index q c
           ∙ elim (eq_by_cmp pid_cmp c who) as (λ b. eq_by_cmp pid_cmp c who ≡ b → has_parent (map.get living c) q ≡ has_parent (cond b (Some new) (map.get living c)) q) [
             | true ↦ λ t. ap (λ (o : Option Process). has_parent o q) (ap (map.get living) (same_key pid_cmp_exact c who t) ∙ is) ∙ ap (is_pid q) (sym parent)
@@ -61,10 +61,14 @@ module _ (living : FinMap pid_cmp Process) (children : Children) (made : ℕ) (k
           ∙ ap (λ (o : Option Process). has_parent o q) (sym (get-insert pid_cmp_total living who new c));
       room = each-insert pid_cmp_total pid_cmp_exact (λ (q : Pid) (p : Process). length p.ended + map.len (map.insert living who new) ≤ made) living
           (λ q p there. let room = kept.room q p there in omega (arith, room, same_size))
-          who new (let room = kept.room who old is in omega (arith, room, same_size, shorter));
+          who new (omega (arith, fits, same_size));
       all = let all = kept.all in omega (arith, all, same_size);
       few = kept.few;
     }
+
+    -- so there is where its list does not grow
+    pub kept_changed : new.parent ≡ old.parent → length new.ended ≤ length old.ended → IsKept (map.insert living who new) children made
+    kept_changed parent shorter = kept_set parent (let room = kept.room who old is in omega (arith, room, shorter))
 
   pub creds_kept : (who : Pid) (c : Credentials) → IsKept (under_creds living who c) children made
   creds_kept who c = elim (map.get living who) as (λ o. map.get living who ≡ o → IsKept (set_creds living who c o) children made) [

@@ -1,6 +1,7 @@
 pub mod ChildLemmas
 pub mod DrawnLemmas
 pub mod EndLemmas
+pub mod FinishLemmas
 pub mod KeptLemmas
 pub mod LendLemmas
 pub mod ReapLemmas

@@ -1,6 +1,6 @@
 -- Which living processes are children of which, as it is kept.
 use Rattle.std.specs.Prelude.{◌≡◌, ℕ, ◌+◌, ◌≤◌, Bool, false, Option, None, Some, length}
-use Rattle.std.specs.BTreeSet.{contains}
+use Rattle.std.specs.BTreeSet.{btree_set_len, contains}
 use Rattle.std.specs.Option.{option_cmp}
 use Rattle.std.specs.Ordering.{ordering_then}
 use Rattle.std.specs.declared.cmp.Ordering.{Ordering}
@@ -19,6 +19,15 @@ pair_cmp a b = ordering_then (pid_cmp a.0 b.0) (option_cmp pid_cmp a.1 b.1)
 -- whether a process is kept as a child of another
 unfoldable pub is_child : Children → Pid → Pid → Bool
 is_child children q c = contains pair_cmp children.kept (q, Some c)
+
+-- whether a process is kept as a child of another, if one is given
+abbrev pub is_child_of : Children → Option Pid → Pid → Bool
+is_child_of children None c = false
+is_child_of children (Some q) c = is_child children q c
+
+-- how many children are kept
+abbrev pub child_count : Children → ℕ
+child_count children = btree_set_len children.kept
 
 -- whether a process, if there is one, has a process as its parent
 abbrev pub has_parent : Option Process → Pid → Bool

@@ -101,6 +101,15 @@ with_ended child how p = record p { ended = p.ended ++ (child, how) ∷ [] }
 abbrev pub parted : Pid → Process → Process
 parted who p = record p { parent = cond (is_pid who p.parent) None p.parent }
 
+-- the processes, where each that had this one as its parent has lost it
+abbrev pub all_parted : Pid → FinMap pid_cmp Process → FinMap pid_cmp Process
+all_parted who procs = select (λ q other. Some (parted who other)) procs
+
+-- the processes, where the one with a number, if a number is given, is changed
+abbrev pub told : FinMap pid_cmp Process → Option Pid → (Process → Process) → FinMap pid_cmp Process
+told procs None f = procs
+told procs (Some q) f = altered procs q f
+
 -- the processes after one ends: it goes, and each other one is as `left_by` says
 abbrev pub ended_by : FinMap pid_cmp Process → Pid → Process → Ending → FinMap pid_cmp Process
 ended_by procs who p how = select (λ q other. Some (left_by who p how q other)) (map.remove procs who)

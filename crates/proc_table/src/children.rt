@@ -1,9 +1,8 @@
 // Which living processes are children of which.
 ghost use Rattle.std.specs.Prelude.{◌≡◌, ◌+◌, ◌&&◌, ◌||◌, not, true, false, IfOk, OnErr, OnOk, MatchOption, Some, cond};
-ghost use Rattle.std.specs.BTreeSet.{btree_set_len};
 ghost use Rattle.kern_model.specs.Keys.{is_pid, same_pid};
 ghost use Rattle.kern_model.specs.declared.numbers.Pid.{Pid as Number};
-ghost use Rattle.proc_table.specs.Children.{is_child};
+ghost use Rattle.proc_table.specs.Children.{child_count, is_child, is_child_of};
 
 use kern_model::{NoMemory, Pid};
 use std::alloc::Global;
@@ -40,7 +39,8 @@ impl Children {
 
     /// Removes a child, if it has a parent.
     pub fn remove(&mut self, parent: &Option<Pid>, child: &Pid)
-        ensures { (q c : Number) → is_child self.new q c ≡ (not (is_pid q parent.now && same_pid c child.now) && is_child self.old q c) }
+        ensures left { (q c : Number) → is_child self.new q c ≡ (not (is_pid q parent.now && same_pid c child.now) && is_child self.old q c) }
+        ensures count { child_count self.new + cond (is_child_of self.old parent.now child.now) 1 0 ≡ child_count self.old }
     {
         if let Some(parent) = parent {
             self.kept.remove(&(*parent, Some(*child)));

@@ -142,11 +142,12 @@ impl Living {
         Ok(())
     }
 
-    /// Removes the process with a number, if there is one.
-    pub fn remove(&mut self, who: &Pid)
-        ensures { self.new ≡ map.remove self.old who.now }
+    /// Removes the process with a number, if there is one, and returns it. It takes no memory.
+    pub fn remove(&mut self, who: &Pid) -> Option<Proc>
+        ensures removed { result ≡ map.get self.old who.now }
+        ensures left { self.new ≡ map.remove self.old who.now }
     {
-        self.kept.remove(who);
+        self.kept.remove(who)
     }
 
     /// The numbers of the processes, in order.

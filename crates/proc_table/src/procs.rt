@@ -5,7 +5,7 @@ ghost use Rattle.kern_model.specs.ProcessRows.{child_of};
 ghost use Rattle.kern_model.specs.State.{Process, drawn};
 ghost use Rattle.kern_model.specs.Valid.{IsThere};
 ghost use Rattle.kern_model.specs.declared.limits.TheConstants.{MAX_PROCS};
-ghost use Rattle.proc_table.specs.Procs.{creds_of, has_living_child, next_in, no_procs, reaped, starting, with_new, with_process};
+ghost use Rattle.proc_table.specs.Procs.{creds_of, ended_by, has_living_child, next_in, no_procs, reaped, starting, with_new, with_process};
 
 use crate::process::Proc;
 use crate::table::Table;
@@ -129,6 +129,15 @@ impl Procs {
             Some(_) => Err(ReapError::NoneEnded),
             None => Err(ReapError::NoChild),
         }
+    }
+
+    /// Ends a living process: it goes, its living children lose their parent, and its parent, if it is living, learns how it
+    /// ended. It takes no memory.
+    pub fn finish(&mut self, who: &Pid, ending: Ending)
+        requires { IsThere self.old.procs who.now }
+        ensures { (p : Process) → map.get self.old.procs who.now ≡ Some p → self.new ≡ record self.old { procs = ended_by self.old.procs who.now p ending } }
+    {
+        self.table.finish(who, ending);
     }
 
     /// The living process with a number, if there is one.

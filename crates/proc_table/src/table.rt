@@ -1,15 +1,17 @@
 // The living processes, and which numbers are drawn.
-ghost use Rattle.std.specs.Prelude.{◌≡◌, ◌+◌, ◌<◌, ◌≤◌, [], None, MatchOption, OnErr, OnOk};
+ghost use Rattle.std.specs.Prelude.{◌≡◌, ◌+◌, ◌<◌, ◌≤◌, [], Some, None, MatchOption, OnErr, OnOk};
 ghost use Rattle.std.specs.FinMap as map;
-ghost use Rattle.kern_model.specs.State.{drawn};
+ghost use Rattle.kern_model.specs.State.{Process, drawn};
+ghost use Rattle.kern_model.specs.Valid.{IsThere};
 ghost use Rattle.kern_model.specs.declared.limits.TheConstants.{MAX_PROCS};
 ghost use Rattle.proc_table.specs.Children.{IsKept};
+ghost use Rattle.proc_table.specs.Procs.{all_parted, ended_by, told, with_ended};
 
 use crate::children::Children;
 use crate::living::Living;
 use crate::process::Proc;
 use kern_model::limits::MAX_PROCS;
-use kern_model::{NoMemory, Numbers, Pid};
+use kern_model::{Ending, NoMemory, Numbers, Pid};
 use lab_lattice::Label;
 use std::alloc::Global;
 
@@ -74,6 +76,50 @@ impl Table {
         }
         self.made += 1;
         Ok(())
+    }
+
+    /// Ends a living process: it goes, its living children lose their parent, and its parent, if it is living, learns how it
+    /// ended. It takes no memory.
+    pub fn finish(&mut self, who: &Pid, ending: Ending)
+        requires there { IsThere self.old.living who.now }
+        requires kept { IsKept self.old.living self.old.children self.old.made }
+        ensures living { (p : Process) → map.get self.old.living who.now ≡ Some p → self.new.living ≡ ended_by self.old.living who.now p ending }
+        ensures numbers { self.new.numbers ≡ self.old.numbers }
+        ensures kept { IsKept self.new.living self.new.children self.new.made }
+    {
+        self.end(who, ending);
+        self.leave_children(who);
+    }
+
+    // Takes a living process out, and tells its parent, if it is living, how it ended.
+    fn end(&mut self, who: &Pid, ending: Ending)
+        requires there { IsThere self.old.living who.now }
+        requires kept { IsKept self.old.living self.old.children self.old.made }
+        ensures living { (p : Process) → map.get self.old.living who.now ≡ Some p → self.new.living ≡ told (map.remove self.old.living who.now) p.parent (with_ended who.now ending) }
+        ensures numbers { self.new.numbers ≡ self.old.numbers }
+        ensures kept { IsKept self.new.living self.new.children self.new.made }
+    {
+        let Some(process) = self.living.remove(who) else {
+            unreachable!();
+        };
+        let Proc { parent, place, .. } = process;
+        self.children.remove(&parent, who);
+        if let Some(parent) = parent {
+            self.living.add_ended(&parent, place, who, ending);
+        }
+    }
+
+    // Leaves the living children of a process without a parent.
+    fn leave_children(&mut self, who: &Pid)
+        requires { IsKept self.old.living self.old.children self.old.made }
+        ensures living { self.new.living ≡ all_parted who.now self.old.living }
+        ensures numbers { self.new.numbers ≡ self.old.numbers }
+        ensures kept { IsKept self.new.living self.new.children self.new.made }
+    {
+        while let Some(child) = self.children.first(who) {
+            self.children.remove(&Some(*who), &child);
+            self.living.orphan(&child);
+        }
     }
 
     // Adds a process under a number that it draws.

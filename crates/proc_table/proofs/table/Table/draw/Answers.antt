@@ -6,4 +6,4 @@ use Rattle.proc_table.proofs.table.Table.draw.Goals as goal
 
 pub returns-in-Err-clause-err : goal.returns-in-Err-clause-err
 returns-in-Err-clause-err c =
-    (c.remove.ensures ∙ ap (λ m. map.remove m c.args.who.now) c.in_ok-set.ensures.ok ∙ remove-insert pid_cmp_total pid_cmp_exact c.args.self.now.living c.args.who.now c.args.process c.requires, c.in-Err.ensures.err)
+    (c.remove.ensures.left ∙ ap (λ m. map.remove m c.args.who.now) c.in_ok-set.ensures.ok ∙ remove-insert pid_cmp_total pid_cmp_exact c.args.self.now.living c.args.who.now c.args.process c.requires, c.in-Err.ensures.err)

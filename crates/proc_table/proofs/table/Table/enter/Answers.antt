@@ -16,7 +16,7 @@ returns-in-Err-clause-kept c =
     subst (λ (made : ℕ). IsKept c.draw.new.self.living c.remove.new.self made) (sym c.draw.ensures.made)
     (subst (λ (living : FinMap pid_cmp Process). IsKept living c.remove.new.self c.args.self.now.made) (sym c.in-Err.ensures.err.0)
     (kept_undone c.args.self.now.living c.args.self.now.children c.args.self.now.made c.requires.kept who c.requires.absent parent c.add.new.self c.in_ok-add.ensures.ok c.remove.new.self
-    (λ q d. c.remove.ensures q d ∙ ap (λ (kept : Children). not (is_pid q parent && same_pid d who) && is_child kept q d) c.draw.ensures.children)))
+    (λ q d. c.remove.ensures.left q d ∙ ap (λ (kept : Children). not (is_pid q parent && same_pid d who) && is_child kept q d) c.draw.ensures.children)))
 
 pub returns-clause-kept : goal.returns-clause-kept
 returns-clause-kept c =
