@@ -5,8 +5,9 @@
 
 First scripts of doubling length on a world of one file and one process, up to the limit of an input, of one call and of
 three; then worlds of doubling size, up to the limits of a label, with one call for each file; then worlds that fill an input
-up to its limit, all files in one directory or 32 names deep; then scripts on directories. It prints the rows of the table in
-README.md: wall time, and the most memory that the run held at a time. `bench/play.py directories` prints the last rows alone.
+up to its limit, all files in one directory or 32 names deep; then scripts on directories and on descriptors. It prints the rows
+of the tables in README.md: wall time, and the most memory that the run held at a time. `bench/play.py directories` and
+`bench/play.py descriptors` print the rows of their scripts alone.
 """
 import os
 import pathlib
@@ -90,6 +91,30 @@ def listed(calls):
     return OPEN + names + CALLER + b"1@unc readdir /d\n" * calls
 
 
+def rewritten(cycles, files, size):
+    """In turn over this many files: one is opened, written, gone back in and read three times, and closed, which is 11 calls."""
+    world = [b'file /d/f%04d 0644 10 10 unc ""\n' % n for n in range(files)]
+    inner = b'1@unc write 0 "%s"\n1@unc lseek 0 set 0\n1@unc read 0 %d\n' % (b"x" * size, size)
+    lines = [b"1@unc open /d/f%04d rw\n%s1@unc close 0\n" % (n % files, inner * 3) for n in range(cycles)]
+    return OPEN + b"".join(world) + CALLER + b"".join(lines)
+
+
+def drawn_descriptions(count):
+    """A file opened and closed this many times, so that as many numbers of descriptions are drawn."""
+    return OPEN + b'file /f 0644 10 10 unc ""\n' + CALLER + b"1@unc open /f r\n1@unc close 0\n" * count
+
+
+def filled_file(size):
+    """A file filled to this many bytes, one by one."""
+    return OPEN + b'file /f 0644 10 10 unc ""\n' + CALLER + b"1@unc open /f w\n" + b'1@unc write 0 "x"\n' * size
+
+
+def piped(calls, size):
+    """Writes of this many bytes to a pipe, each read again."""
+    pair = b'1@unc write 1 "%s"\n1@unc read 0 %d\n' % (b"x" * size, size)
+    return OPEN + CALLER + b"1@unc pipe\n" + pair * (calls // 2)
+
+
 def run(folder, text):
     """The status, the seconds and the MiB of one run."""
     path = pathlib.Path(folder) / "input"
@@ -122,12 +147,30 @@ def directories(folder):
         show(folder, f"a directory of 10,000 names, listed {calls} times", listed(calls))
 
 
+def descriptors(folder):
+    """The rows of scripts on descriptors."""
+    for files in (1, 1_000):
+        for calls in (62_500, 125_000, 250_000, 500_000):
+            show(folder, f"{calls:,} calls on {files:,} files, 1 byte a write", rewritten(calls // 11, files, 1))
+        for calls in (12_500, 25_000, 50_000):
+            show(folder, f"{calls:,} calls on {files:,} files, 1,000 bytes a write", rewritten(calls // 11, files, 1_000))
+    for count in (8_191, 16_383, 32_767, 65_535):
+        show(folder, f"{count:,} descriptions of one label", drawn_descriptions(count))
+    for size in (8_192, 16_384, 32_768, 65_536):
+        show(folder, f"a file filled to {size:,} bytes, one by one", filled_file(size))
+    for calls in (62_500, 125_000, 250_000, 500_000):
+        show(folder, f"{calls:,} calls on a pipe, 1 byte each", piped(calls, 1))
+    for calls in (4_000, 8_000, 16_000):
+        show(folder, f"{calls:,} calls on a pipe, 2,000 bytes each", piped(calls, 2_000))
+
+
 def main():
     with tempfile.TemporaryDirectory() as folder:
         run(folder, long_script(1000))  # builds the program, if it is not built
         print("| Input | Bytes | Seconds | Resident |\n|---|---|---|---|")
-        if sys.argv[1:] == ["directories"]:
-            directories(folder)
+        parts = {"directories": directories, "descriptors": descriptors}
+        if sys.argv[1:]:
+            parts[sys.argv[1]](folder)
             return
         for part in (32, 16, 8, 4, 2, 1):
             text = long_script(LIMIT // part)
@@ -143,6 +186,7 @@ def main():
                 text = filled_world(LIMIT // part, depth)
                 show(folder, f"{text.count(b'file '):,} files, {depth} names deep", text)
         directories(folder)
+        descriptors(folder)
 
 
 if __name__ == "__main__":

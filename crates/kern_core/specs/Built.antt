@@ -5,15 +5,6 @@ use Rattle.kern_model.specs.declared.calls.Call.TheVariants as call
 
 -- whether a call can be played: all but these
 abbrev pub is_built : Call → Bool
-is_built (call.OpenPath path flags mode) = false
-is_built (call.Close fd) = false
-is_built (call.Read fd n) = false
-is_built (call.Write fd bytes) = false
-is_built (call.Lseek fd from offset) = false
-is_built (call.Dup fd) = false
-is_built call.Pipe = false
-is_built (call.Mkfifo path mode) = false
-is_built (call.Fstat fd) = false
 is_built (call.MacSetFile path label) = false
 is_built (call.MacSetFd fd label) = false
 is_built call.Fork = false

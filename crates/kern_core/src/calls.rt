@@ -25,16 +25,7 @@ pub fn built(call: &Call) -> bool
     ensures { result ≡ is_built call.now }
 {
     match call {
-        Call::OpenPath(_, _, _)
-        | Call::Close(_)
-        | Call::Read(_, _)
-        | Call::Write(_, _)
-        | Call::Lseek(_, _, _)
-        | Call::Dup(_)
-        | Call::Pipe
-        | Call::Mkfifo(_, _)
-        | Call::Fstat(_)
-        | Call::MacSetFile(_, _)
+        Call::MacSetFile(_, _)
         | Call::MacSetFd(_, _)
         | Call::Fork
         | Call::Exec(_)
@@ -64,12 +55,13 @@ pub fn play(alloc: Global, shared: &mut Shared, who: &Pid, call: &Call) -> Resul
     let audited = process.audited;
     let creds = &process.creds;
     let mut checks = Checks::new(alloc, *who, creds.label, creds.caps.e);
-    let played = play_body(shared, &mut checks, who, call);
+    let played = play_body(alloc, shared, &mut checks, who, call);
     report(checks, who, audited, call.name(), played)
 }
 
 // Plays the body of a call of a living process.
 fn play_body(
+    alloc: Global,
     shared: &mut Shared,
     checks: &mut Checks,
     who: &Pid,
@@ -83,6 +75,15 @@ fn play_body(
     ensures nothing { takes_no_memory call.now ≡ true → LeavesNothing result }
 {
     match call {
+        Call::OpenPath(_, _, _)
+        | Call::Close(_)
+        | Call::Read(_, _)
+        | Call::Write(_, _)
+        | Call::Lseek(_, _, _)
+        | Call::Dup(_)
+        | Call::Pipe
+        | Call::Mkfifo(_, _)
+        | Call::Fstat(_) => sys_file::play(alloc, shared, checks, who, call),
         Call::Mkdir(_, _)
         | Call::Rmdir(_)
         | Call::Link(_, _)

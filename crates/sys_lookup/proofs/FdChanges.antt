@@ -5,12 +5,11 @@ use Rattle.std.specs.FinMap as map
 use Rattle.std.specs.FinMap.{FinMap, get-insert, same_map}
 use Rattle.std.proofs.Common.{ap, sym, ◌∙◌}
 use Rattle.lab_lattice.specs.Label.{Label}
-use Rattle.kern_model.specs.declared.numbers.Did.{Did}
 use Rattle.kern_model.specs.declared.numbers.Pid.{Pid}
 use Rattle.kern_model.specs.Descriptors.{with_descriptor}
 use Rattle.kern_model.specs.Keys.{pid_cmp, same_pid}
 use Rattle.kern_model.specs.Maps.{select}
-use Rattle.kern_model.specs.State.{State, Process, Description, DrawDescription, SetDescription, SetProcess, changed_by, drawn, next_description}
+use Rattle.kern_model.specs.State.{State, Process, Description, DrawDescription, SetDescription, SetProcess, changed_by, drawn}
 use Rattle.kern_model.proofs.KeyLaws.{pid_cmp_total, pid_cmp_exact}
 use Rattle.kern_model.proofs.MapLemmas.{get_or-found, get_or-same, same_key}
 use Rattle.fd_table.specs.Files.{OpenFiles, next_in, with_lowest, with_opened}

@@ -1,15 +1,14 @@
 -- The processes with their descriptors, and how both change.
-use Rattle.std.specs.Prelude.{◌≡◌, Bool, true, false, List, Option, None, Some, IsSome, cond, option_copied, refl}
-use Rattle.std.specs.Ordering.{eq_by_cmp}
+use Rattle.std.specs.Prelude.{◌≡◌, None, Some, IsSome, refl}
 use Rattle.std.specs.Option.{option_map}
 use Rattle.std.specs.FinMap as map
-use Rattle.std.specs.FinMap.{FinMap, get-insert, same_map}
+use Rattle.std.specs.FinMap.{FinMap, same_map}
 use Rattle.std.proofs.Common.{ap, sym, ◌∙◌, subst}
 use Rattle.kern_model.specs.declared.numbers.Pid.{Pid}
 use Rattle.kern_model.specs.Keys.{pid_cmp}
 use Rattle.kern_model.specs.State.{Process}
 use Rattle.kern_model.proofs.KeyLaws.{pid_cmp_total, pid_cmp_exact}
-use Rattle.kern_model.proofs.MapLemmas.{get-insert_same, get_or-absent, never_some, same_key, some_same}
+use Rattle.kern_model.proofs.MapLemmas.{get_or-absent, never_some, some_same}
 use Rattle.kern_model.proofs.Selections.{get-select_each, keys-select_each, select-insert_each}
 use Rattle.fd_table.specs.Rows.{AllFds, Fds, row_of}
 use Rattle.sys_lookup.specs.Shared.{holding, with_fds}

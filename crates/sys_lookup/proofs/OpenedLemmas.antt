@@ -1,9 +1,8 @@
 -- What an open descriptor refers to stands in the table.
-use Rattle.std.specs.Prelude.{◌≡◌, ℕ, Option, None, Some, refl}
+use Rattle.std.specs.Prelude.{◌≡◌, ℕ, None, Some, refl}
 use Rattle.std.specs.Option.{option_and_then, option_map}
 use Rattle.std.specs.FinMap as map
-use Rattle.std.proofs.Common.{ap, sym, ◌∙◌, subst}
-use Rattle.kern_model.specs.declared.numbers.Did.{Did}
+use Rattle.std.proofs.Common.{ap, ◌∙◌, subst}
 use Rattle.kern_model.specs.declared.numbers.Pid.{Pid}
 use Rattle.kern_model.specs.Descriptors.{Opened}
 use Rattle.kern_model.specs.State.{Description}

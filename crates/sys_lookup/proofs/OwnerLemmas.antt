@@ -1,5 +1,5 @@
 -- Each process that has a row of descriptors stays living.
-use Rattle.std.specs.Prelude.{◌≡◌, ℕ, true, false, Option, None, Some, cond, refl}
+use Rattle.std.specs.Prelude.{◌≡◌, ℕ, true, false, None, Some, cond, refl}
 use Rattle.std.specs.Ordering.{eq_by_cmp, nat_cmp}
 use Rattle.std.specs.FinMap as map
 use Rattle.std.specs.FinMap.{FinMap, get-insert}
@@ -11,7 +11,7 @@ use Rattle.kern_model.specs.Keys.{pid_cmp}
 use Rattle.kern_model.specs.State.{Process}
 use Rattle.kern_model.specs.Valid.{IsThere}
 use Rattle.kern_model.proofs.KeyLaws.{pid_cmp_total, pid_cmp_exact}
-use Rattle.kern_model.proofs.MapLemmas.{get-insert_same, never_some, same_key}
+use Rattle.kern_model.proofs.MapLemmas.{get-insert_same, get_or-absent, never_some, same_key}
 use Rattle.proc_creds.specs.Credentials.{Credentials}
 use Rattle.proc_table.specs.Procs.{set_creds, under_creds, with_creds}
 use Rattle.fd_table.specs.Rows.{AllFds, Fds, row_of}
@@ -31,7 +31,7 @@ owners_known procs rows known q has = there_known procs q (∥∥₁_map known (
 -- a process with a descriptor has a row
 has_row : (rows : AllFds) (q : Pid) (fd : ℕ) (did : Did) → map.get (row_of rows q) fd ≡ Some did → IsThere rows q
 has_row rows q fd did at = elim (map.get rows q) as (λ w. map.get rows q ≡ w → IsThere rows q) [
-  | None ↦ λ e. absurd (never_some (map.get (row_of rows q) fd) did (ap (λ (w : Option Fds). map.get (elim w [ | None ↦ map.empty | Some f ↦ f ]) fd) e ∙ map.get-empty {X = Did} nat_cmp fd) at)
+  | None ↦ λ e. absurd (never_some (map.get (row_of rows q) fd) did (ap (λ (f : Fds). map.get f fd) (get_or-absent rows q map.empty e) ∙ map.get-empty {X = Did} nat_cmp fd) at)
   | Some f ↦ λ e. record { value = f; is = e }
 ] refl
 

@@ -3,6 +3,7 @@ use Rattle.std.specs.FinMap as map
 use Rattle.fd_table.specs.Files.{OpenFiles}
 use Rattle.proc_table.specs.Procs.{next_in, starting}
 use Rattle.sys_lookup.specs.Shared.{state_of, with_fds}
+use Rattle.sys_lookup.proofs.OwnerLemmas.{owners_none}
 use Rattle.sys_lookup.proofs.FdLemmas.{no_row, with_fds-process}
 use Rattle.kern_core.proofs.BootLemmas.{process_booted}
 use Rattle.kern_core.proofs.boot.boot_process.Goals as goal
@@ -25,3 +26,8 @@ returns-in-Ok-clause-state c =
       process_numbers = map.insert h.procs.numbers p.label who.n;
     })
     ∙ process_booted s c.args.process.now p (λ i. starting (c.in_ok-creds_from.ensures i) (c.root_directory.ensures i))
+
+pub invariant_of-shared : goal.invariant_of-shared
+invariant_of-shared c =
+    let h = c.args.shared.now in
+    record { owners = owners_none _ h.fds.rows (ap (λ (t : OpenFiles). t.rows) c.requires.fds) }

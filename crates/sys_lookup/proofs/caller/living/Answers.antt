@@ -1,6 +1,4 @@
-use Rattle.std.proofs.Common.{◌≡◌, ◌∙◌, Bool, IsSome, None, ap, false, option_copied, subst, sym, true}
-use Rattle.std.specs.FinMap as map
-use Rattle.kern_model.specs.State.{Process}
+use Rattle.std.proofs.Common.{◌≡◌, ◌∙◌, IsSome, ap, false, option_copied, subst, sym, true}
 use Rattle.sys_lookup.proofs.FdLemmas.{found, not_found}
 use Rattle.sys_lookup.proofs.caller.living.Goals as goal
 
