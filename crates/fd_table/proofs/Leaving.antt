@@ -17,7 +17,7 @@ use Rattle.kern_model.specs.Maps.{any_entry, count_entries, select, where_key}
 use Rattle.kern_model.specs.State.{Description}
 use Rattle.kern_model.specs.Valid.{IsThere}
 use Rattle.kern_model.proofs.KeyLaws.{did_cmp_total, did_cmp_exact, oid_cmp_total, oid_cmp_exact}
-use Rattle.kern_model.proofs.MapLemmas.{each-entries, get-select, get-select_dropped, get-select_kept, select-insert_kept, same_key, some_same, never_some, insert-same}
+use Rattle.kern_model.proofs.MapLemmas.{get-select, get-select_dropped, get-select_kept, select-insert_kept, same_key, some_same, never_some, insert-same}
 use Rattle.kern_model.proofs.Selections.{any_entry-select}
 use Rattle.fd_table.specs.declared.shared.Shared.{Shared}
 use Rattle.fd_table.specs.Descriptions.{SharedTable, description_of, descriptions_of, has_user, holders_kept, uses_of, with_one_less}

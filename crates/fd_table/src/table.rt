@@ -120,8 +120,7 @@ impl FdTable {
 
     /// Adds a row for a process, whose descriptors refer to the same descriptions as those of another process.
     pub fn copy_process(&mut self, from: &Pid, to: &Pid) -> Result<(), NoMemory>
-        requires from { IsThere self.old.rows from.now }
-        requires to { map.get self.old.rows to.now ≡ None }
+        requires { map.get self.old.rows to.now ≡ None }
         ensures ok { OnOk result (self.new ≡ with_row self.old to.now (row_of self.old.rows from.now)) }
         ensures err { OnErr result (self.new ≡ self.old) }
     {
@@ -134,13 +133,15 @@ impl FdTable {
         Ok(())
     }
 
-    /// Closes all descriptors of a process and removes its row. It takes no memory.
+    /// Closes all descriptors of a process and removes its row, if it has one. It takes no memory.
     pub fn drop_process<B: Buffers>(&mut self, who: &Pid, buffers: &mut B)
-        requires { IsThere self.old.rows who.now }
         ensures left { self.new ≡ left_with self.old (map.remove self.old.rows who.now) }
         ensures drained { B.objects buffers.new ≡ drained self.old.descriptions self.new.descriptions (B.objects buffers.old) }
         ensures rest { B.rest_same buffers.old buffers.new }
     {
+        if !self.rows.has(who) {
+            return;
+        }
         for fd in 0..MAX_DESCRIPTORS as Fd {
             // A descriptor that is not open needs no closing.
             let _closed = self.close(who, fd, buffers);

@@ -11,8 +11,8 @@ use Rattle.std.proofs.lemmas.Bool.Decides.{nat_tests}
 use Rattle.kern_model.specs.declared.limits.TheConstants.{MAX_DESCRIPTORS}
 use Rattle.kern_model.proofs.KeyLaws.{pid_cmp_total}
 use Rattle.kern_model.proofs.MapLemmas.{get-insert_same}
-use Rattle.fd_table.proofs.Holding.{held-add, row_is}
-use Rattle.fd_table.proofs.Loops.{below, below-all, below-none, below-same, copied, get-below, row_other, row_set}
+use Rattle.fd_table.proofs.Holding.{has_row, held-add, row_is}
+use Rattle.fd_table.proofs.Loops.{below, below-all, below-none, below-same, copied, get-below, row_kept, row_set}
 use Rattle.fd_table.proofs.table.FdTable.copy_process.Goals as goal
 use Rattle.fd_table.proofs.table.FdTable.copy_process.Goals.{in-Some, in_default}
 
@@ -22,7 +22,7 @@ invariant_of-self-2 c =
     let shared = c.self.inside.descriptions in
     let numbers = c.self.inside.numbers in
     subst (λ (m : AllFds). AreHeld m shared numbers) (sym c.in_ok-add.ensures.ok)
-    (held-add rows shared numbers c.self.invariant c.args.to.now (ap (λ (t : OpenFiles). map.get t.rows c.args.to.now) c.self.view_is ∙ c.requires.to) c.in_ok-add.ensures.few)
+    (held-add rows shared numbers c.self.invariant c.args.to.now (ap (λ (t : OpenFiles). map.get t.rows c.args.to.now) c.self.view_is ∙ c.requires) c.in_ok-add.ensures.few)
 
 pub loop-fd-init : goal.loop-fd-init
 loop-fd-init c =
@@ -57,7 +57,7 @@ loop-fd-preserved c =
     let n = c.loop-fd.fd in
     let seen : c.did.result ≡ map.get row n =
     c.did.ensures.did ∙ ap (λ (t : OpenFiles). did_at t c.args.from.now n) c.loop-fd.invariant
-    ∙ ap (λ (fs : Fds). map.get fs n) (row_other t0.rows to (below n row) c.requires.to c.args.from.now c.requires.from) in
+    ∙ ap (λ (fs : Fds). map.get fs n) (row_kept t0.rows to c.requires n c.args.from.now) in
     elim c.match-did.branch [
       | in-Some w ↦ w.self-is ∙ w.set.ensures ∙ copied t0 c.loop-fd.self to row n w.in-Some.did c.loop-fd.invariant (sym seen ∙ w.in-Some.is)
       | in_default w ↦ w.self-is ∙ c.loop-fd.invariant ∙ ap (with_row t0 to) (below-same row n (sym seen ∙ w.in_default.is))
@@ -68,8 +68,7 @@ returns-clause-ok c =
     let t0 = c.args.self.now in
     let who = c.args.from.now in
     let rows = c.self.inside.rows in
-    let here = row_is rows who (subst (λ (t : OpenFiles). IsThere t.rows who) (sym c.self.view_is) c.requires.from) in
     let few : (fd : ℕ) (did : Did) → map.get (row_of t0.rows who) fd ≡ Some did → fd < MAX_DESCRIPTORS =
-    subst (λ (t : OpenFiles). (fd : ℕ) (did : Did) → map.get (row_of t.rows who) fd ≡ Some did → fd < MAX_DESCRIPTORS) c.self.view_is (c.self.invariant.below who (row_of rows who) here) in
+    subst (λ (t : OpenFiles). (fd : ℕ) (did : Did) → map.get (row_of t.rows who) fd ≡ Some did → fd < MAX_DESCRIPTORS) c.self.view_is (λ fd did at. c.self.invariant.below who (row_of rows who) (row_is rows who (has_row rows who fd did at)) fd did at) in
     let end : c.loop-fd.fd ≡ 32 = omega arith in
     c.loop-fd.invariant ∙ ap (λ n. with_row t0 c.args.to.now (below n (row_of t0.rows who))) end ∙ ap (with_row t0 c.args.to.now) (below-all (row_of t0.rows who) few)
