@@ -11,7 +11,7 @@ use Rattle.kern_model.specs.Isolation.{low, Kept}
 use Rattle.kern_model.specs.State.{State, Process, Change}
 use Rattle.kern_model.specs.Table.{row}
 use Rattle.kern_model.specs.Valid.{IsValid}
-use Rattle.iso_laws.specs.LawCalls.{has_laws}
+use Rattle.iso_laws.proofs.PlayableCalls.{has_flags}
 use Rattle.iso_laws.proofs.Cases.{Cases, Meets}
 use Rattle.iso_laws.proofs.LowRows.{Same}
 use Rattle.iso_laws.proofs.Part.{by_number}
@@ -23,7 +23,7 @@ use Rattle.iso_laws.proofs.audit.Isolation as audit
 
 -- each row of a Low process ends in the part as in the state
 module _ (l : Label) (s : State) (kept : Kept l s) (valid : IsValid s) (who : Pid) (p : Process) (is : map.get s.procs who ≡ Some p) (is_low : low l p.label ≡ true) where
-  pub low_row : (c : Call) → has_laws c ≡ true → Same l s who p (row s who p c) (row (by_number l s) who p c)
+  pub low_row : (c : Call) → has_flags c ≡ true → Same l s who p (row s who p c) (row (by_number l s) who p c)
   low_row (call.OpenPath path flags mode) args = files.open_low l s kept valid who p is is_low path flags mode args
   low_row (call.Close fd) _ = files.close_low l s kept valid who p is is_low fd
   low_row (call.Read fd n) _ = files.read_low l s kept valid who p is is_low fd n
@@ -71,7 +71,7 @@ module _ (l : Label) (s : State) (kept : Kept l s) (valid : IsValid s) (who : Pi
 
 -- the changes of each row satisfy what those of each kind of effect satisfy
 module _ (bad : Rec → Bool) (s : State) (valid : IsValid s) (who : Pid) (p : Process) (is : map.get s.procs who ≡ Some p) (fit : Type 0) (P : List Change → Type 0) (cases : Cases bad s who p fit P) where
-  pub row_meets : (c : Call) → (fit → is_call s.top c ≡ true) → (fit → has_names c ≡ true) → has_laws c ≡ true → Meets bad who p P (row s who p c)
+  pub row_meets : (c : Call) → (fit → is_call s.top c ≡ true) → (fit → has_names c ≡ true) → has_flags c ≡ true → Meets bad who p P (row s who p c)
   unfolding is_call has_names
   row_meets (call.OpenPath path flags mode) _ names args = files.open_meets bad s valid who p is fit P cases path flags mode args names
   row_meets (call.Close fd) _ _ _ = files.close_meets bad s valid who p is fit P cases fd

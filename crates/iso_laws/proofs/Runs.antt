@@ -12,27 +12,21 @@ use Rattle.kern_model.specs.Run.{CallRecord, played, run}
 use Rattle.kern_model.specs.Isolation.{low, part, part_script, crossing, Answered, answered, answers, all_answers, up_to, Kept}
 use Rattle.kern_model.specs.Valid.{IsValid}
 use Rattle.kern_model.specs.Prefixes.{IsPrefix}
-use Rattle.iso_laws.specs.LawCalls.{has_laws, have_laws}
 use Rattle.iso_laws.proofs.PrefixLemmas.{prefix_through}
 use Rattle.iso_laws.proofs.Steps.{low_step, other_step, kept_step, valid_step, top_step}
 
--- what holds of the first call of a script of calls with laws, and of the others
+-- what holds of the first call of a script, and of the others
 record First (s : State) (i : ScriptItem) (is : List ScriptItem) : Type 0 where
-  laws : has_laws i.call ≡ true
   args : is_call s.top i.call ≡ true
   names : has_names i.call ≡ true
-  later_laws : have_laws is ≡ true
   later_args : is_script (step s i.who i.call).state.top is ≡ true
 
-first_of_script : (s : State) (i : ScriptItem) (is : List ScriptItem) → have_laws (i ∷ is) ≡ true → is_script s.top (i ∷ is) ≡ true → First s i is
-first_of_script s i is laws args =
-    let laws' = and_parts _ _ laws in
+first_of_script : (s : State) (i : ScriptItem) (is : List ScriptItem) → is_script s.top (i ∷ is) ≡ true → First s i is
+first_of_script s i is args =
     let args' = and_parts (is_item s.top i) (is_script s.top is) args in
     record {
-      laws = laws'.0;
       args = (and_parts _ _ (and_parts _ _ args'.0).0).1;
       names = (and_parts _ _ args'.0).1;
-      later_laws = laws'.1;
       later_args = ap (λ top. is_script top is) (top_step s i.who i.call) ∙ args'.1;
     }
 
@@ -75,34 +69,34 @@ module _ (l : Label) where
   }
 
   -- until something crosses, the answers to Low tags from a state are those of its part alone
-  pub answers_alone : (items : List ScriptItem) (s : State) → have_laws items ≡ true → is_script s.top items ≡ true → IsValid s → Kept l s → AnswersAlone (run s items) (all_answers (run (part l s) (part_script l items)))
-  answers_alone [] s laws args valid kept = record { rest = []; whole_is = refl; all = λ _. refl }
-  answers_alone (i ∷ is) s laws args valid kept =
-      let first = first_of_script s i is laws args in
+  pub answers_alone : (items : List ScriptItem) (s : State) → is_script s.top items ≡ true → IsValid s → Kept l s → AnswersAlone (run s items) (all_answers (run (part l s) (part_script l items)))
+  answers_alone [] s args valid kept = record { rest = []; whole_is = refl; all = λ _. refl }
+  answers_alone (i ∷ is) s args valid kept =
+      let first = first_of_script s i is args in
       let next : State = (step s i.who i.call).state in
       elim (crossing l (step s i.who i.call).recs) as (λ b. crossing l (step s i.who i.call).recs ≡ b → AnswersAlone (run s (i ∷ is)) (all_answers (run (part l s) (part_script l (i ∷ is))))) [
         | true ↦ λ crosses. alone_none (played s i) (run next is) _ crosses
         | false ↦ λ inside.
-            let rest : AnswersAlone (run next is) (all_answers (run (part l next) (part_script l is))) = answers_alone is next first.later_laws first.later_args (valid_step s i.who i.call first.laws first.args first.names valid) (kept_step l s i.who i.call first.laws valid kept inside) in
+            let rest : AnswersAlone (run next is) (all_answers (run (part l next) (part_script l is))) = answers_alone is next first.later_args (valid_step s i.who i.call first.args first.names valid) (kept_step l s i.who i.call first.args valid kept inside) in
             elim (low l i.who.label) as (λ b. low l i.who.label ≡ b → AnswersAlone (run s (i ∷ is)) (all_answers (run (part l s) (cond b (i ∷ part_script l is) (part_script l is))))) [
               | true ↦ λ is_low.
-                  let e = low_step l s i.who i.call (record { laws = first.laws; valid = valid; kept = kept; is_low = is_low; inside = inside }) in
+                  let e = low_step l s i.who i.call (record { arguments = first.args; valid = valid; kept = kept; is_low = is_low; inside = inside }) in
                   subst (λ (o : StepResult). AnswersAlone (run s (i ∷ is)) (record { who = i.who; head = i.head; reply = o.reply } ∷ all_answers (run o.state (part_script l is)))) (sym e)
                   (alone_more (played s i) true (run next is) _ is_low inside rest)
               | false ↦ λ high.
-                  subst (λ t. AnswersAlone (run s (i ∷ is)) (all_answers (run t (part_script l is)))) (other_step l s i.who i.call first.laws valid kept high inside)
+                  subst (λ t. AnswersAlone (run s (i ∷ is)) (all_answers (run t (part_script l is)))) (other_step l s i.who i.call first.args valid kept high inside)
                   (alone_more (played s i) false (run next is) _ high inside rest)
             ] refl
       ] refl
 
   -- each prefix of the answers before something crossed is a prefix of those of the part alone
-  pub prefix_alone : (items : List ScriptItem) (m : ℕ) (s : State) → have_laws items ≡ true → is_script s.top items ≡ true → IsValid s → Kept l s → IsPrefix (answers l (take m (up_to l (run s items)))) (all_answers (run (part l s) (part_script l items)))
-  prefix_alone items m s laws args valid kept =
-      let alone = answers_alone items s laws args valid kept in
+  pub prefix_alone : (items : List ScriptItem) (m : ℕ) (s : State) → is_script s.top items ≡ true → IsValid s → Kept l s → IsPrefix (answers l (take m (up_to l (run s items)))) (all_answers (run (part l s) (part_script l items)))
+  prefix_alone items m s args valid kept =
+      let alone = answers_alone items s args valid kept in
       prefix_through _ _ _ (answers_of_first m (up_to l (run s items))) (record { rest = alone.rest; whole_is = alone.whole_is })
 
   -- where nothing crosses, the answers to Low tags are those of the part alone
-  pub whole_alone : (items : List ScriptItem) (s : State) → have_laws items ≡ true → is_script s.top items ≡ true → IsValid s → Kept l s → up_to l (run s items) ≡ run s items → answers l (run s items) ≡ all_answers (run (part l s) (part_script l items))
-  whole_alone items s laws args valid kept e =
-      let alone = answers_alone items s laws args valid kept in
+  pub whole_alone : (items : List ScriptItem) (s : State) → is_script s.top items ≡ true → IsValid s → Kept l s → up_to l (run s items) ≡ run s items → answers l (run s items) ≡ all_answers (run (part l s) (part_script l items))
+  whole_alone items s args valid kept e =
+      let alone = answers_alone items s args valid kept in
       ap (answers l) (sym e) ∙ sym (append-nil _) ∙ ap (λ xs. answers l (up_to l (run s items)) ++ xs) (sym (alone.all e)) ∙ sym alone.whole_is

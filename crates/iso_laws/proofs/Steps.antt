@@ -17,7 +17,7 @@ use Rattle.kern_model.specs.Step.{StepResult, step, step_by, settled, subject, r
 use Rattle.kern_model.specs.Isolation.{low, part, crosses, crossing, Kept}
 use Rattle.kern_model.specs.Valid.{IsValid}
 use Rattle.kern_model.proofs.MapLemmas.{get-select}
-use Rattle.iso_laws.specs.LawCalls.{has_laws}
+use Rattle.iso_laws.proofs.PlayableCalls.{has_flags, flags_of_call}
 use Rattle.iso_laws.specs.Laws.{IsLowStep, LowStepReply, LowStepRecords, LowStepState, OtherStep, KeptStep, ValidStep, TopStep}
 use Rattle.iso_laws.proofs.Part.{by_number, top-changed, low_pid, same, part_changes, part_by_number, by_number-changed_by, fixed_by}
 use Rattle.iso_laws.proofs.Rows.{part_end, part_judged, bad_prefix, never, none_never}
@@ -44,32 +44,32 @@ module _ (s : State) (who : Pid) (c : Call) where
 
 -- a valid state stays valid, whatever crosses
 pub valid_step : ValidStep
-valid_step s who c laws args names valid = by_process s who c (λ o. IsValid o.state)
+valid_step s who c args names valid = by_process s who c (λ o. IsValid o.state)
     (λ _. valid)
-    (λ p is. (row_meets never s valid who p is (Unit {0}) (λ cs. IsValid (changed_by s cs)) (valid_cases never s valid who p is) c (λ _. args) (λ _. names) laws).ends [] (none_never (judged_row s who c p).used))
+    (λ p is. (row_meets never s valid who p is (Unit {0}) (λ cs. IsValid (changed_by s cs)) (valid_cases never s valid who p is) c (λ _. args) (λ _. names) (flags_of_call s.top c args)).ends [] (none_never (judged_row s who c p).used))
 
-module _ (l : Label) (s : State) (who : Pid) (c : Call) (laws : has_laws c ≡ true) where
+module _ (l : Label) (s : State) (who : Pid) (c : Call) (flags : has_flags c ≡ true) where
   -- the changes of a row satisfy a property, where the step crosses nothing
   met : (P : List Change → Type 0) → IsValid s → (p : Process) → map.get s.procs who ≡ Some p → Cases (crosses l) s who p ((is_call s.top c ≡ true) × (has_names c ≡ true)) P
       → crossing l (settled s who p (name_of c) (judged_row s who c p)).recs ≡ false → P (changes_of (judged_row s who c p).end)
   met P valid p is cases h =
       let j : CheckOutcome = judged_row s who c p in
-      (row_meets (crosses l) s valid who p is ((is_call s.top c ≡ true) × (has_names c ≡ true)) P cases c (λ fit. fit.0) (λ fit. fit.1) laws).ends [] (bad_prefix (crosses l) j.used (own_of who p (name_of c) j.end) h)
+      (row_meets (crosses l) s valid who p is ((is_call s.top c ≡ true) × (has_names c ≡ true)) P cases c (λ fit. fit.0) (λ fit. fit.1) flags).ends [] (bad_prefix (crosses l) j.used (own_of who p (name_of c) j.end) h)
 
 pub kept_step : KeptStep
-kept_step l s who c laws valid kept = by_process s who c (λ o. crossing l o.recs ≡ false → Kept l o.state)
+kept_step l s who c args valid kept = by_process s who c (λ o. crossing l o.recs ≡ false → Kept l o.state)
     (λ _ _. kept)
-    (λ p is h. met l s who c laws (λ cs. Kept l (changed_by s cs)) valid p is (kept_cases l s kept valid who p is _) h)
+    (λ p is h. met l s who c (flags_of_call s.top c args) (λ cs. Kept l (changed_by s cs)) valid p is (kept_cases l s kept valid who p is _) h)
 
 pub other_step : OtherStep
-other_step l s who c laws valid kept high = by_process s who c (λ o. (crossing l o.recs ≡ false → Kept l o.state) → crossing l o.recs ≡ false → part l o.state ≡ part l s)
+other_step l s who c args valid kept high = by_process s who c (λ o. (crossing l o.recs ≡ false → Kept l o.state) → crossing l o.recs ≡ false → part l o.state ≡ part l s)
     (λ _ _ _. refl)
     (λ p is k h.
     part_by_number l _ (k h)
     ∙ by_number-changed_by l s (changes_of (judged_row s who c p).end)
-    ∙ ap (changed_by (by_number l s)) (met l s who c laws (λ cs. part_changes l s.top cs ≡ []) valid p is (hidden_cases l s kept valid who p _ is high) h)
+    ∙ ap (changed_by (by_number l s)) (met l s who c (flags_of_call s.top c args) (λ cs. part_changes l s.top cs ≡ []) valid p is (hidden_cases l s kept valid who p _ is high) h)
     ∙ sym (part_by_number l s kept))
-    (kept_step l s who c laws valid kept)
+    (kept_step l s who c args valid kept)
 
 module _ (l : Label) (s : State) (who : Pid) (c : Call) where
   abbrev part_outcome : StepResult → StepResult
@@ -98,9 +98,9 @@ module _ (l : Label) (s : State) (who : Pid) (c : Call) where
       (λ p is k h.
       let p_low : low l p.label ≡ true = sym (kept.procs who p is) ∙ low_step_is.is_low in
       ap (step_by (by_number l s) who c) (get_process l s who low_step_is.is_low ∙ is)
-      ∙ ap (settled (by_number l s) who p (name_of c)) ((low_row l s kept low_step_is.valid who p is p_low c low_step_is.laws).ends [] (bad_prefix (crosses l) (judged_row s who c p).used (own_of who p (name_of c) (judged_row s who c p).end) h))
+      ∙ ap (settled (by_number l s) who p (name_of c)) ((low_row l s kept low_step_is.valid who p is p_low c (flags_of_call s.top c low_step_is.arguments)).ends [] (bad_prefix (crosses l) (judged_row s who c p).used (own_of who p (name_of c) (judged_row s who c p).end) h))
       ∙ settled_part kept p (judged_row s who c p) (k h))
-      (kept_step l s who c low_step_is.laws low_step_is.valid kept) low_step_is.inside
+      (kept_step l s who c low_step_is.arguments low_step_is.valid kept) low_step_is.inside
 
 pub low_step_reply : LowStepReply
 low_step_reply l s who c is = ap (λ o. o.reply) (low_step l s who c is)

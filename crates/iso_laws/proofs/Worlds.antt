@@ -20,20 +20,20 @@ on_first : (w : World) (items : List ScriptItem) → is_script w.top items ≡ t
 on_first w items args = ap (λ top. is_script top items) (top_boot w) ∙ args
 
 pub isolated_prefix : IsolatedPrefix
-isolated_prefix l w items m is args laws = prefix_alone l items m (boot w) laws (on_first w items args) (valid_boot w is) (kept_boot l w)
+isolated_prefix l w items m is args = prefix_alone l items m (boot w) (on_first w items args) (valid_boot w is) (kept_boot l w)
 
 pub isolated_whole : IsolatedWhole
-isolated_whole l w items is args laws none = whole_alone l items (boot w) laws (on_first w items args) (valid_boot w is) (kept_boot l w) none
+isolated_whole l w items is args none = whole_alone l items (boot w) (on_first w items args) (valid_boot w is) (kept_boot l w) none
 
 -- worlds and scripts with equal parts have the same answers alone
 same_alone : (l : Label) (w v : World) (is js : List ScriptItem) → part l (boot w) ≡ part l (boot v) → part_script l is ≡ part_script l js → alone l w is ≡ alone l v js
 same_alone l w v is js same same_script = λ i. all_answers (run (same i) (same_script i))
 
 pub two_worlds_agree : TwoWorldsAgree
-two_worlds_agree l w v is js m n is_w is_v args args' laws laws' same same_script = prefixes_agree _ _ (alone l v js)
-    (subst (IsPrefix (answers l (take m (up_to l (run (boot w) is))))) (same_alone l w v is js same same_script) (isolated_prefix l w is m is_w args laws))
-    (isolated_prefix l v js n is_v args' laws')
+two_worlds_agree l w v is js m n is_w is_v args args' same same_script = prefixes_agree _ _ (alone l v js)
+    (subst (IsPrefix (answers l (take m (up_to l (run (boot w) is))))) (same_alone l w v is js same same_script) (isolated_prefix l w is m is_w args))
+    (isolated_prefix l v js n is_v args')
 
 pub two_worlds_same : TwoWorldsSame
-two_worlds_same l w v is js is_w is_v args args' laws laws' same same_script none none' =
-    isolated_whole l w is is_w args laws none ∙ same_alone l w v is js same same_script ∙ sym (isolated_whole l v js is_v args' laws' none')
+two_worlds_same l w v is js is_w is_v args args' same same_script none none' =
+    isolated_whole l w is is_w args none ∙ same_alone l w v is js same same_script ∙ sym (isolated_whole l v js is_v args' none')

@@ -18,13 +18,12 @@ use Rattle.kern_model.specs.State.{State, Process}
 use Rattle.kern_model.specs.Step.{step}
 use Rattle.kern_model.specs.Valid.{IsValid}
 use Rattle.kern_model.specs.World.{IsWorld}
-use Rattle.iso_laws.specs.LawCalls.{has_laws, have_laws}
 
--- ---- a step, by a call with laws
+-- ---- a step, by a call whose arguments are in their ranges
 
 -- from a valid state that is kept, a step of a Low process by such a call, which crosses nothing
 pub record IsLowStep (l : Label) (s : State) (who : Pid) (c : Call) : Type 0 where
-  pub laws : has_laws c ≡ true
+  pub arguments : is_call s.top c ≡ true
   pub valid : IsValid s
   pub kept : Kept l s
   pub is_low : low l who.label ≡ true
@@ -44,16 +43,16 @@ LowStepState = (l : Label) (s : State) (who : Pid) (c : Call) → IsLowStep l s 
 
 -- a step of a process that is not Low, which crosses nothing, leaves the part as it was
 abbrev pub OtherStep : Type 0
-OtherStep = (l : Label) (s : State) (who : Pid) (c : Call) → has_laws c ≡ true → IsValid s → Kept l s → low l who.label ≡ false → crossing l (step s who c).recs ≡ false
+OtherStep = (l : Label) (s : State) (who : Pid) (c : Call) → is_call s.top c ≡ true → IsValid s → Kept l s → low l who.label ≡ false → crossing l (step s who c).recs ≡ false
     → part l (step s who c).state ≡ part l s
 
 -- a state that is kept stays kept over a step that crosses nothing
 abbrev pub KeptStep : Type 0
-KeptStep = (l : Label) (s : State) (who : Pid) (c : Call) → has_laws c ≡ true → IsValid s → Kept l s → crossing l (step s who c).recs ≡ false → Kept l (step s who c).state
+KeptStep = (l : Label) (s : State) (who : Pid) (c : Call) → is_call s.top c ≡ true → IsValid s → Kept l s → crossing l (step s who c).recs ≡ false → Kept l (step s who c).state
 
--- a valid state stays valid, where the arguments are in their ranges and what an entry may be named by is a name
+-- a valid state stays valid, where also what an entry may be named by is a name
 abbrev pub ValidStep : Type 0
-ValidStep = (s : State) (who : Pid) (c : Call) → has_laws c ≡ true → is_call s.top c ≡ true → has_names c ≡ true → IsValid s → IsValid (step s who c).state
+ValidStep = (s : State) (who : Pid) (c : Call) → is_call s.top c ≡ true → has_names c ≡ true → IsValid s → IsValid (step s who c).state
 
 -- ---- the first state of a world
 
@@ -65,27 +64,27 @@ KeptBoot = (l : Label) (w : World) → Kept l (boot w)
 abbrev pub ValidBoot : Type 0
 ValidBoot = (w : World) → IsWorld w → IsValid (boot w)
 
--- ---- runs of calls with laws
+-- ---- runs of scripts that may be played
 
 -- what Low tags are answered, up to any call before the first that crosses, is a prefix of what they are answered in the part alone
 abbrev pub IsolatedPrefix : Type 0
-IsolatedPrefix = (l : Label) (w : World) (items : List ScriptItem) (m : ℕ) → IsWorld w → is_script w.top items ≡ true → have_laws items ≡ true
+IsolatedPrefix = (l : Label) (w : World) (items : List ScriptItem) (m : ℕ) → IsWorld w → is_script w.top items ≡ true
     → IsPrefix (answers l (take m (up_to l (run (boot w) items)))) (alone l w items)
 
 -- where no call crosses, both are the same
 abbrev pub IsolatedWhole : Type 0
-IsolatedWhole = (l : Label) (w : World) (items : List ScriptItem) → IsWorld w → is_script w.top items ≡ true → have_laws items ≡ true
+IsolatedWhole = (l : Label) (w : World) (items : List ScriptItem) → IsWorld w → is_script w.top items ≡ true
     → up_to l (run (boot w) items) ≡ run (boot w) items → answers l (run (boot w) items) ≡ alone l w items
 
 -- on two worlds with the same part, two scripts with the same Low items answer Low tags alike, up to any calls before the first that crosses: one list is a
 -- prefix of the other
 abbrev pub TwoWorldsAgree : Type 0
-TwoWorldsAgree = (l : Label) (w v : World) (is js : List ScriptItem) (m n : ℕ) → IsWorld w → IsWorld v → is_script w.top is ≡ true → is_script v.top js ≡ true → have_laws is ≡ true → have_laws js ≡ true
+TwoWorldsAgree = (l : Label) (w v : World) (is js : List ScriptItem) (m n : ℕ) → IsWorld w → IsWorld v → is_script w.top is ≡ true → is_script v.top js ≡ true
     → part l (boot w) ≡ part l (boot v) → part_script l is ≡ part_script l js → Agree (answers l (take m (up_to l (run (boot w) is)))) (answers l (take n (up_to l (run (boot v) js))))
 
 -- where no call crosses, both are the same
 abbrev pub TwoWorldsSame : Type 0
-TwoWorldsSame = (l : Label) (w v : World) (is js : List ScriptItem) → IsWorld w → IsWorld v → is_script w.top is ≡ true → is_script v.top js ≡ true → have_laws is ≡ true → have_laws js ≡ true
+TwoWorldsSame = (l : Label) (w v : World) (is js : List ScriptItem) → IsWorld w → IsWorld v → is_script w.top is ≡ true → is_script v.top js ≡ true
     → part l (boot w) ≡ part l (boot v) → part_script l is ≡ part_script l js
     → up_to l (run (boot w) is) ≡ run (boot w) is → up_to l (run (boot v) js) ≡ run (boot v) js → answers l (run (boot w) is) ≡ answers l (run (boot v) js)
 

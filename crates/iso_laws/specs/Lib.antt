@@ -1,2 +1,1 @@
-pub mod LawCalls
 pub mod Laws

@@ -1,8 +1,7 @@
 //! The laws of isolation, on the definitions alone. A label is Low for `l` where `l` dominates it. What
 //! crosses `l` is an exercise of one of the five capabilities that override the rules on labels, between
 //! labels of which some are Low and some are not. Each law is stated in `specs/Laws.antt`. Those of isolation, and that a
-//! valid state stays valid, are for the calls with laws: all but an `open` by flags that no call may have
-//! (`specs/LawCalls.antt`). The others are for every call.
+//! valid state stays valid, are for each call whose arguments are in their ranges. The others are for every call.
 #![tactic(auto)]
 
 ghost use Rattle.iso_laws.specs.Laws.{LowStepReply, LowStepRecords, LowStepState, OtherStep, KeptStep, ValidStep};
@@ -11,20 +10,20 @@ ghost use Rattle.iso_laws.specs.Laws.{CapsByRecords, DropsByRecords, GrowthByRec
 ghost use Rattle.iso_laws.specs.Laws.{RefusalsAreNamed, DrawnStep, NumbersStep, NumbersRun, GoneRun};
 
 /// A step of a Low process that crosses nothing gives in the part the same reply, the same records, and the
-/// part of the new state. The same holds for a Low tag that names no living process. For calls with laws.
+/// part of the new state. The same holds for a Low tag that names no living process.
 pub fn low_step()
     ensures reply { LowStepReply }
     ensures recs { LowStepRecords }
     ensures state { LowStepState }
 {}
 
-/// A step of a process that is not Low leaves the part as it was, unless it crosses. For calls with laws.
+/// A step of a process that is not Low leaves the part as it was, unless it crosses.
 pub fn other_step()
     ensures { OtherStep }
 {}
 
 /// Numbers, present labels and what belongs together stay on one side of each label, unless a step crosses it. A
-/// valid state stays valid, whatever crosses, where the arguments of the call are in their ranges. For calls with laws.
+/// valid state stays valid, whatever crosses, where the arguments of the call are in their ranges.
 pub fn kept_step()
     ensures kept { KeptStep }
     ensures valid { ValidStep }
@@ -39,7 +38,7 @@ pub fn kept_boot()
 
 /// What Low tags are answered up to any call before the first one that crosses is a prefix of what they are answered
 /// where the part of the world is all there is, and only the Low items are played. Where no call crosses, both are the
-/// same. For scripts of calls with laws.
+/// same.
 pub fn isolated()
     ensures prefix { IsolatedPrefix }
     ensures whole { IsolatedWhole }
@@ -47,7 +46,6 @@ pub fn isolated()
 
 /// In two worlds with the same part and two scripts with the same Low items, Low tags are answered the same, as far as
 /// neither run has a call that crosses: one list is a prefix of the other. Where no call crosses, both are the same.
-/// For scripts of calls with laws.
 pub fn two_worlds()
     ensures prefixes { TwoWorldsAgree }
     ensures whole { TwoWorldsSame }

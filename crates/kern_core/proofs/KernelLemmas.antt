@@ -30,7 +30,7 @@ use Rattle.kern_model.specs.Keys.{pid_cmp}
 use Rattle.fd_table.specs.Rows.{AllFds}
 use Rattle.sys_lookup.specs.Shared.{with_fds}
 use Rattle.sys_lookup.proofs.FdLemmas.{field-with_fds}
-use Rattle.iso_laws.proofs.Laws.{laws_of_call, numbers_step, refusals_are_named, valid_boot, valid_step}
+use Rattle.iso_laws.proofs.Laws.{numbers_step, refusals_are_named, valid_boot, valid_step}
 use Rattle.kern_core.specs.Kernel.{IsStopped}
 use Rattle.kern_core.proofs.StepLemmas.{no_process}
 
@@ -66,7 +66,7 @@ module _ {E : Type 0} (s t : State) (who : Pid) (c : Call) (r : Result reported.
   valid_played arguments names valid =
       let after : IsValid s → IsValid (step s who c).state = λ v. elim (map.get s.procs who) as (λ w. map.get s.procs who ≡ w → IsValid (step s who c).state) [
         | None ↦ λ none. subst IsValid (sym (ap (λ (u : StepResult). u.state) (no_process s who c none))) v
-        | Some p ↦ λ some. valid_step s who c (laws_of_call s.top c arguments) arguments (names (ap is_some some)) v
+        | Some p ↦ λ some. valid_step s who c arguments (names (ap is_some some)) v
       ] refl in
       IfOk-weaker r _ _ (λ o e. ∥∥₁_map valid (λ v. subst IsValid (ap (λ (u : StepResult). u.state) e) (after v))) is
 

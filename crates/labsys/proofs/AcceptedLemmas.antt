@@ -1,17 +1,12 @@
--- An accepted world is a world, and the calls of its script may be played.
+-- An accepted world is a world, and the arguments of the calls of its script are in their ranges.
 use Rattle.std.proofs.Common.{◌≡◌, ℕ, ◌+◌, Bool, true, false, cond, List, [], ◌∷◌, length, take, refl, sym, subst, Some}
 use Rattle.std.specs.Prelude.{nat_lt, Result, Ok, Err}
 use Rattle.std.proofs.lemmas.Bool.{and_from}
 use Rattle.lab_lattice.specs.Label.{Label}
 use Rattle.lab_text.specs.Policy.{PolicyNames, top_of}
-use Rattle.kern_model.specs.Arguments.{has_names, is_call, is_number, is_script}
+use Rattle.kern_model.specs.Arguments.{is_script}
 use Rattle.kern_model.specs.World.{IsWorld}
-use Rattle.kern_model.specs.declared.calls.Call.{Call}
 use Rattle.kern_model.specs.declared.limits.TheConstants.{MAX_INPUT}
-use Rattle.kern_model.specs.declared.numbers.Pid.{Pid}
-use Rattle.kern_core.specs.Built.{is_built}
-use Rattle.iso_laws.proofs.Laws.{laws_of_call}
-use Rattle.iso_laws.specs.LawCalls.{have_laws}
 use Rattle.script_text.specs.declared.line.Line.{Line}
 use Rattle.script_text.specs.declared.line.Line.TheVariants as line
 use Rattle.script_text.specs.declared.fault.LineError.{LineError}
@@ -20,41 +15,28 @@ use Rattle.script_text.proofs.LineLaws.{parsed_played}
 use Rattle.world_text.specs.declared.world.WorldText.{WorldText}
 use Rattle.world_text.proofs.Accepted.{accepted_world, accepted_top}
 use Rattle.world_text.specs.Reading.{Reading, Accepted, Refused as Stopped, Ended, read_text}
-use Rattle.labsys.specs.declared.status.InputEnd.TheVariants.{Refused}
-use Rattle.labsys.specs.declared.status.Part.TheVariants as part
-use Rattle.labsys.specs.declared.status.Refusal.TheVariants as refusal
 use Rattle.labsys.specs.Input.{Accepted as AcceptedWorld, Script, Input, no_world, script, item_of, after_line, script_from, input_by, input_of}
 
 -- ---- scripts
 
--- the arguments of each call of a script are in their ranges, and the call has laws
-pub record MayBePlayed (top : Label) (s : Script) : Type 0 where
-  pub arguments : is_script top s.items ≡ true
-  pub laws : have_laws s.items ≡ true
-
 module _ (policy : PolicyNames) where
-  by_built : (who : Pid) (c : Call) (n : ℕ) (more : Script) → (is_number (top_of policy) who ≡ true) × (is_call (top_of policy) c ≡ true) × (has_names c ≡ true) → (b : Bool) → is_built c ≡ b → MayBePlayed (top_of policy) more
-      → MayBePlayed (top_of policy) (cond b (script (item_of who c ∷ more.items) more.ending) (script [] (Refused n part.Script refusal.NotBuilt)))
-  by_built who c n more fit true built rest = record { arguments = and_from _ _ (and_from _ _ (and_from _ _ fit.0 fit.1) fit.2) rest.arguments; laws = and_from _ _ (laws_of_call (top_of policy) c fit.1) rest.laws }
-  by_built who c n more fit false built rest = record { arguments = refl; laws = refl }
-
-  after_played : (text : List ℕ) (parsed : Result Line LineError) → parse_line policy text ≡ parsed → (n : ℕ) (more : Script) → MayBePlayed (top_of policy) more → MayBePlayed (top_of policy) (after_line parsed n more)
-  after_played text (Err e) is n more rest = record { arguments = refl; laws = refl }
+  after_played : (text : List ℕ) (parsed : Result Line LineError) → parse_line policy text ≡ parsed → (n : ℕ) (more : Script) → is_script (top_of policy) more.items ≡ true → is_script (top_of policy) (after_line parsed n more).items ≡ true
+  after_played text (Err e) is n more rest = refl
   after_played text (Ok line.Blank) is n more rest = rest
-  after_played text (Ok (line.One who c)) is n more rest = by_built who c n more (parsed_played policy text (line.One who c) is) (is_built c) refl rest
+  after_played text (Ok (line.One who c)) is n more rest = let fit = parsed_played policy text (line.One who c) is in and_from _ _ (and_from _ _ (and_from _ _ fit.0 fit.1) fit.2) rest
 
-  script_played : (over : Bool) (n : ℕ) (ls : List (List ℕ)) → MayBePlayed (top_of policy) (script_from over policy n ls)
+  script_played : (over : Bool) (n : ℕ) (ls : List (List ℕ)) → is_script (top_of policy) (script_from over policy n ls).items ≡ true
   unfolding script_from
-  script_played over n [] = record { arguments = refl; laws = refl }
-  script_played over n (last ∷ []) = record { arguments = refl; laws = refl }
+  script_played over n [] = refl
+  script_played over n (last ∷ []) = refl
   script_played over n (text ∷ next ∷ ls) = after_played text (parse_line policy text) refl n _ (script_played over (n + 1) (next ∷ ls))
 
 -- ---- inputs
 
--- a world is one, and the calls of its script may be played
+-- a world is one, and the arguments of the calls of its script are in their ranges
 pub record IsPlayable (a : AcceptedWorld) (s : Script) : Type 0 where
   pub world : IsWorld a.world
-  pub script : MayBePlayed a.world.top s
+  pub script : is_script a.world.top s.items ≡ true
 
 same_some : (w a : WorldText) → Some w ≡ Some a → w ≡ a
 same_some w a e = cc
@@ -65,7 +47,7 @@ module _ (over : Bool) (a : WorldText) where
       let s = script_from over w.policy n ls in
       subst (λ (v : WorldText). IsPlayable v s) (same_some w a e) (record {
         world = accepted_world text w n ls is;
-        script = subst (λ (top : Label). MayBePlayed top s) (sym (accepted_top text w n ls is)) (script_played w.policy over n ls);
+        script = subst (λ (top : Label). is_script top s.items ≡ true) (sym (accepted_top text w n ls is)) (script_played w.policy over n ls);
       })
   by_reading text (Stopped n why) is e = absurd (cc)
   by_reading text (Ended n last) is e = absurd (cc)

@@ -24,7 +24,6 @@ use Rattle.world_text.specs.declared.expecting.Parsed.TheVariants.{Refuses, Goes
 use Rattle.world_text.specs.Expecting.{parse_line}
 use Rattle.world_text.specs.Reading.{Reading, Accepted, Refused as Stopped, Ended, after, reading, read_text}
 use Rattle.fs_path.specs.Split.{pieces}
-use Rattle.kern_core.specs.Built.{is_built}
 use Rattle.script_text.specs.declared.line.Line.{Line}
 use Rattle.script_text.specs.declared.line.Line.TheVariants.{Blank, One}
 use Rattle.script_text.specs.declared.fault.LineError.{LineError}
@@ -91,8 +90,7 @@ cut_not n p why last = elim (nat_lt MAX_LINE (length last)) as (λ b. NotWhole (
 line_not : (parsed : Result Line LineError) (n : ℕ) (more : Script) → NotWhole more.ending → NotWhole (after_line parsed n more).ending
 line_not (Err e) n more h = λ e. cc
 line_not (Ok Blank) n more h = h
-line_not (Ok (One who call)) n more h =
-    elim (is_built call) as (λ b. NotWhole (Script.ending (cond b (script (item_of who call ∷ more.items) more.ending) (script [] (Refused n part.Script refusal.NotBuilt))))) [ true ↦ h | false ↦ λ e. cc ]
+line_not (Ok (One who call)) n more h = h
 
 script_not : (policy : PolicyNames) (n : ℕ) (l : List ℕ) (ls : List (List ℕ)) → NotWhole (script_from true policy n (l ∷ ls)).ending
 unfolding script_from

@@ -68,11 +68,11 @@ module _ (l : Label) (a : Accepted) (script : Script) (is : IsPlayable a script)
   pub is_isolated : (out : List ℕ) → Written (bytes_of (session_of a script)) out → Isolated l a script out
   is_isolated out w = record {
     written = w;
-    reported = λ m few before. subst (λ ps. IsPrefix (answers l ps) (alone l a.world script.items)) (sym (take_up_to l m (run_of a script) before)) (isolated_prefix l a.world script.items m is.world is.script.arguments is.script.laws);
+    reported = λ m few before. subst (λ ps. IsPrefix (answers l ps) (alone l a.world script.items)) (sym (take_up_to l m (run_of a script) before)) (isolated_prefix l a.world script.items m is.world is.script);
   }
 
   pub is_isolated_whole : (out : List ℕ) → IsPrefix (replies_of (bytes_of (session_of a script))) out → IsolatedWhole l a script out
-  is_isolated_whole out w = record { written = w; reported = λ none. isolated_whole l a.world script.items is.world is.script.arguments is.script.laws none }
+  is_isolated_whole out w = record { written = w; reported = λ none. isolated_whole l a.world script.items is.world is.script none }
 
   module _ (b : Accepted) (script' : Script) (is' : IsPlayable b script') (same : SameBelow l a script b script') where
     pub two_agree : (out : List ℕ) → Written (bytes_of (session_of a script)) out → TwoInputs l a script b script' out
@@ -81,8 +81,8 @@ module _ (l : Label) (a : Accepted) (script : Script) (is : IsPlayable a script)
       agree = λ m n few before before'.
           subst (λ ps. Agree (answers l ps) (answers l (take n (run_of b script')))) (sym (take_up_to l m (run_of a script) before))
           (subst (λ ps. Agree (answers l (take m (up_to l (run_of a script)))) (answers l ps)) (sym (take_up_to l n (run_of b script') before'))
-          (two_worlds_agree l a.world b.world script.items script'.items m n is.world is'.world is.script.arguments is'.script.arguments is.script.laws is'.script.laws same.world same.items));
+          (two_worlds_agree l a.world b.world script.items script'.items m n is.world is'.world is.script is'.script same.world same.items));
     }
 
     pub two_whole : (out : List ℕ) → IsPrefix (replies_of (bytes_of (session_of a script))) out → TwoWhole l a script b script' out
-    two_whole out w = record { written = w; equal = λ none none'. two_worlds_same l a.world b.world script.items script'.items is.world is'.world is.script.arguments is'.script.arguments is.script.laws is'.script.laws same.world same.items none none' }
+    two_whole out w = record { written = w; equal = λ none none'. two_worlds_same l a.world b.world script.items script'.items is.world is'.world is.script is'.script same.world same.items none none' }

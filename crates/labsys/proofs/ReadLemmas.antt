@@ -5,7 +5,6 @@ use Rattle.fs_path.specs.Split.{split_once, pieces}
 use Rattle.fs_path.proofs.SplitLemmas.{pieces_some, pieces_none, pieces_first}
 use Rattle.lab_text.specs.Policy.{PolicyNames, top_of}
 use Rattle.kern_model.specs.Arguments.{is_call}
-use Rattle.kern_core.specs.Built.{is_built}
 use Rattle.script_text.specs.declared.line.Line.{Line}
 use Rattle.script_text.specs.declared.line.Line.TheVariants.{Blank, One}
 use Rattle.script_text.specs.Reading.{IsCause}
@@ -81,21 +80,11 @@ module _ (policy : PolicyNames) (before : Unread) (line : List ℕ) (text : Bor 
   by_line : (parsed : Result Line LineError) → parse_line policy line ≡ parsed → script_left policy before ≡ after_line parsed before.number (script_left policy rest)
   by_line parsed is = script_is before.over policy before.number before.text.now (Some (line, text.now)) next ∙ ap (λ (r : Result Line LineError). after_line r before.number (script_left policy rest)) is
 
-  -- the script where the line has a call, which may be built
-  by_call : (item : Item) → parse_line policy line ≡ Ok (One item.who item.call) → {b : Bool} → is_built item.call ≡ b
-      → script_left policy before ≡ cond b (script (item_of item.who item.call ∷ (script_left policy rest).items) (script_left policy rest).ending) (script [] (Refused before.number part.Script refusal.NotBuilt))
-  by_call item is built =
-      by_line (Ok (One item.who item.call)) is
-      ∙ ap (λ b. cond b (script (item_of item.who item.call ∷ (script_left policy rest).items) (script_left policy rest).ending) (script [] (Refused before.number part.Script refusal.NotBuilt))) built
-
   pub skips_line : parse_line policy line ≡ Ok Blank → length text.now < length before.text.now → SkipsLine policy before rest
   skips_line is less = record { says = by_line (Ok Blank) is; after = record { next = refl; shorter = less } }
 
-  pub plays_line : (item : Item) → parse_line policy line ≡ Ok (One item.who item.call) → is_built item.call ≡ true → is_call (top_of policy) item.call ≡ true → length text.now < length before.text.now → PlaysLine policy before item rest
-  plays_line item is built arguments less = record { says = by_call item is built; arguments = arguments; built = built; after = record { next = refl; shorter = less } }
-
-  pub ends_unbuilt : (item : Item) → parse_line policy line ≡ Ok (One item.who item.call) → is_built item.call ≡ false → Ends policy before (Refused before.number part.Script refusal.NotBuilt)
-  ends_unbuilt item is built = by_call item is built
+  pub plays_line : (item : Item) → parse_line policy line ≡ Ok (One item.who item.call) → is_call (top_of policy) item.call ≡ true → length text.now < length before.text.now → PlaysLine policy before item rest
+  plays_line item is arguments less = record { says = by_line (Ok (One item.who item.call)) is; arguments = arguments; after = record { next = refl; shorter = less } }
 
   by_word : (why : Refusal) {word : Refusal} → why ≡ word → Ends policy before (Refused before.number part.Script word) → Ends policy before (Refused before.number part.Script why)
   by_word why is ends = subst (λ (w : Refusal). Ends policy before (Refused before.number part.Script w)) (sym is) ends

@@ -10,7 +10,6 @@ use Rattle.kern_model.specs.declared.world.WorldObject.{WorldObject}
 use Rattle.kern_model.specs.declared.world.ScriptItem.{ScriptItem}
 use Rattle.kern_model.specs.declared.limits.TheConstants.{MAX_INPUT, MAX_LINE}
 use Rattle.kern_model.specs.Names.{name_of, word_of}
-use Rattle.kern_core.specs.Built.{is_built}
 use Rattle.lab_text.specs.Policy.{PolicyNames}
 use Rattle.script_text.specs.declared.line.Line.{Line}
 use Rattle.script_text.specs.declared.line.Line.TheVariants as line
@@ -72,11 +71,11 @@ refusal_of_line _ = refusal.Syntax
 abbrev pub item_of : Pid → Call → ScriptItem
 item_of who call = record { who = who; head = word_of (name_of call); call = call }
 
--- a script that begins with this line: the line is refused, it is blank, or it is a call, which has to be built
+-- a script that begins with this line: the line is refused, it is blank, or it is a call
 abbrev pub after_line : Result Line LineError → ℕ → Script → Script
 after_line (Err e) n more = script [] (Refused n part.Script (refusal_of_line e))
 after_line (Ok line.Blank) n more = more
-after_line (Ok (line.One who call)) n more = cond (is_built call) (script (item_of who call ∷ more.items) more.ending) (script [] (Refused n part.Script refusal.NotBuilt))
+after_line (Ok (line.One who call)) n more = script (item_of who call ∷ more.items) more.ending
 
 -- why a last piece is refused that no line feed ends: it is too long, or it does not end
 abbrev pub unended : List ℕ → Refusal

@@ -3,7 +3,6 @@ use Rattle.std.specs.Prelude.{◌≡◌, ℕ, ◌+◌, ◌≤◌, ◌<◌, Bool,
 use Rattle.fs_path.specs.Split.{pieces}
 use Rattle.lab_text.specs.Policy.{PolicyNames, top_of}
 use Rattle.kern_model.specs.Arguments.{is_call}
-use Rattle.kern_core.specs.Built.{is_built}
 use Rattle.kern_model.specs.World.{IsWorld}
 use Rattle.script_text.specs.declared.fault.LineError.{LineError}
 use Rattle.script_text.specs.declared.fault.LineError.TheVariants as line_error
@@ -43,7 +42,6 @@ pub record IsAfterLine (before after : Unread) : Type 0 where
 pub record PlaysLine (policy : PolicyNames) (before : Unread) (item : Item) (rest : Unread) : Type 0 where
   pub says : script_left policy before ≡ script (item_of item.who item.call ∷ (script_left policy rest).items) (script_left policy rest).ending
   pub arguments : is_call (top_of policy) item.call ≡ true
-  pub built : is_built item.call ≡ true
   pub after : IsAfterLine before rest
 
 -- a script begins with a blank line, and goes on with the rest

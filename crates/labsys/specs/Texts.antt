@@ -52,7 +52,6 @@ part_text part.World = codes "world"
 part_text part.Script = codes "script"
 
 unfoldable pub refusal_text : Refusal → List ℕ
-refusal_text refusal.NotBuilt = codes "not_built"
 refusal_text refusal.Syntax = codes "syntax"
 refusal_text refusal.UnknownName = codes "unknown_name"
 refusal_text refusal.Repeated = codes "repeated"

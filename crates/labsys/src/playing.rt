@@ -5,7 +5,6 @@ ghost use Rattle.kern_model.specs.Run.{played};
 ghost use Rattle.kern_model.specs.Step.{step};
 ghost use Rattle.kern_model.specs.Arguments.{is_call};
 ghost use Rattle.kern_model.specs.World.{IsWorld};
-ghost use Rattle.kern_core.specs.Built.{is_built};
 ghost use Rattle.kern_core.specs.Kernel.{state_of};
 ghost use Rattle.lab_text.specs.Policy.{top_of};
 ghost use Rattle.aud_record.specs.Written.{rec_text as rec_line, header_text as head_lines};
@@ -72,7 +71,6 @@ fn play_item<K: Sink, T: Sink>(
     trail: &mut T,
 ) -> Result<(), Fault>
     requires arguments { is_call (state_of kernel.old).top item.call ≡ true }
-    requires built { is_built item.call ≡ true }
     ensures writes { WritesBoth result (call_order (call_bytes texts.entry.policy.now number (played (state_of kernel.old) (item_of item.who item.call))))
         (sink_view (K.held out.old) (K.faults out.old)) (sink_view (K.held out.new) (K.faults out.new)) (sink_view (T.held trail.old) (T.faults trail.old)) (sink_view (T.held trail.new) (T.faults trail.new)) }
     ensures state { OnOk result (state_of kernel.new ≡ (step (state_of kernel.old) item.who item.call).state) }

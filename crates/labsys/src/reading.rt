@@ -7,7 +7,6 @@ ghost use Rattle.labsys.specs.declared.reading.Halt.TheVariants as halt;
 use crate::texts::Texts;
 use crate::{InputEnd, Part, Refusal};
 use fs_path::next_line;
-use kern_core::built;
 use kern_model::limits::MAX_LINE;
 use kern_model::{Call, NoMemory, Pid};
 use script_text::{Line, LineError, read_line};
@@ -140,13 +139,7 @@ pub fn next_item<'a>(texts: Texts<'_>, script: Unread<'a>) -> Result<Next<'a>, N
     };
     match read_line(texts.alloc, texts.policy, line) {
         Ok(Line::Blank) => Ok(Next::Blank(rest)),
-        Ok(Line::One { who, call }) => {
-            if !built(&call) {
-                let refused = InputEnd::Refused(script.number, Part::Script, Refusal::NotBuilt);
-                return Ok(Next::Ended(refused));
-            }
-            Ok(Next::Item(Item { who, call }, rest))
-        }
+        Ok(Line::One { who, call }) => Ok(Next::Item(Item { who, call }, rest)),
         Err(fault) => {
             let refused = InputEnd::Refused(script.number, Part::Script, refusal_of(fault)?);
             Ok(Next::Ended(refused))

@@ -15,8 +15,6 @@ pub enum Part {
 /// Why a line is refused.
 #[derive(Clone, Copy, Debug, PartialEq, Eq)]
 pub enum Refusal {
-    /// The call, or an object of the world, is not supported yet.
-    NotBuilt,
     /// It does not have the form of the line that is expected there, or the input ends inside it or before the world does.
     Syntax,
     /// A level, a category or a capability of the world is unknown.

@@ -182,8 +182,8 @@ const REFUSED: [(Pieces, Pieces, Pieces); 3] = [
         &[],
     ),
     (
-        &[INPUT, b"1@unc fork\n", CALL],
-        &[REPLY, END, b"refused 10 script not_built\n"],
+        &[INPUT, b"1@unc fork now\n", CALL],
+        &[REPLY, END, b"refused 10 script syntax\n"],
         TRAIL,
     ),
 ];

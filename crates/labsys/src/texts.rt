@@ -38,7 +38,6 @@ impl Refusal {
         ensures { result.now ≡ refusal_text self }
     {
         match self {
-            Refusal::NotBuilt => b"not_built",
             Refusal::Syntax => b"syntax",
             Refusal::UnknownName => b"unknown_name",
             Refusal::Repeated => b"repeated",
