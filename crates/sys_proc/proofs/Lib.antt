@@ -1,0 +1,2 @@
+mod ChildLemmas
+mod StandLemmas
