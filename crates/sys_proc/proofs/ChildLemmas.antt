@@ -108,7 +108,8 @@ pub child_shown : (h : Shared) (who : Pid) → has_child (state_of h) who ≡ ha
 unfolding with_fds
 child_shown h who = any_entry-select pid_cmp_total pid_cmp_exact _ _ _ h.procs.procs (λ k x e. refl)
 
-fails : (s t : State) (log : CheckLog) (e : Errno) → t ≡ s → PlaysRow s log (Fail e) (Err (stop.Refused e)) t log
+-- a row that only refuses
+pub fails : (s t : State) (log : CheckLog) (e : Errno) → t ≡ s → PlaysRow s log (Fail e) (Err (stop.Refused e)) t log
 unfolding EndsBy Keeps
 fails s t log e same = record { completes = tt; ends = judge-fail log.subject log.used e; keeps = same }
 

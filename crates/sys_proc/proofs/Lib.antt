@@ -1,2 +1,3 @@
 mod ChildLemmas
+mod EndLemmas
 mod StandLemmas

@@ -2,5 +2,7 @@
 #![tactic(auto)]
 
 mod children;
+mod ends;
 
 pub use children::{fork, wait};
+pub use ends::{exit, kill};
