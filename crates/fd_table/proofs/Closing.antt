@@ -39,7 +39,7 @@ pub record Shows (s : State) (t : OpenFiles) : Type 0 where
   pub held : (did : Did) (d : Description) → map.get s.descriptions did ≡ Some d → IsHeld s did
 
 -- ---- tests
-same_tests : (b c : Bool) → (b ≡ false → c ≡ false) → (c ≡ false → b ≡ false) → b ≡ c
+pub same_tests : (b c : Bool) → (b ≡ false → c ≡ false) → (c ≡ false → b ≡ false) → b ≡ c
 same_tests true true f g = refl
 same_tests false false f g = refl
 same_tests true false f g = g refl
@@ -112,7 +112,7 @@ module _ (rows : AllFds) (q : Did) where
       none_pass nat_cmp_total nat_cmp-IsAntisymmetric on_it fds (λ fd did at. h who fd did (ap (λ (m : Fds). map.get m fd) (get_or-found rows who map.empty fds there) ∙ at)))
 
 -- ---- changes one after another
-changed_by-append : (s : State) (cs ds : List Change) → changed_by s (cs ++ ds) ≡ changed_by (changed_by s cs) ds
+pub changed_by-append : (s : State) (cs ds : List Change) → changed_by s (cs ++ ds) ≡ changed_by (changed_by s cs) ds
 changed_by-append s [] ds = refl
 changed_by-append s (c ∷ cs) ds = changed_by-append (changed s c) cs ds
 

@@ -1,10 +1,8 @@
-pub mod ClosingLemmas
 pub mod ObjectLemmas
 pub mod OpenLemmas
 pub mod PipeLemmas
 pub mod ReadLemmas
 pub mod ReferLemmas
-pub mod RefuseLemmas
 pub mod StreamLemmas
 pub mod SumLemmas
 pub mod WriteLemmas

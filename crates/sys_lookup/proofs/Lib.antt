@@ -1,12 +1,14 @@
 pub mod AskLemmas
 pub mod CheckLemmas
+pub mod ClosingLemmas
 pub mod FdChanges
 pub mod FdLemmas
 pub mod LendLemmas
 pub mod MakeLemmas
-pub mod OwnerLemmas
 pub mod OpenedLemmas
+pub mod OwnerLemmas
 pub mod PlayLemmas
 pub mod PlayingLemmas
+pub mod RefuseLemmas
 pub mod StopLemmas
 pub mod WalkLemmas

@@ -18,7 +18,7 @@ use Rattle.sys_lookup.proofs.FdChanges.{with_fds-row}
 use Rattle.sys_lookup.specs.Owners.{HasOwners}
 use Rattle.sys_lookup.proofs.OwnerLemmas.{owners_row}
 use Rattle.sys_lookup.proofs.PlayLemmas.{caller_plays, then_plays, stops_row, commits}
-use Rattle.sys_file.proofs.ClosingLemmas.{table_shows}
+use Rattle.sys_lookup.proofs.ClosingLemmas.{table_shows}
 use Rattle.sys_file.proofs.ReferLemmas.{referred}
 use Rattle.sys_file.proofs.descriptors.close.Goals as goal
 

@@ -19,7 +19,7 @@ use Rattle.sys_lookup.specs.Shared.{holding, state_of, with_fds}
 use Rattle.sys_lookup.proofs.FdChanges.{with_fds-row}
 use Rattle.sys_lookup.proofs.PlayLemmas.{caller_plays, then_plays, stops_row, refuse_plays, refuse_stops_row, equal_answer, commits}
 use Rattle.sys_file.proofs.ReferLemmas.{none_is_free, one_is_free, referred}
-use Rattle.sys_file.proofs.RefuseLemmas.{lets_on, refuses}
+use Rattle.sys_lookup.proofs.RefuseLemmas.{lets_on, refuses}
 use Rattle.sys_file.proofs.descriptors.dup.Goals as goal
 
 -- the row after the descriptor is found

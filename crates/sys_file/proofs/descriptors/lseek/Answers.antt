@@ -18,7 +18,7 @@ use Rattle.sys_lookup.specs.Shared.{holding, state_of}
 use Rattle.sys_lookup.proofs.PlayLemmas.{caller_plays, then_plays, stops_row, refuse_stops_row}
 use Rattle.sys_file.proofs.ObjectLemmas.{few_bytes, file_there, object_is}
 use Rattle.sys_file.proofs.ReferLemmas.{open_there, referred}
-use Rattle.sys_file.proofs.RefuseLemmas.{refuses}
+use Rattle.sys_lookup.proofs.RefuseLemmas.{refuses}
 use Rattle.sys_file.specs.Seeking.{moves}
 use Rattle.sys_file.proofs.descriptors.lseek.Goals as goal
 

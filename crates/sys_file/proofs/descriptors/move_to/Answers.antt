@@ -15,7 +15,7 @@ use Rattle.sys_lookup.specs.Shared.{state_of, with_fds}
 use Rattle.sys_lookup.proofs.FdChanges.{with_files}
 use Rattle.sys_lookup.proofs.OpenedLemmas.{refers_to}
 use Rattle.sys_lookup.proofs.PlayLemmas.{refuse_plays, refuse_stops_row, equal_answer, commits}
-use Rattle.sys_file.proofs.RefuseLemmas.{lets_on, refuses}
+use Rattle.sys_lookup.proofs.RefuseLemmas.{lets_on, refuses}
 use Rattle.sys_file.specs.Seeking.{moves}
 use Rattle.sys_file.proofs.descriptors.move_to.Goals as goal
 

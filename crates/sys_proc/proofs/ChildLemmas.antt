@@ -1,0 +1,151 @@
+-- Children that are made, and children that ended.
+use Rattle.std.specs.Prelude.{◌≡◌, ◌+◌, ◌==◌, ◌&&◌, ◌≤◌, nat_le, not, ⊤, Bool, true, false, List, [], ◌∷◌, drop, length, None, Some, Result, Ok, Err, OnErr, OnOk, refl}
+use Rattle.std.specs.FinMap as map
+use Rattle.std.specs.FinMap.{FinMap}
+use Rattle.std.specs.declared.alloc.AllocError.{AllocError}
+use Rattle.std.proofs.Common.{ap, sym, ◌∙◌, subst, arith}
+use Rattle.std.proofs.Math.Logic.{∥∥₁_elim}
+use Rattle.std.proofs.lemmas.Bool.Decides.{nat_tests}
+use Rattle.lab_lattice.specs.Label.{Label}
+use Rattle.kern_model.specs.declared.calls.Answer.TheVariants as answer
+use Rattle.kern_model.specs.declared.calls.Ending.{Ending}
+use Rattle.kern_model.specs.declared.calls.Errno.{Errno}
+use Rattle.kern_model.specs.declared.calls.Errno.TheVariants as errno
+use Rattle.kern_model.specs.declared.limits.TheConstants.{MAX_PROCS}
+use Rattle.kern_model.specs.declared.numbers.Pid.{Pid}
+use Rattle.kern_model.specs.declared.records.Rec.TheVariants as rec
+use Rattle.kern_model.specs.Keys.{pid_cmp}
+use Rattle.kern_model.specs.ProcessRows.{child_of, fork_row, has_child, take_ended}
+use Rattle.kern_model.specs.Row.{Fail, Refuse, Commit}
+use Rattle.kern_model.specs.State.{State, Process, Change, DrawProcess, SetProcess, drawn}
+use Rattle.kern_model.specs.Valid.{IsThere, IsValid}
+use Rattle.kern_model.proofs.KeyLaws.{pid_cmp_total, pid_cmp_exact}
+use Rattle.kern_model.proofs.MapLemmas.{get-insert_same}
+use Rattle.kern_model.proofs.RowLemmas.{judge-fail}
+use Rattle.kern_model.proofs.Selections.{any_entry-select, insert-insert}
+use Rattle.proc_table.specs.declared.procs.ProcError.{ProcError}
+use Rattle.proc_table.specs.declared.procs.ReapError.{ReapError}
+use Rattle.proc_table.specs.declared.procs.ReapError.TheVariants as reap
+use Rattle.proc_table.specs.Procs.{ProcTable, has_living_child, next_in, reaped, with_new, with_process}
+use Rattle.chk_rules.specs.CheckLog.{CheckLog}
+use Rattle.chk_rules.specs.Ends.{EndsBy}
+use Rattle.chk_rules.specs.declared.stop.Stop.TheVariants as stop
+use Rattle.fd_table.specs.Files.{OpenFiles, with_row}
+use Rattle.fd_table.specs.Rows.{AllFds, Fds, row_of}
+use Rattle.sys_lookup.specs.declared.shared.Shared.{Shared}
+use Rattle.sys_lookup.specs.Owners.{HasOwners}
+use Rattle.sys_lookup.specs.PlaysRow.{PlaysRow, Keeps}
+use Rattle.sys_lookup.specs.Shared.{holding, state_of, with_fds}
+use Rattle.sys_lookup.proofs.FdChanges.{with_fds-row}
+use Rattle.sys_lookup.proofs.FdLemmas.{found, with_fds-process}
+use Rattle.sys_lookup.proofs.OwnerLemmas.{owners_known, owners_process, owners_row}
+use Rattle.sys_lookup.proofs.PlayLemmas.{commits, equal_answer, refuse_plays, refuse_stops_row}
+use Rattle.sys_lookup.proofs.RefuseLemmas.{lets_on, refuses}
+
+-- ---- a child is made
+
+-- a process that is added with its descriptors shows in the state
+pub with_fds-new : (procs : FinMap pid_cmp Process) (rows : AllFds) (who : Pid) (q : Process) (fds : Fds)
+    → with_fds (map.insert procs who q) (map.insert rows who fds) ≡ map.insert (with_fds procs rows) who (record q { fds = fds })
+with_fds-new procs rows who q fds =
+    with_fds-row (map.insert procs who q) rows who q fds (get-insert_same pid_cmp_total procs who q)
+    ∙ ap (λ (m : FinMap pid_cmp Process). map.insert m who (record q { fds = fds })) (with_fds-process procs rows who q)
+    ∙ insert-insert pid_cmp_total pid_cmp_exact (with_fds procs rows) who (holding rows who q) (record q { fds = fds })
+
+-- no process has the next number of a label, and none has a row of descriptors under it
+pub new_row : (h : Shared) → ∥ IsValid (state_of h) ∥₁ → (l : Label) → map.get h.fds.rows (next_in h.procs l) ≡ None
+new_row h valid l =
+    let next = next_in h.procs l in
+    let last = drawn h.procs.numbers l in
+    elim (map.get h.fds.rows next) as (λ w. map.get h.fds.rows next ≡ w → w ≡ None) [
+      | None ↦ λ _. refl
+      | Some fds ↦ λ e.
+          let there : IsThere h.procs.procs next = owners_known h.procs.procs h.fds.rows h.owners next (record { value = fds; is = e }) in
+          let shown = found h.procs.procs h.fds.rows next there.value there.is in
+          absurd (∥∥₁_elim valid (λ a b. absurd a) (λ v. let below : last + 1 ≤ last = ((v.procs next (holding h.fds.rows next there.value) shown).drawn_already).1 in omega (arith, below)))
+    ] refl
+
+-- a child is made, and has descriptors on the same descriptions
+pub forks : (h : Shared) (log : CheckLog) (who : Pid) (q : Process) (child : Pid) (procs : ProcTable) (fds : OpenFiles) → nat_le MAX_PROCS (drawn h.procs.numbers q.label) ≡ false → child ≡ next_in h.procs q.label
+    → procs ≡ with_new h.procs (child_of who q) → fds ≡ with_row h.fds child (row_of h.fds.rows who)
+    → PlaysRow (state_of h) log (fork_row (state_of h) who (holding h.fds.rows who q)) (Ok (record { answer = answer.Process child; own = Some (rec.Fork who child) }))
+    (record (state_of h) { procs = with_fds procs.procs fds.rows; descriptions = fds.descriptions; process_numbers = procs.numbers; description_numbers = fds.numbers }) log
+forks h log who q child procs fds left is made copied =
+    let s = state_of h in
+    let next = next_in h.procs q.label in
+    let all : FinMap pid_cmp Process = map.insert h.procs.procs next (child_of who q) in
+    let t : State = record s { procs = with_fds procs.procs fds.rows; descriptions = fds.descriptions; process_numbers = procs.numbers; description_numbers = fds.numbers } in
+    let numbers = map.insert h.procs.numbers q.label (drawn h.procs.numbers q.label + 1) in
+    let changes : List Change = DrawProcess q.label (drawn h.procs.numbers q.label + 1) ∷ SetProcess next (child_of who (holding h.fds.rows who q)) ∷ [] in
+    refuse_plays (lets_on left)
+    (subst (λ (k : Pid). PlaysRow s log (Commit changes (answer.Process next) (Some (rec.Fork who next))) (Ok (record { answer = answer.Process k; own = Some (rec.Fork who k) })) t log) (sym is)
+    (commits s t log changes (answer.Process next) (Some (rec.Fork who next))
+    ((λ i. record s { procs = with_fds (made i).procs (copied i).rows; descriptions = (copied i).descriptions; process_numbers = (made i).numbers; description_numbers = (copied i).numbers })
+    ∙ (λ i. record s { procs = with_fds all (map.insert h.fds.rows (is i) (row_of h.fds.rows who)); process_numbers = numbers })
+    ∙ (λ i. record s { procs = with_fds-new h.procs.procs h.fds.rows next (child_of who q) (row_of h.fds.rows who) i; process_numbers = numbers }))))
+
+-- ---- owners
+
+-- whether or not it was added
+pub owners_forked : (h : Shared) (who : Pid) (q : Process) (r : Result Pid ProcError) (procs : ProcTable) → OnOk r (procs ≡ with_new h.procs (child_of who q)) → OnErr r (procs ≡ h.procs) → ∥ HasOwners procs.procs h.fds.rows ∥₁
+owners_forked h who q (Ok child) procs made same = subst (λ (t : ProcTable). ∥ HasOwners t.procs h.fds.rows ∥₁) (sym made) (owners_process h.procs.procs h.fds.rows (next_in h.procs q.label) (child_of who q) h.owners)
+owners_forked h who q (Err e) procs made same = subst (λ (t : ProcTable). ∥ HasOwners t.procs h.fds.rows ∥₁) (sym same) h.owners
+
+-- and whether or not its row was
+pub owners_copied : (procs : FinMap pid_cmp Process) (old new : OpenFiles) (child : Pid) (row : Fds) (r : Result ⊤ AllocError) → IsThere procs child → ∥ HasOwners procs old.rows ∥₁ → OnOk r (new ≡ with_row old child row) → OnErr r (new ≡ old) → ∥ HasOwners procs new.rows ∥₁
+owners_copied procs old new child row (Ok x) there known made same = subst (λ (t : OpenFiles). ∥ HasOwners procs t.rows ∥₁) (sym made) (owners_row procs old.rows child row there known)
+owners_copied procs old new child row (Err e) there known made same = subst (λ (t : OpenFiles). ∥ HasOwners procs t.rows ∥₁) (sym same) known
+
+-- whether or not a child was taken
+pub owners_reaped : (h : Shared) (who : Pid) (q : Process) (r : Result (Pid × Ending) ReapError) (procs : ProcTable) → OnOk r (procs ≡ with_process h.procs who q) → OnErr r (procs ≡ h.procs) → ∥ HasOwners procs.procs h.fds.rows ∥₁
+owners_reaped h who q (Ok e) procs taken same = subst (λ (t : ProcTable). ∥ HasOwners t.procs h.fds.rows ∥₁) (sym taken) (owners_process h.procs.procs h.fds.rows who q h.owners)
+owners_reaped h who q (Err e) procs taken same = subst (λ (t : ProcTable). ∥ HasOwners t.procs h.fds.rows ∥₁) (sym same) h.owners
+
+-- ---- a child that ended is taken
+
+-- a process has a living child in the state where it has one in the table
+pub child_shown : (h : Shared) (who : Pid) → has_child (state_of h) who ≡ has_living_child h.procs.procs who
+unfolding with_fds
+child_shown h who = any_entry-select pid_cmp_total pid_cmp_exact _ _ _ h.procs.procs (λ k x e. refl)
+
+-- a row that only refuses
+pub fails : (s t : State) (log : CheckLog) (e : Errno) → t ≡ s → PlaysRow s log (Fail e) (Err (stop.Refused e)) t log
+unfolding EndsBy Keeps
+fails s t log e same = record { completes = tt; ends = judge-fail log.subject log.used e; keeps = same }
+
+nothing_taken : (living : Bool) (e : Pid × Ending) → Ok e ≡ reaped [] living → ⊥
+nothing_taken true e is = let no : Ok e ≡ Err reap.NoneEnded = is in cc
+nothing_taken false e is = let no : Ok e ≡ Err reap.NoChild = is in cc
+
+some_living : (living : Bool) → Err reap.NoneEnded ≡ reaped [] living → living ≡ true
+some_living true is = refl
+some_living false is = let no : ◌≡◌ {A = Result (Pid × Ending) ReapError} (Err reap.NoneEnded) (Err reap.NoChild) = is in cc
+
+none_living : (living : Bool) → Err reap.NoChild ≡ reaped [] living → living ≡ false
+none_living false is = refl
+none_living true is = let no : ◌≡◌ {A = Result (Pid × Ending) ReapError} (Err reap.NoChild) (Err reap.NoneEnded) = is in cc
+
+module _ (s t : State) (log : CheckLog) (who : Pid) (p : Process) (living : Bool) where
+  -- the first one is taken
+  pub takes : (ended : List (Pid × Ending)) (e : Pid × Ending) → Ok e ≡ reaped ended living → t ≡ record s { procs = map.insert s.procs who (record p { ended = drop 1 ended }) }
+      → PlaysRow s log (Refuse errno.ECHILD (length ended == 0 && not living) (take_ended who p ended)) (Ok (record { answer = answer.Ended e.0 e.1; own = None })) t log
+  takes [] e is made = absurd (nothing_taken living e is)
+  takes (x ∷ es) e is made =
+      let taken : ◌≡◌ {A = Result (Pid × Ending) ReapError} (Ok e) (Ok x) = is in
+      let same : e ≡ x = cc in
+      let some : (length (x ∷ es) == 0) ≡ false = grind (arith, nat_tests) in
+      refuse_plays (lets_on (ap (λ b. b && not living) some))
+      (equal_answer (ap (λ (y : Pid × Ending). answer.Ended y.0 y.1) same)
+      (commits s t log (SetProcess who (record p { ended = es }) ∷ []) (answer.Ended e.0 e.1) None made))
+
+  -- there is none yet
+  pub takes_none : (ended : List (Pid × Ending)) → Err reap.NoneEnded ≡ reaped ended living → t ≡ s
+      → PlaysRow s log (Refuse errno.ECHILD (length ended == 0 && not living) (take_ended who p ended)) (Err (stop.Refused errno.EAGAIN)) t log
+  takes_none [] is same = refuse_plays (lets_on (ap not (some_living living is))) (fails s t log errno.EAGAIN same)
+  takes_none (x ∷ es) is same = let no : ◌≡◌ {A = Result (Pid × Ending) ReapError} (Err reap.NoneEnded) (Ok x) = is in absurd cc
+
+  -- there is no child
+  pub has_none : (ended : List (Pid × Ending)) → Err reap.NoChild ≡ reaped ended living → t ≡ s
+      → PlaysRow s log (Refuse errno.ECHILD (length ended == 0 && not living) (take_ended who p ended)) (Err (stop.Refused errno.ECHILD)) t log
+  has_none [] is same = refuse_stops_row (Err (stop.Refused errno.ECHILD)) refl same (refuses (ap not (none_living living is)))
+  has_none (x ∷ es) is same = let no : ◌≡◌ {A = Result (Pid × Ending) ReapError} (Err reap.NoChild) (Ok x) = is in absurd cc

@@ -1,0 +1,3 @@
+mod ChildLemmas
+mod EndLemmas
+mod StandLemmas

@@ -1,0 +1,137 @@
+// The calls `exit` and `kill`.
+ghost use Rattle.std.specs.Prelude.{◌≡◌, IsSome, Ok, Some, not};
+ghost use Rattle.std.specs.FinMap as map;
+ghost use Rattle.kern_model.specs.ProcessRows.{exit_row, kill_row, kill_with, signalled as signalled_row};
+ghost use Rattle.kern_model.specs.Row.{Need, need_if};
+ghost use Rattle.kern_model.specs.Rules.{kill_rule as kill_check, mac_write_process, same_label};
+ghost use Rattle.kern_model.specs.State.{Process};
+ghost use Rattle.kern_model.specs.Valid.{IsValid};
+ghost use Rattle.chk_rules.specs.CheckLog.{CheckLog};
+ghost use Rattle.chk_rules.specs.Ends.{GoesOn};
+ghost use Rattle.sys_lookup.specs.PlaysRow.{PlaysRow};
+ghost use Rattle.sys_lookup.specs.Shared.{state_of};
+
+use chk_rules::{Checks, Stop, mac_write_ok, must};
+use kern_model::{Answer, Check, CheckName, Ending, Errno, Pid, Place, Rec, Signal, Thing};
+use lab_lattice::Label;
+use proc_table::Proc;
+use sys_lookup::{Effect, Shared, living};
+
+/// `exit`: the caller ends. It takes no memory.
+pub fn exit(shared: &mut Shared, who: &Pid, code: u8) -> Effect
+    requires valid { ∥ IsValid (state_of shared.old) ∥₁ }
+    requires living { IsSome (map.get (state_of shared.old).procs who.now) }
+    ensures { (p : Process) (log : CheckLog) → map.get (state_of shared.old).procs who.now ≡ Some p → PlaysRow (state_of shared.old) log (exit_row (state_of shared.old) who.now p code) (Ok result) (state_of shared.new) log }
+{
+    end(shared, who, Ending::Exit(code))
+}
+
+/// `kill`: a process ends by a signal, or the call asks only whether the caller may send it one.
+pub fn kill(
+    shared: &mut Shared,
+    checks: &mut Checks,
+    who: &Pid,
+    target: &Pid,
+    signal: Signal,
+) -> Result<Effect, Stop>
+    requires valid { ∥ IsValid (state_of shared.old) ∥₁ }
+    requires living { IsSome (map.get (state_of shared.old).procs who.now) }
+    ensures { (p : Process) → map.get (state_of shared.old).procs who.now ≡ Some p → PlaysRow (state_of shared.old) checks.old (kill_row (state_of shared.old) who.now p target.now signal) result (state_of shared.new) checks.new }
+{
+    let sender = living(shared, who);
+    must(checks, &mac_write(sender, target, &target.label))?;
+    let Some(receiver) = shared.procs.find(target) else {
+        return Err(Stop::Refused(Errno::ESRCH));
+    };
+    may_signal(sender, checks, target, receiver)?;
+    Ok(signalled(shared, target, signal))
+}
+
+// Checks that a process may send a signal to a living one, whose present label may be another than that of its number.
+fn may_signal(sender: &Proc, checks: &mut Checks, target: &Pid, receiver: &Proc) -> Result<(), Stop>
+    ensures { GoesOn checks.old (λ rest. need_if (not (same_label receiver.now.label target.now.label)) (mac_write_process sender.now target.now receiver.now.label) (Need (kill_check sender.now target.now receiver.now) (rest tt))) result checks.new }
+{
+    mac_write_present(sender, checks, target, receiver)?;
+    must(checks, &kill_rule(sender, target, receiver))
+}
+
+// Checks that a process may write another one by its present label, where that is not the label of its number.
+fn mac_write_present(
+    sender: &Proc,
+    checks: &mut Checks,
+    target: &Pid,
+    receiver: &Proc,
+) -> Result<(), Stop>
+    ensures { GoesOn checks.old (λ rest. need_if (not (same_label receiver.now.label target.now.label)) (mac_write_process sender.now target.now receiver.now.label) (rest tt)) result checks.new }
+{
+    let present = &receiver.creds.label;
+    if mac_write_ok(present, &target.label) {
+        return Ok(());
+    }
+    must(checks, &mac_write(sender, target, present))
+}
+
+// The check whether a process may write another one, by a label.
+fn mac_write(sender: &Proc, target: &Pid, label: &Label) -> Check
+    ensures { result ≡ mac_write_process sender.now target.now label.now }
+{
+    Check {
+        name: CheckName::MacWrite,
+        holds: mac_write_ok(&sender.creds.label, label),
+        thing: Thing::Process(*target),
+        thing_label: *label,
+        new_label: None,
+        place: Place::Target,
+    }
+}
+
+// The check whether a process may send another one a signal, by their users.
+fn kill_rule(sender: &Proc, target: &Pid, receiver: &Proc) -> Check
+    ensures { result ≡ kill_check sender.now target.now receiver.now }
+{
+    let from = &sender.creds.ids;
+    let to = &receiver.creds.ids;
+    let holds = from.ruid == to.ruid
+        || from.ruid == to.suid
+        || from.euid == to.ruid
+        || from.euid == to.suid;
+    Check {
+        name: CheckName::Kill,
+        holds,
+        thing: Thing::Process(*target),
+        thing_label: receiver.creds.label,
+        new_label: None,
+        place: Place::Target,
+    }
+}
+
+// A signal reaches a living process. It takes no memory.
+fn signalled(shared: &mut Shared, target: &Pid, signal: Signal) -> Effect
+    requires valid { ∥ IsValid (state_of shared.old) ∥₁ }
+    requires living { IsSome (map.get (state_of shared.old).procs target.now) }
+    ensures { (p : Process) (log : CheckLog) → map.get (state_of shared.old).procs target.now ≡ Some p → PlaysRow (state_of shared.old) log (signalled_row (state_of shared.old) target.now p signal) (Ok result) (state_of shared.new) log }
+{
+    match signal {
+        Signal::Zero => Effect {
+            answer: Answer::Nothing,
+            own: None,
+        },
+        Signal::Term => end(shared, target, Ending::Term),
+        Signal::Kill => end(shared, target, Ending::Kill),
+    }
+}
+
+// A living process ends: its descriptors close, its children lose their parent, and its parent learns how it ended. It takes no
+// memory.
+fn end(shared: &mut Shared, who: &Pid, ending: Ending) -> Effect
+    requires valid { ∥ IsValid (state_of shared.old) ∥₁ }
+    requires living { IsSome (map.get (state_of shared.old).procs who.now) }
+    ensures { (p : Process) (log : CheckLog) → map.get (state_of shared.old).procs who.now ≡ Some p → PlaysRow (state_of shared.old) log (kill_with (state_of shared.old) who.now p ending) (Ok result) (state_of shared.new) log }
+{
+    shared.fds.drop_process(who, &mut shared.tree);
+    shared.procs.finish(who, ending);
+    Effect {
+        answer: Answer::Nothing,
+        own: Some(Rec::Exit(*who, ending)),
+    }
+}
