@@ -1,0 +1,3 @@
+mod LentLemmas
+mod OwnLemmas
+mod StepLemmas
