@@ -1,4 +1,3 @@
 pub mod BootLemmas
 pub mod KernelLemmas
-pub mod OwnLemmas
 pub mod StepLemmas

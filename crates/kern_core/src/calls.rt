@@ -1,4 +1,4 @@
-// The calls. The body of each stands in the module of its family, or in the crate of its family.
+// The calls. The body of each stands in the crate of its family; those of the calls on the audit trail stand here.
 ghost use Rattle.std.specs.Prelude.{◌≡◌, Some, true, IfOk, IsOk, IsSome};
 ghost use Rattle.std.specs.FinMap as map;
 ghost use Rattle.kern_model.specs.Arguments.{has_names};
@@ -9,40 +9,18 @@ ghost use Rattle.kern_model.specs.Valid.{IsValid};
 ghost use Rattle.sys_lookup.specs.Memory.{takes_no_memory};
 ghost use Rattle.sys_lookup.specs.PlaysRow.{LeavesNothing, PlaysRow};
 ghost use Rattle.sys_lookup.specs.Shared.{state_of};
-ghost use Rattle.kern_core.specs.Built.{is_built};
 ghost use Rattle.kern_core.specs.Kernel.{TakesNoMemory};
 
 mod auditing;
-mod processes;
 
 use crate::outcome::{no_process, report};
 use chk_rules::{Checks, Stop};
 use kern_model::{Call, NoMemory, Outcome, Pid};
 use std::alloc::Global;
-use sys_lookup::{Effect, Shared, living};
-
-/// Whether this kernel can play a call.
-pub fn built(call: &Call) -> bool
-    ensures { result ≡ is_built call.now }
-{
-    match call {
-        Call::MacSetFile(_, _)
-        | Call::MacSetFd(_, _)
-        | Call::Fork
-        | Call::Exec(_)
-        | Call::Exit(_)
-        | Call::Wait
-        | Call::Kill(_, _)
-        | Call::Setuid(_)
-        | Call::Setgid(_)
-        | Call::MacSetProc(_) => false,
-        _ => true,
-    }
-}
+use sys_lookup::{Effect, Shared};
 
 /// Plays one call of a process, and returns the reply and the records that it leaves.
 pub fn play(alloc: Global, shared: &mut Shared, who: &Pid, call: &Call) -> Result<Outcome, NoMemory>
-    requires built { is_built call.now ≡ true }
     requires valid { ∥ IsValid (state_of shared.old) ∥₁ }
     ensures played { IfOk result (λ outcome. IsPlayed (state_of shared.old) who.now call.now outcome (state_of shared.new)) }
     ensures names { IsSome (map.get (state_of shared.old).procs who.now) → has_names call.now ≡ true }
@@ -66,7 +44,6 @@ fn play_body(
     who: &Pid,
     call: &Call,
 ) -> Result<Effect, Stop>
-    requires built { is_built call.now ≡ true }
     requires valid { ∥ IsValid (state_of shared.old) ∥₁ }
     requires living { IsSome (map.get (state_of shared.old).procs who.now) }
     ensures played { (p : Process) → map.get (state_of shared.old).procs who.now ≡ Some p → PlaysRow (state_of shared.old) checks.old (row (state_of shared.old) who.now p call.now) result (state_of shared.new) checks.new }
@@ -99,12 +76,24 @@ fn play_body(
         | Call::CapGetFd(_)
         | Call::CapSetFd(_, _)
         | Call::MacGetFile(_)
-        | Call::MacGetFd(_) => sys_attr::play(shared, checks, who, call),
+        | Call::MacSetFile(_, _)
+        | Call::MacGetFd(_)
+        | Call::MacSetFd(_, _) => sys_attr::play(shared, checks, who, call),
+        Call::Fork
+        | Call::Exec(_)
+        | Call::Exit(_)
+        | Call::Wait
+        | Call::Kill(_, _)
+        | Call::Getpid
+        | Call::Getppid
+        | Call::Getids
+        | Call::Setuid(_)
+        | Call::Setgid(_)
+        | Call::CapGetProc
+        | Call::CapSetProc(_)
+        | Call::MacGetProc
+        | Call::MacSetProc(_) => sys_proc::play(shared, checks, who, call),
         Call::AudWrite(bytes) => auditing::aud_write(shared, checks, who, bytes),
         Call::AudSwitch(on) => auditing::aud_switch(shared, checks, who, *on),
-        Call::CapSetProc(caps) => processes::cap_set_proc(shared, checks, who, *caps),
-        Call::Getpid | Call::Getppid | Call::Getids | Call::CapGetProc | Call::MacGetProc =>
-            processes::report(living(shared, who), who, call),
-        _ => unreachable!(),
     }
 }

@@ -10,7 +10,6 @@ ghost use Rattle.kern_model.specs.Step.{IsPlayed};
 ghost use Rattle.kern_model.specs.Valid.{IsValid};
 ghost use Rattle.kern_model.specs.World.{IsWorld};
 ghost use Rattle.sys_lookup.specs.Shared as held;
-ghost use Rattle.kern_core.specs.Built.{is_built};
 
 use crate::boot::{boot_processes, furnish, furnish_from};
 use crate::calls::play;
@@ -76,7 +75,6 @@ impl Kernel {
     #[tactic(auto, unfolding(crate::specs::Kernel::state_of, crate::specs::Kernel::has_failed))]
     pub fn call(&mut self, who: &Pid, call: &Call) -> Result<Outcome, NoMemory>
         requires arguments { is_call (state_of self.old).top call.now ≡ true }
-        requires built { is_built call.now ≡ true }
         ensures played { IfOk result (λ outcome. IsPlayed (state_of self.old) who.now call.now outcome (state_of self.new)) }
         ensures kept { IfOk result (λ outcome. IsStopped outcome.reply → state_of self.new ≡ state_of self.old) }
         ensures valid { OnOk result (∥ IsValid (state_of self.new) ∥₁) }

@@ -8,6 +8,5 @@ mod kernel;
 mod loading;
 mod outcome;
 
-pub use calls::built;
 pub use kern_model::NoMemory;
 pub use kernel::Kernel;

@@ -3,7 +3,7 @@ ghost use Rattle.std.specs.Prelude.{IfOk};
 ghost use Rattle.kern_model.specs.World.{IsWorld};
 
 use cap_bits::{Cap, CapSet, CapState};
-use kern_core::{Kernel, built};
+use kern_core::Kernel;
 use kern_model::{
     Answer, Attr, Body, ByteList, Call, CheckName, Errno, GroupList, Ids, Mode, Name, ObjectList,
     Oid, Outcome, Path, Pid, Place, ProcList, Rec, RecList, Reply, Thing, World, WorldObject,
@@ -259,6 +259,5 @@ fn number_without_a_process_is_refused(rt: HostRuntime) -> Result<(), Fail> {
     let (mut kernel, _) = booted(rt.alloc())?;
     let outcome = set(&mut kernel, &low(9), CapState::none())?;
     assert!(rt; refuses(&outcome, Errno::ESRCH));
-    assert!(rt; built(&Call::CapGetProc) && !built(&Call::Fork));
     Ok(())
 }

@@ -143,8 +143,8 @@ impl Caller<'_> {
         label_order(&object.label, &self.shared.metadata(dir), place)
     }
 
-    // Whether the mode of an object lets the caller do what is wanted.
-    fn mode_lets(&self, object: &Metadata, want: Want) -> bool
+    /// Whether the mode of an object lets the caller do what is wanted.
+    pub(crate) fn mode_lets(&self, object: &Metadata, want: Want) -> bool
         ensures { result ≡ mode_lets object.now.attr (process_of self.now).ids want }
     {
         let process = self.process;

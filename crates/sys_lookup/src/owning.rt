@@ -1,7 +1,7 @@
 // What rows ask of the owner of an object, and of its attributes.
 ghost use Rattle.std.specs.Prelude.{◌≡◌};
 ghost use Rattle.kern_model.specs.declared.numbers.Oid.{Oid};
-ghost use Rattle.kern_model.specs.Kinds.{has_set_id as mode_has_set_id, is_file};
+ghost use Rattle.kern_model.specs.Kinds.{has_set_id as mode_has_set_id, is_file, sets_group as mode_sets_group, sets_user as mode_sets_user};
 ghost use Rattle.kern_model.specs.Row.{Need};
 ghost use Rattle.kern_model.specs.Rules.{cap_within, chown_rule, is_owner, owner, setfcap};
 ghost use Rattle.kern_model.specs.State.{State};
@@ -19,12 +19,27 @@ const SET_USER: u16 = 11;
 
 const SET_GROUP: u16 = 10;
 
-/// Whether a mode has a set-id bit.
+/// Whether a mode has the set-user-ID bit.
 #[tactic(auto, using(std::proofs::lemmas::Nat::Bits::shr_and_one))]
+pub fn sets_user(mode: Mode) -> bool
+    ensures { result ≡ mode_sets_user mode }
+{
+    (mode >> SET_USER) & 1 == 1
+}
+
+/// Whether a mode has the set-group-ID bit.
+#[tactic(auto, using(std::proofs::lemmas::Nat::Bits::shr_and_one))]
+pub fn sets_group(mode: Mode) -> bool
+    ensures { result ≡ mode_sets_group mode }
+{
+    (mode >> SET_GROUP) & 1 == 1
+}
+
+/// Whether a mode has a set-id bit.
 pub fn has_set_id(mode: Mode) -> bool
     ensures { result ≡ mode_has_set_id mode }
 {
-    (mode >> SET_USER) & 1 == 1 || (mode >> SET_GROUP) & 1 == 1
+    sets_user(mode) || sets_group(mode)
 }
 
 impl Metadata {

@@ -1,3 +1,6 @@
 mod ChildLemmas
 mod EndLemmas
+mod LentLemmas
+mod OwnLemmas
 mod StandLemmas
+mod StepLemmas

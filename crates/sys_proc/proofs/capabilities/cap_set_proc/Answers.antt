@@ -1,5 +1,4 @@
 use Rattle.std.proofs.Common.{◌≡◌, ◌∙◌, sym, ap, true, refl, [], ◌∷◌, Some}
-use Rattle.std.specs.FinMap as map
 use Rattle.std.specs.Option.{option_copied_mut}
 use Rattle.kern_model.specs.declared.calls.Answer.TheVariants.{Nothing}
 use Rattle.kern_model.specs.declared.checks.Check.{Check}
@@ -7,14 +6,15 @@ use Rattle.kern_model.specs.declared.records.Rec.TheVariants.{CapSetProc}
 use Rattle.kern_model.specs.Rules.{cap_of}
 use Rattle.kern_model.specs.State.{SetProcess, root}
 use Rattle.proc_creds.specs.Credentials.{Credentials}
-use Rattle.proc_table.specs.Procs.{creds_of, starting, under_creds, with_creds}
+use Rattle.proc_table.specs.Procs.{starting}
 use Rattle.chk_rules.proofs.Steps.{equal_check}
-use Rattle.sys_lookup.specs.Shared.{state_of, with_fds}
+use Rattle.sys_lookup.specs.Shared.{state_of}
 use Rattle.sys_lookup.proofs.CheckLemmas.{holds_where_passed}
-use Rattle.sys_lookup.proofs.LendLemmas.{creds_left, creds_lent, creds_same, creds_there}
+use Rattle.sys_lookup.proofs.LendLemmas.{creds_there}
 use Rattle.sys_lookup.proofs.OwnerLemmas.{owners_creds}
 use Rattle.sys_lookup.proofs.PlayLemmas.{need_plays, need_stops_row, commits}
-use Rattle.kern_core.proofs.calls.processes.cap_set_proc.Goals as goal
+use Rattle.sys_proc.proofs.LentLemmas.{lent_is, left_changed, left_same}
+use Rattle.sys_proc.proofs.capabilities.cap_set_proc.Goals as goal
 
 pub unreachable-requires : goal.unreachable-requires
 unreachable-requires c =
@@ -31,13 +31,10 @@ unreachable-requires-in-Err c =
 pub returns-in_err-must : goal.returns-in_err-must
 returns-in_err-must c = λ p there.
     let h = c.args.shared.now in
-    let s = state_of h in
     let who = c.args.who.now in
     let lent = c.in-Some.creds.now in
-    let same : creds_of p ≡ lent = creds_lent h.procs.procs h.fds.rows who p there lent c.in-Some.ensures.value in
-    let left : with_fds (under_creds h.procs.procs who lent) h.fds.rows ≡ s.procs =
-    ap (λ (x : Credentials). with_fds (under_creds h.procs.procs who x) h.fds.rows) (sym same) ∙ creds_same h.procs.procs h.fds.rows who p there in
-    need_stops_row c.from_residual.result c.from_residual.ensures.1 (λ i. record s { procs = left i }) (equal_check (c.cap_grow.ensures p same) c.in_err-must.ensures)
+    let same = lent_is h who p there lent c.in-Some.ensures.value in
+    need_stops_row c.from_residual.result c.from_residual.ensures.1 (left_same h who p there lent c.in-Some.ensures.value) (equal_check (c.cap_grow.ensures p same) c.in_err-must.ensures)
 
 pub returns : goal.returns
 returns c = λ p there.
@@ -45,12 +42,11 @@ returns c = λ p there.
     let s = state_of h in
     let who = c.args.who.now in
     let caps = c.args.caps in
-    let same : creds_of p ≡ c.in-Some.creds.now = creds_lent h.procs.procs h.fds.rows who p there c.in-Some.creds.now c.in-Some.ensures.value in
-    let set : c.cap_set.new.self ≡ record (creds_of p) { caps = caps } = c.in-Ok.ensures.set.1 ∙ ap (λ (x : Credentials). record x { caps = caps }) (sym same) in
-    let left : with_fds (under_creds h.procs.procs who c.cap_set.new.self) h.fds.rows ≡ map.insert s.procs who (record p { caps = caps }) =
-    creds_left h.procs.procs h.fds.rows who p there c.cap_set.new.self ∙ ap (λ (x : Credentials). map.insert s.procs who (with_creds p x)) set in
+    let lent = c.in-Some.creds.now in
+    let same = lent_is h who p there lent c.in-Some.ensures.value in
     need_plays (equal_check (c.cap_grow.ensures p same) c.in_ok-must.ensures)
-    (commits s _ _ (SetProcess who (record p { caps = caps }) ∷ []) Nothing (Some (CapSetProc who caps)) (λ i. record s { procs = left i }))
+    (commits s _ _ (SetProcess who (record p { caps = caps }) ∷ []) Nothing (Some (CapSetProc who caps))
+    (left_changed h who p there lent c.in-Some.ensures.value (λ (x : Credentials). record x { caps = caps }) c.cap_set.new.self c.in-Ok.ensures.set.1))
 
 pub invariant_of-shared : goal.invariant_of-shared
 invariant_of-shared c =

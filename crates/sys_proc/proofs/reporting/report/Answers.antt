@@ -1,21 +1,16 @@
 use Rattle.std.proofs.Common.{Ok, None, [], Result, refl, subst, sym}
-use Rattle.kern_model.specs.Row.{Row, Commit}
+use Rattle.kern_model.specs.Row.{Row}
 use Rattle.chk_rules.specs.declared.stop.Stop.{Stop}
 use Rattle.sys_lookup.specs.declared.effect.Effect.{Effect}
 use Rattle.sys_lookup.specs.PlaysRow.{PlaysRow}
-use Rattle.sys_lookup.specs.Shared.{holding}
 use Rattle.sys_lookup.proofs.PlayLemmas.{commits, no_memory_row}
-use Rattle.kern_core.proofs.OwnLemmas.{own_names, own_row}
-use Rattle.kern_core.proofs.calls.processes.report.Goals as goal
+use Rattle.sys_proc.proofs.OwnLemmas.{own_names}
+use Rattle.sys_proc.proofs.reporting.report.Goals as goal
 
 pub returns-clause-played : goal.returns-clause-played
 returns-clause-played c = λ s rows log.
-    let who = c.args.who.now in
-    let p = holding rows who c.args.process.now in
     let r : Result Effect Stop = Ok (record { answer = c.in_ok-answer.answer; own = None }) in
-    subst (λ (x : Row). PlaysRow s log x r s log) (sym (own_row s who p c.args.call.now c.requires))
-    (subst (λ a. PlaysRow s log (Commit [] a None) r s log) c.in_ok-answer.ensures.answer
-    (commits s s log [] c.in_ok-answer.answer None refl))
+    subst (λ (x : Row). PlaysRow s log x r s log) (sym (c.in_ok-answer.ensures.answer s rows)) (commits s s log [] c.in_ok-answer.answer None refl)
 
 pub returns-in_err-answer-clause-played : goal.returns-in_err-answer-clause-played
 returns-in_err-answer-clause-played c = λ s rows log. no_memory_row c.from_residual.result c.from_residual.ensures.1

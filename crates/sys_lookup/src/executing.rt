@@ -1,0 +1,44 @@
+// What rows ask of a program that is executed.
+ghost use Rattle.std.specs.Prelude.{◌≡◌};
+ghost use Rattle.kern_model.specs.declared.numbers.Oid.{Oid};
+ghost use Rattle.kern_model.specs.Row.{Need};
+ghost use Rattle.kern_model.specs.Rules.{dac_execute, exec_kind};
+ghost use Rattle.kern_model.specs.State.{State, object_at};
+ghost use Rattle.chk_rules.specs.Ends.{GoesOn};
+ghost use Rattle.sys_lookup.specs.Shared.{metadata_of, process_of};
+
+use crate::caller::{Caller, check_of};
+use crate::shared::Metadata;
+use chk_rules::{Checks, Stop, Want, must};
+use kern_model::{CheckName, Place};
+
+impl Caller<'_> {
+    /// Checks that an object is a regular file.
+    pub fn exec_kind(
+        &self,
+        checks: &mut Checks,
+        object: &Metadata,
+        place: Place,
+    ) -> Result<(), Stop>
+        ensures { (s : State) (id : Oid) → object.now ≡ metadata_of s id → GoesOn checks.old (λ rest. Need (exec_kind id (object_at s id) place) (rest tt)) result checks.new }
+    {
+        let holds = object.is_file();
+        must(checks, &check_of(CheckName::ExecKind, holds, object, place))
+    }
+
+    /// Checks that the mode of a file lets the caller execute it.
+    pub fn dac_execute(
+        &self,
+        checks: &mut Checks,
+        object: &Metadata,
+        place: Place,
+    ) -> Result<(), Stop>
+        ensures { (s : State) (id : Oid) → object.now ≡ metadata_of s id → GoesOn checks.old (λ rest. Need (dac_execute (process_of self.now) id (object_at s id) place) (rest tt)) result checks.new }
+    {
+        let holds = self.mode_lets(object, Want::Execute);
+        must(
+            checks,
+            &check_of(CheckName::DacExecute, holds, object, place),
+        )
+    }
+}

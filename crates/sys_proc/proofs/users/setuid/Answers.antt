@@ -1,0 +1,54 @@
+use Rattle.std.proofs.Common.{◌∙◌, sym, ap, [], ◌∷◌, None, Bool, ℕ}
+use Rattle.std.specs.Option.{option_copied_mut}
+use Rattle.kern_model.specs.declared.calls.Answer.TheVariants.{Nothing}
+use Rattle.kern_model.specs.declared.numbers.Pid.{Pid}
+use Rattle.kern_model.specs.ProcessRows.{set_ids}
+use Rattle.kern_model.specs.Row.{Row}
+use Rattle.kern_model.specs.State.{Process, SetProcess}
+use Rattle.proc_creds.specs.Credentials.{Credentials, with_user}
+use Rattle.sys_lookup.specs.Shared.{state_of}
+use Rattle.sys_lookup.proofs.LendLemmas.{creds_there}
+use Rattle.sys_lookup.proofs.OwnerLemmas.{owners_creds}
+use Rattle.sys_lookup.proofs.PlayLemmas.{then_plays, stops_row, commits}
+use Rattle.sys_proc.proofs.LentLemmas.{lent_is, left_changed, left_same}
+use Rattle.sys_proc.proofs.users.setuid.Goals as goal
+
+-- the row after its checks
+abbrev set_so : Pid → Process → ℕ → Bool → Row
+set_so who p user all = set_ids who p (with_user p.ids user all)
+
+pub unreachable-requires : goal.unreachable-requires
+unreachable-requires c =
+    let h = c.args.shared.now in
+    creds_there h.procs.procs h.fds.rows c.args.who.now c.requires.living (sym c.creds_mut.ensures.value ∙ ap option_copied_mut c.in_default.is)
+
+pub returns-in_err-all : goal.returns-in_err-all
+returns-in_err-all c = λ p there.
+    let h = c.args.shared.now in
+    let who = c.args.who.now in
+    let lent = c.in-Some.creds.now in
+    let same = lent_is h who p there lent c.in-Some.ensures.value in
+    stops_row {rest = set_so who p c.args.user} c.from_residual.result c.from_residual.ensures.1 (left_same h who p there lent c.in-Some.ensures.value) (c.in_err-all.ensures.step p same)
+
+pub returns : goal.returns
+returns c = λ p there.
+    let h = c.args.shared.now in
+    let s = state_of h in
+    let who = c.args.who.now in
+    let user = c.args.user in
+    let all = c.in_ok-all.all in
+    let lent = c.in-Some.creds.now in
+    let same = lent_is h who p there lent c.in-Some.ensures.value in
+    then_plays {rest = set_so who p user} (c.in_ok-all.ensures.step p same)
+    (commits s _ _ (SetProcess who (record p { ids = with_user p.ids user all }) ∷ []) Nothing None
+    (left_changed h who p there lent c.in-Some.ensures.value (λ (x : Credentials). record x { ids = with_user x.ids user all }) c.setuid.new.self c.in-Ok.ensures.set.1))
+
+pub invariant_of-shared : goal.invariant_of-shared
+invariant_of-shared c =
+    let h = c.args.shared.now in
+    record { owners = owners_creds h.procs.procs h.fds.rows c.args.who.now c.in-Some.creds.now h.owners }
+
+pub invariant_of-shared-2 : goal.invariant_of-shared-2
+invariant_of-shared-2 c =
+    let h = c.args.shared.now in
+    record { owners = owners_creds h.procs.procs h.fds.rows c.args.who.now c.setuid.new.self h.owners }

@@ -1,0 +1,54 @@
+// The calls on processes, as one.
+ghost use Rattle.std.specs.Prelude.{◌≡◌, Some, IsSome, true};
+ghost use Rattle.std.specs.FinMap as map;
+ghost use Rattle.kern_model.specs.Arguments.{has_names};
+ghost use Rattle.kern_model.specs.State.{Process};
+ghost use Rattle.kern_model.specs.Table.{row};
+ghost use Rattle.kern_model.specs.Valid.{IsValid};
+ghost use Rattle.sys_lookup.specs.Memory.{takes_no_memory};
+ghost use Rattle.sys_lookup.specs.PlaysRow.{LeavesNothing, PlaysRow};
+ghost use Rattle.sys_lookup.specs.Shared.{state_of};
+ghost use Rattle.sys_proc.specs.Playing.{is_process_call};
+
+use crate::capabilities::cap_set_proc;
+use crate::children::{fork, wait};
+use crate::ends::{exit, kill};
+use crate::groups::setgid;
+use crate::labels::mac_set_proc;
+use crate::programs::exec;
+use crate::reporting::report;
+use crate::users::setuid;
+use chk_rules::{Checks, Stop};
+use kern_model::{Call, Pid};
+use sys_lookup::{Effect, Shared, living};
+
+/// Plays a call of a living process on processes: their children and ends, ids, programs, capability sets and labels.
+pub fn play(
+    shared: &mut Shared,
+    checks: &mut Checks,
+    who: &Pid,
+    call: &Call,
+) -> Result<Effect, Stop>
+    requires call { is_process_call call.now ≡ true }
+    requires valid { ∥ IsValid (state_of shared.old) ∥₁ }
+    requires living { IsSome (map.get (state_of shared.old).procs who.now) }
+    ensures played { (p : Process) → map.get (state_of shared.old).procs who.now ≡ Some p → PlaysRow (state_of shared.old) checks.old (row (state_of shared.old) who.now p call.now) result (state_of shared.new) checks.new }
+    ensures names { has_names call.now ≡ true }
+    ensures nothing { takes_no_memory call.now ≡ true → LeavesNothing result }
+{
+    match call {
+        Call::Fork => fork(shared, who),
+        Call::Exit(code) => Ok(exit(shared, who, *code)),
+        Call::Wait => wait(shared, who),
+        Call::Kill(target, signal) => kill(shared, checks, who, target, *signal),
+        Call::Exec(path) => exec(shared, checks, who, path),
+        Call::Setuid(user) => setuid(shared, checks, who, *user),
+        Call::Setgid(group) => setgid(shared, checks, who, *group),
+        Call::CapSetProc(caps) => cap_set_proc(shared, checks, who, *caps),
+        Call::MacSetProc(label) => mac_set_proc(shared, checks, who, *label),
+        Call::Getpid | Call::Getppid | Call::Getids | Call::CapGetProc | Call::MacGetProc => {
+            report(living(shared, who), who, call)
+        }
+        _ => unreachable!(),
+    }
+}
