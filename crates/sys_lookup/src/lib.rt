@@ -11,6 +11,7 @@ mod effect;
 mod found;
 mod making;
 mod owning;
+mod relabelling;
 mod reporting;
 mod rewriting;
 mod shared;
