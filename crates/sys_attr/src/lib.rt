@@ -1,4 +1,5 @@
-//! The bodies of the calls on modes, owners, capability sets of files, and labels of objects.
+//! The bodies of `chmod`, `chown` and `umask`, and of the calls that read or set the capability sets of files and the labels of
+//! objects.
 #![tactic(auto)]
 
 mod changing;
@@ -10,7 +11,7 @@ mod owners;
 mod playing;
 
 pub use file_caps::{cap_get, cap_set};
-pub use labels::mac_get;
+pub use labels::{mac_get, mac_set};
 pub use modes::{chmod, umask};
 pub use objects::ObjectArgument;
 pub use owners::chown;

@@ -1,4 +1,4 @@
-// The calls on modes, owners, capability sets of files, and labels of objects, as one.
+// The calls on modes, owners, the umask, capability sets of files, and labels of objects, as one.
 ghost use Rattle.std.specs.Prelude.{◌≡◌, Some, IsSome, true};
 ghost use Rattle.std.specs.FinMap as map;
 ghost use Rattle.kern_model.specs.Arguments.{has_names};
@@ -11,7 +11,7 @@ ghost use Rattle.sys_lookup.specs.Shared.{state_of};
 ghost use Rattle.sys_attr.specs.Playing.{is_attr_call};
 
 use crate::file_caps::{cap_get, cap_set};
-use crate::labels::mac_get;
+use crate::labels::{mac_get, mac_set};
 use crate::modes::{chmod, umask};
 use crate::objects::ObjectArgument;
 use crate::owners::chown;
@@ -19,7 +19,7 @@ use chk_rules::{Checks, Stop};
 use kern_model::{Call, Pid};
 use sys_lookup::{Effect, Shared};
 
-/// Plays a call of a living process on modes, owners, capability sets of files, and labels of objects.
+/// Plays a call of a living process on modes, owners, the umask, capability sets of files, or labels of objects.
 pub fn play(
     shared: &mut Shared,
     checks: &mut Checks,
@@ -44,6 +44,12 @@ pub fn play(
         }
         Call::CapSetFd(fd, caps) => {
             cap_set(shared, checks, who, ObjectArgument::Descriptor(*fd), *caps)
+        }
+        Call::MacSetFile(path, label) => {
+            mac_set(shared, checks, who, ObjectArgument::Path(path), *label)
+        }
+        Call::MacSetFd(fd, label) => {
+            mac_set(shared, checks, who, ObjectArgument::Descriptor(*fd), *label)
         }
         Call::MacGetFile(path) => mac_get(shared, checks, who, ObjectArgument::Path(path)),
         Call::MacGetFd(fd) => mac_get(shared, checks, who, ObjectArgument::Descriptor(*fd)),

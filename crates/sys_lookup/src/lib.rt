@@ -12,6 +12,7 @@ mod executing;
 mod found;
 mod making;
 mod owning;
+mod relabelling;
 mod reporting;
 mod rewriting;
 mod shared;

@@ -66,3 +66,17 @@ returns-in-MacGetFd-clause-played c p there = plays_as (state_of c.args.shared.n
 pub returns-in-MacGetFd-clause-names : goal.returns-in-MacGetFd-clause-names
 unfolding has_names
 returns-in-MacGetFd-clause-names c = names_as c.in-MacGetFd.is refl
+
+pub returns-in-MacSetFile-clause-played : goal.returns-in-MacSetFile-clause-played
+returns-in-MacSetFile-clause-played c p there = plays_as (state_of c.args.shared.now) c.args.who.now p c.in-MacSetFile.is (c.mac_set.ensures p there)
+
+pub returns-in-MacSetFile-clause-names : goal.returns-in-MacSetFile-clause-names
+unfolding has_names
+returns-in-MacSetFile-clause-names c = names_as c.in-MacSetFile.is refl
+
+pub returns-in-MacSetFd-clause-played : goal.returns-in-MacSetFd-clause-played
+returns-in-MacSetFd-clause-played c p there = plays_as (state_of c.args.shared.now) c.args.who.now p c.in-MacSetFd.is (c.mac_set-in-MacSetFd.ensures p there)
+
+pub returns-in-MacSetFd-clause-names : goal.returns-in-MacSetFd-clause-names
+unfolding has_names
+returns-in-MacSetFd-clause-names c = names_as c.in-MacSetFd.is refl

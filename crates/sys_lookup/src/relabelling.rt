@@ -1,0 +1,90 @@
+// What rows ask of an object that gets another label.
+ghost use Rattle.std.specs.Prelude.{◌≡◌, ◌&&◌, Some, cond, false, not};
+ghost use Rattle.lab_lattice.specs.Label.{dominates};
+ghost use Rattle.kern_model.specs.declared.numbers.Oid.{Oid};
+ghost use Rattle.kern_model.specs.declared.checks.Thing.TheVariants as thing;
+ghost use Rattle.kern_model.specs.Entries.{is_empty};
+ghost use Rattle.kern_model.specs.Kinds.{is_dir};
+ghost use Rattle.kern_model.specs.Row.{Need};
+ghost use Rattle.kern_model.specs.Rules.{is_above_holders, mac_downgrade, mac_upgrade, relabelled_order};
+ghost use Rattle.kern_model.specs.State.{State, object_at, root};
+ghost use Rattle.kern_model.specs.Keys.{same_oid};
+ghost use Rattle.chk_rules.specs.Ends.{GoesOn};
+ghost use Rattle.sys_lookup.specs.Shared.{metadata_of, state_of};
+
+use crate::caller::{Caller, check_of};
+use crate::shared::Metadata;
+use chk_rules::{Checks, Stop, must};
+use fs_dirs::root_directory;
+use kern_model::{Check, CheckName, Place};
+use lab_lattice::{Label, Lattice};
+
+// The check that an object gets this label: never without the capability.
+fn change_to(name: CheckName, label: &Label, object: &Metadata, place: Place) -> Check
+    ensures { result ≡ record { name = name; holds = false; thing = thing.Object object.now.id; thing_label = object.now.label; new_label = Some label.now; place = place } }
+{
+    Check {
+        new_label: Some(*label),
+        ..check_of(name, false, object, place)
+    }
+}
+
+// The check that an object gets this label: one for the way up, and one for all others.
+fn change_of(label: &Label, object: &Metadata, place: Place) -> Check
+    ensures { (s : State) (id : Oid) → object.now ≡ metadata_of s id → result ≡ cond (dominates label.now (object_at s id).label) (mac_upgrade s id label.now place) (mac_downgrade s id label.now place) }
+{
+    if label.dominates(&object.label) {
+        change_to(CheckName::MacUpgrade, label, object, place)
+    } else {
+        change_to(CheckName::MacDowngrade, label, object, place)
+    }
+}
+
+impl Caller<'_> {
+    /// Checks that the caller may give an object a label that is another one: never without the capability, which is one for a
+    /// label that dominates the object's, and another one for all others.
+    pub fn mac_change(
+        &self,
+        checks: &mut Checks,
+        object: &Metadata,
+        label: &Label,
+        place: Place,
+    ) -> Result<(), Stop>
+        ensures { (s : State) (id : Oid) → object.now ≡ metadata_of s id → GoesOn checks.old (λ rest. Need (cond (dominates label.now (object_at s id).label) (mac_upgrade s id label.now place) (mac_downgrade s id label.now place)) (rest tt)) result checks.new }
+    {
+        must(checks, &change_of(label, object, place))
+    }
+
+    /// Checks that the order of labels holds where an object gets this label: it dominates those of all directories that hold the
+    /// object, which is not the root.
+    pub fn relabelled_order(
+        &self,
+        checks: &mut Checks,
+        object: &Metadata,
+        label: &Label,
+        place: Place,
+    ) -> Result<(), Stop>
+        ensures { (id : Oid) → object.now ≡ metadata_of (state_of self.now.shared.now) id → GoesOn checks.old (λ rest. Need (relabelled_order (state_of self.now.shared.now) id label.now place) (rest tt)) result checks.new }
+    {
+        let holds = self.may_bear(object, label);
+        must(
+            checks,
+            &check_of(CheckName::LabelOrder, holds, object, place),
+        )
+    }
+
+    /// Whether an object is a directory that contains entries.
+    pub fn has_entries(&self, object: &Metadata) -> bool
+        ensures { (id : Oid) → object.now ≡ metadata_of (state_of self.now.shared.now) id → result ≡ (is_dir (object_at (state_of self.now.shared.now) id).kind && not (is_empty (state_of self.now.shared.now) id)) }
+    {
+        object.is_directory() && !self.shared.tree.is_empty(&object.id)
+    }
+
+    // Whether a label dominates those of all directories that hold an object, which is not the root.
+    fn may_bear(&self, object: &Metadata, label: &Label) -> bool
+        ensures { result ≡ (is_above_holders (state_of self.now.shared.now) object.now.id label.now && not (same_oid object.now.id root)) }
+    {
+        self.shared.tree.is_above_holders(&object.id, label)
+            && !object.id.is_same(&root_directory())
+    }
+}
