@@ -1,19 +1,19 @@
 #!/usr/bin/env python3
 """Times runs over inputs of doubling size: the time should double with the size.
 
-    bench/play.py
+    bench/play.py [PART..]
 
 First scripts of doubling length on a world of one file and one process, up to the limit of an input, of one call and of
 three; then worlds of doubling size, up to the limits of a label, with one call for each file; then worlds that fill an input
-up to its limit, all files in one directory or 32 names deep; then scripts on directories and on descriptors. It prints the rows
-of the tables in README.md: wall time, and the most memory that the run held at a time. `bench/play.py directories` and
-`bench/play.py descriptors` print the rows of their scripts alone.
+up to its limit, all files in one directory or 32 names deep; then scripts on directories, descriptors, processes and attributes.
+It prints the rows of the tables in README.md: wall time, and the most memory that the run held at a time. Names of these parts
+as arguments, as in `bench/play.py directories descriptors`, print the rows of these parts alone.
 """
+import argparse
 import os
 import pathlib
 import random
 import subprocess
-import sys
 import tempfile
 import time
 
@@ -115,6 +115,42 @@ def piped(calls, size):
     return OPEN + CALLER + b"1@unc pipe\n" + pair * (calls // 2)
 
 
+def started(procs):
+    """This many processes of one level."""
+    return b'proc unc 10 10 - "all=ep"\n' * procs + b"script\n"
+
+
+def awaited(forks):
+    """A process that forks this often; each child ends, and is awaited."""
+    lines = [b"1@unc fork\n%d@unc exit 0\n1@unc wait\n" % n for n in range(2, forks + 2)]
+    return HEAD + started(1) + b"".join(lines)
+
+
+def chained(forks):
+    """A process that forks, its child, the child's child, and so on."""
+    return HEAD + started(1) + b"".join(b"%d@unc fork\n" % n for n in range(1, forks + 1))
+
+
+def asked(calls):
+    """4,000 processes that ask for their numbers in turn."""
+    return HEAD + started(4_000) + b"".join(b"%d@unc getpid\n" % (n % 4_000 + 1) for n in range(calls))
+
+
+def executed(procs):
+    """This many processes that execute one file."""
+    return HEAD + b'file /x 0755 10 10 unc "x"\n' + started(procs) + b"".join(b"%d@unc exec /x\n" % n for n in range(1, procs + 1))
+
+
+def attributed(files):
+    """This many files that get a mode, an owner, capability sets and a label each."""
+    world = [b'file /d/f%05d 0644 10 10 unc "x"\n' % n for n in range(files)]
+    lines = [
+        b'1@unc chmod /d/f%05d 0600\n1@unc chown /d/f%05d 11 11\n1@unc cap_set_file /d/f%05d "cap_kill=p"\n1@unc mac_set_file /d/f%05d conf\n' % (n, n, n, n)
+        for n in range(files)
+    ]
+    return OPEN + b"".join(world) + started(1) + b"".join(lines)
+
+
 def run(folder, text):
     """The status, the seconds and the MiB of one run."""
     path = pathlib.Path(folder) / "input"
@@ -164,13 +200,37 @@ def descriptors(folder):
         show(folder, f"{calls:,} calls on a pipe, 2,000 bytes each", piped(calls, 2_000))
 
 
+def processes(folder):
+    """The rows of scripts on processes."""
+    for forks in (500, 1_000, 2_000, 4_000):
+        show(folder, f"{forks:,} children that end and are awaited in turn", awaited(forks))
+    for forks in (500, 1_000, 2_000, 4_000):
+        show(folder, f"a chain of {forks:,} forks", chained(forks))
+    for calls in (62_500, 125_000, 250_000, 500_000):
+        show(folder, f"{calls:,} calls of getpid by 4,000 processes", asked(calls))
+    for procs in (500, 1_000, 2_000, 4_000):
+        show(folder, f"{procs:,} processes execute one file", executed(procs))
+
+
+def attributes(folder):
+    """The rows of scripts on attributes of objects."""
+    for files in (7_500, 15_000, 30_000, 60_000):
+        show(folder, f"{files:,} files get a mode, an owner, capability sets and a label", attributed(files))
+
+
+PARTS = {"directories": directories, "descriptors": descriptors, "processes": processes, "attributes": attributes}
+
+
 def main():
+    words = argparse.ArgumentParser(description="Times runs over inputs of doubling size.")
+    words.add_argument("parts", nargs="*", choices=[[], *PARTS], help="the rows of these scripts alone")
+    parts = words.parse_args().parts
     with tempfile.TemporaryDirectory() as folder:
         run(folder, long_script(1000))  # builds the program, if it is not built
         print("| Input | Bytes | Seconds | Resident |\n|---|---|---|---|")
-        parts = {"directories": directories, "descriptors": descriptors}
-        if sys.argv[1:]:
-            parts[sys.argv[1]](folder)
+        if parts:
+            for part in parts:
+                PARTS[part](folder)
             return
         for part in (32, 16, 8, 4, 2, 1):
             text = long_script(LIMIT // part)
@@ -185,8 +245,8 @@ def main():
             for part in (8, 4, 2, 1):
                 text = filled_world(LIMIT // part, depth)
                 show(folder, f"{text.count(b'file '):,} files, {depth} names deep", text)
-        directories(folder)
-        descriptors(folder)
+        for part in PARTS.values():
+            part(folder)
 
 
 if __name__ == "__main__":
