@@ -28,10 +28,10 @@ returns-in_err-play_item-in-Item-clause-writes g c = λ source.
     let line = subst (λ x. Follows c.args.texts.policy.now c.loop-item.rest x) c.in-Item.is c.in_ok-item.ensures in
     underway_stops _ _ _ _ _ _ _ _ (c.loop-item.invariant.underway source) _ _ line.says _ _ _ (c.in_err-play_item-in-Item.ensures.writes source) c.from_residual-in_err-play_item-in-Item.ensures.1
 
-pub play_item-requires-clause-arguments : goal.play_item-requires-clause-arguments
-play_item-requires-clause-arguments g c =
+pub play_item-requires : goal.play_item-requires
+play_item-requires g c =
     let line = subst (λ x. Follows c.args.texts.policy.now c.loop-item.rest x) c.in-Item.is c.in_ok-item.ensures in
-    subst (λ (top : Label). is_call top c.in-Item.item.call ≡ true) (sym c.loop-item.invariant.top) line.arguments
+    record { arguments = subst (λ (top : Label). is_call top c.in-Item.item.call ≡ true) (sym c.loop-item.invariant.top) line.arguments }
 
 pub loop-item-preserved-in-Item : goal.loop-item-preserved-in-Item
 loop-item-preserved-in-Item g c =

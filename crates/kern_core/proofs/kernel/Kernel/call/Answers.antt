@@ -32,5 +32,5 @@ unfolding state_of
 returns-clause-numbers c =
     go_on_played (held.state_of c.args.self.now.shared) (held.state_of c.play-outcome.new.shared) c.args.who.now c.args.call.now c.play-outcome.result c.play-outcome.ensures.played (c.args.self.now.valid c.if-self.false)
 
-pub play-outcome-requires-clause-valid : goal.play-outcome-requires-clause-valid
-play-outcome-requires-clause-valid c = c.args.self.now.valid c.if-self.false
+pub play-outcome-requires : goal.play-outcome-requires
+play-outcome-requires c = record { valid = c.args.self.now.valid c.if-self.false }
