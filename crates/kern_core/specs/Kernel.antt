@@ -1,5 +1,5 @@
 -- The state of a kernel.
-use Rattle.std.specs.Prelude.{◌≡◌, ◌⊎◌, Bool, true, false, None}
+use Rattle.std.specs.Prelude.{◌≡◌, ◌⊎◌, Bool, true, None}
 use Rattle.std.specs.FinMap as map
 use Rattle.kern_model.specs.declared.calls.Call.{Call}
 use Rattle.kern_model.specs.declared.calls.Reply.{Reply}
