@@ -9,10 +9,10 @@ use Rattle.kern_model.specs.declared.calls.Errno.{Errno}
 use Rattle.kern_model.specs.declared.numbers.Pid.{Pid}
 use Rattle.kern_model.specs.declared.records.Rec.{Rec}
 use Rattle.kern_model.specs.declared.checks.Check.{Check}
-use Rattle.kern_model.specs.Row.{Row, Need, Refuse, Commit}
+use Rattle.kern_model.specs.Row.{Row, Need, Refuse, Fail, Commit}
 use Rattle.kern_model.specs.State.{State, Process, Change, changed_by}
 use Rattle.kern_model.proofs.MapLemmas.{some_same}
-use Rattle.kern_model.proofs.RowLemmas.{judge-give}
+use Rattle.kern_model.proofs.RowLemmas.{judge-fail, judge-give}
 use Rattle.chk_rules.specs.CheckLog.{CheckLog, judge_from}
 use Rattle.chk_rules.specs.Ends.{EndsBy, GoesOn}
 use Rattle.chk_rules.specs.declared.stop.Stop.{Stop}
@@ -93,6 +93,11 @@ no_memory_row {s = s} {t = t} {a = a} {b = b} {row = row} (Err how) is = record 
   ends = subst (λ h. EndsBy (judge_from a row) b h) (sym is) tt;
   keeps = subst (λ h. Keeps h s t) (sym is) tt;
 }
+
+-- the row only refuses
+pub fails_row : (s t : State) (log : CheckLog) (e : Errno) → t ≡ s → PlaysRow s log (Fail e) (Err (stop.Refused e)) t log
+unfolding EndsBy Keeps
+fails_row s t log e same = record { completes = tt; ends = judge-fail log.subject log.used e; keeps = same }
 
 -- the row ends, and its changes are made
 pub commits : (s t : State) (log : CheckLog) (changes : List Change) (answer : Answer) (own : Option Rec) → t ≡ changed_by s changes → PlaysRow s log (Commit changes answer own) (Ok (record { answer = answer; own = own })) t log

@@ -9,37 +9,34 @@ use Rattle.std.proofs.lemmas.Bool.Decides.{nat_tests}
 use Rattle.lab_lattice.specs.Label.{Label}
 use Rattle.kern_model.specs.declared.calls.Answer.TheVariants as answer
 use Rattle.kern_model.specs.declared.calls.Ending.{Ending}
-use Rattle.kern_model.specs.declared.calls.Errno.{Errno}
 use Rattle.kern_model.specs.declared.calls.Errno.TheVariants as errno
 use Rattle.kern_model.specs.declared.limits.TheConstants.{MAX_PROCS}
 use Rattle.kern_model.specs.declared.numbers.Pid.{Pid}
 use Rattle.kern_model.specs.declared.records.Rec.TheVariants as rec
 use Rattle.kern_model.specs.Keys.{pid_cmp}
 use Rattle.kern_model.specs.ProcessRows.{child_of, fork_row, has_child, take_ended}
-use Rattle.kern_model.specs.Row.{Fail, Refuse, Commit}
+use Rattle.kern_model.specs.Row.{Refuse, Commit}
 use Rattle.kern_model.specs.State.{State, Process, Change, DrawProcess, SetProcess, drawn}
 use Rattle.kern_model.specs.Valid.{IsThere, IsValid}
 use Rattle.kern_model.proofs.KeyLaws.{pid_cmp_total, pid_cmp_exact}
 use Rattle.kern_model.proofs.MapLemmas.{get-insert_same}
-use Rattle.kern_model.proofs.RowLemmas.{judge-fail}
 use Rattle.kern_model.proofs.Selections.{any_entry-select, insert-insert}
 use Rattle.proc_table.specs.declared.procs.ProcError.{ProcError}
 use Rattle.proc_table.specs.declared.procs.ReapError.{ReapError}
 use Rattle.proc_table.specs.declared.procs.ReapError.TheVariants as reap
 use Rattle.proc_table.specs.Procs.{ProcTable, has_living_child, next_in, reaped, with_new, with_process}
 use Rattle.chk_rules.specs.CheckLog.{CheckLog}
-use Rattle.chk_rules.specs.Ends.{EndsBy}
 use Rattle.chk_rules.specs.declared.stop.Stop.TheVariants as stop
 use Rattle.fd_table.specs.Files.{OpenFiles, with_row}
 use Rattle.fd_table.specs.Rows.{AllFds, Fds, row_of}
 use Rattle.sys_lookup.specs.declared.shared.Shared.{Shared}
 use Rattle.sys_lookup.specs.Owners.{HasOwners}
-use Rattle.sys_lookup.specs.PlaysRow.{PlaysRow, Keeps}
+use Rattle.sys_lookup.specs.PlaysRow.{PlaysRow}
 use Rattle.sys_lookup.specs.Shared.{holding, state_of, with_fds}
 use Rattle.sys_lookup.proofs.FdChanges.{with_fds-row}
 use Rattle.sys_lookup.proofs.FdLemmas.{found, with_fds-process}
 use Rattle.sys_lookup.proofs.OwnerLemmas.{owners_known, owners_process, owners_row}
-use Rattle.sys_lookup.proofs.PlayLemmas.{commits, equal_answer, refuse_plays, refuse_stops_row}
+use Rattle.sys_lookup.proofs.PlayLemmas.{commits, equal_answer, fails_row, refuse_plays, refuse_stops_row}
 use Rattle.sys_lookup.proofs.RefuseLemmas.{lets_on, refuses}
 
 -- ---- a child is made
@@ -108,11 +105,6 @@ pub child_shown : (h : Shared) (who : Pid) → has_child (state_of h) who ≡ ha
 unfolding with_fds
 child_shown h who = any_entry-select pid_cmp_total pid_cmp_exact _ _ _ h.procs.procs (λ k x e. refl)
 
--- a row that only refuses
-pub fails : (s t : State) (log : CheckLog) (e : Errno) → t ≡ s → PlaysRow s log (Fail e) (Err (stop.Refused e)) t log
-unfolding EndsBy Keeps
-fails s t log e same = record { completes = tt; ends = judge-fail log.subject log.used e; keeps = same }
-
 nothing_taken : (living : Bool) (e : Pid × Ending) → Ok e ≡ reaped [] living → ⊥
 nothing_taken true e is = let no : Ok e ≡ Err reap.NoneEnded = is in cc
 nothing_taken false e is = let no : Ok e ≡ Err reap.NoChild = is in cc
@@ -141,7 +133,7 @@ module _ (s t : State) (log : CheckLog) (who : Pid) (p : Process) (living : Bool
   -- there is none yet
   pub takes_none : (ended : List (Pid × Ending)) → Err reap.NoneEnded ≡ reaped ended living → t ≡ s
       → PlaysRow s log (Refuse errno.ECHILD (length ended == 0 && not living) (take_ended who p ended)) (Err (stop.Refused errno.EAGAIN)) t log
-  takes_none [] is same = refuse_plays (lets_on (ap not (some_living living is))) (fails s t log errno.EAGAIN same)
+  takes_none [] is same = refuse_plays (lets_on (ap not (some_living living is))) (fails_row s t log errno.EAGAIN same)
   takes_none (x ∷ es) is same = let no : ◌≡◌ {A = Result (Pid × Ending) ReapError} (Err reap.NoneEnded) (Ok x) = is in absurd cc
 
   -- there is no child

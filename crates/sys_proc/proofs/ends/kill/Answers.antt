@@ -8,8 +8,7 @@ use Rattle.chk_rules.specs.declared.stop.Stop.TheVariants as stop
 use Rattle.sys_lookup.specs.PlaysRow.{PlaysRow}
 use Rattle.sys_lookup.specs.Shared.{holding, state_of}
 use Rattle.sys_lookup.proofs.FdLemmas.{found, in_state, not_found}
-use Rattle.sys_lookup.proofs.PlayLemmas.{caller_plays, need_plays, need_stops_row, stops_row, then_plays}
-use Rattle.sys_proc.proofs.ChildLemmas.{fails}
+use Rattle.sys_lookup.proofs.PlayLemmas.{caller_plays, fails_row, need_plays, need_stops_row, stops_row, then_plays}
 use Rattle.sys_proc.proofs.ends.kill.Goals as goal
 
 pub returns-in_err-must : goal.returns-in_err-must
@@ -30,7 +29,7 @@ returns-in_default c = λ p there.
     let none : map.get s.procs target ≡ None = not_found h.procs.procs h.fds.rows target (sym c.find.ensures ∙ ap option_copied c.in_default.is) in
     caller_plays (λ x. kill_row s who x target c.args.signal) who q p c.living-sender.ensures.found there
     (need_plays (equal_check c.mac_write.ensures c.in_ok-must.ensures)
-    (subst (λ (w : Option Process). PlaysRow s c.must.new.checks (send s q target c.args.signal w) (Err (stop.Refused ESRCH)) s c.must.new.checks) (sym none) (fails s s c.must.new.checks ESRCH refl)))
+    (subst (λ (w : Option Process). PlaysRow s c.must.new.checks (send s q target c.args.signal w) (Err (stop.Refused ESRCH)) s c.must.new.checks) (sym none) (fails_row s s c.must.new.checks ESRCH refl)))
 
 pub returns-in_err-may_signal : goal.returns-in_err-may_signal
 returns-in_err-may_signal c = λ p there.
