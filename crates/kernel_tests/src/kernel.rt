@@ -130,6 +130,14 @@ fn sets_of(kernel: &mut Kernel, who: &Pid) -> Result<Outcome, Fail> {
     Ok(kernel.call(who, &Call::CapGetProc)?)
 }
 
+// Gives the file of the lowest label a further name in the root directory.
+#[tactic(auto, unfolding(kern_model::specs::Arguments::is_call))]
+fn link(alloc: Global, kernel: &mut Kernel, who: &Pid, bytes: &[u8]) -> Result<Outcome, Fail> {
+    let from = Path::in_root(alloc, name_of(alloc, b"low")?)?;
+    let to = Path::in_root(alloc, name_of(alloc, bytes)?)?;
+    Ok(kernel.call(who, &Call::Link(from, to))?)
+}
+
 // Whether the label is answered, and no record left.
 fn reports(outcome: &Outcome, label: Label) -> bool {
     match &outcome.reply {
@@ -259,5 +267,25 @@ fn number_without_a_process_is_refused(rt: HostRuntime) -> Result<(), Fail> {
     let (mut kernel, _) = booted(rt.alloc())?;
     let outcome = set(&mut kernel, &low(9), CapState::none())?;
     assert!(rt; refuses(&outcome, Errno::ESRCH));
+    Ok(())
+}
+
+// Whether a call is done.
+fn is_done(outcome: &Outcome) -> bool {
+    matches!(&outcome.reply, Reply::Done(_))
+}
+
+#[test]
+fn file_has_1024_names(rt: HostRuntime) -> Result<(), Fail> {
+    let alloc = rt.alloc();
+    let (mut kernel, _) = booted(alloc)?;
+    for n in 1..1_024_u32 {
+        let name = format!(in alloc; "n{n}")?;
+        if !is_done(&link(alloc, &mut kernel, &low(1), name.as_bytes())?) {
+            return Err(Fail::new("a name is refused"));
+        }
+    }
+    let outcome = link(alloc, &mut kernel, &low(1), b"last")?;
+    assert!(rt; refuses(&outcome, Errno::EMLINK));
     Ok(())
 }

@@ -8,6 +8,8 @@ mod checks;
 #[cfg(test)]
 mod credentials;
 #[cfg(test)]
+mod descriptors;
+#[cfg(test)]
 mod kernel;
 #[cfg(test)]
 mod lattice;

@@ -5,7 +5,7 @@ ghost use Rattle.kern_model.specs.declared.objects.Object.{Object};
 ghost use Rattle.fs_nodes.specs.Nodes.{IsFile, IsStream};
 
 use cap_bits::CapState;
-use fs_nodes::{Buffers, Nodes};
+use fs_nodes::{Buffers, NodeError, Nodes};
 use kern_model::{Attr, Body, ByteList, Oid};
 use lab_lattice::bottom;
 use std::alloc::Global;
@@ -61,5 +61,18 @@ fn bytes_wait_in_a_fifo(rt: HostRuntime) -> Result<(), Fail> {
     nodes.put_bytes(&id, b"abc")?;
     let bytes = nodes.object(&id).map(|o| o.bytes.items());
     assert_eq!(rt; bytes, Some(b"abc".as_slice()));
+    Ok(())
+}
+
+#[test]
+fn label_has_65535_objects(rt: HostRuntime) -> Result<(), Fail> {
+    let mut nodes = Nodes::new(rt.alloc())?;
+    for _ in 0..65_535_u32 {
+        if nodes.create(bottom(), attr(), Body::Fifo).is_err() {
+            return Err(Fail::new("an object is refused"));
+        }
+    }
+    let next = nodes.create(bottom(), attr(), Body::Fifo);
+    assert_eq!(rt; next, Err(NodeError::Full));
     Ok(())
 }

@@ -3,10 +3,10 @@ ghost use Rattle.std.specs.Prelude.{IfOk};
 ghost use Rattle.kern_model.specs.Valid.{IsThere};
 
 use cap_bits::CapState;
-use kern_model::{GroupList, Ids, Oid, Pid};
+use kern_model::{GroupList, Ids, NoMemory, Oid, Pid};
 use lab_lattice::bottom;
 use proc_creds::Creds;
-use proc_table::Procs;
+use proc_table::{ProcError, Procs};
 use std::alloc::Global;
 use std::test::Fail;
 
@@ -54,5 +54,25 @@ fn process_starts_and_goes_on(rt: HostRuntime) -> Result<(), Fail> {
     let left = procs.find(&who).map(|p| (p.cwd, p.creds.umask));
     assert_eq!(rt; left, Some((directory(2), 7)));
     assert_eq!(rt; procs.live()?.items(), [who].as_slice());
+    Ok(())
+}
+
+// The answer to a fork of a living process.
+fn fork(procs: &mut Procs, who: &Pid) -> Result<Pid, ProcError> {
+    match procs.find(who) {
+        Some(_) => procs.fork(who),
+        None => Err(ProcError::NoMemory(NoMemory)),
+    }
+}
+
+#[test]
+fn label_has_4095_processes(rt: HostRuntime) -> Result<(), Fail> {
+    let (mut procs, who) = with_process(rt.alloc())?;
+    for _ in 0..4_094_u32 {
+        if fork(&mut procs, &who).is_err() {
+            return Err(Fail::new("a fork is refused"));
+        }
+    }
+    assert_eq!(rt; fork(&mut procs, &who), Err(ProcError::Full));
     Ok(())
 }
