@@ -86,7 +86,9 @@ invariant_of-shared c =
     let at = referred h who c.living-process.result.now c.args.fd f c.in_ok-opened.ensures.found in
     let made = c.dup.ensures.made f.did at.did in
     let there : IsThere h.procs.procs who = record { value = c.living-process.result.now; is = c.living-process.ensures.there } in
-    record { owners = either_way c.dup.result
-      (λ new _. subst (λ (t : OpenFiles). ∥ HasOwners h.procs.procs t.rows ∥₁) (sym new) (owners_row h.procs.procs h.fds.rows who (with_lowest (row_of h.fds.rows who) f.did) there h.owners))
-      (λ same. subst (λ (t : OpenFiles). ∥ HasOwners h.procs.procs t.rows ∥₁) (sym same) h.owners)
-      made made c.dup.ensures.err }
+    record {
+      owners = either_way c.dup.result
+          (λ new _. subst (λ (t : OpenFiles). ∥ HasOwners h.procs.procs t.rows ∥₁) (sym new) (owners_row h.procs.procs h.fds.rows who (with_lowest (row_of h.fds.rows who) f.did) there h.owners))
+          (λ same. subst (λ (t : OpenFiles). ∥ HasOwners h.procs.procs t.rows ∥₁) (sym same) h.owners)
+          made made c.dup.ensures.err;
+    }

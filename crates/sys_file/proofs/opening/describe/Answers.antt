@@ -68,7 +68,9 @@ invariant_of-shared-2 c =
     let rows = c.reserve.new.self.rows in
     let there : IsThere h.procs.procs who = record { value = c.living-process.result.now; is = c.living-process.ensures.there } in
     let owners = owners_others h.procs.procs h.fds.rows rows who there c.reserve.ensures.others h.owners in
-    record { owners = either_way c.open_at_lowest.result
-      (λ opened _. subst (λ (t : OpenFiles). ∥ HasOwners h.procs.procs t.rows ∥₁) (sym opened) (owners_row h.procs.procs rows who _ there owners))
-      (λ same. subst (λ (t : OpenFiles). ∥ HasOwners h.procs.procs t.rows ∥₁) (sym same) owners)
-      c.open_at_lowest.ensures.opened c.open_at_lowest.ensures.opened c.open_at_lowest.ensures.err }
+    record {
+      owners = either_way c.open_at_lowest.result
+          (λ opened _. subst (λ (t : OpenFiles). ∥ HasOwners h.procs.procs t.rows ∥₁) (sym opened) (owners_row h.procs.procs rows who _ there owners))
+          (λ same. subst (λ (t : OpenFiles). ∥ HasOwners h.procs.procs t.rows ∥₁) (sym same) owners)
+          c.open_at_lowest.ensures.opened c.open_at_lowest.ensures.opened c.open_at_lowest.ensures.err;
+    }

@@ -37,4 +37,4 @@ pub invariant_of-shared : goal.invariant_of-shared
 invariant_of-shared c =
     let h = c.args.shared.now in
     let stands = record (c.living-process.result.now) { cwd = c.in_ok-dir.dir } in
-    record { owners = subst (λ (t : ProcTable). ∥ HasOwners t.procs h.fds.rows ∥₁) (sym (c.set_cwd.ensures c.living-process.result.now c.living-process.ensures.there)) (owners_process h.procs.procs h.fds.rows c.args.who.now stands h.owners); }
+    record { owners = subst (λ (t : ProcTable). ∥ HasOwners t.procs h.fds.rows ∥₁) (sym (c.set_cwd.ensures c.living-process.result.now c.living-process.ensures.there)) (owners_process h.procs.procs h.fds.rows c.args.who.now stands h.owners) }
