@@ -229,44 +229,83 @@ fn a_small_world_starts(rt: HostRuntime) -> Result<(), Fail> {
     Ok(())
 }
 
+// The answer to a process that asks for the label of a file at the start.
+fn asked(alloc: Global, who: &Pid, bytes: &[u8]) -> Result<Outcome, Fail> {
+    let (mut kernel, _) = booted(alloc)?;
+    ask(alloc, &mut kernel, who, bytes)
+}
+
+// The sets of a process at the start, and the answer where it asks for them.
+fn asked_sets(alloc: Global, who: &Pid) -> Result<(Option<CapState>, Outcome), Fail> {
+    let (mut kernel, _) = booted(alloc)?;
+    let own = kernel.caps_of(who);
+    let outcome = sets_of(&mut kernel, who)?;
+    Ok((own, outcome))
+}
+
+// The answer to a process that sets its sets at the start, and its sets after it.
+fn changed_sets(
+    alloc: Global,
+    who: &Pid,
+    caps: CapState,
+) -> Result<(Outcome, Option<CapState>), Fail> {
+    let (mut kernel, _) = booted(alloc)?;
+    let outcome = set(&mut kernel, who, caps)?;
+    Ok((outcome, kernel.caps_of(who)))
+}
+
 #[test]
 fn labels_are_reported_or_denied(rt: HostRuntime) -> Result<(), Fail> {
     let alloc = rt.alloc();
-    let (mut kernel, _) = booted(alloc)?;
     let denial = (Errno::EACCES, CheckName::MacRead, Place::First(1));
-    assert!(rt; reports(&ask(alloc, &mut kernel, &low(1), b"low")?, bottom()));
-    assert!(rt; refuses(&ask(alloc, &mut kernel, &low(1), b"lower")?, Errno::ENOENT));
-    assert!(rt; denies(&ask(alloc, &mut kernel, &low(1), b"high")?, denial, low(1)));
+    assert!(rt; reports(&asked(alloc, &low(1), b"low")?, bottom()));
+    assert!(rt; refuses(&asked(alloc, &low(1), b"lower")?, Errno::ENOENT));
+    assert!(rt; denies(&asked(alloc, &low(1), b"high")?, denial, low(1)));
     Ok(())
 }
 
 #[test]
 fn capability_is_exercised(rt: HostRuntime) -> Result<(), Fail> {
     let label = top()?;
-    let (mut kernel, _) = booted(rt.alloc())?;
-    let outcome = ask(rt.alloc(), &mut kernel, &low(2), b"high")?;
+    let outcome = asked(rt.alloc(), &low(2), b"high")?;
     assert!(rt; exercises(&outcome, Cap::MacRead, Oid { label, n: 1 }));
     Ok(())
 }
 
 #[test]
-fn own_sets_are_reported_and_shrink(rt: HostRuntime) -> Result<(), Fail> {
-    let none = CapState::none();
-    let (mut kernel, _) = booted(rt.alloc())?;
-    let own = kernel.caps_of(&low(2)).ok_or("no process")?;
+fn own_sets_are_reported(rt: HostRuntime) -> Result<(), Fail> {
+    let (own, outcome) = asked_sets(rt.alloc(), &low(2))?;
+    assert!(rt; reports_caps(&outcome, own.ok_or("no process")?));
+    Ok(())
+}
+
+#[test]
+fn own_sets_shrink(rt: HostRuntime) -> Result<(), Fail> {
+    let (outcome, left) = changed_sets(rt.alloc(), &low(2), CapState::none())?;
+    assert!(rt; sets(&outcome, low(2), CapState::none()));
+    assert!(rt; left == Some(CapState::none()));
+    Ok(())
+}
+
+#[test]
+fn own_sets_do_not_grow(rt: HostRuntime) -> Result<(), Fail> {
+    let all = CapState {
+        e: CapSet::none(),
+        i: CapSet::none(),
+        p: CapSet::all(),
+    };
     let denial = (Errno::EPERM, CheckName::CapGrow, Place::Caller);
-    assert!(rt; reports_caps(&sets_of(&mut kernel, &low(2))?, own));
-    assert!(rt; denies(&set(&mut kernel, &low(1), own)?, denial, low(1)));
-    assert!(rt; sets(&set(&mut kernel, &low(2), none)?, low(2), none));
-    assert!(rt; kernel.caps_of(&low(2)) == Some(none));
+    let (outcome, left) = changed_sets(rt.alloc(), &low(1), all)?;
+    assert!(rt; denies(&outcome, denial, low(1)));
+    assert!(rt; left == Some(CapState::none()));
     Ok(())
 }
 
 #[test]
 fn number_without_a_process_is_refused(rt: HostRuntime) -> Result<(), Fail> {
-    let (mut kernel, _) = booted(rt.alloc())?;
-    let outcome = set(&mut kernel, &low(9), CapState::none())?;
+    let (outcome, left) = changed_sets(rt.alloc(), &low(9), CapState::none())?;
     assert!(rt; refuses(&outcome, Errno::ESRCH));
+    assert!(rt; left.is_none());
     Ok(())
 }
 
