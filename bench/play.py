@@ -151,11 +151,25 @@ def attributed(files):
     return OPEN + b"".join(world) + started(1) + b"".join(lines)
 
 
-def run(folder, text):
-    """The status, the seconds and the MiB of one run."""
-    path = pathlib.Path(folder) / "input"
-    path.write_bytes(text)
-    with open(path, "rb") as source:
+def write_input(path, make, args, counted):
+    """Writes an input, and returns how often it has these bytes. A process of its own makes it, since a run begins with the
+    memory of the process that starts it."""
+    source, sink = os.pipe()
+    child = os.fork()
+    if child == 0:
+        text = make(*args)
+        path.write_bytes(text)
+        os.write(sink, b"%d" % text.count(counted))
+        os._exit(0)
+    os.close(sink)
+    os.waitpid(child, 0)
+    with open(source, "rb") as count:
+        return int(count.read())
+
+
+def run(folder):
+    """The status, the seconds and the MiB of one run on the input."""
+    with open(pathlib.Path(folder) / "input", "rb") as source:
         begin = time.monotonic()
         child = subprocess.Popen([TOP / "labsys", "play", "trail.out"], stdin=source, stdout=subprocess.DEVNULL, cwd=folder)
         _, status, used = os.wait4(child.pid, 0)
@@ -163,10 +177,13 @@ def run(folder, text):
         return child.returncode, time.monotonic() - begin, used.ru_maxrss / 1024
 
 
-def show(folder, title, text):
-    status, seconds, resident = run(folder, text)
+def show(folder, title, make, *args, counted=b"\n"):
+    """Prints the row of one input. `{}` in its title is how often the input has the bytes that are counted."""
+    path = pathlib.Path(folder) / "input"
+    count = write_input(path, make, args, counted)
+    status, seconds, resident = run(folder)
     ended = "" if status == 0 else f" status {status}"
-    print(f"| {title} | {len(text):,} | {seconds:.2f} | {resident:,.0f} MiB |{ended}", flush=True)
+    print(f"| {title.format(count)} | {path.stat().st_size:,} | {seconds:.2f} | {resident:,.0f} MiB |{ended}", flush=True)
 
 
 def directories(folder):
@@ -174,48 +191,48 @@ def directories(folder):
     for shuffled in (False, True):
         for names in (7_500, 15_000, 30_000, 60_000):
             order = "in random order" if shuffled else "in order"
-            show(folder, f"{names:,} names in one directory, {order}", changed_names(names, shuffled))
+            show(folder, f"{names:,} names in one directory, {order}", changed_names, names, shuffled)
     for calls in (10_000, 20_000, 40_000):
-        show(folder, f"{calls:,} calls on paths of 32 names", deep_paths(calls))
+        show(folder, f"{calls:,} calls on paths of 32 names", deep_paths, calls)
     for depth in (7_500, 15_000, 30_000, 60_000):
-        show(folder, f"a chain of {depth:,} directories, and as many moves to its end", moved_below(depth, depth))
+        show(folder, f"a chain of {depth:,} directories, and as many moves to its end", moved_below, depth, depth)
     for calls in (50, 100, 200):
-        show(folder, f"a directory of 10,000 names, listed {calls} times", listed(calls))
+        show(folder, f"a directory of 10,000 names, listed {calls} times", listed, calls)
 
 
 def descriptors(folder):
     """The rows of scripts on descriptors."""
     for files in (1, 1_000):
         for calls in (62_500, 125_000, 250_000, 500_000):
-            show(folder, f"{calls:,} calls on {files:,} files, 1 byte a write", rewritten(calls // 11, files, 1))
+            show(folder, f"{calls:,} calls on {files:,} files, 1 byte a write", rewritten, calls // 11, files, 1)
         for calls in (12_500, 25_000, 50_000):
-            show(folder, f"{calls:,} calls on {files:,} files, 1,000 bytes a write", rewritten(calls // 11, files, 1_000))
+            show(folder, f"{calls:,} calls on {files:,} files, 1,000 bytes a write", rewritten, calls // 11, files, 1_000)
     for count in (8_191, 16_383, 32_767, 65_535):
-        show(folder, f"{count:,} descriptions of one label", drawn_descriptions(count))
+        show(folder, f"{count:,} descriptions of one label", drawn_descriptions, count)
     for size in (8_192, 16_384, 32_768, 65_536):
-        show(folder, f"a file filled to {size:,} bytes, one by one", filled_file(size))
+        show(folder, f"a file filled to {size:,} bytes, one by one", filled_file, size)
     for calls in (62_500, 125_000, 250_000, 500_000):
-        show(folder, f"{calls:,} calls on a pipe, 1 byte each", piped(calls, 1))
+        show(folder, f"{calls:,} calls on a pipe, 1 byte each", piped, calls, 1)
     for calls in (4_000, 8_000, 16_000):
-        show(folder, f"{calls:,} calls on a pipe, 2,000 bytes each", piped(calls, 2_000))
+        show(folder, f"{calls:,} calls on a pipe, 2,000 bytes each", piped, calls, 2_000)
 
 
 def processes(folder):
     """The rows of scripts on processes."""
     for forks in (500, 1_000, 2_000, 4_000):
-        show(folder, f"{forks:,} children that end and are awaited in turn", awaited(forks))
+        show(folder, f"{forks:,} children that end and are awaited in turn", awaited, forks)
     for forks in (500, 1_000, 2_000, 4_000):
-        show(folder, f"a chain of {forks:,} forks", chained(forks))
+        show(folder, f"a chain of {forks:,} forks", chained, forks)
     for calls in (62_500, 125_000, 250_000, 500_000):
-        show(folder, f"{calls:,} calls of getpid by 4,000 processes", asked(calls))
+        show(folder, f"{calls:,} calls of getpid by 4,000 processes", asked, calls)
     for procs in (500, 1_000, 2_000, 4_000):
-        show(folder, f"{procs:,} processes execute one file", executed(procs))
+        show(folder, f"{procs:,} processes execute one file", executed, procs)
 
 
 def attributes(folder):
     """The rows of scripts on attributes of objects."""
     for files in (7_500, 15_000, 30_000, 60_000):
-        show(folder, f"{files:,} files get a mode, an owner, capability sets and a label", attributed(files))
+        show(folder, f"{files:,} files get a mode, an owner, capability sets and a label", attributed, files)
 
 
 PARTS = {"directories": directories, "descriptors": descriptors, "processes": processes, "attributes": attributes}
@@ -226,25 +243,23 @@ def main():
     words.add_argument("parts", nargs="*", choices=[[], *PARTS], help="the rows of these scripts alone")
     parts = words.parse_args().parts
     with tempfile.TemporaryDirectory() as folder:
-        run(folder, long_script(1000))  # builds the program, if it is not built
+        write_input(pathlib.Path(folder) / "input", long_script, [1_000], b"\n")
+        run(folder)  # builds the program, if it is not built
         print("| Input | Bytes | Seconds | Resident |\n|---|---|---|---|")
         if parts:
             for part in parts:
                 PARTS[part](folder)
             return
         for part in (32, 16, 8, 4, 2, 1):
-            text = long_script(LIMIT // part)
-            show(folder, f"{text.count(b'mac_get_file'):,} calls", text)
+            show(folder, "{:,} calls", long_script, LIMIT // part, counted=b"mac_get_file")
         for part in (32, 16, 8, 4, 2, 1):
-            text = mixed_script(LIMIT // part)
-            show(folder, f"{text.count(b'1@unc '):,} calls of three kinds", text)
+            show(folder, "{:,} calls of three kinds", mixed_script, LIMIT // part, counted=b"1@unc ")
         for part in (8, 4, 2, 1):
             files, procs = 65_534 // part, 4_095 // part
-            show(folder, f"{files:,} files, {procs:,} processes", large_world(files, procs))
+            show(folder, f"{files:,} files, {procs:,} processes", large_world, files, procs)
         for depth in (2, 32):
             for part in (8, 4, 2, 1):
-                text = filled_world(LIMIT // part, depth)
-                show(folder, f"{text.count(b'file '):,} files, {depth} names deep", text)
+                show(folder, f"{{:,}} files, {depth} names deep", filled_world, LIMIT // part, depth, counted=b"file ")
         for part in PARTS.values():
             part(folder)
 
