@@ -115,6 +115,12 @@ def piped(calls, size):
     return OPEN + CALLER + b"1@unc pipe\n" + pair * (calls // 2)
 
 
+def filled_pipe(calls):
+    """A pipe that is filled to 4,096 bytes by three writes, and emptied by one read of them all."""
+    lines = b"".join(b'1@unc write 1 "%s"\n' % (b"x" * size) for size in (2_000, 2_000, 96)) + b"1@unc read 0 4096\n"
+    return OPEN + CALLER + b"1@unc pipe\n" + lines * (calls // 4)
+
+
 def started(procs):
     """This many processes of one level."""
     return b'proc unc 10 10 - "all=ep"\n' * procs + b"script\n"
@@ -215,6 +221,8 @@ def descriptors(folder):
         show(folder, f"{calls:,} calls on a pipe, 1 byte each", piped, calls, 1)
     for calls in (4_000, 8_000, 16_000):
         show(folder, f"{calls:,} calls on a pipe, 2,000 bytes each", piped, calls, 2_000)
+    for calls in (3_500, 7_000, 14_000):
+        show(folder, f"{calls:,} calls on a pipe, which is filled and emptied", filled_pipe, calls)
 
 
 def processes(folder):
