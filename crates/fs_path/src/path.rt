@@ -139,7 +139,6 @@ fn read_names(alloc: Global, text: &[u8]) -> Result<NameList, PathError>
         at += component.len() + 1;
         left = more;
     }
-    names.shrink_to_fit();
     Ok(names)
 }
 

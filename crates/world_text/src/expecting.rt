@@ -237,11 +237,15 @@ fn proc_caps_of(word: &[u8]) -> WordValue<CapState>
     }
 }
 
-// An absolute path.
+// An absolute path. It is kept until the world is taken over, so it takes no more memory than its names need.
 fn absolute_path(alloc: Global, word: &[u8]) -> Result<Option<Path>, NoMemory>
     ensures { IfOk result (λ path. path ≡ absolute_path word.now) }
 {
-    Ok(path_of(alloc, word)?.filter(|path| path.absolute))
+    let mut path = path_of(alloc, word)?.filter(|path| path.absolute);
+    if let Some(path) = &mut path {
+        path.names.shrink_to_fit();
+    }
+    Ok(path)
 }
 
 // The label of a label's text.
