@@ -1,12 +1,11 @@
 -- The entries of all directories, by what each one contains.
-use Rattle.std.specs.Prelude.{◌≡◌, ◌&&◌, Bool, true, false, List, [], ◌∷◌, ◌++◌, Option, Some, None, cond, length, map, refl}
+use Rattle.std.specs.Prelude.{◌≡◌, ◌&&◌, ◌==◌, ◌≤◌, ℕ, zero, suc, Bool, true, false, List, [], ◌∷◌, ◌++◌, Option, Some, None, cond, get_or, length, map, option_copied, refl, unwrap_or}
+use Rattle.std.specs.Borrow.{Bor}
 use Rattle.std.specs.declared.cmp.Ordering.{Ordering}
 use Rattle.std.specs.declared.cmp.Ordering.TheVariants.{Less, Equal, Greater}
 use Rattle.std.specs.Ordering.{nat_cmp, is_lt, is_eq, eq_by_cmp, ordering_then}
-use Rattle.std.specs.Option.{option_or, option_and_then}
+use Rattle.std.specs.Option.{option_or, option_and_then, option_map}
 use Rattle.std.specs.List.{flat_map}
-use Rattle.std.specs.Map.{lookup}
-use Rattle.std.specs.BTreeMap.{is_at}
 use Rattle.std.specs.Cmp.{IsTotalOrder, eq_by_cmp_equiv}
 use Rattle.std.specs.Cmp.Lexicographic.{slice_cmp}
 use Rattle.std.specs.FinMap as table
@@ -14,18 +13,24 @@ use Rattle.std.specs.FinMap.{FinMap, IsAntisymmetric, same_map, get-empty, get-i
 use Rattle.std.specs.FinMap.Entries.{below_all}
 use Rattle.std.proofs.Common.{ap, sym, ◌∙◌, subst, T}
 use Rattle.std.proofs.lemmas.Cmp.{tied_itself, nat_list_cmp_total}
-use Rattle.std.proofs.lemmas.List.{append-nil, length-map}
+use Rattle.std.proofs.lemmas.Map.Lookups.{exact_bytes}
+use Rattle.std.proofs.lemmas.List.{append-nil, get_or_past, length-map}
 use Rattle.std.proofs.lemmas.List.Concat.{flat_map-append}
 use Rattle.fs_path.specs.Name.{Name}
 use Rattle.kern_model.specs.declared.numbers.Oid.{Oid}
 use Rattle.kern_model.specs.Keys.{Spot, oid_cmp, spot_cmp, same_oid}
 use Rattle.kern_model.proofs.KeyLaws.{oid_cmp_total, oid_cmp_exact, spot_cmp_total, spot_cmp_exact}
-use Rattle.kern_model.proofs.MapLemmas.{same_key, get_or-found, get_or-absent, get_or-same, insert-same}
-use Rattle.kern_model.proofs.TableLemmas.{get_at, one_set}
+use Rattle.kern_model.proofs.MapLemmas.{same_key, get_or-found, get_or-absent, get-select_kept, remove-absent}
 use Rattle.kern_model.specs.Entries.{entry_count, names_in}
-use Rattle.kern_model.specs.Maps.{count_entries}
+use Rattle.kern_model.specs.Maps as maps
+use Rattle.kern_model.specs.Maps.{count_entries, select, where_key}
+use Rattle.lab_lattice.specs.Label.{label_cmp}
+use Rattle.lab_lattice.proofs.Labels.{label_cmp_total, label_cmp_exact}
+use Rattle.fs_nodes.specs.Rows.{IsSet, Rows, item_at, row_at}
+use Rattle.fs_nodes.proofs.Places.{one_number}
+use Rattle.fs_nodes.proofs.Rows.{get-items_in, item_set}
 use Rattle.fs_dirs.specs.Directory.{name_cmp}
-use Rattle.fs_dirs.specs.Entries.{Contents, at_spots, contents_of, entries_alone, entries_of, objects_in}
+use Rattle.fs_dirs.specs.Entries.{Contents, at_spots, contents_of, dirs_in, entries_alone, entries_of, objects_in}
 use Rattle.fs_dirs.proofs.CountLemmas.{count_chosen, no_entries}
 
 -- ---- lists of entries in order
@@ -161,12 +166,6 @@ get-entries_of dirs d n =
     get-entries (entries_of dirs) (d, n) ∙ ap (find spot_cmp (d, n)) (entries_in_turn dirs) ∙ find_all d n (table.entries dirs) (entries_sorted dirs)
     ∙ ap (option_and_then (λ (m : Contents). table.get m n)) (sym (get-entries dirs d)) ∙ in_contents dirs d n
 
-contents_set : (dirs : FinMap oid_cmp Contents) (d : Oid) (m : Contents) (q : Oid) → contents_of (table.insert dirs d m) q ≡ cond (same_oid q d) m (contents_of dirs q)
-contents_set dirs d m q = elim (same_oid q d) as (λ b. same_oid q d ≡ b → contents_of (table.insert dirs d m) q ≡ cond b m (contents_of dirs q)) [
-  | true ↦ λ t. get_or-found (table.insert dirs d m) q table.empty m (get-insert oid_cmp_total dirs d m q ∙ ap (λ b. cond b (Some m) (table.get dirs q)) t)
-  | false ↦ λ t. get_or-same (table.insert dirs d m) dirs q table.empty (get-insert oid_cmp_total dirs d m q ∙ ap (λ b. cond b (Some m) (table.get dirs q)) t)
-] refl
-
 spots_alike : (q d : Oid) (m n : Name) → eq_by_cmp spot_cmp (q, m) (d, n) ≡ (same_oid q d && eq_by_cmp (slice_cmp nat_cmp) m n)
 unfolding spot_cmp
 spots_alike q d m n = elim (oid_cmp q d) as (λ r. is_eq (ordering_then r (slice_cmp nat_cmp m n)) ≡ (is_eq r && is_eq (slice_cmp nat_cmp m n))) [
@@ -182,25 +181,30 @@ entries_of-empty = same_map spot_cmp_total spot_cmp_exact _ _ (λ q.
     ∙ get-empty name_cmp q.1 ∙ sym (get-empty spot_cmp q))
 
 -- a name that is set or removed in one directory
-module _ (dirs : FinMap oid_cmp Contents) (d : Oid) where
-  changed_one : (m : Contents) (n : Name) (w : Option Oid) → ((k : Name) → table.get m k ≡ cond (eq_by_cmp (slice_cmp nat_cmp) k n) w (table.get (contents_of dirs d) k))
-      → (q : Spot) → table.get (entries_of (table.insert dirs d m)) (q.0, q.1) ≡ cond (eq_by_cmp spot_cmp (q.0, q.1) (d, n)) w (table.get (entries_of dirs) (q.0, q.1))
-  changed_one m n w h q =
-      get-entries_of (table.insert dirs d m) q.0 q.1
-      ∙ ap (λ (c : Contents). table.get c q.1) (contents_set dirs d m q.0)
+module _ (dirs dirs' : FinMap oid_cmp Contents) (d : Oid) (m : Contents) (set : (q : Oid) → contents_of dirs' q ≡ cond (same_oid q d) m (contents_of dirs q)) where
+  changed_one : (n : Name) (w : Option Oid) → ((k : Name) → table.get m k ≡ cond (eq_by_cmp (slice_cmp nat_cmp) k n) w (table.get (contents_of dirs d) k))
+      → (q : Spot) → table.get (entries_of dirs') (q.0, q.1) ≡ cond (eq_by_cmp spot_cmp (q.0, q.1) (d, n)) w (table.get (entries_of dirs) (q.0, q.1))
+  changed_one n w h q =
+      get-entries_of dirs' q.0 q.1
+      ∙ ap (λ (c : Contents). table.get c q.1) (set q.0)
       ∙ elim (same_oid q.0 d) as (λ b. same_oid q.0 d ≡ b → table.get (cond b m (contents_of dirs q.0)) q.1 ≡ cond (b && eq_by_cmp (slice_cmp nat_cmp) q.1 n) w (table.get (entries_of dirs) (q.0, q.1))) [
         | true ↦ λ t. h q.1 ∙ ap (λ v. cond (eq_by_cmp (slice_cmp nat_cmp) q.1 n) w v) (ap (λ (c : Oid). table.get (contents_of dirs c) q.1) (sym (same_key oid_cmp_exact q.0 d t)) ∙ sym (get-entries_of dirs q.0 q.1))
         | false ↦ λ _. sym (get-entries_of dirs q.0 q.1)
       ] refl
       ∙ ap (λ b. cond b w (table.get (entries_of dirs) (q.0, q.1))) (sym (spots_alike q.0 d q.1 n))
 
-  pub entries_of-insert : (n : Name) (x : Oid) → entries_of (table.insert dirs d (table.insert (contents_of dirs d) n x)) ≡ table.insert (entries_of dirs) (d, n) x
-  entries_of-insert n x = same_map spot_cmp_total spot_cmp_exact _ _ (λ q.
-      changed_one (table.insert (contents_of dirs d) n x) n (Some x) (get-insert nat_list_cmp_total (contents_of dirs d) n x) q ∙ sym (get-insert spot_cmp_total (entries_of dirs) (d, n) x q))
+  pub entries_of-insert : (n : Name) (x : Oid) → m ≡ table.insert (contents_of dirs d) n x → entries_of dirs' ≡ table.insert (entries_of dirs) (d, n) x
+  entries_of-insert n x is = same_map spot_cmp_total spot_cmp_exact _ _ (λ q.
+      changed_one n (Some x) (λ k. ap (λ (c : Contents). table.get c k) is ∙ get-insert nat_list_cmp_total (contents_of dirs d) n x k) q ∙ sym (get-insert spot_cmp_total (entries_of dirs) (d, n) x q))
 
-  pub entries_of-remove : (n : Name) → entries_of (table.insert dirs d (table.remove (contents_of dirs d) n)) ≡ table.remove (entries_of dirs) (d, n)
-  entries_of-remove n = same_map spot_cmp_total spot_cmp_exact _ _ (λ q.
-      changed_one (table.remove (contents_of dirs d) n) n None (get-remove nat_list_cmp_total (contents_of dirs d) n) q ∙ sym (get-remove spot_cmp_total (entries_of dirs) (d, n) q))
+  pub entries_of-remove : (n : Name) → m ≡ table.remove (contents_of dirs d) n → entries_of dirs' ≡ table.remove (entries_of dirs) (d, n)
+  entries_of-remove n is = same_map spot_cmp_total spot_cmp_exact _ _ (λ q.
+      changed_one n None (λ k. ap (λ (c : Contents). table.get c k) is ∙ get-remove nat_list_cmp_total (contents_of dirs d) n k) q ∙ sym (get-remove spot_cmp_total (entries_of dirs) (d, n) q))
+
+-- where all directories contain the same, the entries are the same
+pub entries_of-same : (dirs dirs' : FinMap oid_cmp Contents) → ((q : Oid) → contents_of dirs' q ≡ contents_of dirs q) → entries_of dirs' ≡ entries_of dirs
+entries_of-same dirs dirs' same = same_map spot_cmp_total spot_cmp_exact _ _ (λ q.
+    get-entries_of dirs' q.0 q.1 ∙ ap (λ (c : Contents). table.get c q.1) (same q.0) ∙ sym (get-entries_of dirs q.0 q.1))
 
 -- ---- what one directory contains
 module _ {X : Type 0} (of : Name × Oid → X) where
@@ -271,23 +275,78 @@ entry_count-entries_of dirs dir =
     count_chosen (λ (e : Spot × Oid). same_oid e.0.0 dir) (λ (e : Spot × Oid). e.0.1) (table.entries (entries_of dirs))
     ∙ ap length (names_in-entries_of dirs dir) ∙ length-map (table.entries (contents_of dirs dir)) (λ (e : Name × Oid). e.0) ∙ sym (len-entries (contents_of dirs dir))
 
--- ---- a list of directories, and the table that it makes
-module _ (ds : List (Oid × Contents)) (dirs : FinMap oid_cmp Contents) (view : table.from_entries {R = oid_cmp} ds ≡ dirs) (dir : Oid) where
-  pub dir_found : (w : Option Contents) → w ≡ lookup (is_at (oid_cmp dir)) ds → table.get dirs dir ≡ w
-  dir_found w is = ap (λ (m : FinMap oid_cmp Contents). table.get m dir) (sym view) ∙ get_at oid_cmp_total ds dir ∙ sym is
+-- ---- the lists of the labels
+some_at : (row : List Contents) (n : ℕ) → unwrap_or (get_or (map Some row) n None) table.empty ≡ get_or row n table.empty
+some_at [] n = refl
+some_at (m ∷ row) zero = refl
+some_at (m ∷ row) (suc n) = some_at row n
 
-  -- what is found is what the directory contains
-  pub contents_found : (m : Contents) → Some m ≡ lookup (is_at (oid_cmp dir)) ds → contents_of dirs dir ≡ m
-  contents_found m is = get_or-found dirs dir table.empty m (dir_found (Some m) is)
+some_row : (w : Option (List Contents)) (d : List Contents) (n : ℕ) → unwrap_or (get_or (unwrap_or (option_map (map Some) w) []) n None) table.empty ≡ get_or (unwrap_or w []) n table.empty
+some_row None d n = refl
+some_row (Some row) d n = some_at row n
 
-  -- and where nothing is, it contains nothing
-  pub contents_absent : None ≡ lookup (is_at (oid_cmp dir)) ds → contents_of dirs dir ≡ table.empty
-  contents_absent is = get_or-absent dirs dir table.empty (dir_found None is)
+is_unwrapped : {K X : Type 0} {R : K → K → Ordering} (m : FinMap R X) (k : K) (d : X) → maps.get_or m k d ≡ unwrap_or (table.get m k) d
+is_unwrapped m k d = elim (table.get m k) as (λ w. table.get m k ≡ w → maps.get_or m k d ≡ unwrap_or w d) [
+  | None ↦ λ e. get_or-absent m k d e
+  | Some x ↦ λ e. get_or-found m k d x e
+] refl
 
-  -- a list that differs at one directory alone makes the table with that directory
-  pub dirs_set : (ds' : List (Oid × Contents)) (m : Contents) → ((q : Oid) → lookup (is_at (oid_cmp q)) ds' ≡ cond (is_at (oid_cmp dir) q) (Some m) (lookup (is_at (oid_cmp q)) ds)) → table.from_entries {R = oid_cmp} ds' ≡ table.insert dirs dir m
-  dirs_set ds' m h = one_set oid_cmp_total oid_cmp_exact ds ds' dir m h ∙ ap (λ (t : FinMap oid_cmp Contents). table.insert t dir m) view
+-- what a directory contains is what stands at its number
+pub contents_in : (rows : Rows Contents) (dir : Oid) → contents_of (dirs_in rows) dir ≡ item_at table.empty rows dir
+contents_in rows dir =
+    let some : Rows (Option Contents) = select (where_key (λ _. true) (map Some)) rows in
+    is_unwrapped (dirs_in rows) dir table.empty
+    ∙ ap (λ (w : Option Contents). unwrap_or w table.empty) (get-items_in some dir)
+    ∙ ap (λ (r : List (Option Contents)). unwrap_or (get_or r dir.n None) table.empty) (is_unwrapped some dir.label [] ∙ ap (λ (w : Option (List (Option Contents))). unwrap_or w []) (get-select_kept label_cmp_total label_cmp_exact (λ _. true) (map Some) rows dir.label refl))
+    ∙ some_row (table.get rows dir.label) [] dir.n
+    ∙ ap (λ (r : List Contents). get_or r dir.n table.empty) (sym (is_unwrapped rows dir.label []))
 
-  -- and the same one, where the directory is as it was
-  pub dirs_kept : (ds' : List (Oid × Contents)) (m old : Contents) → ((q : Oid) → lookup (is_at (oid_cmp q)) ds' ≡ cond (is_at (oid_cmp dir) q) (Some m) (lookup (is_at (oid_cmp q)) ds)) → m ≡ old → Some old ≡ lookup (is_at (oid_cmp dir)) ds → table.from_entries {R = oid_cmp} ds' ≡ dirs
-  dirs_kept ds' m old h same is = dirs_set ds' m h ∙ ap (table.insert dirs dir) same ∙ insert-same oid_cmp_total oid_cmp_exact dirs dir old (dir_found (Some old) is)
+-- by the list of its label
+pub contained : (rows : Rows Contents) (dirs : FinMap oid_cmp Contents) → dirs_in rows ≡ dirs → (dir : Oid) (row : List Contents) → row_at rows dir.label ≡ row → contents_of dirs dir ≡ get_or row dir.n table.empty
+contained rows dirs view dir row found =
+    ap (λ (d : FinMap oid_cmp Contents). contents_of d dir) (sym view) ∙ contents_in rows dir ∙ ap (λ (r : List Contents). get_or r dir.n table.empty) found
+
+-- where there is no list, there is no directory
+pub dirs_in-empty : dirs_in table.empty ≡ table.empty
+dirs_in-empty =
+    let some : Rows (Option Contents) = select (where_key (λ _. true) (map Some)) table.empty in
+    same_map oid_cmp_total oid_cmp_exact _ _ (λ q.
+    get-items_in some q
+    ∙ ap (λ (r : List (Option Contents)). get_or r q.n None) (is_unwrapped some q.label [] ∙ ap (λ (w : Option (List (Option Contents))). unwrap_or w [])
+    (get-select_kept label_cmp_total label_cmp_exact (λ _. true) (map Some) table.empty q.label refl ∙ ap (option_map (map Some)) (get-empty label_cmp q.label)))
+    ∙ sym (get-empty oid_cmp q))
+
+-- a name that goes from a directory for which the list has no place
+pub removed_past : (row : List Contents) (n : ℕ) (name : Name) → length row ≤ n → IsSet table.empty row n (table.remove (get_or row n table.empty) name) row
+removed_past row n name h m = elim (m == n) as (λ b. (m == n) ≡ b → get_or row m table.empty ≡ cond b (table.remove (get_or row n table.empty) name) (get_or row m table.empty)) [
+  | true ↦ λ t.
+      let none : get_or row n table.empty ≡ table.empty = get_or_past row n table.empty h in
+      ap (λ k. get_or row k table.empty) (one_number m n t) ∙ none
+      ∙ sym (ap (λ (c : Contents). table.remove c name) none ∙ remove-absent nat_list_cmp_total exact_bytes table.empty name (get-empty name_cmp name))
+  | false ↦ λ _. refl
+] refl
+
+module _ (rows : Rows Contents) (dir : Oid) (row : List Contents) (found : row_at rows dir.label ≡ row) (row' : List Contents) (after : Rows Contents) (is : after ≡ table.insert rows dir.label row') where
+  -- where one directory alone is another one in the list of its label, it alone is another one
+  pub contents_set : (m : Contents) → IsSet table.empty row dir.n m row' → (q : Oid) → contents_of (dirs_in after) q ≡ cond (same_oid q dir) m (contents_of (dirs_in rows) q)
+  contents_set m set q =
+      contents_in after q ∙ ap (λ (r : Rows Contents). item_at table.empty r q) is
+      ∙ item_set table.empty rows dir row' m (subst (λ (r : List Contents). IsSet table.empty r dir.n m row') (sym found) set) q
+      ∙ ap (cond (same_oid q dir) m) (sym (contents_in rows q))
+
+  -- and where the list says the same, all are as before
+  pub contents_same : ((m : ℕ) → get_or row' m table.empty ≡ get_or row m table.empty) → (q : Oid) → contents_of (dirs_in after) q ≡ contents_of (dirs_in rows) q
+  contents_same same q =
+      let set : IsSet table.empty row dir.n (get_or row dir.n table.empty) row' = λ m. same m ∙ elim (m == dir.n) as (λ b. (m == dir.n) ≡ b → get_or row m table.empty ≡ cond b (get_or row dir.n table.empty) (get_or row m table.empty)) [
+        | true ↦ λ t. ap (λ k. get_or row k table.empty) (one_number m dir.n t)
+        | false ↦ λ _. refl
+      ] refl in
+      contents_set (get_or row dir.n table.empty) set q
+      ∙ elim (same_oid q dir) as (λ b. same_oid q dir ≡ b → cond b (get_or row dir.n table.empty) (contents_of (dirs_in rows) q) ≡ contents_of (dirs_in rows) q) [
+        | true ↦ λ t. ap (λ (r : List Contents). get_or r dir.n table.empty) (sym found) ∙ sym (contents_in rows dir) ∙ ap (contents_of (dirs_in rows)) (sym (same_key oid_cmp_exact q dir t))
+        | false ↦ λ _. refl
+      ] refl
+
+-- a directory that is found contains what is there
+pub directory_is : (w : Option (Bor Contents)) {v : Option (Bor Contents)} {m : Contents} → w ≡ v → unwrap_or (option_copied w) table.empty ≡ m → unwrap_or (option_copied v) table.empty ≡ m
+directory_is w is same = ap (λ (x : Option (Bor Contents)). unwrap_or (option_copied x) table.empty) (sym is) ∙ same

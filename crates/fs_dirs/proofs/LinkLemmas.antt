@@ -1,28 +1,33 @@
 -- What is kept of the names of objects, after an entry is set or goes.
 use Rattle.std.specs.Prelude.{◌≡◌, ◌&&◌, ◌||◌, not, ℕ, ◌+◌, ◌-◌, ◌≤◌, ◌<◌, ◌==◌, Bool, true, false, List, [], ◌∷◌, ◌++◌, Option, Some, None, IfSome, IsSome, cond, count_by, get_or, is_some, length, refl, slice_get}
+use Rattle.std.specs.declared.alloc.Global.{Global}
+use Rattle.std.specs.declared.vec.Vec.{Vec}
 use Rattle.std.specs.Ordering.{is_eq}
 use Rattle.std.specs.List.{find, list_all, list_any, swap_remove}
 use Rattle.std.specs.Option.{option_map}
 use Rattle.std.specs.Cmp.{eq_by_cmp_equiv}
-use Rattle.std.specs.Map.{lookup}
-use Rattle.std.specs.BTreeMap.{is_at}
 use Rattle.std.specs.FinMap as table
-use Rattle.std.specs.FinMap.{FinMap, get-empty, get-insert, get-remove, len-empty, len-insert}
+use Rattle.std.specs.FinMap.{FinMap, get-empty, len-empty, len-insert}
 use Rattle.std.proofs.Common.{ap, sym, ◌∙◌, subst, arith, set}
 use Rattle.std.proofs.lemmas.Bool.{true≢false}
 use Rattle.std.proofs.lemmas.Cmp.{tied_itself}
 use Rattle.std.proofs.lemmas.List.Sums.{count_by-le-length, sum_by-set, sum_by-swap_remove, sum_by_push}
 use Rattle.fs_path.specs.Name.{Name}
+use Rattle.lab_lattice.specs.Label.{label_cmp}
 use Rattle.kern_model.specs.declared.limits.TheConstants.{MAX_LINKS}
 use Rattle.kern_model.specs.declared.numbers.Oid.{Oid}
 use Rattle.kern_model.specs.Entries.{holder}
-use Rattle.kern_model.specs.Keys.{Spot, oid_cmp, spot_cmp, same_oid}
+use Rattle.kern_model.specs.Keys.{Spot, spot_cmp, same_oid}
 use Rattle.kern_model.specs.Maps.{any_entry, count_entries}
 use Rattle.kern_model.proofs.KeyLaws.{oid_cmp_total, oid_cmp_exact, spot_cmp_total, spot_cmp_exact}
-use Rattle.kern_model.proofs.MapLemmas.{get_or-absent, get_or-found, get_or-same, same_key, remove-absent}
+use Rattle.kern_model.proofs.MapLemmas.{get_or-absent, same_key, remove-absent}
 use Rattle.kern_model.proofs.Selections.{count_remove, get-remove_same}
-use Rattle.kern_model.proofs.TableLemmas.{get_at, one_removed, one_set}
-use Rattle.fs_dirs.specs.Entries.{AreHolders, AreKept, HasLess, HasMore, HasMoved, Holders, IsIn, IsInPlace, IsWith, dirs_at, entries_alone, name_count}
+use Rattle.fs_nodes.specs.Rows.{IsSet, row_at}
+use Rattle.fs_nodes.proofs.Places.{one_number}
+use Rattle.fs_nodes.proofs.Rows.{item_set}
+use Rattle.fs_dirs.specs.Entries.{AreHolders, AreKept, HasLess, HasMore, HasMoved, Holders, IsIn, IsInPlace, IsWith, dirs_at, dirs_of, entries_alone, name_count}
+use Rattle.fs_dirs.specs.declared.links.Kept.{Kept}
+use Rattle.fs_dirs.specs.declared.links.Kept.TheVariants.{Nowhere, One, Shared}
 use Rattle.fs_dirs.proofs.CountLemmas.{any_counted, any_entry-count, count-cons, count_entries-empty, count_entries-insert, count_entries-remove, insert-remove, passing}
 
 pub itself : (id : Oid) → same_oid id id ≡ true
@@ -82,77 +87,61 @@ one_in_place dirs from to one is_in test =
 pub alone : (dir : Oid) (dirs : List Oid) → dirs ≡ dir ∷ [] → IsWith [] dir dirs
 alone dir dirs is test = ap (count_by test) is ∙ count-cons test dir []
 
+-- what is not shared by several names is where the one name is
+pub one_kept : (kept : Kept) → ((dirs : Vec Oid Global) → kept ≡ Shared dirs → ⊥) → (dir : Oid) → IsIn dir (dirs_of kept) → dirs_of kept ≡ dir ∷ []
+one_kept Nowhere not_shared dir is_in = absurd (omega (arith, is_in))
+one_kept (One d) not_shared dir is_in = only_one (d ∷ []) dir refl is_in
+one_kept (Shared dirs) not_shared dir is_in = absurd (not_shared dirs refl)
+
 nothing_more : (n : ℕ) → n ≡ 0 + n
 nothing_more n = omega arith
 
 -- ---- the names of one object change
-module _ (holders : Holders) (id : Oid) where
-  dirs_set : (dirs : List Oid) (q : Oid) → dirs_at (table.insert holders id dirs) q ≡ cond (same_oid q id) dirs (dirs_at holders q)
-  dirs_set dirs q = elim (same_oid q id) as (λ b. same_oid q id ≡ b → dirs_at (table.insert holders id dirs) q ≡ cond b dirs (dirs_at holders q)) [
-    | true ↦ λ t. get_or-found (table.insert holders id dirs) q [] dirs (get-insert oid_cmp_total holders id dirs q ∙ ap (λ b. cond b (Some dirs) (table.get holders q)) t)
-    | false ↦ λ t. get_or-same (table.insert holders id dirs) holders q [] (get-insert oid_cmp_total holders id dirs q ∙ ap (λ b. cond b (Some dirs) (table.get holders q)) t)
-  ] refl
+module _ (holders : Holders) (id : Oid) (row : List (List Oid)) (found : row_at holders id.label ≡ row) (row' : List (List Oid)) (after : Holders) (is : after ≡ table.insert holders id.label row') where
+  -- where its directories alone are others in the list of its label, they alone are others
+  pub set_at : (dirs : List Oid) → IsSet [] row id.n dirs row' → (q : Oid) → dirs_at after q ≡ cond (same_oid q id) dirs (dirs_at holders q)
+  set_at dirs set q =
+      ap (λ (h : Holders). dirs_at h q) is ∙ item_set [] holders id row' dirs (subst (λ (r : List (List Oid)). IsSet [] r id.n dirs row') (sym found) set) q
 
-  dirs_removed : (q : Oid) → dirs_at (table.remove holders id) q ≡ cond (same_oid q id) [] (dirs_at holders q)
-  dirs_removed q = elim (same_oid q id) as (λ b. same_oid q id ≡ b → dirs_at (table.remove holders id) q ≡ cond b [] (dirs_at holders q)) [
-    | true ↦ λ t. get_or-absent (table.remove holders id) q [] (get-remove oid_cmp_total holders id q ∙ ap (λ b. cond b None (table.get holders q)) t)
-    | false ↦ λ t. get_or-same (table.remove holders id) holders q [] (get-remove oid_cmp_total holders id q ∙ ap (λ b. cond b None (table.get holders q)) t)
-  ] refl
+  -- and where the list says the same, all are as before
+  pub same_at : ((m : ℕ) → get_or row' m [] ≡ get_or row m []) → (q : Oid) → dirs_at after q ≡ dirs_at holders q
+  same_at same q =
+      let set : IsSet [] row id.n (get_or row id.n []) row' = λ m. same m ∙ elim (m == id.n) as (λ b. (m == id.n) ≡ b → get_or row m [] ≡ cond b (get_or row id.n []) (get_or row m [])) [
+        | true ↦ λ t. ap (λ k. get_or row k []) (one_number m id.n t)
+        | false ↦ λ _. refl
+      ] refl in
+      set_at (get_or row id.n []) set q
+      ∙ elim (same_oid q id) as (λ b. same_oid q id ≡ b → cond b (get_or row id.n []) (dirs_at holders q) ≡ dirs_at holders q) [
+        | true ↦ λ t. ap (λ (r : List (List Oid)). get_or r id.n []) (sym found) ∙ ap (dirs_at holders) (sym (same_key oid_cmp_exact q id t))
+        | false ↦ λ _. refl
+      ] refl
 
-  -- what holds of the object's directories now, and of all others as they were, holds of all
-  module _ (dirs : List Oid) (after : Holders) (is : (q : Oid) → dirs_at after q ≡ cond (same_oid q id) dirs (dirs_at holders q)) where
-    each_at : (P : Bool → List Oid → List Oid → Type 0) → P true (dirs_at holders id) dirs → ((old : List Oid) → P false old old) → (q : Oid) → P (same_oid id q) (dirs_at holders q) (dirs_at after q)
-    each_at P here other q =
-        subst (λ (ds : List Oid). P (same_oid id q) (dirs_at holders q) ds) (sym (is q))
-        (subst (λ b. P b (dirs_at holders q) (cond (same_oid q id) dirs (dirs_at holders q))) ((eq_by_cmp_equiv oid_cmp_total).symm q id)
-        (elim (same_oid q id) as (λ b. same_oid q id ≡ b → P b (dirs_at holders q) (cond b dirs (dirs_at holders q))) [
-          | true ↦ λ t. subst (λ (r : Oid). P true (dirs_at holders r) dirs) (sym (same_key oid_cmp_exact q id t)) here
-          | false ↦ λ _. other (dirs_at holders q)
-        ] refl))
+-- what holds of the object's directories now, and of all others as they were, holds of all
+module _ (holders : Holders) (id : Oid) (dirs : List Oid) (after : Holders) (is : (q : Oid) → dirs_at after q ≡ cond (same_oid q id) dirs (dirs_at holders q)) where
+  each_at : (P : Bool → List Oid → List Oid → Type 0) → P true (dirs_at holders id) dirs → ((old : List Oid) → P false old old) → (q : Oid) → P (same_oid id q) (dirs_at holders q) (dirs_at after q)
+  each_at P here other q =
+      subst (λ (ds : List Oid). P (same_oid id q) (dirs_at holders q) ds) (sym (is q))
+      (subst (λ b. P b (dirs_at holders q) (cond (same_oid q id) dirs (dirs_at holders q))) ((eq_by_cmp_equiv oid_cmp_total).symm q id)
+      (elim (same_oid q id) as (λ b. same_oid q id ≡ b → P b (dirs_at holders q) (cond b dirs (dirs_at holders q))) [
+        | true ↦ λ t. subst (λ (r : Oid). P true (dirs_at holders r) dirs) (sym (same_key oid_cmp_exact q id t)) here
+        | false ↦ λ _. other (dirs_at holders q)
+      ] refl))
 
-    more_at : (dir : Oid) → IsWith (dirs_at holders id) dir dirs → HasMore holders id dir after
-    more_at dir more = each_at (λ (b : Bool) (old new : List Oid). (test : Oid → Bool) → count_by test new ≡ cond (b && test dir) 1 0 + count_by test old) more (λ old test. nothing_more (count_by test old))
+  pub more_set : (dir : Oid) → IsWith (dirs_at holders id) dir dirs → HasMore holders id dir after
+  more_set dir more = each_at (λ (b : Bool) (old new : List Oid). (test : Oid → Bool) → count_by test new ≡ cond (b && test dir) 1 0 + count_by test old) more (λ old test. nothing_more (count_by test old))
 
-    less_at : (dir : Oid) → IsWith dirs dir (dirs_at holders id) → HasMore after id dir holders
-    less_at dir less = each_at (λ (b : Bool) (old new : List Oid). (test : Oid → Bool) → count_by test old ≡ cond (b && test dir) 1 0 + count_by test new) less (λ old test. nothing_more (count_by test old))
+  pub less_set : (dir : Oid) → IsWith dirs dir (dirs_at holders id) → HasMore after id dir holders
+  less_set dir less = each_at (λ (b : Bool) (old new : List Oid). (test : Oid → Bool) → count_by test old ≡ cond (b && test dir) 1 0 + count_by test new) less (λ old test. nothing_more (count_by test old))
 
-    moved_at : (from to : Oid) → IsInPlace (dirs_at holders id) from to dirs → HasMoved holders id from to after
-    moved_at from to moved = each_at (λ (b : Bool) (old new : List Oid). (test : Oid → Bool) → cond (b && test from) 1 0 + count_by test new ≡ cond (b && test to) 1 0 + count_by test old) moved (λ old test. refl)
+  pub moved_set : (from to : Oid) → IsInPlace (dirs_at holders id) from to dirs → HasMoved holders id from to after
+  moved_set from to moved = each_at (λ (b : Bool) (old new : List Oid). (test : Oid → Bool) → cond (b && test from) 1 0 + count_by test new ≡ cond (b && test to) 1 0 + count_by test old) moved (λ old test. refl)
 
-  pub more_set : (dir : Oid) (dirs : List Oid) → IsWith (dirs_at holders id) dir dirs → HasMore holders id dir (table.insert holders id dirs)
-  more_set dir dirs = more_at dirs (table.insert holders id dirs) (dirs_set dirs) dir
-
-  pub less_set : (dir : Oid) (dirs : List Oid) → IsWith dirs dir (dirs_at holders id) → HasMore (table.insert holders id dirs) id dir holders
-  less_set dir dirs = less_at dirs (table.insert holders id dirs) (dirs_set dirs) dir
-
-  pub less_removed : (dir : Oid) → IsWith [] dir (dirs_at holders id) → HasMore (table.remove holders id) id dir holders
-  less_removed dir = less_at [] (table.remove holders id) dirs_removed dir
-
-  pub moved_set : (from to : Oid) (dirs : List Oid) → IsInPlace (dirs_at holders id) from to dirs → HasMoved holders id from to (table.insert holders id dirs)
-  moved_set from to dirs = moved_at dirs (table.insert holders id dirs) (dirs_set dirs) from to
-
--- ---- a list of names, and the table that it makes
-module _ (kept : List (Oid × List Oid)) (holders : Holders) (view : table.from_entries {R = oid_cmp} kept ≡ holders) (id : Oid) where
-  pub names_found : (w : Option (List Oid)) → w ≡ lookup (is_at (oid_cmp id)) kept → table.get holders id ≡ w
-  names_found w is = ap (λ (m : Holders). table.get m id) (sym view) ∙ get_at oid_cmp_total kept id ∙ sym is
-
-  pub dirs_found : (dirs : List Oid) → Some dirs ≡ lookup (is_at (oid_cmp id)) kept → dirs_at holders id ≡ dirs
-  dirs_found dirs is = get_or-found holders id [] dirs (names_found (Some dirs) is)
-
-  pub dirs_absent : None ≡ lookup (is_at (oid_cmp id)) kept → dirs_at holders id ≡ []
-  dirs_absent is = get_or-absent holders id [] (names_found None is)
-
-  -- where one of the names is in a directory, they are kept
-  pub never_absent : (dir : Oid) → IsIn dir (dirs_at holders id) → None ≡ lookup (is_at (oid_cmp id)) kept → ⊥
-  never_absent dir is_in is =
-      let none : count_by (λ (d : Oid). same_oid d dir) (dirs_at holders id) ≡ 0 = ap (count_by (λ (d : Oid). same_oid d dir)) (dirs_absent is) in
-      omega (arith, none, is_in)
-
-  pub links_set : (kept' : List (Oid × List Oid)) (dirs : List Oid) → ((q : Oid) → lookup (is_at (oid_cmp q)) kept' ≡ cond (is_at (oid_cmp id) q) (Some dirs) (lookup (is_at (oid_cmp q)) kept)) → table.from_entries {R = oid_cmp} kept' ≡ table.insert holders id dirs
-  links_set kept' dirs h = one_set oid_cmp_total oid_cmp_exact kept kept' id dirs h ∙ ap (λ (t : Holders). table.insert t id dirs) view
-
-  pub links_removed : (kept' : List (Oid × List Oid)) → ((q : Oid) → lookup (is_at (oid_cmp q)) kept' ≡ cond (is_at (oid_cmp id) q) None (lookup (is_at (oid_cmp q)) kept)) → table.from_entries {R = oid_cmp} kept' ≡ table.remove holders id
-  links_removed kept' h = one_removed oid_cmp_total oid_cmp_exact kept kept' id h ∙ ap (λ (t : Holders). table.remove t id) view
+-- ---- the list of a label
+-- none of the names of an object is in a directory, where its label has no list
+pub never_absent : (holders : Holders) (id dir : Oid) → IsIn dir (dirs_at holders id) → row_at holders id.label ≡ [] → ⊥
+never_absent holders id dir is_in absent =
+    let none : count_by (λ (d : Oid). same_oid d dir) (dirs_at holders id) ≡ 0 = ap (λ (r : List (List Oid)). count_by (λ (d : Oid). same_oid d dir) (get_or r id.n [])) absent in
+    omega (arith, none, is_in)
 
 -- ---- an object's names, counted
 module _ (entries : FinMap spot_cmp Oid) (id : Oid) (dirs : List Oid) (are : AreHolders entries id dirs) where
@@ -289,10 +278,18 @@ module _ (entries : FinMap spot_cmp Oid) (dir : Oid) (name : Name) (holders : Ho
       (subst (λ (h : Holders). AreKept entries h total) (sym has) kept)
   kept-without (Some id) is less has = kept-remove entries dir name id is holders less total kept has
 
+-- what is kept of the names of objects, by what it says of each one
+pub kept_same : (entries : FinMap spot_cmp Oid) (holders after : Holders) (total : ℕ) → ((q : Oid) → dirs_at after q ≡ dirs_at holders q) → AreKept entries holders total → AreKept entries after total
+kept_same entries holders after total same kept = record {
+  holders_are = λ q test. ap (count_by test) (same q) ∙ kept.holders_are q test;
+  few = kept.few;
+  counted = kept.counted;
+}
+
 -- ---- no entry
 pub nothing_kept : AreKept table.empty table.empty 0
 nothing_kept = record {
-  holders_are = λ q test. ap (count_by test) (get_or-absent table.empty q [] (get-empty oid_cmp q)) ∙ sym (count_entries-empty spot_cmp (λ (spot : Spot) (at : Oid). same_oid at q && test spot.0));
+  holders_are = λ q test. ap (λ (r : List (List Oid)). count_by test (get_or r q.n [])) (get_or-absent table.empty q.label [] (get-empty label_cmp q.label)) ∙ sym (count_entries-empty spot_cmp (λ (spot : Spot) (at : Oid). same_oid at q && test spot.0));
   few = λ q. let none : name_count table.empty q ≡ 0 = count_entries-empty spot_cmp (λ (spot : Spot) (at : Oid). same_oid at q) in omega (arith, none);
   counted = sym (len-empty spot_cmp Oid);
 }

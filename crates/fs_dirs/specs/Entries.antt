@@ -1,5 +1,5 @@
 -- The entries of all directories, and the names that objects have.
-use Rattle.std.specs.Prelude.{◌≡◌, ◌&&◌, ◌<◌, ◌≤◌, ℕ, ◌+◌, Bool, List, [], ◌∷◌, map, Option, None, Some, cond, count_by}
+use Rattle.std.specs.Prelude.{◌≡◌, ◌&&◌, ◌<◌, ◌≤◌, ℕ, ◌+◌, Bool, List, [], ◌∷◌, map, Option, None, Some, true, cond, count_by}
 use Rattle.std.specs.List.{flat_map}
 use Rattle.std.specs.FinMap as table
 use Rattle.std.specs.FinMap.{FinMap}
@@ -10,11 +10,12 @@ use Rattle.kern_model.specs.declared.limits.TheConstants.{MAX_LINKS}
 use Rattle.kern_model.specs.declared.numbers.Oid.{Oid}
 use Rattle.kern_model.specs.Entries.{link_count}
 use Rattle.kern_model.specs.Keys.{Spot, oid_cmp, same_oid, spot_cmp}
-use Rattle.kern_model.specs.Maps.{count_entries, get_or}
+use Rattle.kern_model.specs.Maps.{count_entries, get_or, select, where_key}
 use Rattle.kern_model.specs.State.{State}
+use Rattle.fs_nodes.specs.Rows.{Rows, item_at, items_in}
 use Rattle.fs_dirs.specs.Directory.{name_cmp}
 use Rattle.fs_dirs.specs.declared.links.Kept.{Kept}
-use Rattle.fs_dirs.specs.declared.links.Kept.TheVariants.{One, Shared}
+use Rattle.fs_dirs.specs.declared.links.Kept.TheVariants.{Nowhere, One, Shared}
 
 -- ---- what directories contain
 
@@ -25,6 +26,10 @@ Contents = FinMap name_cmp Oid
 -- what the directory with a number contains; nothing where none is kept
 abbrev pub contents_of : FinMap oid_cmp Contents → Oid → Contents
 contents_of dirs dir = get_or dirs dir table.empty
+
+-- what each number has as a directory, by the lists of the labels
+abbrev pub dirs_in : Rows Contents → FinMap oid_cmp Contents
+dirs_in rows = items_in (select (where_key (λ _. true) (map Some)) rows)
 
 -- the entries of a directory, at their spots
 abbrev pub at_spots : Oid × Contents → List (Spot × Oid)
@@ -68,16 +73,17 @@ AreHolders entries id dirs = (test : Oid → Bool) → count_by test dirs ≡ co
 
 -- the directories where the names of an object stand
 abbrev pub dirs_of : Kept → List Oid
+dirs_of Nowhere = []
 dirs_of (One dir) = dir ∷ []
 dirs_of (Shared dirs) = dirs.items
 
 -- those of each object
 abbrev pub Holders : Type 0
-Holders = FinMap oid_cmp (List Oid)
+Holders = Rows (List Oid)
 
 -- those of one object; none where none are kept
 abbrev pub dirs_at : Holders → Oid → List Oid
-dirs_at holders id = get_or holders id []
+dirs_at holders id = item_at [] holders id
 
 -- one of the names of an object stands in a directory
 abbrev pub IsIn : Oid → List Oid → Type 0

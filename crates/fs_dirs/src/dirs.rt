@@ -1,37 +1,111 @@
 // What each directory contains.
-ghost use Rattle.std.specs.Prelude.{◌≡◌, IfOk, OnErr, OnOk, slice_get};
+ghost use Rattle.std.specs.Prelude.{◌≡◌, ◌<◌, [], ℕ, IfOk, OnErr, OnOk, get_or, length, option_copied, slice_get, unwrap_or};
 ghost use Rattle.std.specs.FinMap as map;
+ghost use Rattle.fs_nodes.specs.Rows.{IsSet};
 ghost use Rattle.fs_dirs.specs.Directory.{TakesFewSteps};
 ghost use Rattle.fs_dirs.specs.Entries.{contents_of, entries_of};
 
 use crate::directory::Directory;
 use fs_path::{Name, NameList, NoMemory, Steps};
 use kern_model::Oid;
+use lab_lattice::Label;
 use std::alloc::Global;
 use std::collections::BTreeMap;
 use std::marker::Model;
 use std::sync::ledger::Ledger;
 
-/// What each directory contains. One that never had an entry is not kept.
+/// What the directories of one label contain, by the counts of their draws. What is no directory stands there as one without names.
+#[derive(Drop)]
+struct Row {
+    kept: Vec<Directory>,
+}
+
+impl Model for Row {
+    ghost use Rattle.std.specs.Prelude.{List};
+    ghost use Rattle.std.specs.FinMap as map;
+    ghost use Rattle.std.specs.Coded.{codes, coded_list};
+    ghost use Rattle.lab_lattice.specs.Label.{label_code};
+    ghost use Rattle.fs_dirs.specs.Entries.{Contents};
+
+    ghost Value = { List Contents };
+
+    ghost coded = { coded_list (map.code (Prim.hlevel codes) (Prim.hlevel (codes, label_code))) };
+
+    ghost view = { λ r. r.kept.items };
+}
+
+impl Row {
+    /// No directory.
+    fn new(alloc: Global) -> Self
+        ensures { result ≡ [] }
+    {
+        Row {
+            kept: Vec::new(alloc),
+        }
+    }
+
+    /// The directory at a count, if there is a place for it.
+    fn get(&self, n: u16) -> Option<&Directory>
+        ensures { unwrap_or (option_copied result) map.empty ≡ get_or self.now n map.empty }
+    {
+        self.kept.get(n as usize)
+    }
+
+    /// Makes a place for a count.
+    fn reach(&mut self, alloc: Global, n: u16) -> Result<(), NoMemory>
+        ensures ok { OnOk result (n < length self.new) }
+        ensures same { (m : ℕ) → get_or self.new m map.empty ≡ get_or self.old m map.empty }
+    {
+        while self.kept.len() <= n as usize {
+            self.kept.push(Directory::new(alloc))?;
+        }
+        Ok(())
+    }
+
+    /// Has a name in the directory at a count lead to an object, in place of the one to which it led.
+    fn insert(&mut self, alloc: Global, n: u16, name: Name, id: Oid) -> Result<(), NoMemory>
+        ensures ok { OnOk result (IsSet map.empty self.old n (map.insert (get_or self.old n map.empty) name id) self.new) }
+        ensures err { OnErr result ((m : ℕ) → get_or self.new m map.empty ≡ get_or self.old m map.empty) }
+    {
+        self.reach(alloc, n)?;
+        self.kept[n as usize].insert(name, id)
+    }
+
+    /// Removes a name from the directory at a count, if it is there, and returns the object to which it led.
+    fn remove(&mut self, n: u16, name: &Name) -> Option<Oid>
+        ensures found { result ≡ map.get (get_or self.old n map.empty) name.now }
+        ensures removed { IsSet map.empty self.old n (map.remove (get_or self.old n map.empty) name.now) self.new }
+    {
+        let place = n as usize;
+        if place >= self.kept.len() {
+            return None;
+        }
+        self.kept[place].remove(name)
+    }
+}
+
+/// What each directory contains.
 #[derive(Drop)]
 pub struct Dirs {
     alloc: Global,
-    kept: BTreeMap<Oid, Directory>,
+    // The numbers of a label are drawn in turn, so that each list is not much longer than there are objects.
+    kept: BTreeMap<Label, Row>,
 }
 
 impl Model for Dirs {
     ghost use Rattle.std.specs.FinMap as map;
     ghost use Rattle.std.specs.Coded.{codes};
-    ghost use Rattle.lab_lattice.specs.Label.{label_code};
+    ghost use Rattle.lab_lattice.specs.Label.{label_cmp, label_code};
     ghost use Rattle.kern_model.specs.declared.numbers.Oid.{Oid};
     ghost use Rattle.kern_model.specs.Keys.{oid_cmp};
     ghost use Rattle.fs_dirs.specs.Directory.{name_cmp};
+    ghost use Rattle.fs_dirs.specs.Entries.{dirs_in};
 
     ghost Value = { map.FinMap oid_cmp (map.FinMap name_cmp Oid) };
 
     ghost coded = { map.code (Prim.hlevel (codes, label_code)) (map.code (Prim.hlevel codes) (Prim.hlevel (codes, label_code))) };
 
-    ghost view = { λ a. map.from_entries a.kept.entries };
+    ghost view = { λ a. dirs_in (map.from_entries {R = label_cmp} a.kept.entries) };
 }
 
 impl Dirs {
@@ -45,6 +119,13 @@ impl Dirs {
         }
     }
 
+    // A directory, if one is kept at its number.
+    fn directory(&self, dir: &Oid) -> Option<&Directory>
+        ensures { unwrap_or (option_copied result) map.empty ≡ contents_of self.now dir.now }
+    {
+        self.kept.get(&dir.label)?.get(dir.n)
+    }
+
     /// The object to which a name in a directory leads, if it is there. Each comparison of names is counted.
     pub fn look_counted<L: Ledger>(
         &self,
@@ -55,7 +136,7 @@ impl Dirs {
         ensures found { result ≡ map.get (contents_of self.now dir.now) name.now }
         ensures counted { TakesFewSteps (map.len (contents_of self.now dir.now)) steps.old steps.new }
     {
-        match self.kept.get(dir) {
+        match self.directory(dir) {
             Some(directory) => directory.look_counted(name, steps),
             None => None,
         }
@@ -65,7 +146,7 @@ impl Dirs {
     pub fn len(&self, dir: &Oid) -> usize
         ensures { result ≡ map.len (contents_of self.now dir.now) }
     {
-        match self.kept.get(dir) {
+        match self.directory(dir) {
             Some(directory) => directory.len(),
             None => 0,
         }
@@ -75,7 +156,7 @@ impl Dirs {
     pub fn object_at(&self, dir: &Oid, place: usize) -> Option<Oid>
         ensures { result ≡ slice_get (map.values (contents_of self.now dir.now)) place }
     {
-        match self.kept.get(dir) {
+        match self.directory(dir) {
             Some(directory) => directory.object_at(place),
             None => None,
         }
@@ -85,7 +166,7 @@ impl Dirs {
     pub fn names(&self, dir: &Oid) -> Result<NameList, NoMemory>
         ensures { IfOk result (λ names. names ≡ map.keys (contents_of self.now dir.now)) }
     {
-        match self.kept.get(dir) {
+        match self.directory(dir) {
             Some(directory) => directory.names(self.alloc),
             None => Ok(NameList::new(self.alloc)),
         }
@@ -94,14 +175,15 @@ impl Dirs {
     /// Has a name in a directory lead to an object, in place of the one to which it led.
     pub fn insert(&mut self, dir: &Oid, name: Name, id: &Oid) -> Result<(), NoMemory>
         ensures ok { OnOk result (entries_of self.new ≡ map.insert (entries_of self.old) (dir.now, name) id.now) }
-        ensures err { OnErr result (self.new ≡ self.old) }
+        ensures err { OnErr result (entries_of self.new ≡ entries_of self.old) }
     {
-        if let Some(directory) = self.kept.get_mut(dir) {
-            return directory.insert(name, *id);
+        let alloc = self.alloc;
+        if let Some(row) = self.kept.get_mut(&dir.label) {
+            return row.insert(alloc, dir.n, name, *id);
         }
-        let mut directory = Directory::new(self.alloc);
-        directory.insert(name, *id)?;
-        self.kept.insert(*dir, directory)?;
+        let mut row = Row::new(alloc);
+        row.insert(alloc, dir.n, name, *id)?;
+        self.kept.insert(dir.label, row)?;
         Ok(())
     }
 
@@ -110,9 +192,9 @@ impl Dirs {
         ensures found { result ≡ map.get (contents_of self.old dir.now) name.now }
         ensures removed { entries_of self.new ≡ map.remove (entries_of self.old) (dir.now, name.now) }
     {
-        let Some(directory) = self.kept.get_mut(dir) else {
+        let Some(row) = self.kept.get_mut(&dir.label) else {
             return None;
         };
-        directory.remove(name)
+        row.remove(dir.n, name)
     }
 }

@@ -1,11 +1,14 @@
 // Where the names of objects stand.
-ghost use Rattle.std.specs.Prelude.{◌≡◌, ◌<◌, ◌++◌, ◌∷◌, [], IfSome, OnErr, OnOk, get_or, length};
+ghost use Rattle.std.specs.Prelude.{◌≡◌, ◌<◌, ◌++◌, ◌∷◌, [], ℕ, IfSome, OnErr, OnOk, get_or, length};
 ghost use Rattle.std.specs.FinMap as map;
+ghost use Rattle.kern_model.specs.declared.numbers.Oid.{Oid as Number};
+ghost use Rattle.fs_nodes.specs.Rows.{IsSet};
 ghost use Rattle.fs_dirs.specs.Entries.{HasLess, HasMore, HasMoved, IsIn, IsInPlace, IsWith, dirs_at};
 
 use crate::numbers::same;
 use fs_path::NoMemory;
 use kern_model::Oid;
+use lab_lattice::Label;
 use std::alloc::Global;
 use std::collections::BTreeMap;
 use std::marker::Model;
@@ -14,13 +17,15 @@ use std::slice;
 // Where the names of one object stand.
 #[derive(Drop)]
 enum Kept {
+    // It has no name.
+    Nowhere,
     // One name, in this directory.
     One(Oid),
     // A name in each of these.
     Shared(Vec<Oid>),
 }
 
-/// Where the names of an object stand that has some: each directory as often as it holds the object.
+/// Where the names of an object stand: each directory as often as it holds the object.
 #[derive(Drop)]
 pub struct Links {
     kept: Kept,
@@ -73,12 +78,12 @@ fn put_in_place(dirs: &mut Vec<Oid>, from: &Oid, to: &Oid)
 }
 
 impl Links {
-    /// One name.
-    fn one(dir: Oid) -> Links
-        ensures { result ≡ dir ∷ [] }
+    /// No name.
+    fn new() -> Links
+        ensures { result ≡ [] }
     {
         Links {
-            kept: Kept::One(dir),
+            kept: Kept::Nowhere,
         }
     }
 
@@ -87,6 +92,7 @@ impl Links {
         ensures { result.now ≡ self.now }
     {
         match &self.kept {
+            Kept::Nowhere => &[],
             Kept::One(dir) => slice::from_ref(dir),
             Kept::Shared(dirs) => dirs.as_slice(),
         }
@@ -98,6 +104,7 @@ impl Links {
         ensures err { OnErr result (self.new ≡ self.old) }
     {
         match &mut self.kept {
+            Kept::Nowhere => self.kept = Kept::One(dir),
             Kept::One(first) => {
                 let dirs = vec![in alloc; *first, dir]?;
                 self.kept = Kept::Shared(dirs);
@@ -107,14 +114,14 @@ impl Links {
         Ok(())
     }
 
-    /// Takes out one name of several, which stands in a directory.
+    /// Takes out one name, which stands in a directory.
     fn take_out(&mut self, dir: &Oid)
-        requires several { 1 < length self.old }
-        requires is_in { IsIn dir.now self.old }
+        requires { IsIn dir.now self.old }
         ensures { IsWith self.new dir.now self.old }
     {
         let Kept::Shared(dirs) = &mut self.kept else {
-            unreachable!();
+            self.kept = Kept::Nowhere;
+            return;
         };
         take_out(dirs, dir);
         if let [last] = dirs.as_slice() {
@@ -136,25 +143,103 @@ impl Links {
     }
 }
 
+/// Where the names of the objects of one label stand, by the counts of their draws.
+#[derive(Drop)]
+struct Row {
+    kept: Vec<Links>,
+}
+
+impl Model for Row {
+    ghost use Rattle.std.specs.Prelude.{List};
+    ghost use Rattle.std.specs.Coded.{codes, coded_list};
+    ghost use Rattle.lab_lattice.specs.Label.{label_code};
+    ghost use Rattle.kern_model.specs.declared.numbers.Oid.{Oid};
+
+    ghost Value = { List (List Oid) };
+
+    ghost coded = { coded_list (coded_list (Prim.hlevel (codes, label_code))) };
+
+    ghost view = { λ r. r.kept.items };
+}
+
+impl Row {
+    /// No name.
+    fn new(alloc: Global) -> Self
+        ensures { result ≡ [] }
+    {
+        Row {
+            kept: Vec::new(alloc),
+        }
+    }
+
+    /// The directories of the object at a count.
+    fn dirs(&self, n: u16) -> &[Oid]
+        ensures { result.now ≡ get_or self.now n [] }
+    {
+        match self.kept.get(n as usize) {
+            Some(links) => links.dirs(),
+            None => &[],
+        }
+    }
+
+    /// Makes a place for a count.
+    fn reach(&mut self, n: u16) -> Result<(), NoMemory>
+        ensures ok { OnOk result (n < length self.new) }
+        ensures same { (m : ℕ) → get_or self.new m [] ≡ get_or self.old m [] }
+    {
+        while self.kept.len() <= n as usize {
+            self.kept.push(Links::new())?;
+        }
+        Ok(())
+    }
+
+    /// Adds a name of the object at a count.
+    fn add(&mut self, alloc: Global, n: u16, dir: Oid) -> Result<(), NoMemory>
+        ensures ok { OnOk result (IsSet [] self.old n (get_or self.old n [] ++ dir ∷ []) self.new) }
+        ensures err { OnErr result ((m : ℕ) → get_or self.new m [] ≡ get_or self.old m []) }
+    {
+        self.reach(n)?;
+        self.kept[n as usize].push(alloc, dir)
+    }
+
+    /// Takes out one name of the object at a count, which stands in a directory.
+    fn take_out(&mut self, n: u16, dir: &Oid)
+        requires { IsIn dir.now (get_or self.old n []) }
+        ensures taken { IsWith (get_or self.new n []) dir.now (get_or self.old n []) }
+        ensures others { IsSet [] self.old n (get_or self.new n []) self.new }
+    {
+        self.kept[n as usize].take_out(dir);
+    }
+
+    /// Moves a name of the object at a count to another directory.
+    fn put_in_place(&mut self, n: u16, from: &Oid, to: &Oid)
+        requires { IsIn from.now (get_or self.old n []) }
+        ensures put { IsInPlace (get_or self.old n []) from.now to.now (get_or self.new n []) }
+        ensures others { IsSet [] self.old n (get_or self.new n []) self.new }
+    {
+        self.kept[n as usize].put_in_place(from, to);
+    }
+}
+
 /// Where the names of each object stand.
 #[derive(Drop)]
 pub struct LinkTable {
     alloc: Global,
-    kept: BTreeMap<Oid, Links>,
+    // The numbers of a label are drawn in turn, so that each list has few places without a name.
+    kept: BTreeMap<Label, Row>,
 }
 
 impl Model for LinkTable {
     ghost use Rattle.std.specs.FinMap as map;
     ghost use Rattle.std.specs.Coded.{codes, coded_list};
-    ghost use Rattle.lab_lattice.specs.Label.{label_code};
-    ghost use Rattle.kern_model.specs.Keys.{oid_cmp};
+    ghost use Rattle.lab_lattice.specs.Label.{label_cmp, label_code};
     ghost use Rattle.fs_dirs.specs.Entries.{Holders};
 
     ghost Value = { Holders };
 
-    ghost coded = { map.code (Prim.hlevel (codes, label_code)) (coded_list (Prim.hlevel (codes, label_code))) };
+    ghost coded = { map.code label_code (coded_list (coded_list (Prim.hlevel (codes, label_code)))) };
 
-    ghost view = { λ a. map.from_entries {R = oid_cmp} a.kept.entries };
+    ghost view = { λ a. map.from_entries {R = label_cmp} a.kept.entries };
 }
 
 impl LinkTable {
@@ -172,8 +257,8 @@ impl LinkTable {
     pub fn dirs(&self, id: &Oid) -> &[Oid]
         ensures { result.now ≡ dirs_at self.now id.now }
     {
-        match self.kept.get(id) {
-            Some(links) => links.dirs(),
+        match self.kept.get(&id.label) {
+            Some(row) => row.dirs(id.n),
             None => &[],
         }
     }
@@ -181,13 +266,15 @@ impl LinkTable {
     /// Adds a name of an object in a directory.
     pub fn add_name(&mut self, id: &Oid, dir: &Oid) -> Result<(), NoMemory>
         ensures ok { OnOk result (HasMore self.old id.now dir.now self.new) }
-        ensures err { OnErr result (self.new ≡ self.old) }
+        ensures err { OnErr result ((q : Number) → dirs_at self.new q ≡ dirs_at self.old q) }
     {
         let alloc = self.alloc;
-        if let Some(links) = self.kept.get_mut(id) {
-            return links.push(alloc, *dir);
+        if let Some(row) = self.kept.get_mut(&id.label) {
+            return row.add(alloc, id.n, *dir);
         }
-        self.kept.insert(*id, Links::one(*dir))?;
+        let mut row = Row::new(alloc);
+        row.add(alloc, id.n, *dir)?;
+        self.kept.insert(id.label, row)?;
         Ok(())
     }
 
@@ -196,14 +283,10 @@ impl LinkTable {
         requires { IsIn dir.now (dirs_at self.old id.now) }
         ensures { HasMore self.new id.now dir.now self.old }
     {
-        if self.dirs(id).len() == 1 {
-            self.kept.remove(id);
-            return;
-        }
-        let Some(links) = self.kept.get_mut(id) else {
+        let Some(row) = self.kept.get_mut(&id.label) else {
             unreachable!();
         };
-        links.take_out(dir);
+        row.take_out(id.n, dir);
     }
 
     /// Takes the name in a directory from an object, if there is one. It takes no memory.
@@ -221,9 +304,9 @@ impl LinkTable {
         requires { IsIn from.now (dirs_at self.old id.now) }
         ensures { HasMoved self.old id.now from.now to.now self.new }
     {
-        let Some(links) = self.kept.get_mut(id) else {
+        let Some(row) = self.kept.get_mut(&id.label) else {
             unreachable!();
         };
-        links.put_in_place(from, to);
+        row.put_in_place(id.n, from, to);
     }
 }

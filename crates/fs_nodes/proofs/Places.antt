@@ -29,10 +29,10 @@ pub there_is : {X : Type 0} (o : Option X) → IsSome o → o ≡ None → ⊥
 there_is o h e = true≢false (sym h ∙ ap is_some e)
 
 -- numbers that compare unequal are different
-number_apart : (m n : ℕ) → (m == n) ≡ false → m ≢ n
+pub number_apart : (m n : ℕ) → (m == n) ≡ false → m ≢ n
 number_apart m n e f = grind (arith, nat_tests)
 
-one_number : (m n : ℕ) → (m == n) ≡ true → m ≡ n
+pub one_number : (m n : ℕ) → (m == n) ≡ true → m ≡ n
 one_number m n e = grind (arith, nat_tests)
 
 module _ (slots : Slab Object) (keys : FinMap oid_cmp ℕ) where

@@ -1,20 +1,12 @@
 use Rattle.std.proofs.Common.{ap, sym, ◌∙◌, subst}
 use Rattle.std.specs.Prelude.{◌≡◌, IfOk}
-use Rattle.std.specs.Option.{option_copied}
 use Rattle.std.specs.FinMap as map
-use Rattle.kern_model.specs.Keys.{oid_cmp}
 use Rattle.fs_dirs.specs.Entries.{Contents}
-use Rattle.fs_dirs.proofs.DirLemmas.{contents_absent, contents_found, no_names}
+use Rattle.fs_dirs.proofs.DirLemmas.{directory_is, no_names}
 use Rattle.fs_dirs.proofs.dirs.Dirs.names.Goals as goal
 
 pub returns-in-Some : goal.returns-in-Some
-unfolding oid_cmp
-returns-in-Some c =
-    let same = contents_found c.self.inside.kept.entries c.args.self.now c.self.view_is c.args.dir.now c.in-Some.directory.now (sym (ap option_copied c.in-Some.is) ∙ c.get.ensures.value) in
-    subst (λ (m : Contents). IfOk c.names.result (λ names. names ≡ map.keys m)) (sym same) c.names.ensures
+returns-in-Some c = subst (λ (m : Contents). IfOk c.names.result (λ names. names ≡ map.keys m)) (directory_is c.directory.result c.in-Some.is c.directory.ensures) c.names.ensures
 
 pub returns-in-None : goal.returns-in-None
-unfolding oid_cmp
-returns-in-None c =
-    let same = contents_absent c.self.inside.kept.entries c.args.self.now c.self.view_is c.args.dir.now (sym (ap option_copied c.in-None.is) ∙ c.get.ensures.value) in
-    c.new.ensures ∙ sym (ap (λ (m : Contents). map.keys m) same ∙ no_names)
+returns-in-None c = c.new.ensures ∙ sym (ap (λ (m : Contents). map.keys m) (sym (directory_is c.directory.result c.in-None.is c.directory.ensures)) ∙ no_names)

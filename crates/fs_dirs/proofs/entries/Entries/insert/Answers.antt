@@ -6,19 +6,22 @@ use Rattle.kern_model.specs.declared.limits.TheConstants.{MAX_LINKS}
 use Rattle.kern_model.specs.declared.numbers.Oid.{Oid}
 use Rattle.kern_model.specs.Keys.{Spot, spot_cmp}
 use Rattle.fs_dirs.specs.Entries.{AreKept, entries_of, name_count}
-use Rattle.fs_dirs.proofs.LinkLemmas.{added_is_in, kept-insert, kept_again}
+use Rattle.fs_dirs.proofs.LinkLemmas.{added_is_in, kept-insert, kept_again, kept_same}
 use Rattle.fs_dirs.proofs.entries.Entries.insert.Goals as goal
+
+pub invariant_of-self : goal.invariant_of-self
+invariant_of-self c = kept_same (entries_of c.self.inside.dirs) c.self.inside.names c.add_name.new.self c.self.inside.total c.in_err-add_name.ensures.err c.self.invariant
 
 pub take_name-requires : goal.take_name-requires
 take_name-requires c = added_is_in (entries_of c.self.inside.dirs) c.self.inside.names c.add_name.new.self c.self.inside.names c.args.id.now c.args.dir.now c.in_ok-add_name.ensures.ok
 
 pub invariant_of-self-in-Err : goal.invariant_of-self-in-Err
 invariant_of-self-in-Err c =
-    subst (λ (m : FinMap spot_cmp Oid). AreKept m c.take_name.new.self c.self.inside.total) (sym (ap entries_of c.in-Err.ensures.err))
+    subst (λ (m : FinMap spot_cmp Oid). AreKept m c.take_name.new.self c.self.inside.total) (sym c.in-Err.ensures.err)
     (kept_again (entries_of c.self.inside.dirs) c.self.inside.names c.add_name.new.self c.take_name.new.self c.args.id.now c.args.dir.now c.in_ok-add_name.ensures.ok c.take_name.ensures c.self.inside.total c.self.invariant)
 
 pub returns-in-Err-clause-err : goal.returns-in-Err-clause-err
-returns-in-Err-clause-err c = ap entries_of c.in-Err.ensures.err ∙ c.self.view_is
+returns-in-Err-clause-err c = c.in-Err.ensures.err ∙ c.self.view_is
 
 pub invariant_of-self-2 : goal.invariant_of-self-2
 invariant_of-self-2 c =

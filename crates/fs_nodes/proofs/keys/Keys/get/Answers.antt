@@ -1,10 +1,27 @@
+use Rattle.std.specs.Prelude.{◌≡◌, ℕ, List, [], Option, None, get_or, refl}
 use Rattle.std.proofs.Common.{ap, sym, ◌∙◌}
 use Rattle.std.specs.FinMap as map
+use Rattle.std.specs.FinMap.{FinMap}
+use Rattle.lab_lattice.specs.Label.{label_cmp}
+use Rattle.kern_model.specs.declared.numbers.Oid.{Oid}
 use Rattle.kern_model.specs.Keys.{oid_cmp}
-use Rattle.kern_model.proofs.KeyLaws.{oid_cmp_total}
-use Rattle.kern_model.proofs.TableLemmas.{get_at}
+use Rattle.fs_nodes.specs.Rows.{Rows, items_in, row_at}
+use Rattle.fs_nodes.proofs.Rows.{get-items_in, row_absent, row_found}
 use Rattle.fs_nodes.proofs.keys.Keys.get.Goals as goal
 
+-- what the list of a number's label says of it
+says : (rows : Rows (Option ℕ)) (keys : FinMap oid_cmp ℕ) (view : items_in rows ≡ keys) (id : Oid) (row : List (Option ℕ)) → row_at rows id.label ≡ row → map.get keys id ≡ get_or row id.n None
+says rows keys view id row is = ap (λ (m : FinMap oid_cmp ℕ). map.get m id) (sym view) ∙ get-items_in rows id ∙ ap (λ (r : List (Option ℕ)). get_or r id.n None) is
+
+pub returns-in_err-get : goal.returns-in_err-get
+returns-in_err-get c =
+    let rows = map.from_entries {R = label_cmp} c.self.inside.kept.entries in
+    c.from_residual.ensures
+    ∙ sym (says rows c.args.self.now c.self.view_is c.args.id.now [] (row_absent c.self.inside.kept.entries rows refl c.args.id.now.label c.in_err-get.ensures.value))
+
 pub returns : goal.returns
-unfolding oid_cmp
-returns c = c.copied.ensures ∙ c.get.ensures.value ∙ sym (get_at oid_cmp_total c.self.inside.kept.entries c.args.id.now) ∙ ap (λ m. map.get m c.args.id.now) c.self.view_is
+returns c =
+    let rows = map.from_entries {R = label_cmp} c.self.inside.kept.entries in
+    let row = c.in_ok-get.field-0.now in
+    c.get-2.ensures
+    ∙ sym (says rows c.args.self.now c.self.view_is c.args.id.now row (row_found c.self.inside.kept.entries rows refl c.args.id.now.label row c.in_ok-get.ensures.value))
