@@ -7,4 +7,5 @@ pub mod Looking
 pub mod Loops
 pub mod Slots
 pub mod Sums
+pub mod TakenLemmas
 pub mod UseLemmas

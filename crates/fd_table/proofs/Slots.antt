@@ -1,5 +1,5 @@
 -- The slots of a row, seen as its descriptors.
-use Rattle.std.specs.Prelude.{◌≡◌, ℕ, zero, suc, ◌+◌, ◌<◌, ◌≤◌, ◌==◌, Bool, true, false, List, [], ◌∷◌, Option, None, Some, cond, count_by, is_none, is_some, length, map, nat_lt, position, refl}
+use Rattle.std.specs.Prelude.{◌≡◌, ℕ, zero, suc, ◌+◌, ◌<◌, ◌==◌, Bool, true, false, List, [], ◌∷◌, Option, None, Some, cond, count_by, is_none, is_some, length, map, not, refl}
 use Rattle.std.specs.Option.{option_flatten}
 use Rattle.std.specs.List.{slice_get, position_or_len}
 use Rattle.std.specs.Ordering.{nat_cmp, is_lt, eq_by_cmp}
@@ -14,9 +14,9 @@ use Rattle.std.proofs.lemmas.Bool.Decides.{nat_tests}
 use Rattle.std.proofs.lemmas.List.Sums.{sum_by-cons}
 use Rattle.kern_model.specs.declared.numbers.Did.{Did}
 use Rattle.kern_model.specs.Descriptors.{first_gap, lowest_free}
-use Rattle.kern_model.proofs.MapLemmas.{never_some, some_same}
 use Rattle.kern_model.proofs.TableLemmas.{both_T}
 use Rattle.fd_table.specs.Rows.{fd_count, fds_in, in_slots}
+use Rattle.fd_table.specs.Taken.{taken_in}
 
 less : (a b : ℕ) → a < b → T (is_lt (nat_cmp a b))
 less a b h = subst (λ r. T (is_lt r)) (nat_cmp_is a b Less h) tt
@@ -88,31 +88,24 @@ pub lowest-fds : (slots : List (Option Did)) → lowest_free (fds_in slots) ≡ 
 unfolding lowest_free
 lowest-fds slots = ap (λ (es : List (ℕ × Did)). first_gap 0 (map (λ (e : ℕ × Did). e.0) es)) (entries-fds slots) ∙ first_none 0 slots ∙ omega arith
 
--- where not all slots are taken, the first that is not is among them, and free
-pub free_within : (slots : List (Option Did)) → count_by is_some slots < length slots → position_or_len is_none slots < length slots
-free_within [] h = h
-free_within (None ∷ slots) h = omega arith
-free_within (Some did ∷ slots) h =
-    let step = sum_by-cons (λ (s : Option Did). cond (is_some s) 1 0) (Some did) slots in
-    let rest = free_within slots (omega (arith, step)) in omega (arith, rest)
-
+-- the first slot that is not taken is free
 pub first_is_free : (slots : List (Option Did)) → option_flatten (slice_get slots (position_or_len is_none slots)) ≡ None
 first_is_free [] = refl
 first_is_free (None ∷ slots) = refl
 first_is_free (Some did ∷ slots) = let one : 1 + position_or_len is_none slots ≡ suc (position_or_len is_none slots) = omega arith in ap (λ k. option_flatten (slice_get (Some did ∷ slots) k)) one ∙ first_is_free slots
 
--- the same by the place of the first
-pub position_some : (slots : List (Option Did)) (fd : ℕ) → Some fd ≡ position is_none slots → fd ≡ position_or_len is_none slots
-position_some slots fd e = elim (nat_lt (position_or_len is_none slots) (length slots)) as (λ b. Some fd ≡ cond b (Some (position_or_len is_none slots)) None → fd ≡ position_or_len is_none slots) [
-  | true ↦ λ e. some_same fd (position_or_len is_none slots) e
-  | false ↦ λ e. absurd (never_some (Some fd) fd e refl)
-] e
+-- ---- the same by which slots are taken
+pub count-taken : (slots : List (Option Did)) → count_by (λ taken. taken) (taken_in slots) ≡ count_by is_some slots
+count-taken [] = refl
+count-taken (s ∷ slots) =
+    let rest = count-taken slots in
+    let taken = sum_by-cons (λ (b : Bool). cond b 1 0) (is_some s) (taken_in slots) in
+    let step = sum_by-cons (λ (t : Option Did). cond (is_some t) 1 0) s slots in omega (arith, rest, taken, step)
 
-pub position_none : (slots : List (Option Did)) → None ≡ position is_none slots → length slots ≤ position_or_len is_none slots
-position_none slots e = elim (nat_lt (position_or_len is_none slots) (length slots)) as (λ b. nat_lt (position_or_len is_none slots) (length slots) ≡ b → None ≡ cond b (Some (position_or_len is_none slots)) None → length slots ≤ position_or_len is_none slots) [
-  | true ↦ λ t e. absurd (never_some None (position_or_len is_none slots) refl e)
-  | false ↦ λ t e. grind (arith, nat_tests)
-] refl e
+pub lowest-taken : (slots : List (Option Did)) → position_or_len not (taken_in slots) ≡ position_or_len is_none slots
+lowest-taken [] = refl
+lowest-taken (None ∷ slots) = refl
+lowest-taken (Some did ∷ slots) = ap (λ n. 1 + n) (lowest-taken slots)
 
 -- ---- a slot that is set
 slice_get-set : (slots : List (Option Did)) (i q : ℕ) (w : Option Did) → i < length slots → slice_get (set slots i w) q ≡ cond (q == i) (Some w) (slice_get slots q)

@@ -3,4 +3,5 @@ pub mod Fifo
 pub mod Files
 pub mod Pipes
 pub mod Rows
+pub mod Taken
 pub mod Uses

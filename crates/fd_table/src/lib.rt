@@ -9,6 +9,7 @@ mod row;
 mod rows;
 mod shared;
 mod table;
+mod taken;
 mod uses;
 
 pub use kern_model::NoMemory;

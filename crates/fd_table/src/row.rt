@@ -1,11 +1,12 @@
 // The descriptors of one process.
-ghost use Rattle.std.specs.Prelude.{◌≡◌, ◌<◌, ◌≤◌, ℕ, None, Some, count_by, is_none, is_some, position};
+ghost use Rattle.std.specs.Prelude.{◌≡◌, ◌<◌, ◌≤◌, ℕ, None, Some};
 ghost use Rattle.std.specs.FinMap as map;
 ghost use Rattle.kern_model.specs.Descriptors.{lowest_free};
 ghost use Rattle.kern_model.specs.declared.limits.TheConstants.{MAX_DESCRIPTORS};
 ghost use Rattle.kern_model.specs.declared.numbers.Did.{Did as Number};
 ghost use Rattle.fd_table.specs.Rows.{fd_count};
 
+use crate::taken::TakenSlots;
 use kern_model::limits::MAX_DESCRIPTORS;
 use kern_model::{Did, Fd};
 use std::marker::Model;
@@ -14,35 +15,26 @@ use std::marker::Model;
 #[derive(Drop)]
 pub struct Row {
     slots: [Option<Did>; MAX_DESCRIPTORS],
+    /// Which of the slots are taken.
+    taken: TakenSlots,
 }
 
 impl Model for Row {
-    ghost use Rattle.std.specs.Prelude.{ℕ};
+    ghost use Rattle.std.specs.Prelude.{◌≡◌, ℕ};
     ghost use Rattle.std.specs.FinMap as map;
     ghost use Rattle.std.specs.Coded.{coded_ℕ};
     ghost use Rattle.std.specs.Coded.{codes};
     ghost use Rattle.lab_lattice.specs.Label.{label_code};
     ghost use Rattle.fd_table.specs.Rows.{Fds, fds_in};
+    ghost use Rattle.fd_table.specs.Taken.{taken_in};
 
     ghost Value = { Fds };
 
     ghost coded = { map.code coded_ℕ (Prim.hlevel (codes, label_code)) };
 
     ghost view = { λ r. fds_in r.slots };
-}
 
-// How many slots are taken.
-fn taken(slots: &[Option<Did>]) -> usize
-    ensures { result ≡ count_by is_some slots.now }
-{
-    slots.iter().filter(|slot| slot.is_some()).count()
-}
-
-// The first slot that is free, if there is one.
-fn first_free(slots: &[Option<Did>]) -> Option<usize>
-    ensures { result ≡ position is_none slots.now }
-{
-    slots.iter().position(|slot| slot.is_none())
+    ghost invariant = { λ r. r.taken ≡ taken_in r.slots };
 }
 
 impl Row {
@@ -52,6 +44,7 @@ impl Row {
     {
         Row {
             slots: [None; MAX_DESCRIPTORS],
+            taken: TakenSlots::new(),
         }
     }
 
@@ -60,7 +53,7 @@ impl Row {
         ensures count { result ≡ fd_count self.now }
         ensures few { result ≤ MAX_DESCRIPTORS }
     {
-        taken(&self.slots)
+        self.taken.count()
     }
 
     /// The description to which a descriptor refers, if it is open.
@@ -78,10 +71,7 @@ impl Row {
         ensures below { result < MAX_DESCRIPTORS }
         ensures free { map.get self.now result ≡ None }
     {
-        match first_free(&self.slots) {
-            Some(fd) => fd as Fd,
-            None => unreachable!(),
-        }
+        self.taken.lowest_free()
     }
 
     /// Has a descriptor refer to a description.
@@ -90,6 +80,7 @@ impl Row {
         ensures { self.new ≡ map.insert self.old fd did }
     {
         self.slots[fd as usize] = Some(did);
+        self.taken.insert(fd);
     }
 
     /// Frees a descriptor.
@@ -98,5 +89,6 @@ impl Row {
         ensures { self.new ≡ map.remove self.old fd }
     {
         self.slots[fd as usize] = None;
+        self.taken.remove(fd);
     }
 }
