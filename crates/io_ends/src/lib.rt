@@ -2,11 +2,13 @@
 //!
 //! Code over a [`Source`] or a [`Sink`] is proved from the clauses of these traits alone, so it holds
 //! over every end. The ends in memory and those that never fail are proved to the byte. What the
-//! system does at a call of a [`FileSource`] or a [`FileSink`] is trusted.
+//! system does at a call of a [`FileSource`] or a [`FileSink`] is trusted. [`Lines`] reads a source line by line.
 #![tactic(auto)]
 
+mod buffer;
 mod ends;
 mod files;
+mod lines;
 mod list;
 mod memory;
 mod sure;
@@ -14,6 +16,7 @@ mod whole;
 
 pub use ends::{Failed, Sink, Source};
 pub use files::{FileSink, FileSource};
+pub use lines::{Lines, MAX_LINE, Next};
 pub use list::ByteList;
 pub use memory::{MemSink, MemSource};
 pub use std::alloc::AllocError as NoMemory;

@@ -151,3 +151,112 @@ fn a_read_that_fails_ends_in_an_error(rt: HostRuntime) {
     let read = read_whole(rt.alloc(), &mut source, 4);
     assert!(rt; read.err() == Some(ReadError::Failed));
 }
+
+// Whether the next answer is this one, and then lends this line.
+fn answers<S: Source>(lines: &mut Lines, source: &mut S, next: Next, line: &[u8]) -> bool {
+    lines.more() && lines.next(source) == Ok(next) && lines.line() == line
+}
+
+#[test]
+fn lines_are_read_one_after_another(rt: HostRuntime) -> Result<(), AllocError> {
+    let mut source = SureSource::new(b"one\n\ntwo\n".to_vec(rt.alloc())?);
+    let mut lines = Lines::new(rt.alloc(), 9)?;
+    assert!(rt; answers(&mut lines, &mut source, Next::Line, b"one"));
+    assert!(rt; answers(&mut lines, &mut source, Next::Line, b""));
+    assert!(rt; answers(&mut lines, &mut source, Next::Line, b"two"));
+    assert!(rt; lines.number() == 3);
+    assert!(rt; answers(&mut lines, &mut source, Next::End, b""));
+    assert!(rt; !lines.more());
+    Ok(())
+}
+
+#[test]
+fn a_line_that_is_not_ended_is_no_line(rt: HostRuntime) -> Result<(), AllocError> {
+    let mut source = SureSource::new(b"one\ntwo".to_vec(rt.alloc())?);
+    let mut lines = Lines::new(rt.alloc(), 7)?;
+    assert!(rt; answers(&mut lines, &mut source, Next::Line, b"one"));
+    assert!(rt; answers(&mut lines, &mut source, Next::Unended, b""));
+    assert!(rt; lines.number() == 2);
+    Ok(())
+}
+
+#[test]
+fn lines_past_the_limit_are_too_much(rt: HostRuntime) -> Result<(), AllocError> {
+    let mut source = SureSource::new(b"one\ntwo\n".to_vec(rt.alloc())?);
+    let mut lines = Lines::new(rt.alloc(), 7)?;
+    assert!(rt; answers(&mut lines, &mut source, Next::Line, b"one"));
+    assert!(rt; answers(&mut lines, &mut source, Next::TooMuch, b""));
+    Ok(())
+}
+
+#[test]
+fn a_line_has_at_most_2048_bytes(rt: HostRuntime) -> Result<(), AllocError> {
+    let mut bytes = vec![in rt.alloc(); 7u8; 4098]?;
+    bytes[2048] = b'\n';
+    let mut source = SureSource::new(bytes);
+    let mut lines = Lines::new(rt.alloc(), 4098)?;
+    assert!(rt; answers(&mut lines, &mut source, Next::Line, &[7u8; 2048]));
+    assert!(rt; answers(&mut lines, &mut source, Next::LongLine, b""));
+    Ok(())
+}
+
+#[test]
+fn lines_are_given_before_a_read_fails(rt: HostRuntime) -> Result<(), AllocError> {
+    let mut bytes = vec![in rt.alloc(); b'\n'; 4098]?;
+    bytes[4095] = 7;
+    let mut source = MemSource::new(bytes, vec![in rt.alloc(); 2u64]?);
+    let mut lines = Lines::new(rt.alloc(), 4098)?;
+    for _ in 0..4095 {
+        assert!(rt; answers(&mut lines, &mut source, Next::Line, b""));
+    }
+    assert!(rt; lines.more());
+    assert!(rt; lines.next(&mut source) == Err(ReadError::Failed));
+    assert!(rt; lines.number() == 4096);
+    Ok(())
+}
+
+#[test]
+fn a_line_takes_several_reads(rt: HostRuntime) -> Result<(), AllocError> {
+    let mut bytes = vec![in rt.alloc(); 7u8; 6000]?;
+    bytes[2047] = b'\n';
+    bytes[4095] = b'\n';
+    bytes[5999] = b'\n';
+    let mut source = SureSource::new(bytes);
+    let mut lines = Lines::new(rt.alloc(), 6000)?;
+    assert!(rt; answers(&mut lines, &mut source, Next::Line, &[7u8; 2047]));
+    assert!(rt; answers(&mut lines, &mut source, Next::Line, &[7u8; 2047]));
+    assert!(rt; answers(&mut lines, &mut source, Next::Line, &[7u8; 1903]));
+    assert!(rt; answers(&mut lines, &mut source, Next::End, b""));
+    Ok(())
+}
+
+// A reader that gives one byte at each call.
+#[derive(Drop)]
+struct Slow<'a> {
+    bytes: &'a [u8],
+}
+
+impl<'a> Read for Slow<'a> {
+    fn read(&mut self, buf: &mut [u8]) -> io::Result<usize> {
+        match (self.bytes.split_first(), buf.first_mut()) {
+            (Some((byte, rest)), Some(first)) => {
+                *first = *byte;
+                self.bytes = rest;
+                Ok(1)
+            }
+            _ => Ok(0),
+        }
+    }
+}
+
+#[test]
+fn a_line_comes_byte_by_byte(rt: HostRuntime) -> Result<(), AllocError> {
+    let mut source = FileSource::new(Slow {
+        bytes: b"one\ntwo\n",
+    });
+    let mut lines = Lines::new(rt.alloc(), 100)?;
+    assert!(rt; answers(&mut lines, &mut source, Next::Line, b"one"));
+    assert!(rt; answers(&mut lines, &mut source, Next::Line, b"two"));
+    assert!(rt; answers(&mut lines, &mut source, Next::End, b""));
+    Ok(())
+}

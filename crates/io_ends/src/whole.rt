@@ -8,7 +8,7 @@ use crate::{ByteList, Failed, Sink, Source};
 use std::alloc::{AllocError, Global};
 
 // How many bytes one read asks for.
-const CHUNK: usize = 4096;
+pub(crate) const CHUNK: usize = 4096;
 
 /// Why the bytes of a source were not read.
 #[derive(Clone, Copy, Debug, PartialEq, Eq)]
