@@ -15,6 +15,7 @@ pub mod ValidCases
 pub mod CapsLemmas
 pub mod CalmRows
 pub mod FitRows
+pub mod BelowRows
 pub mod files
 pub mod tree
 pub mod attributes
@@ -31,6 +32,7 @@ pub mod ValidLemmas
 pub mod ValidBoot
 pub mod Booting
 pub mod Worlds
+pub mod Below
 pub mod Lineage
 pub mod Drops
 pub mod GoingOn

@@ -2,3 +2,4 @@ pub mod Labels
 pub mod Isolation
 pub mod Records
 pub mod Numbers
+pub mod Below

@@ -1,3 +1,4 @@
 pub mod Isolation
 pub mod Records
 pub mod Numbers
+pub mod Below

@@ -7,3 +7,4 @@ pub mod Pipes
 pub mod Isolation
 pub mod Records
 pub mod Numbers
+pub mod Below

@@ -3,3 +3,4 @@ pub mod Forking
 pub mod Isolation
 pub mod Records
 pub mod Numbers
+pub mod Below

@@ -5,3 +5,4 @@ pub mod Moves
 pub mod Isolation
 pub mod Records
 pub mod Numbers
+pub mod Below

@@ -1,5 +1,6 @@
 -- The laws, each by its name.
 use Rattle.std.specs.Prelude.{◌≡◌, ℕ, true, false, List, ◌++◌, Some, take}
+use Rattle.std.specs.List.{AllByRecursion}
 use Rattle.std.specs.FinMap as map
 use Rattle.lab_lattice.specs.Label.{Label}
 use Rattle.kern_model.specs.declared.numbers.Pid.{Pid}
@@ -18,6 +19,7 @@ use Rattle.kern_model.specs.State.{State, Process}
 use Rattle.kern_model.specs.Step.{step}
 use Rattle.kern_model.specs.Valid.{IsValid}
 use Rattle.kern_model.specs.World.{IsWorld}
+use Rattle.iso_laws.specs.Labels.{HasLabelsBelow}
 
 -- ---- a step, by a call whose arguments are in their ranges
 
@@ -87,6 +89,12 @@ abbrev pub TwoWorldsSame : Type 0
 TwoWorldsSame = (l : Label) (w v : World) (is js : List ScriptItem) → IsWorld w → IsWorld v → is_script w.top is ≡ true → is_script v.top js ≡ true
     → part l (boot w) ≡ part l (boot v) → part_script l is ≡ part_script l js
     → up_to l (run (boot w) is) ≡ run (boot w) is → up_to l (run (boot v) js) ≡ run (boot v) js → answers l (run (boot w) is) ≡ answers l (run (boot v) js)
+
+-- ---- labels of records
+
+-- each label in a record of a run is below the highest one
+abbrev pub LabelsBelow : Type 0
+LabelsBelow = (w : World) (items : List ScriptItem) → IsWorld w → is_script w.top items ≡ true → AllByRecursion (HasLabelsBelow w.top) (all_recs w items)
 
 -- ---- capability sets, for every call
 

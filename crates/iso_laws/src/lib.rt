@@ -6,6 +6,7 @@
 
 ghost use Rattle.iso_laws.specs.Laws.{LowStepReply, LowStepRecords, LowStepState, OtherStep, KeptStep, ValidStep};
 ghost use Rattle.iso_laws.specs.Laws.{KeptBoot, ValidBoot, IsolatedPrefix, IsolatedWhole, TwoWorldsAgree, TwoWorldsSame};
+ghost use Rattle.iso_laws.specs.Laws.{LabelsBelow};
 ghost use Rattle.iso_laws.specs.Laws.{CapsByRecords, DropsByRecords, GrowthByRecords};
 ghost use Rattle.iso_laws.specs.Laws.{RefusalsAreNamed, DrawnStep, NumbersStep, NumbersRun, GoneRun};
 
@@ -49,6 +50,11 @@ pub fn isolated()
 pub fn two_worlds()
     ensures prefixes { TwoWorldsAgree }
     ensures whole { TwoWorldsSame }
+{}
+
+/// Each label in a record of a run is below the highest label of its world, and so are those of the numbers in it.
+pub fn labels_below()
+    ensures { LabelsBelow }
 {}
 
 /// The capability sets of each process that lives at the end of a run are those that the records give. For every call.

@@ -484,3 +484,7 @@ accepted_world text w n script e = (text_sound text w n script e).world
 -- the top of an accepted world is the top of its policy
 pub accepted_top : (text : List ℕ) (w : WorldText) (n : ℕ) (script : List (List ℕ)) → read_text text ≡ Accepted w n script → w.world.top ≡ top_of w.policy
 accepted_top text w n script e = (text_sound text w n script e).top
+
+-- the names of an accepted world make a policy
+pub accepted_policy : (text : List ℕ) (w : WorldText) (n : ℕ) (script : List (List ℕ)) → read_text text ≡ Accepted w n script → MakePolicy w.policy
+accepted_policy text w n script e = (text_sound text w n script e).policy
