@@ -24,6 +24,6 @@ IsStopped (reply.Done answer) = ⊥
 IsStopped (reply.Denied errno check place) = Unit {0}
 IsStopped (reply.Refused errno) = Unit {0}
 
--- no memory is wanted where no living process has the number, and for a call that takes none
+-- no memory is taken where no living process has the number, and by a call that takes none
 abbrev pub TakesNoMemory : State → Pid → Call → Type 0
 TakesNoMemory s who c = (map.get s.procs who ≡ None) ⊎ (takes_no_memory c ≡ true)

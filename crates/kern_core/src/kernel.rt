@@ -14,7 +14,7 @@ ghost use Rattle.sys_lookup.specs.Shared as held;
 use crate::boot::{boot_processes, furnish, furnish_from};
 use crate::calls::play;
 use cap_bits::CapState;
-use kern_model::{Call, NoMemory, Outcome, Pid, PidList, RecList, World};
+use kern_model::{Call, Calls, NoMemory, Outcome, Pid, PidList, RecList, World};
 use lab_lattice::Label;
 use std::alloc::Global;
 use sys_lookup::Shared;
@@ -125,5 +125,21 @@ impl Kernel {
         ensures { IfOk result (λ numbers. numbers ≡ map.keys (state_of self.now).procs) }
     {
         self.shared.procs.live()
+    }
+}
+
+impl Calls for Kernel {
+    ghost use Rattle.std.specs.Prelude.{◌≡◌, true, IfOk};
+    ghost use Rattle.kern_model.specs.Step.{IsPlayed};
+    ghost use Rattle.kern_model.specs.Arguments.{is_call};
+    ghost use Rattle.kern_core.specs.Kernel.{state_of};
+
+    ghost state = { state_of };
+
+    fn call(&mut self, who: &Pid, call: &Call) -> Result<Outcome, NoMemory>
+        requires arguments { is_call (state_of self.old).top call.now ≡ true }
+        ensures played { IfOk result (λ outcome. IsPlayed (state_of self.old) who.now call.now outcome (state_of self.new)) }
+    {
+        Kernel::call(self, who, call)
     }
 }

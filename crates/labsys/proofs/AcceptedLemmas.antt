@@ -1,29 +1,41 @@
 -- An accepted world is a world, and the arguments of the calls of its script are in their ranges.
-use Rattle.std.proofs.Common.{◌≡◌, ℕ, ◌+◌, Bool, true, false, cond, List, [], ◌∷◌, length, take, refl, sym, subst, Some}
+use Rattle.std.proofs.Common.{◌≡◌, ℕ, ◌+◌, Bool, true, List, [], ◌∷◌, ◌++◌, length, take, refl, sym, subst, Some}
 use Rattle.std.specs.Prelude.{nat_lt, Result, Ok, Err}
-use Rattle.std.proofs.lemmas.Bool.{and_from}
+use Rattle.std.proofs.lemmas.Bool.{and_from, and_parts}
 use Rattle.lab_lattice.specs.Label.{Label}
-use Rattle.lab_text.specs.Policy.{PolicyNames, top_of}
-use Rattle.kern_model.specs.Arguments.{is_script}
+use Rattle.lab_text.specs.Policy.{PolicyNames, MakePolicy, top_of}
+use Rattle.kern_model.specs.Arguments.{is_item, is_script}
 use Rattle.kern_model.specs.World.{IsWorld}
+use Rattle.kern_model.specs.declared.world.ScriptItem.{ScriptItem}
 use Rattle.kern_model.specs.declared.limits.TheConstants.{MAX_INPUT}
 use Rattle.script_text.specs.declared.line.Line.{Line}
 use Rattle.script_text.specs.declared.line.Line.TheVariants as line
 use Rattle.script_text.specs.declared.fault.LineError.{LineError}
-use Rattle.script_text.specs.Line.{parse_line}
+use Rattle.script_text.specs.Line.{parse_line, MayBePlayed}
+use Rattle.sec_utils.proofs.ItemLaws.{items_played}
 use Rattle.script_text.proofs.LineLaws.{parsed_played}
 use Rattle.world_text.specs.declared.world.WorldText.{WorldText}
-use Rattle.world_text.proofs.Accepted.{accepted_world, accepted_top}
+use Rattle.world_text.proofs.Accepted.{accepted_world, accepted_top, accepted_policy}
 use Rattle.world_text.specs.Reading.{Reading, Accepted, Refused as Stopped, Ended, read_text}
-use Rattle.labsys.specs.Input.{Accepted as AcceptedWorld, Script, Input, no_world, script, item_of, after_line, script_from, input_by, input_of}
+use Rattle.labsys.specs.Input.{Accepted as AcceptedWorld, Script, items_in, after_line, script_from, input_by, input_of}
 
 -- ---- scripts
+
+-- one script after another
+both_scripts : (top : Label) (is more : List ScriptItem) → is_script top is ≡ true → is_script top more ≡ true → is_script top (is ++ more) ≡ true
+both_scripts top [] more h rest = rest
+both_scripts top (i ∷ is) more h rest = let parts = and_parts (is_item top i) (is_script top is) h in and_from _ _ parts.0 (both_scripts top is more parts.1 rest)
+
+-- the calls of a line that may be played
+line_played : (top : Label) (l : Line) → MayBePlayed top l → is_script top (items_in l) ≡ true
+line_played top line.Blank fit = refl
+line_played top (line.One who c) fit = and_from _ _ (and_from _ _ (and_from _ _ fit.0 fit.1) fit.2) refl
+line_played top (line.Tool util) fit = items_played util top fit.0 fit.1
 
 module _ (policy : PolicyNames) where
   after_played : (text : List ℕ) (parsed : Result Line LineError) → parse_line policy text ≡ parsed → (n : ℕ) (more : Script) → is_script (top_of policy) more.items ≡ true → is_script (top_of policy) (after_line parsed n more).items ≡ true
   after_played text (Err e) is n more rest = refl
-  after_played text (Ok line.Blank) is n more rest = rest
-  after_played text (Ok (line.One who c)) is n more rest = let fit = parsed_played policy text (line.One who c) is in and_from _ _ (and_from _ _ (and_from _ _ fit.0 fit.1) fit.2) rest
+  after_played text (Ok l) is n more rest = both_scripts (top_of policy) (items_in l) more.items (line_played (top_of policy) l (parsed_played policy text l is)) rest
 
   script_played : (over : Bool) (n : ℕ) (ls : List (List ℕ)) → is_script (top_of policy) (script_from over policy n ls).items ≡ true
   unfolding script_from
@@ -33,9 +45,11 @@ module _ (policy : PolicyNames) where
 
 -- ---- inputs
 
--- a world is one, and the arguments of the calls of its script are in their ranges
+-- a world is one, its names make a policy with its highest label, and the arguments of the calls of its script are in their ranges
 pub record IsPlayable (a : AcceptedWorld) (s : Script) : Type 0 where
   pub world : IsWorld a.world
+  pub top : a.world.top ≡ top_of a.policy
+  pub policy : MakePolicy a.policy
   pub script : is_script a.world.top s.items ≡ true
 
 same_some : (w a : WorldText) → Some w ≡ Some a → w ≡ a
@@ -47,6 +61,8 @@ module _ (over : Bool) (a : WorldText) where
       let s = script_from over w.policy n ls in
       subst (λ (v : WorldText). IsPlayable v s) (same_some w a e) (record {
         world = accepted_world text w n ls is;
+        top = accepted_top text w n ls is;
+        policy = accepted_policy text w n ls is;
         script = subst (λ (top : Label). is_script top s.items ≡ true) (sym (accepted_top text w n ls is)) (script_played w.policy over n ls);
       })
   by_reading text (Stopped n why) is e = absurd (cc)

@@ -22,27 +22,19 @@ use Rattle.labsys.specs.Order.{Sent, out_of, trail_of, session_order, order_by, 
 use Rattle.labsys.specs.Commands.{ends_with, due}
 use Rattle.labsys.specs.Counts.{counts_after, counted_by}
 use Rattle.labsys.specs.Playing.{Ends, EndsAs, RunDid, Sends, Writes, faults_of, left_of}
+use Rattle.labsys.specs.Lineage.{PrintedByAny}
+use Rattle.labsys.specs.Readable.{InputReadable}
 use Rattle.labsys.specs.Clauses.{status_of, OnWhole, Reports, reports, Moved, WhereReported, WhereAccepted, TakesAtMost, Covered, RepliesFirst, Printed, Dropped, Written, Isolated, IsolatedWhole, SameBelow, TwoInputs, TwoWhole}
 use Rattle.labsys.proofs.Sending.{out_of-append, trail_of-append, prefix_of}
 use Rattle.labsys.proofs.Coverage.{session_out, session_trail, covered, replies_first, recorded}
 use Rattle.labsys.proofs.AcceptedLemmas.{accepted_input}
+use Rattle.labsys.proofs.InputLemmas.{left_taken, text_left}
+use Rattle.labsys.proofs.LineageLemmas.{printed_by_any}
+use Rattle.labsys.proofs.ReadableLemmas.{readable_by_then}
 use Rattle.labsys.proofs.Printing.{out_reported, trail_reported, all_numbered}
 use Rattle.labsys.proofs.Isolating.{written, is_isolated, is_isolated_whole, two_agree, two_whole}
 
 -- ---- the ends that report
-
--- a source that reports its bytes reports those that are left after some were taken
-record Left (text taken : List ℕ) (now : Option (List ℕ)) : Type 0 where
-  rest : List ℕ
-  text_is : text ≡ taken ++ rest
-  left_is : now ≡ Some rest
-
-left_taken : (now : Option (List ℕ)) (text taken : List ℕ) → Consumes (Some text) now taken → Left text taken now
-left_taken None text taken h = absurd h
-left_taken (Some rest) text taken h = record { rest = rest; text_is = h; left_is = refl }
-
-text_left : (left now : Option (List ℕ)) (taken text : List ℕ) → left ≡ Some text → Consumes left now taken → text ≡ taken ++ left_of now
-text_left left now taken text e h = let l = left_taken now text taken (subst (λ z. Consumes z now taken) e h) in l.text_is ∙ ap (λ z. taken ++ left_of z) (sym l.left_is)
 
 held_after : (now : Option (List ℕ)) (before bs : List ℕ) → Appends (Some before) now bs → now ≡ Some (before ++ bs)
 held_after None before bs h = absurd h
@@ -170,6 +162,17 @@ module _ (r : Result InputEnd Fault) (l l' : Option (List ℕ)) (entry exit : En
 
   pub run_order : (c : Option Command) → IfSome c (λ command. WhereReported old now (λ text out trail. IsInOrder (due command text).order out trail))
   run_order c = on_command c _ (where_sent _ (λ text sent rest e. record { sent = sent; rest = rest; order_is = e; out_is = refl; trail_is = refl }))
+
+  -- the trail as anyone reads it, where what was played is readable
+  pub run_printed_by_any : ((text : List ℕ) → l ≡ Some text → InputReadable (input_of text) entry exit) → WhereReported old now (λ text out trail. WhereAccepted text (λ a m. PrintedByAny (session_of a m) out trail))
+  run_printed_by_any readable text before above el eo et =
+      let p = prefix_of r (order_of (input_of (x.taken ++ left_of l'))) entry exit x.writes in
+      moved l l' entry exit x.taken x.took p.sent p.sends (λ text out trail. WhereAccepted text (λ a m. PrintedByAny (session_of a m) out trail)) text before above el eo et
+      (λ a is.
+      let m : Script = (input_of text).script in
+      let order : session_order (session_of a m) ≡ p.sent ++ p.rest = by_session text a p.sent p.rest is (ap (λ (z : List ℕ). order_of (input_of z)) (text_left l l' x.taken text el x.took) ∙ p.prefix) in
+      printed_by_any a m (accepted_input text a is) (out_of p.sent) (trail_of p.sent) (readable_by_then (session_of a m) entry exit p.sent before (readable text el a is) eo p.sends)
+      (session_printed a m p.sent p.rest order) (session_dropped a m p.sent p.rest order))
 
   pub run_covered : WhereReported old now (λ text out trail. WhereAccepted text (λ a m. Covered (session_of a m) out trail))
   run_covered = where_played (λ text a m out trail. Covered (session_of a m) out trail) (λ text a sent rest is e. covered (session_of a (input_of text).script) sent rest e)

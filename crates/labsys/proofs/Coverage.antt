@@ -7,7 +7,7 @@ use Rattle.fs_path.specs.Words.{line_text}
 use Rattle.kern_model.specs.Run.{CallRecord}
 use Rattle.lab_text.specs.Policy.{PolicyNames}
 use Rattle.line_text.specs.Words.{pid_text}
-use Rattle.script_text.specs.Reply.{outcome_words, reply_line}
+use Rattle.line_text.specs.Reply.{outcome_words, reply_line}
 use Rattle.labsys.specs.Texts.{reply_text}
 use Rattle.labsys.specs.Session.{Session, CallBytes, bytes_from, bytes_of, replies_of, records_of, head_text, tail_text}
 use Rattle.labsys.specs.Order.{Sent, out_of, trail_of, to_out, to_trail, call_order, session_order}
@@ -30,7 +30,7 @@ split {X = X} (x ∷ a) b (y ∷ prefix) rest e =
     ]
 
 -- what each sink gets of records and what follows, and of a reply and what follows
-out_after : (r : List ℕ) (x : List Sent) → out_of (to_trail r ++ x) ≡ out_of x
+pub out_after : (r : List ℕ) (x : List Sent) → out_of (to_trail r ++ x) ≡ out_of x
 out_after r x = out_of-append (to_trail r) x ∙ ap (λ (z : List ℕ). z ++ out_of x) (out_of-to_trail r)
 
 trail_after : (r : List ℕ) (x : List Sent) → trail_of (to_trail r ++ x) ≡ r ++ trail_of x
@@ -52,7 +52,7 @@ call_trail : (t : CallBytes) (x : List Sent) → trail_of (call_order t ++ x) �
 unfolding call_order
 call_trail t x = ap trail_of (append_assoc (to_trail t.recs) (to_out t.reply) x) ∙ trail_after t.recs (to_out t.reply ++ x) ∙ ap (λ (z : List ℕ). t.recs ++ z) (trail_reply t.reply x)
 
-calls_out : (ts : List CallBytes) (tail : List ℕ) → out_of (flat_map call_order ts ++ to_out tail) ≡ replies_of ts ++ tail
+pub calls_out : (ts : List CallBytes) (tail : List ℕ) → out_of (flat_map call_order ts ++ to_out tail) ≡ replies_of ts ++ tail
 calls_out [] tail = out_of-to_out tail
 calls_out (t ∷ ts) tail =
     ap out_of (append_assoc (call_order t) (flat_map call_order ts) (to_out tail)) ∙ call_out t (flat_map call_order ts ++ to_out tail) ∙ ap (λ (z : List ℕ). t.reply ++ z) (calls_out ts tail) ∙ sym (append_assoc t.reply (replies_of ts) tail)

@@ -3,7 +3,7 @@ use Rattle.std.proofs.Common.{◌≡◌, ℕ, ◌+◌, ◌≤◌, ◌<◌, true,
 use Rattle.std.proofs.lemmas.List.{append-nil, length-append, length-take, take-append-le}
 use Rattle.std.proofs.lemmas.Bool.Decides.{nat_tests}
 use Rattle.std.specs.Prelude.{Result, IsErrAnd, IfOk, Ok, Err, Option, None, Some, nat_lt}
-use Rattle.std.specs.Io.KnownBytes.{IsAtEnd}
+use Rattle.std.specs.Io.KnownBytes.{Consumes, IsAtEnd}
 use Rattle.io_ends.specs.Sinks.{SinkView}
 use Rattle.io_ends.specs.declared.whole.Whole.{Whole}
 use Rattle.io_ends.specs.Whole.{IsWhole}
@@ -25,10 +25,9 @@ use Rattle.world_text.specs.Expecting.{parse_line}
 use Rattle.world_text.specs.Reading.{Reading, Accepted, Refused as Stopped, Ended, after, reading, read_text}
 use Rattle.fs_path.specs.Split.{pieces}
 use Rattle.script_text.specs.declared.line.Line.{Line}
-use Rattle.script_text.specs.declared.line.Line.TheVariants.{Blank, One}
 use Rattle.script_text.specs.declared.fault.LineError.{LineError}
 use Rattle.script_text.specs.Line as script_lines
-use Rattle.labsys.specs.Input.{Input, Script, script, item_of, no_world, cut_off, after_line, script_from, of_world, input_by, read_input, input_of}
+use Rattle.labsys.specs.Input.{Input, Script, no_world, cut_off, after_line, script_from, of_world, input_by, read_input, input_of}
 use Rattle.labsys.specs.Texts.{last_text}
 use Rattle.labsys.specs.Counts.{counts, counted_by}
 use Rattle.labsys.specs.Order.{to_out, order_by, order_of}
@@ -89,8 +88,7 @@ cut_not n p why last = elim (nat_lt MAX_LINE (length last)) as (λ b. NotWhole (
 
 line_not : (parsed : Result Line LineError) (n : ℕ) (more : Script) → NotWhole more.ending → NotWhole (after_line parsed n more).ending
 line_not (Err e) n more h = λ e. cc
-line_not (Ok Blank) n more h = h
-line_not (Ok (One who call)) n more h = h
+line_not (Ok line) n more h = h
 
 script_not : (policy : PolicyNames) (n : ℕ) (l : List ℕ) (ls : List (List ℕ)) → NotWhole (script_from true policy n (l ∷ ls)).ending
 unfolding script_from
@@ -130,6 +128,21 @@ input_not (Ended n last) h = cut_not n part.World refusal.Syntax last
 pub lines_not : (text : List ℕ) → InputNot (read_input true text)
 lines_not text = input_not (read_text text) (has_piece 1 at.Format (pieces 10 text))
 
+-- ---- what a source has left
+
+-- a source that reports its bytes reports those that are left after some were taken
+pub record Left (text taken : List ℕ) (now : Option (List ℕ)) : Type 0 where
+  pub rest : List ℕ
+  pub text_is : text ≡ taken ++ rest
+  pub left_is : now ≡ Some rest
+
+pub left_taken : (now : Option (List ℕ)) (text taken : List ℕ) → Consumes (Some text) now taken → Left text taken now
+left_taken None text taken h = absurd h
+left_taken (Some rest) text taken h = record { rest = rest; text_is = h; left_is = refl }
+
+pub text_left : (left now : Option (List ℕ)) (taken text : List ℕ) → left ≡ Some text → Consumes left now taken → text ≡ taken ++ left_of now
+text_left left now taken text e h = let l = left_taken now text taken (subst (λ z. Consumes z now taken) e h) in l.text_is ∙ ap (λ z. taken ++ left_of z) (sym l.left_is)
+
 -- ---- what a run leaves
 
 -- without a world the order is the last line
@@ -146,7 +159,7 @@ at_end w got text now is =
     ] refl
 
 module _ (w : Whole) (left left' : Option (List ℕ)) (text : List ℕ) (takes : Takes (Ok w) left left') (kept : text ≡ w.bytes) where
-  same_input : read_input w.more text ≡ input_of (takes.got ++ left_of left')
+  pub same_input : read_input w.more text ≡ input_of (takes.got ++ left_of left')
   same_input = sym (input_taken w takes.got left' text takes.shows kept).input
 
   ends_as : (r : Result InputEnd Fault) → IfOk r (λ e. e ≡ (read_input w.more text).script.ending) → IfOk r (λ e. EndsAs e (input_of (takes.got ++ left_of left')).script.ending left')

@@ -6,4 +6,9 @@ pub mod Coverage
 pub mod AcceptedLemmas
 pub mod Printing
 pub mod Isolating
+pub mod LineageLemmas
+pub mod ReadableLemmas
 pub mod ClauseLemmas
+pub mod CallLemmas
+pub mod ToolLemmas
+pub mod FewCalls

@@ -1,16 +1,14 @@
 -- A world at the beginning of a text, and a script from one line on.
-use Rattle.std.proofs.Common.{◌≡◌, ℕ, ◌+◌, ◌≤◌, ◌<◌, Bool, true, false, cond, List, [], ◌∷◌, length, refl, sym, ◌∙◌, ap, subst, Option, Some, None, Bor}
+use Rattle.std.proofs.Common.{◌≡◌, ℕ, ◌+◌, ◌≤◌, ◌<◌, Bool, List, [], ◌∷◌, length, refl, sym, ◌∙◌, ap, subst, arith, Option, Some, None, Bor}
 use Rattle.std.specs.Prelude.{Result, Ok, Err}
 use Rattle.fs_path.specs.Split.{split_once, pieces}
 use Rattle.fs_path.proofs.SplitLemmas.{pieces_some, pieces_none, pieces_first}
 use Rattle.lab_text.specs.Policy.{PolicyNames, top_of}
-use Rattle.kern_model.specs.Arguments.{is_call}
 use Rattle.script_text.specs.declared.line.Line.{Line}
-use Rattle.script_text.specs.declared.line.Line.TheVariants.{Blank, One}
 use Rattle.script_text.specs.Reading.{IsCause}
 use Rattle.script_text.specs.declared.fault.LineError.{LineError}
 use Rattle.script_text.specs.declared.fault.LineError.TheVariants as error
-use Rattle.script_text.specs.Line.{parse_line}
+use Rattle.script_text.specs.Line.{parse_line, MayBePlayed}
 use Rattle.world_text.specs.declared.world.WorldText.{WorldText}
 use Rattle.world_text.proofs.Accepted.{accepted_world, accepted_top}
 use Rattle.world_text.specs.declared.reading.Prefix.TheVariants as prefix
@@ -19,11 +17,10 @@ use Rattle.labsys.specs.declared.status.InputEnd.{InputEnd}
 use Rattle.labsys.specs.declared.status.InputEnd.TheVariants.{Refused}
 use Rattle.labsys.specs.declared.status.Part.TheVariants as part
 use Rattle.labsys.specs.declared.status.Refusal.{Refusal}
-use Rattle.labsys.specs.declared.status.Refusal.TheVariants as refusal
-use Rattle.labsys.specs.Input.{Script, item_of, last_piece, refusal_of_line, no_world, script, script_from, after_line, input_by}
-use Rattle.labsys.specs.declared.reading.Item.{Item}
+use Rattle.labsys.specs.Input.{Script, last_piece, refusal_of_line, script, script_from, after_line, input_by}
 use Rattle.labsys.specs.declared.reading.Unread.{Unread}
-use Rattle.labsys.specs.Reading.{Reads, PlaysLine, SkipsLine, Ends, IsRefusal, script_left}
+use Rattle.labsys.proofs.FewCalls.{few_calls}
+use Rattle.labsys.specs.Reading.{Reads, BeginsWith, Ends, IsRefusal, script_left}
 
 -- ---- a world
 
@@ -80,11 +77,13 @@ module _ (policy : PolicyNames) (before : Unread) (line : List ℕ) (text : Bor 
   by_line : (parsed : Result Line LineError) → parse_line policy line ≡ parsed → script_left policy before ≡ after_line parsed before.number (script_left policy rest)
   by_line parsed is = script_is before.over policy before.number before.text.now (Some (line, text.now)) next ∙ ap (λ (r : Result Line LineError). after_line r before.number (script_left policy rest)) is
 
-  pub skips_line : parse_line policy line ≡ Ok Blank → length text.now < length before.text.now → SkipsLine policy before rest
-  skips_line is less = record { says = by_line (Ok Blank) is; after = record { next = refl; shorter = less } }
-
-  pub plays_line : (item : Item) → parse_line policy line ≡ Ok (One item.who item.call) → is_call (top_of policy) item.call ≡ true → length text.now < length before.text.now → PlaysLine policy before item rest
-  plays_line item is arguments less = record { says = by_line (Ok (One item.who item.call)) is; arguments = arguments; after = record { next = refl; shorter = less } }
+  pub begins_with : (l : Line) → parse_line policy line ≡ Ok l → MayBePlayed (top_of policy) l → length line + length text.now < length before.text.now → BeginsWith policy before l rest
+  begins_with l is calls less = record {
+    says = by_line (Ok l) is;
+    calls = calls;
+    next = refl;
+    shorter = omega (arith, few_calls policy line l is calls);
+  }
 
   by_word : (why : Refusal) {word : Refusal} → why ≡ word → Ends policy before (Refused before.number part.Script word) → Ends policy before (Refused before.number part.Script why)
   by_word why is ends = subst (λ (w : Refusal). Ends policy before (Refused before.number part.Script w)) (sym is) ends

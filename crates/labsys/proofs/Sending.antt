@@ -75,7 +75,7 @@ unfolding out_of trail_of
 prefix_nothing order n m out trail = record { sent = []; rest = order; prefix = refl; sends = record { to_out = Appends-nil out.held; to_trail = Appends-nil trail.held } }
 
 -- a prefix after what went out
-prefix_after : (a b : List Sent) (e f g : Ends) → Sends a e f → SendsPrefix b f g → SendsPrefix (a ++ b) e g
+pub prefix_after : (a b : List Sent) (e f g : Ends) → Sends a e f → SendsPrefix b f g → SendsPrefix (a ++ b) e g
 prefix_after a b e f g s p = record {
   sent = a ++ p.sent;
   rest = p.rest;
@@ -84,7 +84,7 @@ prefix_after a b e f g s p = record {
 }
 
 -- a prefix of a longer order
-prefix_longer : (a b : List Sent) (e f : Ends) → SendsPrefix a e f → SendsPrefix (a ++ b) e f
+pub prefix_longer : (a b : List Sent) (e f : Ends) → SendsPrefix a e f → SendsPrefix (a ++ b) e f
 prefix_longer a b e f p = record {
   sent = p.sent;
   rest = p.rest ++ b;

@@ -1,12 +1,7 @@
 -- The meaning of an input: its world, its script up to the first refused line, and how it ends.
-use Rattle.std.specs.Prelude.{ℕ, ◌+◌, Bool, true, false, cond, nat_lt, List, [], ◌∷◌, length, take, Option, Some, None, Result, Ok, Err}
-use Rattle.std.specs.List.{list_any}
-use Rattle.kern_model.specs.declared.objects.Body.{Body}
-use Rattle.kern_model.specs.declared.objects.Body.TheVariants as body
+use Rattle.std.specs.Prelude.{ℕ, ◌+◌, Bool, true, false, cond, nat_lt, List, [], ◌∷◌, ◌++◌, length, take, Option, Some, None, Result, Ok, Err}
 use Rattle.kern_model.specs.declared.calls.Call.{Call}
 use Rattle.kern_model.specs.declared.numbers.Pid.{Pid}
-use Rattle.kern_model.specs.declared.world.World.{World}
-use Rattle.kern_model.specs.declared.world.WorldObject.{WorldObject}
 use Rattle.kern_model.specs.declared.world.ScriptItem.{ScriptItem}
 use Rattle.kern_model.specs.declared.limits.TheConstants.{MAX_INPUT, MAX_LINE}
 use Rattle.kern_model.specs.Names.{name_of, word_of}
@@ -16,6 +11,7 @@ use Rattle.script_text.specs.declared.line.Line.TheVariants as line
 use Rattle.script_text.specs.declared.fault.LineError.{LineError}
 use Rattle.script_text.specs.declared.fault.LineError.TheVariants as line_error
 use Rattle.script_text.specs.Line.{parse_line}
+use Rattle.sec_utils.specs.Items.{items_of}
 use Rattle.world_text.specs.declared.fault.WorldFault.{WorldFault}
 use Rattle.world_text.specs.declared.fault.WorldFault.TheVariants as fault
 use Rattle.world_text.specs.declared.world.WorldText.{WorldText}
@@ -71,11 +67,16 @@ refusal_of_line _ = refusal.Syntax
 abbrev pub item_of : Pid → Call → ScriptItem
 item_of who call = record { who = who; head = word_of (name_of call); call = call }
 
--- a script that begins with this line: the line is refused, it is blank, or it is a call
+-- the calls that a line stands for: none, one, or one for each path of a utility
+abbrev pub items_in : Line → List ScriptItem
+items_in line.Blank = []
+items_in (line.One who call) = item_of who call ∷ []
+items_in (line.Tool util) = items_of util
+
+-- a script that begins with this line: the line is refused, or its calls come first
 abbrev pub after_line : Result Line LineError → ℕ → Script → Script
 after_line (Err e) n more = script [] (Refused n part.Script (refusal_of_line e))
-after_line (Ok line.Blank) n more = more
-after_line (Ok (line.One who call)) n more = script (item_of who call ∷ more.items) more.ending
+after_line (Ok line) n more = script (items_in line ++ more.items) more.ending
 
 -- why a last piece is refused that no line feed ends: it is too long, or it does not end
 abbrev pub unended : List ℕ → Refusal

@@ -7,4 +7,6 @@ pub mod Counts
 pub mod Reading
 pub mod Playing
 pub mod Clauses
+pub mod Lineage
+pub mod Readable
 pub mod Exit

@@ -10,6 +10,7 @@ use Rattle.labsys.specs.declared.status.InputEnd.{InputEnd}
 use Rattle.labsys.specs.declared.status.InputEnd.TheVariants.{Whole as AllRead}
 use Rattle.labsys.specs.declared.status.Fault.{Fault}
 use Rattle.kern_model.specs.declared.limits.TheConstants.{MAX_INPUT}
+use Rattle.kern_model.specs.declared.world.ScriptItem.{ScriptItem}
 use Rattle.kern_model.specs.State.{State}
 use Rattle.kern_model.specs.Run.{run, state_after_run}
 use Rattle.lab_text.specs.Policy.{PolicyNames}
@@ -25,9 +26,13 @@ use Rattle.labsys.specs.Texts.{ends_text, last_text}
 unfoldable pub tail_from : PolicyNames → ℕ → State → Script → List ℕ
 tail_from policy count s script = ends_text policy (state_after_run s script.items) ++ last_text (count + length (run s script.items)) script.ending
 
+-- the order of calls that are played from a state on, after so many others
+unfoldable pub items_order : PolicyNames → ℕ → State → List ScriptItem → List Sent
+items_order policy count s items = flat_map call_order (bytes_from policy (count + 1) (run s items))
+
 -- the order of a script that is played from a state on, after so many calls
 unfoldable pub order_in : PolicyNames → ℕ → State → Script → List Sent
-order_in policy count s script = flat_map call_order (bytes_from policy (count + 1) (run s script.items)) ++ to_out (tail_from policy count s script)
+order_in policy count s script = items_order policy count s script.items ++ to_out (tail_from policy count s script)
 
 -- ---- what a function writes
 

@@ -1,21 +1,21 @@
 -- What is read of an input, line by line.
-use Rattle.std.specs.Prelude.{◌≡◌, ℕ, ◌+◌, ◌≤◌, ◌<◌, Bool, true, List, [], ◌∷◌, length, Some}
+use Rattle.std.specs.Prelude.{◌≡◌, ℕ, ◌+◌, ◌≤◌, ◌<◌, Bool, List, [], ◌++◌, length, Some}
 use Rattle.fs_path.specs.Split.{pieces}
 use Rattle.lab_text.specs.Policy.{PolicyNames, top_of}
-use Rattle.kern_model.specs.Arguments.{is_call}
 use Rattle.kern_model.specs.World.{IsWorld}
+use Rattle.script_text.specs.Line.{MayBePlayed}
+use Rattle.script_text.specs.declared.line.Line.{Line}
 use Rattle.script_text.specs.declared.fault.LineError.{LineError}
 use Rattle.script_text.specs.declared.fault.LineError.TheVariants as line_error
 use Rattle.labsys.specs.declared.status.InputEnd.{InputEnd}
 use Rattle.labsys.specs.declared.status.Refusal.{Refusal}
 use Rattle.labsys.specs.declared.reading.Halt.{Halt}
 use Rattle.labsys.specs.declared.reading.Halt.TheVariants as halt
-use Rattle.labsys.specs.declared.reading.Item.{Item}
 use Rattle.labsys.specs.declared.reading.Next.{Next}
 use Rattle.labsys.specs.declared.reading.Next.TheVariants as next
 use Rattle.labsys.specs.declared.reading.ReadWorld.{ReadWorld}
 use Rattle.labsys.specs.declared.reading.Unread.{Unread}
-use Rattle.labsys.specs.Input.{Script, item_of, no_world, read_input, refusal_of_line, script, script_from}
+use Rattle.labsys.specs.Input.{Script, items_in, no_world, read_input, refusal_of_line, script, script_from}
 
 -- the script that is not read yet
 abbrev pub script_left : PolicyNames → Unread → Script
@@ -33,21 +33,12 @@ abbrev pub ReadsNone : Bool → List ℕ → Halt → Type 0
 ReadsNone over text (halt.Ended ending) = read_input over text ≡ no_world ending
 ReadsNone over text halt.NoMemory = Unit {0}
 
--- what is left after a line begins with the next one, and is shorter
-pub record IsAfterLine (before after : Unread) : Type 0 where
-  pub next : after.number ≡ before.number + 1
-  pub shorter : length after.text.now < length before.text.now
-
--- a script begins with a line of this call, which may be played, and goes on with the rest
-pub record PlaysLine (policy : PolicyNames) (before : Unread) (item : Item) (rest : Unread) : Type 0 where
-  pub says : script_left policy before ≡ script (item_of item.who item.call ∷ (script_left policy rest).items) (script_left policy rest).ending
-  pub arguments : is_call (top_of policy) item.call ≡ true
-  pub after : IsAfterLine before rest
-
--- a script begins with a blank line, and goes on with the rest
-pub record SkipsLine (policy : PolicyNames) (before rest : Unread) : Type 0 where
-  pub says : script_left policy before ≡ script_left policy rest
-  pub after : IsAfterLine before rest
+-- a script begins with a line, whose calls may be played, and goes on with the rest, which is shorter by more bytes than the line has calls
+pub record BeginsWith (policy : PolicyNames) (before : Unread) (line : Line) (rest : Unread) : Type 0 where
+  pub says : script_left policy before ≡ script (items_in line ++ (script_left policy rest).items) (script_left policy rest).ending
+  pub calls : MayBePlayed (top_of policy) line
+  pub next : rest.number ≡ before.number + 1
+  pub shorter : length (items_in line) + length rest.text.now < length before.text.now
 
 -- a script ends here
 abbrev pub Ends : PolicyNames → Unread → InputEnd → Type 0
@@ -60,6 +51,5 @@ IsRefusal fault why = why ≡ refusal_of_line fault
 
 -- what is next in a script
 abbrev pub Follows : PolicyNames → Unread → Next → Type 0
-Follows policy unread (next.Item item rest) = PlaysLine policy unread item rest
-Follows policy unread (next.Blank rest) = SkipsLine policy unread rest
+Follows policy unread (next.Line line rest) = BeginsWith policy unread line rest
 Follows policy unread (next.Ended ending) = Ends policy unread ending

@@ -13,7 +13,7 @@ use Rattle.line_text.specs.Words.{pid_text, caps_word}
 use Rattle.kern_model.specs.declared.numbers.Pid.{Pid}
 use Rattle.kern_model.specs.State.{State, Process}
 use Rattle.kern_model.specs.Run.{CallRecord}
-use Rattle.script_text.specs.Reply.{reply_line}
+use Rattle.line_text.specs.Reply.{reply_line}
 use Rattle.labsys.specs.declared.status.InputEnd.{InputEnd}
 use Rattle.labsys.specs.declared.status.InputEnd.TheVariants.{Whole, Refused, TooMuch}
 use Rattle.labsys.specs.declared.status.Part.{Part}

@@ -1,7 +1,7 @@
 // An input that was read, from its first byte to the last line.
-ghost use Rattle.std.specs.Prelude.{◌≡◌, ℕ, ◌≤◌, ◌+◌, ◌^◌, ◌++◌, true, OnOk, IfOk, Some, length};
+ghost use Rattle.std.specs.Prelude.{◌≡◌, ℕ, ◌≤◌, ◌<◌, ◌+◌, ◌^◌, ◌++◌, true, List, OnOk, IfOk, Some, length};
 ghost use Rattle.std.specs.List.{flat_map};
-ghost use Rattle.kern_model.specs.Run.{played};
+ghost use Rattle.kern_model.specs.Run.{played, state_after_run};
 ghost use Rattle.kern_model.specs.Step.{step};
 ghost use Rattle.kern_model.specs.Arguments.{is_call};
 ghost use Rattle.kern_model.specs.World.{IsWorld};
@@ -9,15 +9,20 @@ ghost use Rattle.kern_core.specs.Kernel.{state_of};
 ghost use Rattle.lab_text.specs.Policy.{top_of};
 ghost use Rattle.aud_record.specs.Written.{rec_text as rec_line, header_text as head_lines};
 ghost use Rattle.io_ends.specs.Sinks.{sink_view};
-ghost use Rattle.labsys.specs.Input.{item_of, read_input};
+ghost use Rattle.sec_utils.specs.Calls.{IsWhole};
+ghost use Rattle.sec_utils.specs.Items.{head_at, items_of};
+ghost use Rattle.script_text.specs.Line.{MayBePlayed};
+ghost use Rattle.script_text.specs.declared.line.Line.TheVariants as line;
+ghost use Rattle.labsys.specs.Input.{input_of, item_of, items_in, read_input};
 ghost use Rattle.labsys.specs.Reading.{script_left};
 ghost use Rattle.labsys.specs.Texts.{end_text, label_in, caps_in, ends_text, last_text};
 ghost use Rattle.labsys.specs.Session.{call_bytes};
 ghost use Rattle.labsys.specs.Order.{call_order, order_by, order_of};
+ghost use Rattle.labsys.specs.Readable.{AreReadable, CallsReadable, InputReadable, ScriptReadable, SessionReadable};
 ghost use Rattle.labsys.specs.Counts.{CountsOnce, counts};
-ghost use Rattle.labsys.specs.Playing.{Takes, RunDid, WritesBoth, WritesOut, WritesTrail, ends, order_in};
+ghost use Rattle.labsys.specs.Playing.{Takes, RunDid, WritesBoth, WritesOut, WritesTrail, ends, items_order, order_in};
 
-use crate::reading::{Halt, Item, Next, ReadWorld, Unread, next_item, read_world};
+use crate::reading::{Halt, Next, ReadWorld, Unread, read_next, read_world};
 use crate::texts::{Texts, end_line, last_line};
 use crate::{Fault, InputEnd};
 use aud_record::{header_text, rec_text};
@@ -25,8 +30,9 @@ use cap_bits::CapSet;
 use io_ends::{ReadError, Sink, Source, Whole, read_whole, write_whole};
 use kern_core::Kernel;
 use kern_model::limits::MAX_INPUT;
-use kern_model::{NoMemory, Pid, Rec};
-use script_text::reply_text;
+use kern_model::{Call, Calls, NoMemory, Pid, Rec, Reply};
+use script_text::{Line, reply_text};
+use sec_utils::{Util, expand, util_text};
 use std::alloc::Global;
 use world_text::WorldText;
 
@@ -52,7 +58,8 @@ fn answer<K: Sink>(out: &mut K, piece: &[u8]) -> Result<(), Fault>
 
 // Writes the records of a call to the trail, each as one piece.
 fn note_all<T: Sink>(texts: Texts<'_>, call: u64, recs: &[Rec], trail: &mut T) -> Result<(), Fault>
-    ensures { WritesTrail result (flat_map (rec_line texts.entry.policy.now call) recs.now) (sink_view (T.held trail.old) (T.faults trail.old)) (sink_view (T.held trail.new) (T.faults trail.new)) }
+    ensures writes { WritesTrail result (flat_map (rec_line texts.entry.policy.now call) recs.now) (sink_view (T.held trail.old) (T.faults trail.old)) (sink_view (T.held trail.new) (T.faults trail.new)) }
+    ensures readable { OnOk result (AreReadable texts.entry.policy.now call recs.now) }
 {
     for rec in recs {
         let text = rec_text(texts.alloc, texts.policy, call, rec)?;
@@ -61,25 +68,123 @@ fn note_all<T: Sink>(texts: Texts<'_>, call: u64, recs: &[Rec], trail: &mut T) -
     Ok(())
 }
 
-// Plays one call of the script: its records go to the trail, and then its reply to the output.
-fn play_item<K: Sink, T: Sink>(
+// Plays one call, and writes its records to the trail.
+fn play_call<C: Calls, T: Sink>(
     texts: Texts<'_>,
-    kernel: &mut Kernel,
+    kernel: &mut C,
     number: u64,
-    item: Item,
+    who: &Pid,
+    call: &Call,
+    trail: &mut T,
+) -> Result<Reply, Fault>
+    requires arguments { is_call (C.state kernel.old).top call.now ≡ true }
+    ensures writes { WritesTrail result (flat_map (rec_line texts.entry.policy.now number) (step (C.state kernel.old) who.now call.now).recs)
+        (sink_view (T.held trail.old) (T.faults trail.old)) (sink_view (T.held trail.new) (T.faults trail.new)) }
+    ensures reply { IfOk result (λ reply. reply ≡ (step (C.state kernel.old) who.now call.now).reply) }
+    ensures state { OnOk result (C.state kernel.new ≡ (step (C.state kernel.old) who.now call.now).state) }
+    ensures readable { OnOk result (AreReadable texts.entry.policy.now number (step (C.state kernel.old) who.now call.now).recs) }
+{
+    let outcome = kernel.call(who, call)?;
+    note_all(texts, number, outcome.recs.items(), trail)?;
+    Ok(outcome.reply)
+}
+
+// Plays a line that is one call: its records go to the trail, and then its reply to the output.
+fn play_one<C: Calls, K: Sink, T: Sink>(
+    texts: Texts<'_>,
+    kernel: &mut C,
+    number: u64,
+    who: &Pid,
+    call: &Call,
     out: &mut K,
     trail: &mut T,
 ) -> Result<(), Fault>
-    requires arguments { is_call (state_of kernel.old).top item.call ≡ true }
-    ensures writes { WritesBoth result (call_order (call_bytes texts.entry.policy.now number (played (state_of kernel.old) (item_of item.who item.call))))
+    requires arguments { is_call (C.state kernel.old).top call.now ≡ true }
+    ensures writes { WritesBoth result (call_order (call_bytes texts.entry.policy.now number (played (C.state kernel.old) (item_of who.now call.now))))
         (sink_view (K.held out.old) (K.faults out.old)) (sink_view (K.held out.new) (K.faults out.new)) (sink_view (T.held trail.old) (T.faults trail.old)) (sink_view (T.held trail.new) (T.faults trail.new)) }
-    ensures state { OnOk result (state_of kernel.new ≡ (step (state_of kernel.old) item.who item.call).state) }
+    ensures state { OnOk result (C.state kernel.new ≡ (step (C.state kernel.old) who.now call.now).state) }
+    ensures readable { OnOk result (AreReadable texts.entry.policy.now number (step (C.state kernel.old) who.now call.now).recs) }
 {
-    let outcome = kernel.call(&item.who, &item.call)?;
-    note_all(texts, number, outcome.recs.items(), trail)?;
-    let word = item.call.name().word();
-    let text = reply_text(texts.alloc, texts.policy, &item.who, word, &outcome.reply)?;
+    let reply = play_call(texts, kernel, number, who, call, trail)?;
+    let text = reply_text(texts.alloc, texts.policy, who, call.name().word(), &reply)?;
     answer(out, &text)
+}
+
+// Plays the call of a utility on one of its paths, in the same order.
+fn play_path<C: Calls, K: Sink, T: Sink>(
+    texts: Texts<'_>,
+    kernel: &mut C,
+    number: u64,
+    util: &Util,
+    at: usize,
+    call: &Call,
+    out: &mut K,
+    trail: &mut T,
+) -> Result<(), Fault>
+    requires arguments { is_call (C.state kernel.old).top call.now ≡ true }
+    requires at { at < length util.now.paths }
+    requires whole { IsWhole util.now }
+    ensures writes { WritesBoth result (call_order (call_bytes texts.entry.policy.now number (played (C.state kernel.old) (record { who = util.now.who; head = head_at util.now at; call = call.now }))))
+        (sink_view (K.held out.old) (K.faults out.old)) (sink_view (K.held out.new) (K.faults out.new)) (sink_view (T.held trail.old) (T.faults trail.old)) (sink_view (T.held trail.new) (T.faults trail.new)) }
+    ensures state { OnOk result (C.state kernel.new ≡ (step (C.state kernel.old) util.now.who call.now).state) }
+    ensures readable { OnOk result (AreReadable texts.entry.policy.now number (step (C.state kernel.old) util.now.who call.now).recs) }
+{
+    let reply = play_call(texts, kernel, number, &util.who, call, trail)?;
+    let text = util_text(texts.alloc, texts.policy, util, at, &reply)?;
+    answer(out, &text)
+}
+
+// Plays the calls of a utility, one for each path, and returns the number of the last one.
+fn play_tool<C: Calls, K: Sink, T: Sink>(
+    texts: Texts<'_>,
+    kernel: &mut C,
+    count: u64,
+    util: &Util,
+    out: &mut K,
+    trail: &mut T,
+) -> Result<u64, Fault>
+    requires calls { MayBePlayed (C.state kernel.old).top (line.Tool util.now) }
+    requires small { count + length (items_of util.now) ≤ 2 ^ 60 }
+    ensures writes { WritesBoth result (items_order texts.entry.policy.now count (C.state kernel.old) (items_of util.now))
+        (sink_view (K.held out.old) (K.faults out.old)) (sink_view (K.held out.new) (K.faults out.new)) (sink_view (T.held trail.old) (T.faults trail.old)) (sink_view (T.held trail.new) (T.faults trail.new)) }
+    ensures state { OnOk result (C.state kernel.new ≡ state_after_run (C.state kernel.old) (items_of util.now)) }
+    ensures count { IfOk result (λ last. last ≡ count + length (items_of util.now)) }
+    ensures readable { OnOk result (CallsReadable texts.entry.policy.now count (C.state kernel.old) (items_of util.now)) }
+{
+    let calls = expand(texts.alloc, util)?;
+    let mut number = count;
+    for (at, call) in calls.items().iter().enumerate() {
+        number += 1;
+        play_path(texts, kernel, number, util, at, call, out, trail)?;
+    }
+    Ok(number)
+}
+
+// Plays the calls of a line after `count` others, and returns the number of the last one.
+fn play_line<C: Calls, K: Sink, T: Sink>(
+    texts: Texts<'_>,
+    kernel: &mut C,
+    count: u64,
+    line: Line,
+    out: &mut K,
+    trail: &mut T,
+) -> Result<u64, Fault>
+    requires calls { MayBePlayed (C.state kernel.old).top line }
+    requires small { count + length (items_in line) ≤ 2 ^ 60 }
+    ensures writes { WritesBoth result (items_order texts.entry.policy.now count (C.state kernel.old) (items_in line))
+        (sink_view (K.held out.old) (K.faults out.old)) (sink_view (K.held out.new) (K.faults out.new)) (sink_view (T.held trail.old) (T.faults trail.old)) (sink_view (T.held trail.new) (T.faults trail.new)) }
+    ensures state { OnOk result (C.state kernel.new ≡ state_after_run (C.state kernel.old) (items_in line)) }
+    ensures count { IfOk result (λ last. last ≡ count + length (items_in line)) }
+    ensures readable { OnOk result (CallsReadable texts.entry.policy.now count (C.state kernel.old) (items_in line)) }
+{
+    match line {
+        Line::Blank => Ok(count),
+        Line::One { who, call } => {
+            play_one(texts, kernel, count + 1, &who, &call, out, trail)?;
+            Ok(count + 1)
+        }
+        Line::Tool(util) => play_tool(texts, kernel, count, &util, out, trail),
+    }
 }
 
 // The end line of a process, or no byte where it does not live.
@@ -144,17 +249,17 @@ fn play_script<K: Sink, T: Sink>(
     ensures writes { WritesBoth result (order_in texts.entry.policy.now 0 (state_of kernel.old) (script_left texts.entry.policy.now script.entry))
         (sink_view (K.held out.old) (K.faults out.old)) (sink_view (K.held out.new) (K.faults out.new)) (sink_view (T.held trail.old) (T.faults trail.old)) (sink_view (T.held trail.new) (T.faults trail.new)) }
     ensures ending { IfOk result (λ e. e ≡ (script_left texts.entry.policy.now script.entry).ending) }
+    ensures readable { ScriptReadable texts.entry.policy.now (state_of kernel.old) (script_left texts.entry.policy.now script.entry).items
+        (sink_view (K.held out.old) (K.faults out.old)) (sink_view (K.held out.new) (K.faults out.new)) (sink_view (T.held trail.old) (T.faults trail.old)) (sink_view (T.held trail.new) (T.faults trail.new)) }
 {
     let mut rest = script;
     let mut count = 0u64;
     loop {
-        match next_item(texts, rest)? {
-            Next::Item(item, after) => {
-                count += 1;
-                play_item(texts, kernel, count, item, out, trail)?;
+        match read_next(texts, rest)? {
+            Next::Line(line, after) => {
+                count = play_line(texts, kernel, count, line, out, trail)?;
                 rest = after;
             }
-            Next::Blank(after) => rest = after,
             Next::Ended(ending) => {
                 finish(texts, kernel, count, ending, out)?;
                 return Ok(ending);
@@ -170,7 +275,8 @@ fn begin<T: Sink>(
     recs: &[Rec],
     trail: &mut T,
 ) -> Result<(), Fault>
-    ensures { WritesTrail result (head_lines texts.entry.policy.now bound.now ++ flat_map (rec_line texts.entry.policy.now 0) recs.now) (sink_view (T.held trail.old) (T.faults trail.old)) (sink_view (T.held trail.new) (T.faults trail.new)) }
+    ensures writes { WritesTrail result (head_lines texts.entry.policy.now bound.now ++ flat_map (rec_line texts.entry.policy.now 0) recs.now) (sink_view (T.held trail.old) (T.faults trail.old)) (sink_view (T.held trail.new) (T.faults trail.new)) }
+    ensures readable { OnOk result (AreReadable texts.entry.policy.now 0 recs.now) }
 {
     let text = header_text(texts.alloc, texts.policy, bound)?;
     note(trail, &text)?;
@@ -190,6 +296,9 @@ fn play_world<K: Sink, T: Sink>(
     ensures writes { WritesBoth result (order_by (Some world.entry.read) (script_left world.entry.read.policy world.entry.script))
         (sink_view (K.held out.old) (K.faults out.old)) (sink_view (K.held out.new) (K.faults out.new)) (sink_view (T.held trail.old) (T.faults trail.old)) (sink_view (T.held trail.new) (T.faults trail.new)) }
     ensures ending { IfOk result (λ e. e ≡ (script_left world.entry.read.policy world.entry.script).ending) }
+    ensures readable { (source : ℕ) → SessionReadable world.entry.read (script_left world.entry.read.policy world.entry.script)
+        (ends source (sink_view (K.held out.old) (K.faults out.old)) (sink_view (T.held trail.old) (T.faults trail.old)))
+        (ends source (sink_view (K.held out.new) (K.faults out.new)) (sink_view (T.held trail.new) (T.faults trail.new))) }
 {
     let ReadWorld { read, script } = world;
     let WorldText { policy, world } = read;
@@ -228,6 +337,9 @@ fn play_text<K: Sink, T: Sink>(
     ensures writes { WritesBoth result (order_of (read_input over text.now))
         (sink_view (K.held out.old) (K.faults out.old)) (sink_view (K.held out.new) (K.faults out.new)) (sink_view (T.held trail.old) (T.faults trail.old)) (sink_view (T.held trail.new) (T.faults trail.new)) }
     ensures ending { IfOk result (λ e. e ≡ (read_input over text.now).script.ending) }
+    ensures readable { (source : ℕ) → InputReadable (read_input over text.now)
+        (ends source (sink_view (K.held out.old) (K.faults out.old)) (sink_view (T.held trail.old) (T.faults trail.old)))
+        (ends source (sink_view (K.held out.new) (K.faults out.new)) (sink_view (T.held trail.new) (T.faults trail.new))) }
 {
     match read_world(alloc, text, over) {
         Ok(world) => play_world(alloc, world, out, trail),
@@ -256,7 +368,10 @@ pub fn play<S: Source, K: Sink, T: Sink>(
     out: &mut K,
     trail: &mut T,
 ) -> Result<InputEnd, Fault>
-    ensures { RunDid result (S.left source.old) (S.left source.new)
+    ensures did { RunDid result (S.left source.old) (S.left source.new)
+        (ends (S.faults source.old) (sink_view (K.held out.old) (K.faults out.old)) (sink_view (T.held trail.old) (T.faults trail.old)))
+        (ends (S.faults source.new) (sink_view (K.held out.new) (K.faults out.new)) (sink_view (T.held trail.new) (T.faults trail.new))) }
+    ensures readable { (text : List ℕ) → S.left source.old ≡ Some text → InputReadable (input_of text)
         (ends (S.faults source.old) (sink_view (K.held out.old) (K.faults out.old)) (sink_view (T.held trail.old) (T.faults trail.old)))
         (ends (S.faults source.new) (sink_view (K.held out.new) (K.faults out.new)) (sink_view (T.held trail.new) (T.faults trail.new))) }
 {

@@ -7,8 +7,8 @@ ghost use Rattle.labsys.specs.declared.reading.Halt.TheVariants as halt;
 use crate::texts::Texts;
 use crate::{InputEnd, Part, Refusal};
 use fs_path::next_line;
+use kern_model::NoMemory;
 use kern_model::limits::MAX_LINE;
-use kern_model::{Call, NoMemory, Pid};
 use script_text::{Line, LineError, read_line};
 use std::alloc::Global;
 use world_text::{Prefix, WorldText, read_prefix};
@@ -106,26 +106,17 @@ fn refusal_of(fault: LineError) -> Result<Refusal, NoMemory>
     }
 }
 
-/// A call of a script, and its caller.
-#[derive(Drop)]
-pub struct Item {
-    pub who: Pid,
-    pub call: Call,
-}
-
 /// What is next in a script.
 #[derive(Drop)]
 pub enum Next<'a> {
-    /// A call, and the script after its line.
-    Item(Item, Unread<'a>),
-    /// A blank line or a comment, and the script after it.
-    Blank(Unread<'a>),
+    /// A line, and the script after it.
+    Line(Line, Unread<'a>),
     /// How the input ends.
     Ended(InputEnd),
 }
 
 /// Reads the next line of a script.
-pub fn next_item<'a>(texts: Texts<'_>, script: Unread<'a>) -> Result<Next<'a>, NoMemory>
+pub fn read_next<'a>(texts: Texts<'_>, script: Unread<'a>) -> Result<Next<'a>, NoMemory>
     requires { script.number + length script.text.now ≤ 2 ^ 60 }
     ensures { IfOk result (Follows texts.entry.policy.now script.entry) }
 {
@@ -138,8 +129,7 @@ pub fn next_item<'a>(texts: Texts<'_>, script: Unread<'a>) -> Result<Next<'a>, N
         ..script
     };
     match read_line(texts.alloc, texts.policy, line) {
-        Ok(Line::Blank) => Ok(Next::Blank(rest)),
-        Ok(Line::One { who, call }) => Ok(Next::Item(Item { who, call }, rest)),
+        Ok(line) => Ok(Next::Line(line, rest)),
         Err(fault) => {
             let refused = InputEnd::Refused(script.number, Part::Script, refusal_of(fault)?);
             Ok(Next::Ended(refused))

@@ -7,6 +7,7 @@ ghost use Rattle.labsys.specs.Session.{session_of};
 ghost use Rattle.labsys.specs.Order.{out_of, trail_of, IsInOrder};
 ghost use Rattle.labsys.specs.Commands.{LeavesAlone, command_of, due};
 ghost use Rattle.labsys.specs.Counts.{counts, counts_after};
+ghost use Rattle.labsys.specs.Lineage.{PrintedByAny};
 ghost use Rattle.labsys.specs.Clauses.{status_of, OnWhole, TakesAtMost, WhereReported, reports, WhereAccepted, Covered, RepliesFirst, Printed, Dropped, Isolated, IsolatedWhole, SameBelow, TwoInputs, TwoWhole};
 
 use crate::command::command_of;
@@ -78,6 +79,9 @@ pub fn run<S: Source, K: Sink, T: Sink>(
     // Each end line has the capability sets that the records give, all of which are in the trail then.
     ensures printed { command_of words.now ≡ Some Command.Play → WhereReported (reports (S.left source.old) (K.held out.old) (T.held trail.old)) (reports (S.left source.new) (K.held out.new) (T.held trail.new))
         (λ text o t. WhereAccepted text (λ a script. Printed (session_of a script) o t)) }
+    // The trail is read as these records. Whatever records it is read as, each end line has the capability sets that they give.
+    ensures printed_by_any { command_of words.now ≡ Some Command.Play → WhereReported (reports (S.left source.old) (K.held out.old) (T.held trail.old)) (reports (S.left source.new) (K.held out.new) (T.held trail.new))
+        (λ text o t. WhereAccepted text (λ a script. PrintedByAny (session_of a script) o t)) }
     // The trail is of records in which permitted sets grow by exec alone.
     ensures dropped { command_of words.now ≡ Some Command.Play → WhereReported (reports (S.left source.old) (K.held out.old) (T.held trail.old)) (reports (S.left source.new) (K.held out.new) (T.held trail.new))
         (λ text o t. WhereAccepted text (λ a script. Dropped (session_of a script) t)) }

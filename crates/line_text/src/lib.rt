@@ -2,6 +2,7 @@
 #![tactic(auto)]
 
 mod reader;
+mod reply;
 mod writer;
 
 pub use reader::{choice, path_of};

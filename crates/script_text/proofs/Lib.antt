@@ -1,4 +1,4 @@
 pub mod ArgumentLemmas
 pub mod LineLemmas
-pub mod ReplyLemmas
 pub mod LineLaws
+pub mod ToolLemmas

@@ -1,8 +1,8 @@
 -- A line that was parsed may be played: its labels are below top, and its numbers, modes and flags are in their ranges.
 use Rattle.std.specs.Prelude.{◌≡◌, ℕ, ◌==◌, ◌||◌, nat_le, nat_lt, Bool, true, false, not, cond, List, [], ◌∷◌, length, drop, codes, Option, None, Some, Ok, Err, ℤ, pos, neg_ℤ, unsigned_abs, refl, is_none}
-use Rattle.std.proofs.Common.{sym, ◌∙◌, ap, subst, arith}
+use Rattle.std.proofs.Common.{suc, sym, ◌∙◌, ap, subst, arith}
 use Rattle.std.specs.Bool.{beq}
-use Rattle.std.specs.List.{starts_with}
+use Rattle.std.specs.List.{cons_option, filter_map, list_all, starts_with}
 use Rattle.std.specs.Option.{ok_or, option_and_then, option_map}
 use Rattle.std.proofs.lemmas.Bool.{and_parts, and_from, le-leb}
 use Rattle.std.proofs.lemmas.Int.{ints}
@@ -12,7 +12,6 @@ use Rattle.fs_path.specs.Path.{PathValue}
 use Rattle.fs_path.specs.PathText.{path_fault, parse_path}
 use Rattle.fs_path.specs.declared.path.PathError.{PathError}
 use Rattle.fs_path.specs.Split.{split_once}
-use Rattle.fs_path.specs.Options.{keep_if}
 use Rattle.fs_path.specs.Values.{mode_of, number_of, numeral}
 use Rattle.fs_path.specs.Words.{is_blank, words_of}
 use Rattle.fs_path.specs.declared.words.LineWord.{LineWord}
@@ -32,6 +31,15 @@ use Rattle.lab_text.specs.Text.{parse_label}
 use Rattle.script_text.specs.Argument.{process, pid_by, path as a_path, label as a_label, tag as a_tag, pid as a_pid, up_to as a_number_up_to, mode as a_mode, permissions as a_permission, offset as an_offset, signed, flags as some_flags, flags_in, is_in_order, numbered}
 use Rattle.kern_model.specs.Named.{call_named}
 use Rattle.script_text.specs.Calls.{parse_call, none_parsed, one_parsed, two_parsed, three_parsed}
+use Rattle.script_text.specs.Tools.{on_paths, parse_tool, paths as some_paths, paths_of, plain, with_caps, with_mark}
+use Rattle.sec_utils.specs.Calls.{call_by, call_on, calls_of, is_marked, is_marked_by}
+use Rattle.sec_utils.specs.Items.{may_be_made}
+use Rattle.sec_utils.specs.Tools.{tool_named}
+use Rattle.sec_utils.specs.declared.util.Tool.{Tool}
+use Rattle.sec_utils.specs.declared.util.Tool.TheVariants as tool
+use Rattle.sec_utils.specs.declared.util.Util.{Util}
+use Rattle.line_text.specs.Reading.{path_of}
+use Rattle.cap_bits.specs.declared.state.CapState.{CapState}
 use Rattle.script_text.specs.Line.{MayBePlayed, bytes_in, item_by, parse_item, parse_line, parse_words}
 use Rattle.script_text.specs.Reading.{Reading, both, made}
 use Rattle.script_text.specs.declared.line.Line.{Line}
@@ -245,24 +253,106 @@ module _ (policy : PolicyNames) where
   call_fine n (u ∷ v ∷ w ∷ []) c h = three_fine n u v w c h
   call_fine n (u ∷ v ∷ w ∷ x ∷ ws) c h = absurd (cc)
 
+  -- ---- utilities
+
+  -- a call that is there may be made
+  abbrev is_made : Option Call → Bool
+  is_made None = true
+  is_made (Some c) = may_be_made (top_of policy) c
+
+  -- the call of a utility may be made, where the label that it sets is below top
+  call_made : (tool : Tool) (caps : CapState) (mark : Option Label) (path : PathValue) → ((l : Label) → mark ≡ Some l → dominates (top_of policy) l ≡ true) → is_made (call_by tool caps mark path) ≡ true
+  unfolding is_call has_names
+  call_made tool.GetFcap caps mark path below = refl
+  call_made tool.SetFcap caps mark path below = refl
+  call_made tool.GetFmac caps mark path below = refl
+  call_made tool.SetFmac caps None path below = refl
+  call_made tool.SetFmac caps (Some l) path below = and_from _ _ (below l refl) refl
+
+  one_made : (o : Option Call) (cs : List Call) → is_made o ≡ true → list_all (may_be_made (top_of policy)) cs ≡ true → list_all (may_be_made (top_of policy)) (cons_option o cs) ≡ true
+  one_made None cs first others = others
+  one_made (Some c) cs first others = and_from _ _ first others
+
+  all_made : (h : PathValue → Option Call) → ((path : PathValue) → is_made (h path) ≡ true) → (ps : List PathValue) → list_all (may_be_made (top_of policy)) (filter_map h ps) ≡ true
+  all_made h each [] = refl
+  all_made h each (p ∷ ps) = one_made (h p) (filter_map h ps) (each p) (all_made h each ps)
+
+  -- where no label is given, none is above top
+  none_below : (mark : Option Label) → mark ≡ None → (l : Label) → mark ≡ Some l → dominates (top_of policy) l ≡ true
+  none_below mark none l some = absurd (cc)
+
+  -- a utility that may be played
+  abbrev IsPlayable : Util → Type 0
+  IsPlayable util = MayBePlayed (top_of policy) (line.Tool util)
+
+  util_played : (util : Util) → is_number (top_of policy) util.who ≡ true → is_marked util ≡ true → length util.texts ≡ length util.paths → ((l : Label) → util.mark ≡ Some l → dominates (top_of policy) l ≡ true) → IsPlayable util
+  unfolding calls_of
+  util_played util who marked texts below =
+      (who, all_made (call_on util) (λ path. call_made util.tool util.caps util.mark path below) util.paths, record { marked = marked; texts = texts })
+
+  paths_long : (ws : List (List ℕ)) (ps : List PathValue) → paths_of ws ≡ Some ps → length ws ≡ length ps
+  paths_long [] ps h = let is : [] ≡ ps = cc in ap length is
+  paths_long (w ∷ ws) ps h = by_first (path_of w) (paths_of ws) (paths_long ws) h
+    where
+      by_first : (o : Option PathValue) (more : Option (List PathValue)) → ((qs : List PathValue) → more ≡ Some qs → length ws ≡ length qs)
+          → option_and_then (λ path. option_map (λ paths. path ∷ paths) more) o ≡ Some ps → length (w ∷ ws) ≡ length ps
+      by_first None more long h = absurd (cc)
+      by_first (Some p) None long h = absurd (cc)
+      by_first (Some p) (Some qs) long h = let is : p ∷ qs ≡ ps = cc in ap (λ n. suc n) (long qs refl) ∙ ap length is
+
+  -- what is known of a utility that sets nothing
+  record IsPlain (tool : Tool) (util : Util) : Type 0 where
+    who : is_number (top_of policy) util.who ≡ true
+    tool_is : util.tool ≡ tool
+    unmarked : util.mark ≡ None
+    texts : length util.texts ≡ length util.paths
+
+  plain_fine : (tag : List ℕ) (tool : Tool) (ws : List (List ℕ)) (util : Util) → on_paths policy tag tool ws ≡ Ok util → IsPlain tool util
+  unfolding on_paths some_paths
+  plain_fine tag tool [] util h = absurd (cc)
+  plain_fine tag tool (w ∷ ws) util h = from_made (IsPlain tool) (plain tool (w ∷ ws)) _ util h (λ args e.
+      let is = both_are _ _ args e in
+      record { who = tag_fine tag args.0 is.0; tool_is = refl; unmarked = refl; texts = paths_long (w ∷ ws) args.1 (there (paths_of (w ∷ ws)) _ args.1 is.1) })
+
+  -- a utility that reports
+  report_fine : (tag : List ℕ) (tool : Tool) (ws : List (List ℕ)) (util : Util) → ((mark : Option Label) → is_marked_by tool mark ≡ true) → on_paths policy tag tool ws ≡ Ok util → IsPlayable util
+  report_fine tag tool ws util marked h =
+      let is = plain_fine tag tool ws util h in
+      util_played util is.who (ap (λ t. is_marked_by t util.mark) is.tool_is ∙ marked util.mark) is.texts (none_below _ is.unmarked)
+
+  util_fine : (tag : List ℕ) (tool : Tool) (ws : List (List ℕ)) (util : Util) → parse_tool policy tag tool ws ≡ Ok util → IsPlayable util
+  unfolding parse_tool
+  util_fine tag tool.GetFcap ws util h = report_fine tag tool.GetFcap ws util (λ mark. refl) h
+  util_fine tag tool.GetFmac ws util h = report_fine tag tool.GetFmac ws util (λ mark. refl) h
+  util_fine tag tool.SetFcap [] util h = absurd (cc)
+  util_fine tag tool.SetFmac [] util h = absurd (cc)
+  util_fine tag tool.SetFcap (w ∷ ws) util h = from_made IsPlayable with_caps _ util h (λ args e.
+      let is = plain_fine tag tool.SetFcap ws args.0 (both_are _ _ args e).0 in
+      util_played (with_caps args) is.who (ap (λ t. is_marked_by t args.0.mark) is.tool_is) is.texts (none_below _ is.unmarked))
+  util_fine tag tool.SetFmac (w ∷ ws) util h = from_made IsPlayable with_mark _ util h (λ args e.
+      let is = both_are _ _ args e in
+      let plain_is = plain_fine tag tool.SetFmac ws args.0 is.0 in
+      util_played (with_mark args) plain_is.who (ap (λ t. is_marked_by t (Some args.1)) plain_is.tool_is) plain_is.texts (λ l e. let same : args.1 ≡ l = cc in ap (dominates (top_of policy)) (sym same) ∙ label_fine w args.1 is.1))
+
   -- ---- lines
 
   item_fine : (ws : List LineWord) (l : Line) → parse_item policy ws ≡ Ok l → MayBePlayed (top_of policy) l
   unfolding parse_item
   item_fine [] l h = absurd (cc)
   item_fine (tag ∷ []) l h = absurd (cc)
-  item_fine (tag ∷ call ∷ ws) l h = by_quotes (tag.quoted || call.quoted) h
+  item_fine (tag ∷ name ∷ ws) l h = by_quotes (tag.quoted || name.quoted) h
     where
-      by_name : (o : Option CallName) → item_by policy tag.bytes (bytes_in ws) o ≡ Ok l → MayBePlayed (top_of policy) l
-      by_name None h = absurd (cc)
-      by_name (Some n) h = from_made (MayBePlayed (top_of policy)) (λ item. line.One item.0 item.1) _ l h (λ item e.
+      by_name : (o : Option CallName) (t : Option Tool) → item_by policy tag.bytes (bytes_in ws) o t ≡ Ok l → MayBePlayed (top_of policy) l
+      by_name None None h = absurd (cc)
+      by_name None (Some t) h = from_made (MayBePlayed (top_of policy)) line.Tool _ l h (λ util e. util_fine tag.bytes t (bytes_in ws) util e)
+      by_name (Some n) t h = from_made (MayBePlayed (top_of policy)) (λ item. line.One item.0 item.1) _ l h (λ item e.
           let is = both_are _ _ item e in
           let call_is = call_fine n (bytes_in ws) item.1 is.1 in
           (tag_fine tag.bytes item.0 is.0, call_is.0, call_is.1))
 
-      by_quotes : (v : Bool) → cond v (Err error.Syntax) (item_by policy tag.bytes (bytes_in ws) (call_named call.bytes)) ≡ Ok l → MayBePlayed (top_of policy) l
+      by_quotes : (v : Bool) → cond v (Err error.Syntax) (item_by policy tag.bytes (bytes_in ws) (call_named name.bytes) (tool_named name.bytes)) ≡ Ok l → MayBePlayed (top_of policy) l
       by_quotes true h = absurd (cc)
-      by_quotes false h = by_name (call_named call.bytes) h
+      by_quotes false h = by_name (call_named name.bytes) (tool_named name.bytes) h
 
   -- a parsed line may be played
   pub parsed_played : (text : List ℕ) (l : Line) → parse_line policy text ≡ Ok l → MayBePlayed (top_of policy) l

@@ -1,5 +1,5 @@
 pub mod Reading
 pub mod Argument
 pub mod Calls
+pub mod Tools
 pub mod Line
-pub mod Reply

@@ -1,4 +1,4 @@
-//! The lines of scripts, each of which is a call, and the lines of replies.
+//! The lines of scripts, each of which is a call or a use of a utility, and the lines of replies to calls.
 #![tactic(auto)]
 
 mod argument;
@@ -6,6 +6,7 @@ mod call;
 mod fault;
 mod line;
 mod reply;
+mod tool;
 
 pub use fault::LineError;
 pub use fs_path::NoMemory;

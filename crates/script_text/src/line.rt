@@ -2,15 +2,17 @@
 ghost use Rattle.std.specs.Prelude.{◌≡◌, IfOk, IfErr};
 ghost use Rattle.lab_text.specs.Policy.{top_of};
 ghost use Rattle.script_text.specs.Reading.{Answers, IsCause};
-ghost use Rattle.script_text.specs.Line.{parse_item, parse_line, MayBePlayed};
+ghost use Rattle.script_text.specs.Line.{bytes_in, call_line, parse_item, parse_line, MayBePlayed};
 
 use crate::call::call_of;
 use crate::fault::both;
+use crate::tool::util_of;
 use crate::{LineError, argument};
 use fs_path::{LineWord, is_blank, words_of};
 use kern_model::limits::MAX_LINE;
 use kern_model::{Call, CallName, Pid};
 use lab_text::Policy;
+use sec_utils::{Tool, Util};
 use std::alloc::Global;
 
 /// What a line of a script says.
@@ -20,10 +22,28 @@ pub enum Line {
     Blank,
     /// One call of a process.
     One { who: Pid, call: Call },
+    /// One use of a utility by a process.
+    Tool(Util),
+}
+
+// A call with its tag and its arguments.
+#[tactic(auto, unfolding(crate::specs::Reading::made, crate::specs::Reading::both))]
+fn call_line(
+    alloc: Global,
+    policy: &Policy,
+    tag: &LineWord,
+    name: CallName,
+    arguments: &[LineWord],
+) -> Result<Line, LineError>
+    ensures { Answers (call_line policy.now tag.now.bytes (bytes_in arguments.now) name) result }
+{
+    let call = call_of(alloc, policy, name, arguments);
+    let (who, call) = both(argument::tag(policy, tag), call)?;
+    Ok(Line::One { who, call })
 }
 
 // What the words of a line say.
-#[tactic(auto, unfolding(crate::specs::Line::parse_item, crate::specs::Reading::made, crate::specs::Reading::both))]
+#[tactic(auto, unfolding(crate::specs::Line::parse_item, crate::specs::Reading::made))]
 fn item_of(alloc: Global, policy: &Policy, words: &[LineWord]) -> Result<Line, LineError>
     ensures { Answers (parse_item policy.now words.now) result }
 {
@@ -33,10 +53,11 @@ fn item_of(alloc: Global, policy: &Policy, words: &[LineWord]) -> Result<Line, L
     if tag.quoted || name.quoted {
         return Err(LineError::Syntax);
     }
-    let name = CallName::from_word(name.bytes.items()).ok_or(LineError::Syntax)?;
-    let call = call_of(alloc, policy, name, arguments);
-    let (who, call) = both(argument::tag(policy, tag), call)?;
-    Ok(Line::One { who, call })
+    if let Some(name) = CallName::from_word(name.bytes.items()) {
+        return call_line(alloc, policy, tag, name, arguments);
+    }
+    let tool = Tool::from_word(name.bytes.items()).ok_or(LineError::Syntax)?;
+    util_of(alloc, policy, tag, tool, arguments).map(Line::Tool)
 }
 
 /// What a line of a script says. The line comes without its line feed.

@@ -3,7 +3,7 @@ use Rattle.std.specs.Prelude.{Bool, true, false}
 use Rattle.kern_model.specs.declared.calls.Call.{Call}
 use Rattle.kern_model.specs.declared.calls.Call.TheVariants as call
 
--- a call that takes no memory, but for the records that it leaves
+-- a call that takes no memory and leaves no record
 abbrev pub takes_no_memory : Call → Bool
 takes_no_memory (call.Close fd) = true
 takes_no_memory (call.Dup fd) = true

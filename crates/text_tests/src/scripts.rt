@@ -2,6 +2,7 @@
 mod calls;
 mod faults;
 mod replies;
+mod tools;
 
 use lab_text::{Policy, PolicyError, Word};
 use script_text::NoMemory;

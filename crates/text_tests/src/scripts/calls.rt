@@ -165,7 +165,7 @@ fn is_parsed(policy: &Policy, call: &Call) -> bool {
 fn call(alloc: Global, policy: &Policy, line: &[u8]) -> Result<Call, Fail> {
     match read_line(alloc, policy, line)? {
         Line::One { who: _, call } => Ok(call),
-        Line::Blank => Err(Fail::new("the line says nothing")),
+        Line::Blank | Line::Tool(_) => Err(Fail::new("the line says no call")),
     }
 }
 

@@ -16,10 +16,9 @@ const LONG: [(Text, Option<LineError>); 5] = [
     ((b"", 2049, b' '), Some(TooLong)),
 ];
 
-const FAULTS: [(&[u8], LineError); 74] = [
+const FAULTS: [(&[u8], LineError); 80] = [
     (b"1@unc", Syntax),
     (b"1@unc frob", Syntax),
-    (b"1@unc getfcap /a", Syntax),
     (b"1@unc Getpid", Syntax),
     (b"4096@unc getpid", BadTag),
     (b"1@zzz getpid", BadTag),
@@ -81,6 +80,14 @@ const FAULTS: [(&[u8], LineError); 74] = [
     (b"1@ getpid", BadTag),
     (b"1@sec:a, getpid", BadTag),
     (b"1@unc@unc getpid", BadTag),
+    // Utilities.
+    (b"1@unc getfcap", Syntax),
+    (b"1@zzz setfmac sec", Syntax),
+    (b"1@unc Getfcap /a", Syntax),
+    (b"1@zzz setfcap +e /..", BadTag),
+    (b"1@unc setfmac zzz /a /..", BadPath),
+    (b"1@unc setfmac zzz /a", BadLabel),
+    (b"1@unc setfcap +e /a", BadCaps),
     // Numbers of processes.
     (b"1@unc kill 1@ 0", BadLabel),
     (b"1@unc kill 0@unc 0", BadLabel),

@@ -1,0 +1,3 @@
+pub mod Tools
+pub mod Calls
+pub mod Items
