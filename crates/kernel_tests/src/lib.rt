@@ -20,4 +20,6 @@ mod names;
 #[cfg(test)]
 mod objects;
 #[cfg(test)]
+mod pipes;
+#[cfg(test)]
 mod processes;

@@ -5,8 +5,8 @@ ghost use Rattle.kern_model.specs.declared.objects.Object.{Object};
 ghost use Rattle.fs_nodes.specs.Nodes.{IsFile, IsStream};
 
 use cap_bits::CapState;
-use fs_nodes::{Buffers, NodeError, Nodes};
-use kern_model::{Attr, Body, ByteList, Oid};
+use fs_nodes::{Buffers, NodeError, Nodes, WriteError};
+use kern_model::{Attr, Body, ByteList, Kind, Oid};
 use lab_lattice::bottom;
 use std::alloc::Global;
 use std::test::Fail;
@@ -33,7 +33,7 @@ fn with_file(alloc: Global) -> Result<(Nodes, Oid), Fail>
 }
 
 // The objects with one FIFO, and its number.
-fn with_fifo(alloc: Global) -> Result<(Nodes, Oid), Fail>
+pub fn with_fifo(alloc: Global) -> Result<(Nodes, Oid), Fail>
     ensures stream { IfOk result (λ made. IsStream made.0.table.objects made.1) }
     ensures empty { IfOk result (λ made. (o : Object) → map.get made.0.table.objects made.1 ≡ Some o → o.bytes ≡ []) }
 {
@@ -41,6 +41,14 @@ fn with_fifo(alloc: Global) -> Result<(Nodes, Oid), Fail>
     match nodes.create(bottom(), attr(), Body::Fifo) {
         Ok(id) => Ok((nodes, id)),
         Err(_) => Err(Fail::new("no FIFO is made")),
+    }
+}
+
+// Writes bytes into a file, if that is what has the number.
+fn write(nodes: &mut Nodes, id: &Oid, at: u32, bytes: &[u8]) -> Option<Result<(), WriteError>> {
+    match nodes.get(id) {
+        Some(object) if object.kind == Kind::File => Some(nodes.write_at(id, at, bytes)),
+        _ => None,
     }
 }
 
@@ -52,6 +60,29 @@ fn file_is_written_and_read(rt: HostRuntime) -> Result<(), Fail> {
     let bytes = nodes.get(&id).map(|o| o.bytes.items());
     assert_eq!(rt; bytes, Some(b"abde".as_slice()));
     assert_eq!(rt; (nodes.key(&id), nodes.slots().len()), (Some(0), 1));
+    Ok(())
+}
+
+#[test]
+fn file_has_65536_bytes(rt: HostRuntime) -> Result<(), Fail> {
+    let (mut nodes, id) = with_file(rt.alloc())?;
+    let bytes = vec![in rt.alloc(); b'x'; 65_536]?;
+    assert_eq!(rt; write(&mut nodes, &id, 0, &bytes), Some(Ok(())));
+    assert_eq!(rt;
+        write(&mut nodes, &id, 65_536, b"y"),
+        Some(Err(WriteError::TooBig))
+    );
+    assert_eq!(rt;
+        write(&mut nodes, &id, 65_535, b"yz"),
+        Some(Err(WriteError::TooBig))
+    );
+    assert_eq!(rt;
+        write(&mut nodes, &id, 65_537, b"y"),
+        Some(Err(WriteError::PastEnd))
+    );
+    assert_eq!(rt; nodes.read_at(&id, 65_534, 9)?.items(), b"xx".as_slice());
+    assert_eq!(rt; write(&mut nodes, &id, 65_535, b"y"), Some(Ok(())));
+    assert_eq!(rt; nodes.read_at(&id, 65_534, 9)?.items(), b"xy".as_slice());
     Ok(())
 }
 
