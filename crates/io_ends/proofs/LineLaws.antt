@@ -11,9 +11,9 @@ use Rattle.io_ends.proofs.LineLemmas.{length_first_line, take_on}
 -- ---- the pieces of a text
 
 -- a line and its line feed before a text are the first piece
-pieces_behind : (line text : List ℕ) → has_line_feed line ≡ false → slice_split (λ b. b == 10) (line ++ 10 ∷ text) ≡ line ∷ slice_split (λ b. b == 10) text
-pieces_behind [] text none = refl
-pieces_behind (x ∷ line) text none = by_first (x == 10) none (pieces_behind line text)
+pieces_after : (line text : List ℕ) → has_line_feed line ≡ false → slice_split (λ b. b == 10) (line ++ 10 ∷ text) ≡ line ∷ slice_split (λ b. b == 10) text
+pieces_after [] text none = refl
+pieces_after (x ∷ line) text none = by_first (x == 10) none (pieces_after line text)
   where
     by_first : (v : Bool) → (v || has_line_feed line) ≡ false → (has_line_feed line ≡ false → slice_split (λ b. b == 10) (line ++ 10 ∷ text) ≡ line ∷ slice_split (λ b. b == 10) text)
         → cond v ([] ∷ slice_split (λ b. b == 10) (line ++ 10 ∷ text)) (onto_first x (slice_split (λ b. b == 10) (line ++ 10 ∷ text))) ≡ (x ∷ line) ∷ slice_split (λ b. b == 10) text
@@ -72,7 +72,7 @@ module _ (text : List ℕ) (room : ℕ) (now : LinesState) (gives : GivesLine te
       let split : take room (text ++ more) ≡ now.line ++ 10 ∷ take now.room (now.held ++ more) =
       ap (take room) goes_on ∙ take_on room now.line rest ∙ ap (λ (r : List ℕ). r ++ take (room - length now.line) rest) (take_all room now.line long) ∙ ap (λ k. now.line ++ take k rest) left
       in
-      ap (slice_split (λ b. b == 10)) split ∙ pieces_behind now.line (take now.room (now.held ++ more)) gives.one_line
+      ap (slice_split (λ b. b == 10)) split ∙ pieces_after now.line (take now.room (now.held ++ more)) gives.one_line
 
   -- the text goes on past the limit where what is held does
   pub over_line : nat_lt room (length (text ++ more)) ≡ nat_lt now.room (length (now.held ++ more))

@@ -46,12 +46,12 @@ place_missing p xs h = by_place (nat_lt (position_or_len p xs) (length xs)) refl
         let within = place_within p xs in
         omega arith
 
--- where the first items fail the test, the first place that passes is looked for behind them
-place_behind : {X : Type 0} (p : X → Bool) (n : ℕ) (xs : List X) → n ≤ length xs → list_any p (take n xs) ≡ false → position_or_len p xs ≡ n + position_or_len p (drop n xs)
-place_behind p zero xs le none = omega arith
-place_behind p (suc n) [] le none = absurd (omega arith)
-place_behind p (suc n) (x ∷ xs) le none =
-    let rest = place_behind p n xs (omega arith) in
+-- where the first items fail the test, the first place that passes is looked for after them
+place_after : {X : Type 0} (p : X → Bool) (n : ℕ) (xs : List X) → n ≤ length xs → list_any p (take n xs) ≡ false → position_or_len p xs ≡ n + position_or_len p (drop n xs)
+place_after p zero xs le none = omega arith
+place_after p (suc n) [] le none = absurd (omega arith)
+place_after p (suc n) (x ∷ xs) le none =
+    let rest = place_after p n xs (omega arith) in
     by_first (p x) none (position_or_len p (drop n xs)) rest
   where
     by_first : (v : Bool) → (v || list_any p (take n xs)) ≡ false → (k : ℕ) → (list_any p (take n xs) ≡ false → position_or_len p xs ≡ n + k) → cond (not v) (1 + position_or_len p xs) 0 ≡ suc n + k
@@ -63,20 +63,20 @@ place_behind p (suc n) (x ∷ xs) le none =
 pub length_first_line : (text : List ℕ) → length (first_line text) ≡ position_or_len (λ b. b == 10) text
 length_first_line text = length-take-le _ text (place_within (λ b. b == 10) text)
 
--- the first line ends at the first line feed behind the bytes that have none
+-- the first line ends at the first line feed after the bytes that have none
 pub line_found : (text : List ℕ) (searched at : ℕ) → searched ≤ length text → has_line_feed (take searched text) ≡ false
     → Some at ≡ position (λ b. b == 10) (take (length text - searched) (drop searched text)) → searched + at ≡ length (first_line text)
 line_found text searched at le none e =
     let here : position_or_len (λ b. b == 10) (drop searched text) ≡ at = place_found _ (drop searched text) at (ap (position (λ b. b == 10)) (sym (take_rest text searched)) ∙ sym e) in
-    ap (λ k. searched + k) (sym here) ∙ sym (place_behind _ searched text le none) ∙ sym (length_first_line text)
+    ap (λ k. searched + k) (sym here) ∙ sym (place_after _ searched text le none) ∙ sym (length_first_line text)
 
 pub line_missing : (text : List ℕ) (searched : ℕ) → searched ≤ length text → has_line_feed (take searched text) ≡ false
     → None ≡ position (λ b. b == 10) (take (length text - searched) (drop searched text)) → length text ≡ length (first_line text)
 line_missing text searched le none e =
-    let behind = drop searched text in
-    let past : position_or_len (λ b. b == 10) behind ≡ length behind = place_missing _ behind (ap (position (λ b. b == 10)) (sym (take_rest text searched)) ∙ sym e) in
+    let rest = drop searched text in
+    let past : position_or_len (λ b. b == 10) rest ≡ length rest = place_missing _ rest (ap (position (λ b. b == 10)) (sym (take_rest text searched)) ∙ sym e) in
     let left = length-drop searched text in
-    let place : position_or_len (λ b. b == 10) text ≡ searched + position_or_len (λ b. b == 10) behind = place_behind _ searched text le none in
+    let place : position_or_len (λ b. b == 10) text ≡ searched + position_or_len (λ b. b == 10) rest = place_after _ searched text le none in
     let size = length_first_line text in
     omega arith
 
@@ -133,9 +133,9 @@ take_on (suc n) (x ∷ text) more =
     let less : suc n - suc (length text) ≡ n - length text = omega arith in
     ap (λ (r : List ℕ). x ∷ r) (take_on n text more) ∙ ap (λ k. x ∷ (take n text ++ take k more)) (sym less)
 
-none_at_front : (bytes more : List ℕ) → has_line_feed (bytes ++ more) ≡ false → has_line_feed bytes ≡ false
-none_at_front [] more none = refl
-none_at_front (x ∷ bytes) more none = by_first (x == 10) none (none_at_front bytes more)
+none_in_prefix : (bytes more : List ℕ) → has_line_feed (bytes ++ more) ≡ false → has_line_feed bytes ≡ false
+none_in_prefix [] more none = refl
+none_in_prefix (x ∷ bytes) more none = by_first (x == 10) none (none_in_prefix bytes more)
   where
     by_first : (v : Bool) → (v || has_line_feed (bytes ++ more)) ≡ false → (has_line_feed (bytes ++ more) ≡ false → has_line_feed bytes ≡ false) → (v || has_line_feed bytes) ≡ false
     by_first true none rest = absurd (cc)
@@ -144,5 +144,5 @@ none_at_front (x ∷ bytes) more none = by_first (x == 10) none (none_at_front b
 -- a text that holds no whole line as it goes on held none before
 pub held_none : (text more : List ℕ) (room : ℕ) → HoldsPart (text ++ more) room → HoldsLine text room → ⊥
 held_none text more room part line =
-    let none = none_at_front (take room text) (take (room - length text) more) (sym (ap has_line_feed (take_on room text more)) ∙ part.no_line) in
+    let none = none_in_prefix (take room text) (take (room - length text) more) (sym (ap has_line_feed (take_on room text more)) ∙ part.no_line) in
     absurd (cc)

@@ -42,8 +42,8 @@ module _ (line held : List ℕ) (room number : ℕ) (more : Bool) (before : Line
       let ends = line_ends buffer room n looks.0 looks.1 in
       let same : n + 1 - 1 ≡ n = omega arith in
       let counted = length-take room buffer in
-      let behind = length-drop (n + 1) buffer in
-      let front = length-take (n + 1 - 1) buffer in
+      let after_size = length-drop (n + 1) buffer in
+      let line_size = length-take (n + 1 - 1) buffer in
       let inside : n < length (take room buffer) = looks.1 in
       let short : n ≤ 2048 = looks.2 in
       let most : length buffer ≤ room + 1 = s.few in

@@ -33,7 +33,7 @@ impl Model for Buffer {
 }
 
 // Moves the bytes between two places to the beginning, where they are not there already, and returns where they end.
-fn move_to_front(bytes: &mut [u8], start: usize, end: usize) -> usize
+fn move_to_start(bytes: &mut [u8], start: usize, end: usize) -> usize
     requires order { start ≤ end }
     requires within { end ≤ length bytes.old }
     ensures end { result ≡ end - start }
@@ -67,7 +67,7 @@ impl Buffer {
         &self.bytes[self.start..self.end]
     }
 
-    // Lets the first `count` bytes go.
+    // Drops the first `count` bytes.
     pub(crate) fn consume(&mut self, count: usize)
         requires { count ≤ length self.old }
         ensures { self.new ≡ drop count self.old }
@@ -86,7 +86,7 @@ impl Buffer {
         ensures keeps { OnErr result (Keeps (S.left source.old) (S.left source.new)) }
         ensures counts { CountsFault (S.faults source.old) (S.faults source.new) result }
     {
-        self.end = move_to_front(&mut self.bytes, self.start, self.end);
+        self.end = move_to_start(&mut self.bytes, self.start, self.end);
         self.start = 0;
         let room = (most - self.end).min(CHUNK);
         let count = source.read(&mut self.bytes[self.end..self.end + room])?;

@@ -108,7 +108,7 @@ pub struct Lines {
     buffer: Buffer,
     // How many bytes of the buffer are the last line and its line feed.
     given: usize,
-    // How many bytes behind these are within the limit.
+    // How many bytes after these are within the limit.
     room: usize,
     number: u32,
     more: bool,

@@ -6,7 +6,7 @@ use Rattle.io_ends.proofs.buffer.Buffer.fill.Goals as goal
 
 pub returns-clause-fills : goal.returns-clause-fills
 returns-clause-fills g c =
-    let moved = c.move_to_front-self-inside in
+    let moved = c.move_to_start-self-inside in
     let n = c.in_ok-count.count in
     let before = c.deref_mut-2.result.now in
     let same : before ≡ moved.new.bytes = c.deref_mut-2.ensures.value ∙ with_items_is c.self.inside.bytes moved.new.bytes (search (rules, places)) in
