@@ -24,10 +24,6 @@ pub where_ok : {X E P : Type 0} (r : Result X E) → is_err r ≡ false → OnOk
 where_ok (Ok x) e h = h
 where_ok (Err x) e h = absurd (true≢false e)
 
-pub on_ok : {X E P Q : Type 0} (r : Result X E) → (P → Q) → OnOk r P → OnOk r Q
-on_ok (Ok x) f h = f h
-on_ok (Err e) f h = tt
-
 -- what follows from either answer
 pub either_way : {X E A A' B P : Type 0} (r : Result X E) → (A → A' → P) → (B → P) → OnOk r A → OnOk r A' → OnErr r B → P
 either_way (Ok x) f g a a' b = f a a'

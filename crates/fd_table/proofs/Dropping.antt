@@ -1,5 +1,5 @@
 -- What is left where the descriptors of a process close one after another.
-use Rattle.std.specs.Prelude.{◌≡◌, ◌&&◌, ◌==◌, not, ℕ, ◌+◌, Bool, true, false, Option, Some, None, IsOk, IsSome, OnErr, OnOk, Result, Ok, Err, cond, refl}
+use Rattle.std.specs.Prelude.{◌≡◌, ◌&&◌, ◌==◌, not, nat_le, ℕ, ◌+◌, Bool, true, false, Option, Some, None, IsOk, IsSome, OnErr, OnOk, Result, Ok, Err, cond, refl}
 use Rattle.std.specs.Option.{option_map}
 use Rattle.std.specs.Ordering.{eq_by_cmp}
 use Rattle.std.specs.FinMap as map
@@ -24,7 +24,7 @@ use Rattle.fd_table.specs.Files.{OpenFiles, did_at, drained, emptied_if, is_held
 use Rattle.fd_table.specs.Rows.{AllFds, Fds, holders, row_of}
 use Rattle.fd_table.proofs.Holding.{holders-insert, row_is}
 use Rattle.fd_table.proofs.Leaving.{get-drained, held-count}
-use Rattle.fd_table.proofs.Loops.{from, from-all, from-next, from-same, row_set, set_twice}
+use Rattle.fd_table.proofs.Loops.{from, from-all, from-next, from-same, get-from, row_set, set_twice}
 use Rattle.fd_table.proofs.Sums.{set_over}
 
 abbrev Descriptions : Type 0
@@ -159,6 +159,14 @@ module _ (t0 : OpenFiles) (who : Pid) (n : ℕ) (t : OpenFiles) (objects0 object
     emptied = same ∙ are.emptied ∙ ap (λ (x : OpenFiles). drained t0.descriptions x.descriptions objects0) (sym is);
   }
 
+  -- the next descriptor was not open
+  pub closed_skip : map.get (row_of t0.rows who) n ≡ None → AreClosed t0 who (n + 1) t objects0 objects
+  closed_skip none = closed_same t objects (ap (λ (fds : Fds). map.get fds n) row_now ∙ get-from n (row_of t0.rows who) n ∙ ap (λ w. cond (nat_le n n) w None) none ∙ neither (nat_le n n)) refl refl
+    where
+      neither : (b : Bool) → ◌≡◌ {A = Option Did} (cond b None None) None
+      neither true = refl
+      neither false = refl
+
   -- the next descriptor is closed, if it is open
   pub closed_step : {X : Type 0} (r : Result X FdError) (t' : OpenFiles) (objects' : FinMap oid_cmp Object) → (IsSome (did_at t who n) → IsOk r)
       → OnOk r (t' ≡ left_with t (map.insert t.rows who (map.remove (row_of t.rows who) n))) → OnOk r (objects' ≡ drained t.descriptions t'.descriptions objects)
@@ -169,6 +177,11 @@ module _ (t0 : OpenFiles) (who : Pid) (n : ℕ) (t : OpenFiles) (objects0 object
       absent : (w : Option Did) → (IsSome w → false ≡ true) → w ≡ None
       absent None h = refl
       absent (Some did) h = absurd (true≢false (sym (h refl)))
+
+-- the same of what they end as
+pub closed_alike : {t0 t t' : OpenFiles} {who : Pid} {n : ℕ} {objects0 objects objects' : FinMap oid_cmp Object} → AreClosed t0 who n t objects0 objects → t' ≡ t → objects' ≡ objects → AreClosed t0 who n t' objects0 objects'
+closed_alike {t0 = t0} {t = t} {who = who} {n = n} {objects0 = objects0} {objects' = objects'} are is same =
+    subst (λ (t : OpenFiles). AreClosed t0 who n t objects0 objects') (sym is) (subst (λ (objects : FinMap oid_cmp Object). AreClosed t0 who n t objects0 objects) (sym same) are)
 
 -- a row that was set and goes
 pub remove_set : (rows : AllFds) (who : Pid) (fds : Fds) → map.remove (map.insert rows who fds) who ≡ map.remove rows who

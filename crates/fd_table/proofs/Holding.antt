@@ -7,7 +7,7 @@ use Rattle.std.specs.FinMap as map
 use Rattle.std.specs.FinMap.{FinMap, find, is_sorted, entries_sorted, get-empty, get-entries, get-insert, get-remove, len-empty, len-entries, len-insert, len-remove, nat_cmp-IsAntisymmetric}
 use Rattle.std.specs.FinMap.Entries.{below_all}
 use Rattle.std.proofs.Common.{ap, sym, ◌∙◌, subst, arith, T, inl, inr}
-use Rattle.std.proofs.lemmas.Bool.{cases_lt}
+use Rattle.std.proofs.lemmas.Bool.{cases_lt, true≢false}
 use Rattle.std.proofs.lemmas.Bool.Decides.{nat_tests}
 use Rattle.std.proofs.lemmas.Cmp.{tied_itself}
 use Rattle.std.proofs.lemmas.List.Sums.{count_by-le-length}
@@ -86,12 +86,10 @@ there_if rows who has =
       | Some fds ↦ λ e _. record { value = fds; is = e }
     ] refl has
 
-pub none_if : (rows : AllFds) (who : Pid) → is_some (map.get rows who) ≡ false → map.get rows who ≡ None
-none_if rows who has =
-    elim (map.get rows who) as (λ w. is_some w ≡ false → w ≡ None) [
-      | None ↦ λ _. refl
-      | Some fds ↦ λ (no : true ≡ false). absurd (cc)
-    ] has
+-- what is not there
+pub none_if : {X : Type 0} (w : Option X) → is_some w ≡ false → w ≡ None
+none_if None e = refl
+none_if (Some x) e = absurd (true≢false e)
 
 -- a row without descriptors is as none
 module _ (rows : AllFds) (who : Pid) (absent : map.get rows who ≡ None) where

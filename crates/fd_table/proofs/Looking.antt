@@ -1,9 +1,9 @@
--- What is looked up in a table of rows, and what is there after one is set.
-use Rattle.std.specs.Prelude.{◌≡◌, ℕ, List, [], ◌∷◌, Option, Some, None, IsSome, cond, is_some, length, refl}
-use Rattle.std.specs.Map.{lookup}
-use Rattle.std.specs.BTreeMap.{is_at}
+-- What is looked up in a table of rows, and how many there are after one is set.
+use Rattle.std.specs.Prelude.{◌≡◌, ℕ, ◌+◌, ◌-◌, ◌≤◌, Bool, true, List, [], ◌∷◌, Option, Some, None, cond, is_some, length, refl, zero, suc}
+use Rattle.std.specs.declared.cmp.Ordering.{Ordering}
+use Rattle.std.specs.Cmp.{IsTotalOrder}
 use Rattle.std.specs.FinMap as map
-use Rattle.std.specs.FinMap.{len-empty, len-entries}
+use Rattle.std.specs.FinMap.{FinMap, empty_of_len, get-empty, len-empty, len-entries, len-insert, len-remove}
 use Rattle.std.specs.Ordering.{nat_cmp}
 use Rattle.std.specs.Prelude as list
 use Rattle.kern_model.specs.declared.numbers.Did.{Did}
@@ -11,30 +11,34 @@ use Rattle.kern_model.specs.Descriptors.{first_gap, lowest_free}
 use Rattle.std.proofs.Common.{ap, sym, ◌∙◌, arith}
 use Rattle.std.proofs.lemmas.Bool.{true≢false}
 use Rattle.kern_model.specs.declared.numbers.Pid.{Pid}
-use Rattle.kern_model.specs.Keys.{pid_cmp}
-use Rattle.kern_model.proofs.KeyLaws.{pid_cmp_total, pid_cmp_exact}
 use Rattle.kern_model.proofs.MapLemmas.{get_or-found, get_or-absent}
-use Rattle.kern_model.proofs.TableLemmas.{get_at, one_set}
 use Rattle.fd_table.specs.Rows.{AllFds, Fds, fd_count, row_of}
 
--- what is there is not absent
-pub never_both : {X : Type 0} (w : Option X) → IsSome w → w ≡ None → ⊥
-never_both w there none = true≢false (sym there ∙ ap is_some none)
+module _ (rows : AllFds) (who : Pid) where
+  -- a row that is there, and one that is not
+  pub row_there : (fds : Fds) → Some fds ≡ map.get rows who → row_of rows who ≡ fds
+  row_there fds is = get_or-found rows who map.empty fds (sym is)
 
-module _ (es : List (Pid × Fds)) (rows : AllFds) (view : map.from_entries {R = pid_cmp} es ≡ rows) (who : Pid) where
-  -- what is looked up
-  pub row_found : (w : Option Fds) → w ≡ lookup (is_at (pid_cmp who)) es → map.get rows who ≡ w
-  row_found w is = ap (λ (m : AllFds). map.get m who) (sym view) ∙ get_at pid_cmp_total es who ∙ sym is
+  pub row_absent : None ≡ map.get rows who → row_of rows who ≡ map.empty
+  row_absent is = get_or-absent rows who map.empty (sym is)
 
-  pub row_there : (fds : Fds) → Some fds ≡ lookup (is_at (pid_cmp who)) es → row_of rows who ≡ fds
-  row_there fds is = get_or-found rows who map.empty fds (row_found (Some fds) is)
+-- ---- how many rows there are
+module _ {K X : Type 0} {R : K → K → Ordering} (o : IsTotalOrder R) (m : FinMap R X) (k : K) where
+  pub len_some : is_some (map.get m k) ≡ true → 1 ≤ map.len m
+  len_some there = at (map.len m) refl
+    where
+      at : (n : ℕ) → map.len m ≡ n → 1 ≤ n
+      at zero e = absurd (true≢false (sym there ∙ ap (λ (m : FinMap R X). is_some (map.get m k)) (empty_of_len m e) ∙ ap is_some (get-empty R k)))
+      at (suc n) e = omega arith
 
-  pub row_absent : None ≡ lookup (is_at (pid_cmp who)) es → row_of rows who ≡ map.empty
-  row_absent is = get_or-absent rows who map.empty (row_found None is)
+  pub len_more : (x : X) → map.get m k ≡ None → map.len (map.insert m k x) ≡ map.len m + 1
+  len_more x none = len-insert o m k x ∙ ap (λ w. cond (is_some w) (map.len m) (map.len m + 1)) none
 
-  -- a list that differs at one process alone makes the table with that row
-  pub row_set : (fs : List (Pid × Fds)) (fds : Fds) → ((q : Pid) → lookup (is_at (pid_cmp q)) fs ≡ cond (is_at (pid_cmp who) q) (Some fds) (lookup (is_at (pid_cmp q)) es)) → map.from_entries {R = pid_cmp} fs ≡ map.insert rows who fds
-  row_set fs fds h = one_set pid_cmp_total pid_cmp_exact es fs who fds h ∙ ap (λ (m : AllFds). map.insert m who fds) view
+  pub len_kept : (x y : X) → Some y ≡ map.get m k → map.len (map.insert m k x) ≡ map.len m
+  len_kept x y there = len-insert o m k x ∙ ap (λ w. cond (is_some w) (map.len m) (map.len m + 1)) (sym there)
+
+  pub len_removed : (b : Bool) → is_some (map.get m k) ≡ b → map.len (map.remove m k) ≡ cond b (map.len m - 1) (map.len m)
+  len_removed b is = len-remove o m k ∙ ap (λ b. cond b (map.len m - 1) (map.len m)) is
 
 -- ---- no descriptor
 pub none_counted : fd_count map.empty ≡ 0

@@ -9,9 +9,8 @@ use Rattle.std.proofs.Common.{ap, sym, ◌∙◌, arith}
 use Rattle.std.proofs.lemmas.Bool.Decides.{nat_tests}
 use Rattle.kern_model.specs.declared.limits.TheConstants.{MAX_DESCRIPTORS}
 use Rattle.kern_model.specs.declared.numbers.Did.{Did}
-use Rattle.kern_model.proofs.MapLemmas.{get-insert_same, get_or-absent, get_or-found, get_or-same, same_key, remove-absent}
+use Rattle.kern_model.proofs.MapLemmas.{get-insert_same, get_or-found, same_key, remove-absent}
 use Rattle.kern_model.specs.declared.numbers.Pid.{Pid}
-use Rattle.kern_model.specs.Keys.{pid_cmp}
 use Rattle.kern_model.proofs.KeyLaws.{pid_cmp_total, pid_cmp_exact}
 use Rattle.fd_table.specs.Files.{OpenFiles, with_row}
 use Rattle.fd_table.specs.Rows.{AllFds, Fds, row_of}
@@ -131,25 +130,6 @@ set_twice {R = R} o exact m k x y = same_map o exact _ _ (λ q.
 module _ (rows : AllFds) (who : Pid) (fds : Fds) where
   pub row_set : row_of (map.insert rows who fds) who ≡ fds
   row_set = get_or-found (map.insert rows who fds) who map.empty fds (get-insert_same pid_cmp_total rows who fds)
-
-below-empty : (n : ℕ) → below n map.empty ≡ map.empty
-below-empty n = same_fds _ _ (λ q. get-below n map.empty q ∙ ap (λ w. cond (nat_lt q n) w None) (get-empty nat_cmp q) ∙ neither (nat_lt q n) ∙ sym (get-empty nat_cmp q))
-  where
-    neither : (b : Bool) → ◌≡◌ {A = Option Did} (cond b None None) None
-    neither true = refl
-    neither false = refl
-
--- where a process without a row gets a part of the row of a process, that one keeps its row
-pub row_kept : (rows : AllFds) (to : Pid) → map.get rows to ≡ None → (n : ℕ) (q : Pid) → row_of (map.insert rows to (below n (row_of rows q))) q ≡ row_of rows q
-row_kept rows to none n q =
-    let more : AllFds = map.insert rows to (below n (row_of rows q)) in
-    elim (eq_by_cmp pid_cmp q to) as (λ b. eq_by_cmp pid_cmp q to ≡ b → row_of more q ≡ row_of rows q) [
-      | true ↦ λ t.
-          let same : q ≡ to = same_key pid_cmp_exact q to t in
-          let empty : row_of rows q ≡ map.empty = get_or-absent rows q map.empty (ap (map.get rows) same ∙ none) in
-          ap (row_of more) same ∙ row_set rows to (below n (row_of rows q)) ∙ ap (below n) empty ∙ below-empty n ∙ sym empty
-      | false ↦ λ t. get_or-same more rows q map.empty (get-insert pid_cmp_total rows to (below n (row_of rows q)) q ∙ ap (λ b. cond b (Some (below n (row_of rows q))) (map.get rows q)) t)
-    ] refl
 
 -- one descriptor more is copied
 pub copied : (t0 t : OpenFiles) (to : Pid) (fds : Fds) (n : ℕ) (did : Did) → t ≡ with_row t0 to (below n fds) → map.get fds n ≡ Some did → with_row t to (map.insert (row_of t.rows to) n did) ≡ with_row t0 to (below (n + 1) fds)

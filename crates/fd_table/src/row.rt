@@ -48,6 +48,18 @@ impl Row {
         }
     }
 
+    /// The same descriptors.
+    pub fn copy(&self) -> Self
+        ensures { result ≡ self.now }
+    {
+        let mut slots = [None; MAX_DESCRIPTORS];
+        slots.copy_from_slice(&self.slots);
+        Row {
+            slots,
+            taken: self.taken.copy(),
+        }
+    }
+
     /// How many descriptors there are.
     pub fn len(&self) -> usize
         ensures count { result ≡ fd_count self.now }

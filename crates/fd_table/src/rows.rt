@@ -11,8 +11,8 @@ ghost use Rattle.fd_table.specs.declared.rows.TheConstants.{MAX_ROWS};
 use crate::row::Row;
 use kern_model::limits::MAX_DESCRIPTORS;
 use kern_model::{Did, Fd, NoMemory, Pid};
+use num_table::Table;
 use std::alloc::Global;
-use std::collections::BTreeMap;
 use std::marker::Model;
 
 /// Rows, so that all their descriptors can be counted.
@@ -21,45 +21,58 @@ pub const MAX_ROWS: usize = usize::MAX / MAX_DESCRIPTORS;
 /// The descriptors of each process that has a row.
 #[derive(Drop)]
 pub struct Rows {
-    kept: BTreeMap<Pid, Row>,
+    kept: Table<Row>,
+    /// How many rows there are.
+    count: usize,
 }
 
 impl Model for Rows {
+    ghost use Rattle.std.specs.Prelude.{◌≡◌};
     ghost use Rattle.std.specs.FinMap as map;
     ghost use Rattle.std.specs.Coded.{codes, coded_ℕ};
     ghost use Rattle.lab_lattice.specs.Label.{label_code};
     ghost use Rattle.kern_model.specs.declared.numbers.Did.{Did};
     ghost use Rattle.std.specs.Prelude.{ℕ};
     ghost use Rattle.std.specs.Ordering.{nat_cmp};
+    ghost use Rattle.num_table.specs.Keys.{by_pid};
     ghost use Rattle.fd_table.specs.Rows.{AllFds};
 
     ghost Value = { AllFds };
 
     ghost coded = { map.code (Prim.hlevel (codes, label_code)) (map.code {K = ℕ} {X = Did} {R = nat_cmp} coded_ℕ (Prim.hlevel (codes, label_code))) };
 
-    ghost view = { λ a. map.from_entries a.kept.entries };
+    ghost view = { λ a. by_pid a.kept };
+
+    ghost invariant = { λ a. a.count ≡ map.len (by_pid a.kept) };
 }
 
 impl Rows {
+    ghost use Rattle.std.specs.Borrow.{sem};
+    ghost use Rattle.std.specs.Option.{option_copied_mut};
+    ghost use Rattle.fd_table.specs.Lending.{LendsRow};
+
     /// No row.
     pub fn new(alloc: Global) -> Self
         ensures { result ≡ map.empty }
     {
         Rows {
-            kept: BTreeMap::new(alloc),
+            kept: Table::new(alloc),
+            count: 0,
         }
     }
 
-    /// Adds a row without descriptors.
+    /// Adds a row without descriptors for a process that has none.
     pub fn add(&mut self, who: &Pid) -> Result<(), NoMemory>
+        requires { map.get self.old who.now ≡ None }
         ensures ok { OnOk result (self.new ≡ map.insert self.old who.now map.empty) }
         ensures few { OnOk result (map.len self.old < MAX_ROWS) }
         ensures err { OnErr result (self.new ≡ self.old) }
     {
-        if self.kept.len() >= MAX_ROWS {
+        if self.count >= MAX_ROWS {
             return Err(NoMemory);
         }
-        self.kept.insert(*who, Row::new())?;
+        self.kept.set(&who.label, who.n, Row::new())?;
+        self.count += 1;
         Ok(())
     }
 
@@ -70,18 +83,41 @@ impl Rows {
         self.row(who).is_some()
     }
 
+    /// The descriptors of a process.
+    pub fn copy(&self, who: &Pid) -> Row
+        ensures { result ≡ row_of self.now who.now }
+    {
+        match self.row(who) {
+            Some(row) => row.copy(),
+            None => Row::new(),
+        }
+    }
+
     // The row of a process, if it has one.
     fn row(&self, who: &Pid) -> Option<&Row>
         ensures { option_copied result ≡ map.get self.now who.now }
     {
-        self.kept.get(who)
+        self.kept.get(&who.label, who.n)
     }
 
-    /// Removes a row.
+    // The same, for changes to it. It takes no memory.
+    fn row_mut(&mut self, who: &Pid) -> Option<&mut Row>
+        ensures* writes_back { sem 𝓛 (LendsRow self.entry who.now result) }
+        ensures value { option_copied_mut result ≡ map.get self.old who.now }
+    {
+        match self.kept.get_mut(&who.label, who.n) {
+            Some(row) => Some(row),
+            None => None,
+        }
+    }
+
+    /// Removes a row, if there is one. It takes no memory.
     pub fn remove(&mut self, who: &Pid)
         ensures { self.new ≡ map.remove self.old who.now }
     {
-        self.kept.remove(who);
+        if self.kept.remove(&who.label, who.n).is_some() {
+            self.count -= 1;
+        }
     }
 
     /// The description to which a descriptor refers, if it is open.
@@ -89,7 +125,7 @@ impl Rows {
         ensures did { result ≡ map.get (row_of self.now who.now) fd }
         ensures below { (did : Number) → result ≡ Some did → fd < MAX_DESCRIPTORS }
     {
-        match self.kept.get(who) {
+        match self.row(who) {
             Some(row) => row.get(fd),
             None => None,
         }
@@ -100,7 +136,7 @@ impl Rows {
         ensures count { result ≡ fd_count (row_of self.now who.now) }
         ensures few { result ≤ MAX_DESCRIPTORS }
     {
-        match self.kept.get(who) {
+        match self.row(who) {
             Some(row) => row.len(),
             None => 0,
         }
@@ -113,7 +149,7 @@ impl Rows {
         ensures below { result < MAX_DESCRIPTORS }
         ensures free { map.get (row_of self.now who.now) result ≡ None }
     {
-        match self.kept.get(who) {
+        match self.row(who) {
             Some(row) => row.lowest(),
             None => 0,
         }
@@ -125,7 +161,7 @@ impl Rows {
         requires below { fd < MAX_DESCRIPTORS }
         ensures { self.new ≡ map.insert self.old who.now (map.insert (row_of self.old who.now) fd did) }
     {
-        let Some(row) = self.kept.get_mut(who) else {
+        let Some(row) = self.row_mut(who) else {
             unreachable!();
         };
         row.set(fd, did);
@@ -137,7 +173,7 @@ impl Rows {
         requires below { fd < MAX_DESCRIPTORS }
         ensures { self.new ≡ map.insert self.old who.now (map.remove (row_of self.old who.now) fd) }
     {
-        let Some(row) = self.kept.get_mut(who) else {
+        let Some(row) = self.row_mut(who) else {
             unreachable!();
         };
         row.remove(fd);

@@ -4,8 +4,8 @@ ghost use Rattle.std.specs.FinMap as map;
 ghost use Rattle.kern_model.specs.Valid.{IsThere};
 
 use kern_model::{Did, NoMemory, Oid};
+use num_table::Table;
 use std::alloc::Global;
-use std::collections::BTreeMap;
 use std::marker::Model;
 
 /// What a description is open for.
@@ -18,7 +18,7 @@ pub struct How {
 }
 
 /// An open description, which descriptors share.
-#[derive(Clone, Copy, Debug, PartialEq, Eq)]
+#[derive(Clone, Copy)]
 pub struct Shared {
     pub object: Oid,
     pub how: How,
@@ -31,7 +31,7 @@ pub struct Shared {
 /// Open descriptions by their numbers.
 #[derive(Drop)]
 pub struct SharedTable {
-    kept: BTreeMap<Did, Shared>,
+    kept: Table<Shared>,
 }
 
 impl Model for SharedTable {
@@ -39,13 +39,14 @@ impl Model for SharedTable {
     ghost use Rattle.std.specs.Coded.{codes};
     ghost use Rattle.lab_lattice.specs.Label.{label_code};
     ghost use Rattle.kern_model.specs.Keys.{did_cmp};
+    ghost use Rattle.num_table.specs.Keys.{by_did};
     ghost use Rattle.fd_table.specs.declared.shared.Shared.{Shared};
 
     ghost Value = { map.FinMap did_cmp Shared };
 
     ghost coded = { map.code (Prim.hlevel (codes, label_code)) (Prim.hlevel (codes, label_code)) };
 
-    ghost view = { λ a. map.from_entries a.kept.entries };
+    ghost view = { λ a. by_did a.kept };
 }
 
 impl SharedTable {
@@ -54,7 +55,7 @@ impl SharedTable {
         ensures { result ≡ map.empty }
     {
         SharedTable {
-            kept: BTreeMap::new(alloc),
+            kept: Table::new(alloc),
         }
     }
 
@@ -62,7 +63,7 @@ impl SharedTable {
     pub fn get(&self, did: &Did) -> Option<Shared>
         ensures { result ≡ map.get self.now did.now }
     {
-        self.kept.get(did).copied()
+        self.kept.get(&did.label, did.n).copied()
     }
 
     /// Puts a description in place of what was there. Where one is there, it takes no memory.
@@ -71,8 +72,7 @@ impl SharedTable {
         ensures err { OnErr result (self.new ≡ self.old) }
         ensures replaced { IsSome (map.get self.old did) → IsOk result }
     {
-        self.kept.insert(did, shared)?;
-        Ok(())
+        self.kept.set(&did.label, did.n, shared)
     }
 
     /// Puts a description in place of the one that is there. It takes no memory.
@@ -89,6 +89,6 @@ impl SharedTable {
     pub fn remove(&mut self, did: &Did)
         ensures { self.new ≡ map.remove self.old did.now }
     {
-        self.kept.remove(did);
+        self.kept.remove(&did.label, did.n);
     }
 }

@@ -124,9 +124,10 @@ impl FdTable {
         ensures ok { OnOk result (self.new ≡ with_row self.old to.now (row_of self.old.rows from.now)) }
         ensures err { OnErr result (self.new ≡ self.old) }
     {
+        let row = self.rows.copy(from);
         self.rows.add(to)?;
         for fd in 0..MAX_DESCRIPTORS as Fd {
-            if let Some(did) = self.did(from, fd) {
+            if let Some(did) = row.get(fd) {
                 self.set(to, fd, did);
             }
         }
@@ -142,9 +143,11 @@ impl FdTable {
         if !self.rows.has(who) {
             return;
         }
+        let row = self.rows.copy(who);
         for fd in 0..MAX_DESCRIPTORS as Fd {
-            // A descriptor that is not open needs no closing.
-            let _closed = self.close(who, fd, buffers);
+            if row.get(fd).is_some() {
+                let _closed = self.close(who, fd, buffers);
+            }
         }
         self.rows.remove(who);
     }

@@ -31,6 +31,13 @@ impl TakenSlots {
         TakenSlots { bits: 0 }
     }
 
+    /// The same slots.
+    pub fn copy(&self) -> Self
+        ensures { result ≡ self.now }
+    {
+        TakenSlots { bits: self.bits }
+    }
+
     /// How many slots are taken.
     pub fn count(&self) -> usize
         ensures count { result ≡ count_by (λ taken. taken) self.now }

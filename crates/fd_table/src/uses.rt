@@ -8,12 +8,12 @@ ghost use Rattle.fd_table.specs.Uses.{Includes, more_if, no_use, with_more};
 
 use crate::shared::How;
 use kern_model::{NoMemory, Oid};
+use num_table::Table;
 use std::alloc::Global;
-use std::collections::BTreeMap;
 use std::marker::Model;
 
 /// How many descriptions an object has.
-#[derive(Clone, Copy, Debug, PartialEq, Eq)]
+#[derive(Clone, Copy, PartialEq, Eq)]
 pub struct UseCount {
     pub all: usize,
     /// How many of them are open for reading.
@@ -64,7 +64,7 @@ impl UseCount {
 /// How many descriptions each object has. One without descriptions is not kept.
 #[derive(Drop)]
 pub struct Uses {
-    kept: BTreeMap<Oid, UseCount>,
+    kept: Table<UseCount>,
 }
 
 impl Model for Uses {
@@ -72,13 +72,14 @@ impl Model for Uses {
     ghost use Rattle.std.specs.Coded.{codes};
     ghost use Rattle.lab_lattice.specs.Label.{label_code};
     ghost use Rattle.kern_model.specs.Keys.{oid_cmp};
+    ghost use Rattle.num_table.specs.Keys.{by_oid};
     ghost use Rattle.fd_table.specs.declared.uses.UseCount.{UseCount};
 
     ghost Value = { map.FinMap oid_cmp UseCount };
 
     ghost coded = { map.code (Prim.hlevel (codes, label_code)) (Prim.hlevel (codes, label_code)) };
 
-    ghost view = { λ a. map.from_entries a.kept.entries };
+    ghost view = { λ a. by_oid a.kept };
 }
 
 impl Uses {
@@ -87,7 +88,7 @@ impl Uses {
         ensures { result ≡ map.empty }
     {
         Uses {
-            kept: BTreeMap::new(alloc),
+            kept: Table::new(alloc),
         }
     }
 
@@ -103,7 +104,7 @@ impl Uses {
     fn get(&self, id: &Oid) -> Option<UseCount>
         ensures { result ≡ map.get self.now id.now }
     {
-        self.kept.get(id).copied()
+        self.kept.get(&id.label, id.n).copied()
     }
 
     // Puts a count in place of what was there. Where one is there, it takes no memory.
@@ -112,15 +113,14 @@ impl Uses {
         ensures err { OnErr result (self.new ≡ self.old) }
         ensures replaced { IsSome (map.get self.old id) → IsOk result }
     {
-        self.kept.insert(id, count)?;
-        Ok(())
+        self.kept.set(&id.label, id.n, count)
     }
 
     // Removes the count of an object.
     fn remove(&mut self, id: &Oid)
         ensures { self.new ≡ map.remove self.old id.now }
     {
-        self.kept.remove(id);
+        self.kept.remove(&id.label, id.n);
     }
 
     /// Counts one description more.

@@ -10,15 +10,15 @@ use crate::ended::Place;
 use crate::process::Proc;
 use kern_model::{Ending, NoMemory, Pid, PidList};
 use lab_lattice::Label;
+use num_table::Table;
 use proc_creds::Creds;
 use std::alloc::Global;
-use std::collections::BTreeMap;
 use std::marker::Model;
 
 /// Living processes by their numbers.
 #[derive(Drop)]
 pub struct Living {
-    kept: BTreeMap<Pid, Proc>,
+    kept: Table<Proc>,
 }
 
 impl Model for Living {
@@ -32,12 +32,13 @@ impl Model for Living {
     ghost use Rattle.kern_model.specs.declared.numbers.Did.{Did};
     ghost use Rattle.kern_model.specs.Keys.{pid_cmp};
     ghost use Rattle.kern_model.specs.State.{Process};
+    ghost use Rattle.num_table.specs.Keys.{by_pid};
 
     ghost Value = { map.FinMap pid_cmp Process };
 
     ghost coded = { map.code (Prim.hlevel (codes, label_code)) (Prim.hlevel (codes, map.code {K = ℕ} {X = Did} {R = nat_cmp} coded_ℕ (Prim.hlevel (codes, label_code)), set.code {R = cap_cmp} cap_code, label_code)) };
 
-    ghost view = { λ a. map.from_entries a.kept.entries };
+    ghost view = { λ a. by_pid a.kept };
 }
 
 impl Living {
@@ -51,7 +52,7 @@ impl Living {
         ensures { result ≡ map.empty }
     {
         Living {
-            kept: BTreeMap::new(alloc),
+            kept: Table::new(alloc),
         }
     }
 
@@ -59,7 +60,7 @@ impl Living {
     pub fn get(&self, who: &Pid) -> Option<&Proc>
         ensures { option_copied result ≡ map.get self.now who.now }
     {
-        self.kept.get(who)
+        self.kept.get(&who.label, who.n)
     }
 
     /// The process with a number, for changes to it, if there is one.
@@ -67,7 +68,7 @@ impl Living {
         ensures* writes_back { sem 𝓛 (LendsProcess self.entry who.now result) }
         ensures value { option_copied_mut result ≡ map.get self.old who.now }
     {
-        self.kept.get_mut(who)
+        self.kept.get_mut(&who.label, who.n)
     }
 
     /// The credentials of the process with a number, for changes to them, if there is one.
@@ -138,8 +139,7 @@ impl Living {
         ensures ok { OnOk result (self.new ≡ map.insert self.old who process) }
         ensures err { OnErr result (self.new ≡ self.old) }
     {
-        self.kept.insert(who, process)?;
-        Ok(())
+        self.kept.set(&who.label, who.n, process)
     }
 
     /// Removes the process with a number, if there is one, and returns it. It takes no memory.
@@ -147,7 +147,7 @@ impl Living {
         ensures removed { result ≡ map.get self.old who.now }
         ensures left { self.new ≡ map.remove self.old who.now }
     {
-        self.kept.remove(who)
+        self.kept.remove(&who.label, who.n)
     }
 
     /// The numbers of the processes, in order.
@@ -155,8 +155,8 @@ impl Living {
         ensures { IfOk result (λ numbers. numbers ≡ map.keys self.now) }
     {
         let mut numbers = PidList::new(alloc);
-        for (who, _) in self.kept.iter() {
-            numbers.push(*who)?;
+        for (label, n) in self.kept.numbers(alloc)? {
+            numbers.push(Pid { label, n })?;
         }
         Ok(numbers)
     }

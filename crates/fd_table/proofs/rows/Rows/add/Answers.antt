@@ -1,25 +1,21 @@
-use Rattle.std.specs.Prelude.{◌≡◌}
+use Rattle.std.specs.Prelude.{◌≡◌, ◌+◌}
 use Rattle.std.specs.FinMap as map
-use Rattle.std.specs.FinMap.{len-entries}
-use Rattle.std.proofs.Common.{ap, sym, ◌∙◌, arith, length}
-use Rattle.kern_model.specs.Keys.{pid_cmp}
+use Rattle.std.proofs.Common.{ap, sym, ◌∙◌}
 use Rattle.kern_model.proofs.KeyLaws.{pid_cmp_total, pid_cmp_exact}
-use Rattle.kern_model.proofs.TableLemmas.{entries_view}
+use Rattle.num_table.specs.Keys.{by_pid}
+use Rattle.num_table.proofs.Keyed.{key_set, pids}
 use Rattle.fd_table.specs.Rows.{AllFds}
-use Rattle.fd_table.proofs.Looking.{row_set}
+use Rattle.fd_table.proofs.Looking.{len_more}
 use Rattle.fd_table.proofs.rows.Rows.add.Goals as goal
 
-pub returns-clause-ok : goal.returns-clause-ok
-unfolding pid_cmp
-returns-clause-ok c =
-    row_set c.self.inside.kept.entries c.args.self.now c.self.view_is c.args.who.now c.insert.new.self.entries c.new.result c.in_ok-insert.ensures.updates.0
-    ∙ ap (map.insert c.args.self.now c.args.who.now) c.new.ensures
+pub invariant_of-self-2 : goal.invariant_of-self-2
+invariant_of-self-2 c =
+    let rows = c.args.self.now in
+    let who = c.args.who.now in
+    let set : by_pid c.set.new.self ≡ map.insert rows who c.new.result = key_set pid_cmp_total pid_cmp_exact pids c.self.inside.kept rows c.self.view_is who c.set.new.self c.new.result c.in_ok-set.ensures.ok in
+    ap (λ n. n + 1) (c.self.invariant ∙ ap (λ (m : AllFds). map.len m) c.self.view_is) ∙ sym (ap (λ (m : AllFds). map.len m) set ∙ len_more pid_cmp_total rows who c.new.result c.requires)
 
-pub returns-clause-few : goal.returns-clause-few
-unfolding pid_cmp
-returns-clause-few c =
-    let size : map.len c.args.self.now ≡ length c.self.inside.kept.entries =
-    ap (λ (m : AllFds). map.len m) (sym c.self.view_is) ∙ len-entries (map.from_entries {R = pid_cmp} c.self.inside.kept.entries)
-    ∙ ap length (entries_view pid_cmp_total pid_cmp_exact c.self.inside.kept.entries c.len.ensures.ordered) in
-    let counted = c.len.ensures.len in
-    omega (arith, size, counted)
+pub returns-clause-ok : goal.returns-clause-ok
+returns-clause-ok c =
+    key_set pid_cmp_total pid_cmp_exact pids c.self.inside.kept c.args.self.now c.self.view_is c.args.who.now c.set.new.self c.new.result c.in_ok-set.ensures.ok
+    ∙ ap (map.insert c.args.self.now c.args.who.now) c.new.ensures

@@ -1,10 +1,7 @@
-use Rattle.std.proofs.Common.{ap, sym, ◌∙◌}
-use Rattle.std.specs.FinMap as map
-use Rattle.kern_model.specs.Keys.{did_cmp}
-use Rattle.kern_model.proofs.KeyLaws.{did_cmp_total}
-use Rattle.kern_model.proofs.TableLemmas.{get_at}
+use Rattle.std.proofs.Common.{◌∙◌}
+use Rattle.kern_model.proofs.KeyLaws.{did_cmp_total, did_cmp_exact}
+use Rattle.num_table.proofs.Keyed.{key_found, dids}
 use Rattle.fd_table.proofs.shared.SharedTable.get.Goals as goal
 
 pub returns : goal.returns
-unfolding did_cmp
-returns c = c.copied.ensures ∙ c.get.ensures.value ∙ sym (get_at did_cmp_total c.self.inside.kept.entries c.args.did.now) ∙ ap (λ m. map.get m c.args.did.now) c.self.view_is
+returns c = key_found did_cmp_total did_cmp_exact dids c.self.inside.kept c.args.self.now c.self.view_is c.args.did.now _ (c.copied.ensures ∙ c.get.ensures)

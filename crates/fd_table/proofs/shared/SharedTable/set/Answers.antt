@@ -1,18 +1,12 @@
-use Rattle.std.proofs.Common.{ap, sym, ◌∙◌}
-use Rattle.std.specs.FinMap as map
-use Rattle.kern_model.specs.Keys.{did_cmp}
+use Rattle.std.specs.Prelude.{IsSome}
+use Rattle.std.proofs.Common.{refl, sym, subst}
 use Rattle.kern_model.proofs.KeyLaws.{did_cmp_total, did_cmp_exact}
-use Rattle.kern_model.proofs.TableLemmas.{get_at, one_set}
-use Rattle.fd_table.proofs.Looking.{never_both}
+use Rattle.num_table.proofs.Keyed.{key_found, key_set, dids}
+use Rattle.num_table.proofs.Outcomes.{on_ok}
 use Rattle.fd_table.proofs.shared.SharedTable.set.Goals as goal
 
 pub returns-clause-ok : goal.returns-clause-ok
-unfolding did_cmp
-returns-clause-ok c =
-    one_set did_cmp_total did_cmp_exact c.self.inside.kept.entries c.insert.new.self.entries c.args.did c.args.shared c.in_ok-insert.ensures.updates.0
-    ∙ ap (λ m. map.insert m c.args.did c.args.shared) c.self.view_is
+returns-clause-ok c = on_ok c.set.result (key_set did_cmp_total did_cmp_exact dids c.self.inside.kept c.args.self.now c.self.view_is c.args.did c.set.new.self c.args.shared) c.set.ensures.ok
 
-pub returns-in_err-insert-clause-replaced : goal.returns-in_err-insert-clause-replaced
-unfolding did_cmp
-returns-in_err-insert-clause-replaced c there = absurd (never_both (map.get c.args.self.now c.args.did) there
-    (ap (λ m. map.get m c.args.did) (sym c.self.view_is) ∙ get_at did_cmp_total c.self.inside.kept.entries c.args.did ∙ c.in_err-insert.ensures.absent))
+pub returns-clause-replaced : goal.returns-clause-replaced
+returns-clause-replaced c there = c.set.ensures.replaced (subst IsSome (sym (key_found did_cmp_total did_cmp_exact dids c.self.inside.kept c.args.self.now c.self.view_is c.args.did _ refl)) there)

@@ -11,8 +11,9 @@ use Rattle.std.proofs.lemmas.Bool.Decides.{nat_tests}
 use Rattle.kern_model.specs.declared.limits.TheConstants.{MAX_DESCRIPTORS}
 use Rattle.kern_model.proofs.KeyLaws.{pid_cmp_total}
 use Rattle.kern_model.proofs.MapLemmas.{get-insert_same}
-use Rattle.fd_table.proofs.Holding.{has_row, held-add, row_is}
-use Rattle.fd_table.proofs.Loops.{below, below-all, below-none, below-same, copied, get-below, row_kept, row_set}
+use Rattle.fd_table.proofs.Holding.{has_row, held-add, open_there, row_is}
+use Rattle.fd_table.proofs.Leaving.{there_without}
+use Rattle.fd_table.proofs.Loops.{below, below-all, below-none, below-same, copied, get-below, row_set}
 use Rattle.fd_table.proofs.table.FdTable.copy_process.Goals as goal
 use Rattle.fd_table.proofs.table.FdTable.copy_process.Goals.{in-Some, in_default}
 
@@ -47,18 +48,25 @@ set-requires-clause-free c =
     ∙ ap (λ b. cond b (map.get row n) None) no
 
 pub set-requires-clause-there : goal.set-requires-clause-there
-set-requires-clause-there c = c.did.ensures.there c.in-Some.did c.in-Some.is
+set-requires-clause-there c =
+    let rows = c.self.inside.rows in
+    let shared = c.self.inside.descriptions in
+    let who = c.args.from.now in
+    let n = c.loop-fd.fd in
+    let did = c.in-Some.did in
+    let at : map.get (row_of rows who) n ≡ Some did = ap (λ (fds : Fds). map.get fds n) (sym c.copy-row.ensures) ∙ sym c.get.ensures.did ∙ c.in-Some.is in
+    subst (λ (t : OpenFiles). IsThere t.descriptions did) (sym c.loop-fd.invariant)
+    (subst (λ (t : OpenFiles). IsThere t.descriptions did) c.self.view_is (there_without shared did (open_there rows shared c.self.inside.numbers c.self.invariant who n did at)))
 
 pub loop-fd-preserved : goal.loop-fd-preserved
 loop-fd-preserved c =
     let t0 = c.args.self.now in
     let to = c.args.to.now in
-    let row = row_of t0.rows c.args.from.now in
+    let who = c.args.from.now in
+    let row = row_of t0.rows who in
     let n = c.loop-fd.fd in
-    let seen : c.did.result ≡ map.get row n =
-    c.did.ensures.did ∙ ap (λ (t : OpenFiles). did_at t c.args.from.now n) c.loop-fd.invariant
-    ∙ ap (λ (fs : Fds). map.get fs n) (row_kept t0.rows to c.requires n c.args.from.now) in
-    elim c.match-did.branch [
+    let seen : c.get.result ≡ map.get row n = c.get.ensures.did ∙ ap (λ (fds : Fds). map.get fds n) (c.copy-row.ensures ∙ ap (λ (t : OpenFiles). row_of t.rows who) c.self.view_is) in
+    elim c.match-get.branch [
       | in-Some w ↦ w.self-is ∙ w.set.ensures ∙ copied t0 c.loop-fd.self to row n w.in-Some.did c.loop-fd.invariant (sym seen ∙ w.in-Some.is)
       | in_default w ↦ w.self-is ∙ c.loop-fd.invariant ∙ ap (with_row t0 to) (below-same row n (sym seen ∙ w.in_default.is))
     ]

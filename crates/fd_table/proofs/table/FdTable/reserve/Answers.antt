@@ -23,7 +23,7 @@ pub returns-clause-same : goal.returns-clause-same
 returns-clause-same c q =
     let t = c.args.self.now in
     let who = c.args.who.now in
-    let absent = none_if t.rows who (sym (c.has.ensures ∙ ap (λ (u : OpenFiles). is_some (map.get u.rows who)) c.self.view_is) ∙ c.if-has.false) in
+    let absent = none_if (map.get t.rows who) (sym (c.has.ensures ∙ ap (λ (u : OpenFiles). is_some (map.get u.rows who)) c.self.view_is) ∙ c.if-has.false) in
     row_as_before t.rows who absent c.add_process.result c.add_process.new.self.rows (on_ok_weaker c.add_process.result (ap (λ (u : OpenFiles). u.rows)) c.add_process.ensures.ok) (on_err_weaker c.add_process.result (ap (λ (u : OpenFiles). u.rows)) c.add_process.ensures.err) q
 
 pub returns-clause-others : goal.returns-clause-others

@@ -2,9 +2,10 @@ use Rattle.std.specs.FinMap.{FinMap}
 use Rattle.std.proofs.Common.{ap, ◌∙◌}
 use Rattle.kern_model.specs.Keys.{oid_cmp}
 use Rattle.kern_model.specs.Maps.{get_or}
+use Rattle.num_table.proofs.Outcomes.{on_ok}
 use Rattle.fd_table.specs.declared.uses.UseCount.{UseCount}
 use Rattle.fd_table.specs.Uses.{no_use, with_more}
-use Rattle.fd_table.proofs.Counting.{on_ok, one_more}
+use Rattle.fd_table.proofs.Counting.{one_more}
 use Rattle.fd_table.proofs.uses.Uses.add_one.Goals as goal
 
 pub returns-clause-ok : goal.returns-clause-ok

@@ -1,10 +1,7 @@
-use Rattle.std.proofs.Common.{ap, sym, ◌∙◌}
-use Rattle.std.specs.FinMap as map
-use Rattle.kern_model.specs.Keys.{oid_cmp}
-use Rattle.kern_model.proofs.KeyLaws.{oid_cmp_total}
-use Rattle.kern_model.proofs.TableLemmas.{get_at}
+use Rattle.std.proofs.Common.{◌∙◌}
+use Rattle.kern_model.proofs.KeyLaws.{oid_cmp_total, oid_cmp_exact}
+use Rattle.num_table.proofs.Keyed.{key_found, oids}
 use Rattle.fd_table.proofs.uses.Uses.get.Goals as goal
 
 pub returns : goal.returns
-unfolding oid_cmp
-returns c = c.copied.ensures ∙ c.get.ensures.value ∙ sym (get_at oid_cmp_total c.self.inside.kept.entries c.args.id.now) ∙ ap (λ m. map.get m c.args.id.now) c.self.view_is
+returns c = key_found oid_cmp_total oid_cmp_exact oids c.self.inside.kept c.args.self.now c.self.view_is c.args.id.now _ (c.copied.ensures ∙ c.get.ensures)

@@ -5,7 +5,8 @@ use Rattle.kern_model.specs.State.{Process}
 use Rattle.proc_creds.specs.Credentials.{Credentials}
 use Rattle.proc_table.specs.Procs.{creds_of, set_creds, under_creds, with_creds}
 use Rattle.proc_table.specs.contracts.process.Proc.{the_view}
-use Rattle.proc_table.proofs.LendLemmas.{at_some, lent_alike}
+use Rattle.num_table.proofs.Outcomes.{at_some}
+use Rattle.proc_table.proofs.LendLemmas.{lent_alike}
 use Rattle.proc_table.proofs.living.Living.creds_mut.Goals as goal
 
 pub returns-in-Some : goal.returns-in-Some

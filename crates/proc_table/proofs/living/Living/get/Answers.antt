@@ -1,10 +1,6 @@
-use Rattle.std.proofs.Common.{ap, sym, ◌∙◌}
-use Rattle.std.specs.FinMap as map
-use Rattle.kern_model.specs.Keys.{pid_cmp}
-use Rattle.kern_model.proofs.KeyLaws.{pid_cmp_total}
-use Rattle.kern_model.proofs.TableLemmas.{get_at}
+use Rattle.kern_model.proofs.KeyLaws.{pid_cmp_total, pid_cmp_exact}
+use Rattle.num_table.proofs.Keyed.{key_found, pids}
 use Rattle.proc_table.proofs.living.Living.get.Goals as goal
 
 pub returns : goal.returns
-unfolding pid_cmp
-returns c = c.get.ensures.value ∙ sym (get_at pid_cmp_total c.self.inside.kept.entries c.args.who.now) ∙ ap (λ m. map.get m c.args.who.now) c.self.view_is
+returns c = key_found pid_cmp_total pid_cmp_exact pids c.self.inside.kept c.args.self.now c.self.view_is c.args.who.now _ c.get.ensures

@@ -1,15 +1,19 @@
-use Rattle.std.proofs.Common.{◌∙◌, ap, sym, ◌++◌}
-use Rattle.std.specs.Map.{keys_of}
+use Rattle.std.specs.Prelude.{◌≡◌, List, map as map_list}
+use Rattle.std.specs.Vec.Iter.{into_iter_items}
 use Rattle.std.specs.FinMap as map
+use Rattle.std.specs.FinMap.{FinMap}
+use Rattle.std.proofs.Common.{ap, sym, ◌∙◌, ◌++◌}
 use Rattle.kern_model.specs.Keys.{pid_cmp}
+use Rattle.kern_model.specs.State.{Process}
 use Rattle.kern_model.proofs.KeyLaws.{pid_cmp_total, pid_cmp_exact}
-use Rattle.kern_model.proofs.TableLemmas.{entries_view}
+use Rattle.num_table.specs.Keys.{pid_at}
+use Rattle.num_table.specs.Numbers.{Num}
+use Rattle.num_table.proofs.Keyed.{keys-keyed, pids}
 use Rattle.proc_table.proofs.living.Living.numbers.Goals as goal
 
-pub loop-who-init : goal.loop-who-init
-unfolding pid_cmp
-loop-who-init c =
-    ap (λ xs. xs ++ keys_of c.into_iter-who-iterator.result) c.new-numbers.ensures
-    ∙ ap keys_of (c.into_iter-who-iterator.ensures.into_iter_gives ∙ c.iter-who-items.ensures.rest)
-    ∙ ap keys_of (sym (entries_view pid_cmp_total pid_cmp_exact c.self.inside.kept.entries c.iter-who-items.ensures.ordered))
-    ∙ ap (λ m. map.keys m) c.self.view_is
+pub loop-label-init : goal.loop-label-init
+loop-label-init c =
+    let given : into_iter_items c.into_iter-label-iterator.result ≡ c.in_ok-items.items.items = c.into_iter-label-iterator.ensures.into_iter_gives.0 in
+    ap (λ numbers. numbers ++ map_list pid_at (into_iter_items c.into_iter-label-iterator.result)) c.new-numbers.ensures
+    ∙ ap (λ (numbers : List Num). map_list pid_at numbers) (given ∙ c.in_ok-items.ensures)
+    ∙ sym (keys-keyed pid_cmp_total pid_cmp_exact pids c.self.inside.kept) ∙ ap (λ (m : FinMap pid_cmp Process). map.keys m) c.self.view_is

@@ -3,7 +3,7 @@ use Rattle.std.proofs.Common.{ap, ◌∙◌}
 use Rattle.kern_model.specs.State.{Process}
 use Rattle.proc_table.specs.Procs.{altered_at, without_parent}
 use Rattle.proc_table.specs.contracts.process.Proc.{the_view}
-use Rattle.proc_table.proofs.LendLemmas.{at_some}
+use Rattle.num_table.proofs.Outcomes.{at_some}
 use Rattle.proc_table.proofs.living.Living.orphan.Goals as goal
 
 pub returns-in-Some : goal.returns-in-Some

@@ -6,7 +6,7 @@ use Rattle.kern_model.specs.declared.numbers.Pid.{Pid}
 use Rattle.kern_model.specs.State.{Process}
 use Rattle.kern_model.proofs.MapLemmas.{some_same}
 use Rattle.proc_table.specs.contracts.process.Proc.{the_view}
-use Rattle.proc_table.proofs.LendLemmas.{at_some}
+use Rattle.num_table.proofs.Outcomes.{at_some}
 use Rattle.proc_table.proofs.living.Living.take_ended.Goals as goal
 
 pub returns : goal.returns

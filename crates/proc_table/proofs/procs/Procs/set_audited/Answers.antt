@@ -10,7 +10,7 @@ use Rattle.proc_table.specs.Procs.{AreDrawn, ProcTable, with_process}
 use Rattle.proc_table.specs.contracts.process.Proc.{the_view}
 use Rattle.proc_table.proofs.DrawnLemmas.{still_drawn}
 use Rattle.proc_table.proofs.KeptLemmas.{kept_changed}
-use Rattle.proc_table.proofs.LendLemmas.{at_some}
+use Rattle.num_table.proofs.Outcomes.{at_some}
 use Rattle.proc_table.proofs.procs.Procs.set_audited.Goals as goal
 
 pub invariant_of-self : goal.invariant_of-self

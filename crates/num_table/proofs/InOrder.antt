@@ -1,0 +1,70 @@
+-- The numbers of a table in order.
+use Rattle.std.specs.Prelude.{◌≡◌, ℕ, ◌+◌, ◌<◌, List, [], ◌∷◌, ◌++◌, Option, None, Some}
+use Rattle.std.specs.declared.cmp.Ordering.{Ordering}
+use Rattle.std.specs.declared.cmp.Ordering.TheVariants.{Less, Equal, Greater}
+use Rattle.std.specs.Ordering.{is_lt, nat_cmp, ordering_then}
+use Rattle.std.specs.Cmp.{nat_cmp_is}
+use Rattle.std.specs.List.{flat_map}
+use Rattle.std.specs.Map.{keys_of}
+use Rattle.std.specs.FinMap as map
+use Rattle.std.specs.FinMap.{entries_sorted, is_sorted}
+use Rattle.std.specs.FinMap.Entries.{below_all}
+use Rattle.std.proofs.Common.{ap, arith, sym, subst, T}
+use Rattle.std.proofs.lemmas.Cmp.{tied_itself}
+use Rattle.lab_lattice.specs.Label.{Label, label_cmp}
+use Rattle.lab_lattice.proofs.Labels.{label_cmp_total}
+use Rattle.kern_model.proofs.MapLemmas.{head_T, tail_T}
+use Rattle.kern_model.proofs.TableLemmas.{both_T}
+use Rattle.num_table.specs.Numbers.{Num, num_cmp}
+use Rattle.num_table.specs.Rows.{Rows, items_in, numbered}
+use Rattle.num_table.proofs.NumberLaws.{num_cmp_total, num_cmp_exact}
+use Rattle.num_table.proofs.Sorted.{entries_sorted_list}
+
+-- ---- one number is below another
+lower_by : (r s : Ordering) → T (is_lt r) → T (is_lt (ordering_then r s))
+lower_by Less s h = tt
+lower_by Equal s h = absurd h
+lower_by Greater s h = absurd h
+
+later : (l : Label) (m n : ℕ) → m < n → T (is_lt (num_cmp (l, m) (l, n)))
+unfolding num_cmp
+later l m n less =
+    subst (λ r. T (is_lt r)) (ap (ordering_then (label_cmp l l)) (nat_cmp_is m n Less less)) (subst (λ r. T (is_lt (ordering_then r Less))) (sym (tied_itself label_cmp_total l)) tt)
+
+lower : (l k : Label) (m n : ℕ) → T (is_lt (label_cmp l k)) → T (is_lt (num_cmp (l, m) (k, n)))
+unfolding num_cmp
+lower l k m n = lower_by (label_cmp l k) (nat_cmp m n)
+
+module _ {X : Type 0} where
+  abbrev pub placed : Label × List (Option X) → List (Num × X)
+  placed row = numbered row.0 0 row.1
+
+  -- a number is below a list that goes on with greater numbers of its label
+  below_later : (l : Label) (m n : ℕ) (ws : List (Option X)) (es : List (Num × X)) → m < n → T (below_all num_cmp (l, m) es) → T (below_all num_cmp (l, m) (numbered l n ws ++ es))
+  below_later l m n [] es less h = h
+  below_later l m n (None ∷ ws) es less h = below_later l m (n + 1) ws es (omega (arith, less)) h
+  below_later l m n (Some x ∷ ws) es less h = both_T _ _ (later l m n less) (below_later l m (n + 1) ws es (omega (arith, less)) h)
+
+  -- or with numbers of a greater label
+  below_lower : (l k : Label) (m n : ℕ) (ws : List (Option X)) (es : List (Num × X)) → T (is_lt (label_cmp l k)) → T (below_all num_cmp (l, m) es) → T (below_all num_cmp (l, m) (numbered k n ws ++ es))
+  below_lower l k m n [] es less h = h
+  below_lower l k m n (None ∷ ws) es less h = below_lower l k m (n + 1) ws es less h
+  below_lower l k m n (Some x ∷ ws) es less h = both_T _ _ (lower l k m n less) (below_lower l k m (n + 1) ws es less h)
+
+  below_rows : (l : Label) (m : ℕ) (rows : List (Label × List (Option X))) → T (below_all label_cmp l rows) → T (below_all num_cmp (l, m) (flat_map placed rows))
+  below_rows l m [] h = tt
+  below_rows l m (r ∷ rows) h = below_lower l r.0 m 0 r.1 (flat_map placed rows) (head_T _ _ h) (below_rows l m rows (tail_T _ _ h))
+
+  sorted_row : (l : Label) (n : ℕ) (ws : List (Option X)) (es : List (Num × X)) → ((m : ℕ) → T (below_all num_cmp (l, m) es)) → T (is_sorted num_cmp es) → T (is_sorted num_cmp (numbered l n ws ++ es))
+  sorted_row l n [] es below h = h
+  sorted_row l n (None ∷ ws) es below h = sorted_row l (n + 1) ws es below h
+  sorted_row l n (Some x ∷ ws) es below h = both_T _ _ (below_later l n (n + 1) ws es (omega arith) (below n)) (sorted_row l (n + 1) ws es below h)
+
+  sorted_rows : (rows : List (Label × List (Option X))) → T (is_sorted label_cmp rows) → T (is_sorted num_cmp (flat_map placed rows))
+  sorted_rows [] h = tt
+  sorted_rows (r ∷ rows) h = sorted_row r.0 0 r.1 (flat_map placed rows) (λ m. below_rows r.0 m rows (head_T _ _ h)) (sorted_rows rows (tail_T _ _ h))
+
+  -- the numbers of all lists, one list after another
+  pub keys-items_in : (rows : Rows X) → map.keys (items_in rows) ≡ keys_of (flat_map placed (map.entries rows))
+  unfolding items_in
+  keys-items_in rows = ap keys_of (entries_sorted_list num_cmp_total num_cmp_exact (flat_map placed (map.entries rows)) (sorted_rows (map.entries rows) (entries_sorted rows)))

@@ -1,0 +1,167 @@
+-- What stands at the numbers of a table, after one of them is set.
+use Rattle.std.specs.Prelude.{◌≡◌, ◌&&◌, ℕ, ◌+◌, ◌<◌, ◌==◌, Bool, true, false, List, [], ◌∷◌, ◌++◌, Option, Some, None, cond, get_or, refl, zero, suc}
+use Rattle.std.specs.declared.cmp.Ordering.{Ordering}
+use Rattle.std.specs.declared.cmp.Ordering.TheVariants.{Less, Equal, Greater}
+use Rattle.std.specs.Ordering.{is_eq, is_lt, eq_by_cmp}
+use Rattle.std.specs.Option.{option_or}
+use Rattle.std.specs.List.{flat_map}
+use Rattle.std.specs.FinMap as map
+use Rattle.std.specs.FinMap.{find, is_sorted, entries_sorted, get-entries, get-empty, get-from_entries, get-insert, get-remove, same_map}
+use Rattle.std.specs.FinMap.Entries.{below_all}
+use Rattle.std.proofs.Common.{ap, sym, ◌∙◌, subst, arith, T}
+use Rattle.std.proofs.lemmas.Bool.Decides.{nat_tests}
+use Rattle.lab_lattice.specs.Label.{Label, label_cmp}
+use Rattle.lab_lattice.proofs.Labels.{label_cmp_total, label_cmp_exact}
+use Rattle.kern_model.specs.Maps.{with_entry}
+use Rattle.kern_model.proofs.MapLemmas.{get_or-absent, get_or-found, get_or-same, head_T, same_key, tail_T}
+use Rattle.num_table.specs.Numbers.{Num, num_cmp}
+use Rattle.num_table.specs.Rows.{IsSet, Rows, item_at, items_in, numbered, row_at}
+use Rattle.num_table.proofs.NumberLaws.{num_cmp_total, num_cmp_exact, same_label, same_num, same_parts}
+
+-- ---- one of them is set
+module _ {X : Type 0} (rows : Rows X) (label : Label) (row : List (Option X)) where
+  row_set : (q : Label) → row_at (map.insert rows label row) q ≡ cond (same_label q label) row (row_at rows q)
+  row_set q = elim (same_label q label) as (λ b. same_label q label ≡ b → row_at (map.insert rows label row) q ≡ cond b row (row_at rows q)) [
+    | true ↦ λ t. get_or-found (map.insert rows label row) q [] row (get-insert label_cmp_total rows label row q ∙ ap (λ b. cond b (Some row) (map.get rows q)) t)
+    | false ↦ λ t. get_or-same (map.insert rows label row) rows q [] (get-insert label_cmp_total rows label row q ∙ ap (λ b. cond b (Some row) (map.get rows q)) t)
+  ] refl
+
+  item_set : (n : ℕ) (item : Option X) → IsSet (row_at rows label) n item row → (q : Num) → item_at (map.insert rows label row) q ≡ cond (same_num q (label, n)) item (item_at rows q)
+  item_set n item set q =
+      ap (λ (r : List (Option X)). get_or r q.1 None) (row_set q.0)
+      ∙ elim (same_label q.0 label) as (λ b. same_label q.0 label ≡ b → get_or (cond b row (row_at rows q.0)) q.1 None ≡ cond (b && (q.1 == n)) item (item_at rows q)) [
+        | true ↦ λ t. set q.1 ∙ ap (λ (l : Label). cond (q.1 == n) item (get_or (row_at rows l) q.1 None)) (sym (same_key label_cmp_exact q.0 label t))
+        | false ↦ λ _. refl
+      ] refl
+      ∙ ap (λ b. cond b item (item_at rows q)) (sym (same_parts q (label, n)))
+
+  item_same : ((k : ℕ) → get_or row k None ≡ get_or (row_at rows label) k None) → (q : Num) → item_at (map.insert rows label row) q ≡ item_at rows q
+  item_same same q =
+      ap (λ (r : List (Option X)). get_or r q.1 None) (row_set q.0)
+      ∙ elim (same_label q.0 label) as (λ b. same_label q.0 label ≡ b → get_or (cond b row (row_at rows q.0)) q.1 None ≡ item_at rows q) [
+        | true ↦ λ t. same q.1 ∙ ap (λ (l : Label). get_or (row_at rows l) q.1 None) (sym (same_key label_cmp_exact q.0 label t))
+        | false ↦ λ _. refl
+      ] refl
+
+-- ---- what stands at each number
+none_above : {X : Type 0} (q : Label) (rows : List (Label × X)) → T (below_all label_cmp q rows) → find label_cmp q rows ≡ None
+none_above q [] h = refl
+none_above q (row ∷ rows) h =
+    elim (label_cmp q row.0) as (λ r. T (is_lt r && below_all label_cmp q rows) → cond (is_eq r) (Some row.1) (find label_cmp q rows) ≡ None) [
+      | Less ↦ λ h. none_above q rows h
+      | Equal ↦ λ h. absurd h
+      | Greater ↦ λ h. absurd h
+    ] h
+
+or_none : {X : Type 0} (w v : Option X) → v ≡ None → option_or w v ≡ w
+or_none None v e = e
+or_none (Some x) v e = refl
+
+module _ {K X : Type 0} (R : K → K → Ordering) where
+  find_both : (q : K) (xs ys : List (K × X)) → find R q (xs ++ ys) ≡ option_or (find R q xs) (find R q ys)
+  find_both q [] ys = refl
+  find_both q (x ∷ xs) ys = elim (eq_by_cmp R q x.0) as (λ b. cond b (Some x.1) (find R q (xs ++ ys)) ≡ option_or (cond b (Some x.1) (find R q xs)) (find R q ys)) [
+    | true ↦ refl
+    | false ↦ find_both q xs ys
+  ]
+
+  find_with : (q k : K) (w : Option X) (es : List (K × X)) → find R q (with_entry k w es) ≡ cond (eq_by_cmp R q k) (option_or w (find R q es)) (find R q es)
+  find_with q k None es = elim (eq_by_cmp R q k) as (λ b. find R q es ≡ cond b (find R q es) (find R q es)) [ true ↦ refl | false ↦ refl ]
+  find_with q k (Some x) es = refl
+
+module _ {X : Type 0} where
+  -- one step along a list
+  step : (q : Num) (label : Label) (n : ℕ) (w : Option X) (ws : List (Option X))
+      → find num_cmp q (numbered label n (w ∷ ws)) ≡ cond (same_label q.0 label && (q.1 == n)) (option_or w (find num_cmp q (numbered label (n + 1) ws))) (find num_cmp q (numbered label (n + 1) ws))
+  step q label n w ws =
+      find_with num_cmp q (label, n) w (numbered label (n + 1) ws)
+      ∙ ap (λ b. cond b (option_or w (find num_cmp q (numbered label (n + 1) ws))) (find num_cmp q (numbered label (n + 1) ws))) (same_parts q (label, n))
+
+  -- a list of another label has no such number
+  find_other : (q : Num) (label : Label) (n : ℕ) (ws : List (Option X)) → same_label q.0 label ≡ false → find num_cmp q (numbered label n ws) ≡ None
+  find_other q label n [] other = refl
+  find_other q label n (w ∷ ws) other =
+      step q label n w ws
+      ∙ ap (λ b. cond (b && (q.1 == n)) (option_or w (find num_cmp q (numbered label (n + 1) ws))) (find num_cmp q (numbered label (n + 1) ws))) other
+      ∙ find_other q label (n + 1) ws other
+
+  module _ (q : Num) (label : Label) (same : same_label q.0 label ≡ true) where
+    here : (n : ℕ) (w : Option X) (ws : List (Option X)) (b : Bool) → (q.1 == n) ≡ b
+        → find num_cmp q (numbered label n (w ∷ ws)) ≡ cond b (option_or w (find num_cmp q (numbered label (n + 1) ws))) (find num_cmp q (numbered label (n + 1) ws))
+    here n w ws b is =
+        step q label n w ws
+        ∙ ap (λ b. cond (b && (q.1 == n)) (option_or w (find num_cmp q (numbered label (n + 1) ws))) (find num_cmp q (numbered label (n + 1) ws))) same
+        ∙ ap (λ b. cond b (option_or w (find num_cmp q (numbered label (n + 1) ws))) (find num_cmp q (numbered label (n + 1) ws))) is
+
+    -- nor has the rest of a list a number before it
+    find_before : (n : ℕ) (ws : List (Option X)) → q.1 < n → find num_cmp q (numbered label n ws) ≡ None
+    find_before n [] low = refl
+    find_before n (w ∷ ws) low = here n w ws false (grind (arith, nat_tests, low)) ∙ find_before (n + 1) ws (omega (arith, low))
+
+    find_after : (n i : ℕ) (ws : List (Option X)) → q.1 ≡ n + i → find num_cmp q (numbered label n ws) ≡ get_or ws i None
+    find_after n i [] is = refl
+    find_after n zero (w ∷ ws) is =
+        here n w ws true (grind (arith, nat_tests, is)) ∙ or_none w _ (find_before (n + 1) ws (omega (arith, is)))
+    find_after n (suc i) (w ∷ ws) is =
+        here n w ws false (grind (arith, nat_tests, is)) ∙ find_after (n + 1) i ws (omega (arith, is))
+
+  -- what a list says of a number
+  find_numbered : (q : Num) (label : Label) (ws : List (Option X)) → find num_cmp q (numbered label 0 ws) ≡ cond (same_label q.0 label) (get_or ws q.1 None) None
+  find_numbered q label ws = elim (same_label q.0 label) as (λ b. same_label q.0 label ≡ b → find num_cmp q (numbered label 0 ws) ≡ cond b (get_or ws q.1 None) None) [
+    | true ↦ λ t. find_after q label t 0 q.1 ws (omega arith)
+    | false ↦ λ f. find_other q label 0 ws f
+  ] refl
+
+  abbrev in_row : ℕ → Option (List (Option X)) → Option X
+  in_row n None = None
+  in_row n (Some ws) = get_or ws n None
+
+  abbrev placed : Label × List (Option X) → List (Num × X)
+  placed row = numbered row.0 0 row.1
+
+  find_all : (q : Num) (rows : List (Label × List (Option X))) → T (is_sorted label_cmp rows) → find num_cmp q (flat_map placed rows) ≡ in_row q.1 (find label_cmp q.0 rows)
+  find_all q [] h = refl
+  find_all q (r ∷ rows) h =
+      let rest = find_all q rows (tail_T _ _ h) in
+      find_both num_cmp q (placed r) (flat_map placed rows)
+      ∙ ap (λ w. option_or w (find num_cmp q (flat_map placed rows))) (find_numbered q r.0 r.1)
+      ∙ elim (same_label q.0 r.0) as (λ b. same_label q.0 r.0 ≡ b → option_or (cond b (get_or r.1 q.1 None) None) (find num_cmp q (flat_map placed rows)) ≡ in_row q.1 (cond b (Some r.1) (find label_cmp q.0 rows))) [
+        | true ↦ λ t.
+            let gone : find label_cmp q.0 rows ≡ None = none_above q.0 rows (subst (λ k. T (below_all label_cmp k rows)) (sym (same_key label_cmp_exact q.0 r.0 t)) (head_T _ _ h)) in
+            or_none _ _ (rest ∙ ap (in_row q.1) gone)
+        | false ↦ λ _. rest
+      ] refl
+
+  row_says : (rows : Rows X) (q : Num) → in_row q.1 (map.get rows q.0) ≡ item_at rows q
+  row_says rows q = elim (map.get rows q.0) as (λ w. map.get rows q.0 ≡ w → in_row q.1 w ≡ item_at rows q) [
+    | None ↦ λ e. sym (ap (λ (r : List (Option X)). get_or r q.1 None) (get_or-absent rows q.0 [] e))
+    | Some r ↦ λ e. sym (ap (λ (r : List (Option X)). get_or r q.1 None) (get_or-found rows q.0 [] r e))
+  ] refl
+
+  -- the map has what stands at a number
+  pub get-items_in : (rows : Rows X) (q : Num) → map.get (items_in rows) q ≡ item_at rows q
+  unfolding items_in
+  get-items_in rows q =
+      get-from_entries num_cmp_total (flat_map placed (map.entries rows)) q ∙ find_all q (map.entries rows) (entries_sorted rows)
+      ∙ ap (in_row q.1) (sym (get-entries rows q.0)) ∙ row_says rows q
+
+  -- no list, nothing
+  pub items_in-empty : items_in {X = X} map.empty ≡ map.empty
+  items_in-empty = same_map num_cmp_total num_cmp_exact _ _ (λ q.
+      get-items_in map.empty q ∙ ap (λ (r : List (Option X)). get_or r q.1 None) (get_or-absent map.empty q.0 [] (get-empty label_cmp q.0)) ∙ sym (get-empty num_cmp q))
+
+  module _ (rows : Rows X) (label : Label) (row : List (Option X)) where
+    pub items_in-set : (n : ℕ) (x : X) → IsSet (row_at rows label) n (Some x) row → items_in (map.insert rows label row) ≡ map.insert (items_in rows) (label, n) x
+    items_in-set n x set = same_map num_cmp_total num_cmp_exact _ _ (λ q.
+        get-items_in (map.insert rows label row) q ∙ item_set rows label row n (Some x) set q
+        ∙ ap (cond (same_num q (label, n)) (Some x)) (sym (get-items_in rows q)) ∙ sym (get-insert num_cmp_total (items_in rows) (label, n) x q))
+
+    pub items_in-cleared : (n : ℕ) → IsSet (row_at rows label) n None row → items_in (map.insert rows label row) ≡ map.remove (items_in rows) (label, n)
+    items_in-cleared n set = same_map num_cmp_total num_cmp_exact _ _ (λ q.
+        get-items_in (map.insert rows label row) q ∙ item_set rows label row n None set q
+        ∙ ap (cond (same_num q (label, n)) None) (sym (get-items_in rows q)) ∙ sym (get-remove num_cmp_total (items_in rows) (label, n) q))
+
+    -- a list that says of each count what the list of its label said
+    pub items_in-same : ((k : ℕ) → get_or row k None ≡ get_or (row_at rows label) k None) → items_in (map.insert rows label row) ≡ items_in rows
+    items_in-same same = same_map num_cmp_total num_cmp_exact _ _ (λ q.
+        get-items_in (map.insert rows label row) q ∙ item_same rows label row same q ∙ sym (get-items_in rows q))

@@ -1,0 +1,4 @@
+pub mod Keys
+pub mod Lending
+pub mod Numbers
+pub mod Rows

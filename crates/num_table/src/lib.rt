@@ -1,0 +1,8 @@
+//! Values by numbers that are drawn in turn: a list for each label, with a place for each count of a draw.
+#![tactic(auto)]
+
+mod row;
+mod table;
+
+pub use kern_model::NoMemory;
+pub use table::Table;
