@@ -2,19 +2,21 @@
 ghost use Rattle.std.specs.Prelude.{◌≡◌, true, false, IfOk, IsErr, IsOk, OnErr, OnOk, option_map};
 ghost use Rattle.std.specs.FinMap as map;
 ghost use Rattle.kern_model.specs.Arguments.{is_call};
-ghost use Rattle.kern_model.specs.Boot.{boot, boot_recs};
+ghost use Rattle.kern_model.specs.Boot.{boot, boot_processes, boot_recs, started};
 ghost use Rattle.kern_model.specs.Drawing.{NumbersGoOn};
 ghost use Rattle.kern_model.specs.Refusals.{IsNamed};
 ghost use Rattle.kern_model.specs.State.{Process};
 ghost use Rattle.kern_model.specs.Step.{IsPlayed};
 ghost use Rattle.kern_model.specs.Valid.{IsValid};
 ghost use Rattle.kern_model.specs.World.{IsWorld};
+ghost use Rattle.fd_table.specs.Files.{no_files};
 ghost use Rattle.sys_lookup.specs.Shared as held;
+ghost use Rattle.kern_core.specs.Starts.{CanStart};
 
 use crate::boot::{boot_processes, furnish, furnish_from};
 use crate::calls::play;
 use cap_bits::CapState;
-use kern_model::{Call, Calls, NoMemory, Outcome, Pid, PidList, RecList, World};
+use kern_model::{Call, Calls, NoMemory, Outcome, Pid, PidList, RecList, World, WorldProc};
 use lab_lattice::Label;
 use std::alloc::Global;
 use sys_lookup::Shared;
@@ -41,14 +43,8 @@ impl Kernel {
         ensures valid { IfOk result (λ b. IsValid (state_of b.0)) }
         ensures sound { IfOk result (λ b. has_failed b.0 ≡ false) }
     {
-        let mut shared = furnish(alloc, world)?;
-        let recs = boot_processes(alloc, &mut shared, world.procs.items())?;
-        let kernel = Kernel {
-            alloc,
-            shared,
-            failed: false,
-        };
-        Ok((kernel, recs))
+        let shared = furnish(alloc, world)?;
+        Kernel::start(alloc, shared, world.procs.items())
     }
 
     /// The same as [`boot`](Kernel::boot). It uses the world up, so that the world and the kernel take less memory at a time.
@@ -60,8 +56,27 @@ impl Kernel {
         ensures valid { IfOk result (λ b. IsValid (state_of b.0)) }
         ensures sound { IfOk result (λ b. has_failed b.0 ≡ false) }
     {
-        let (mut shared, procs) = furnish_from(alloc, world)?;
-        let recs = boot_processes(alloc, &mut shared, procs.items())?;
+        let (shared, procs) = furnish_from(alloc, world)?;
+        Kernel::start(alloc, shared, procs.items())
+    }
+
+    // The kernel in this state with these processes besides, and a record for each.
+    #[tactic(auto, unfolding(crate::specs::Kernel::state_of, crate::specs::Kernel::has_failed))]
+    fn start(
+        alloc: Global,
+        shared: Shared,
+        procs: &[WorldProc],
+    ) -> Result<(Kernel, RecList), NoMemory>
+        requires start { CanStart shared.procs.numbers procs.now }
+        requires fds { shared.fds ≡ no_files }
+        requires valid { IsValid (boot_processes (held.state_of shared) procs.now) }
+        ensures state { IfOk result (λ b. state_of b.0 ≡ boot_processes (held.state_of shared) procs.now) }
+        ensures recs { IfOk result (λ b. b.1 ≡ started (held.state_of shared) procs.now) }
+        ensures valid { IfOk result (λ b. IsValid (state_of b.0)) }
+        ensures sound { IfOk result (λ b. has_failed b.0 ≡ false) }
+    {
+        let mut shared = shared;
+        let recs = boot_processes(alloc, &mut shared, procs)?;
         let kernel = Kernel {
             alloc,
             shared,

@@ -32,7 +32,7 @@ use std::alloc::Global;
 use sys_lookup::{Caller, Effect, Found, Metadata, PathArgument, Shared, create, living};
 
 /// What becomes of the content of an object that is opened.
-#[derive(Clone, Copy, Debug, PartialEq, Eq)]
+#[derive(Clone, Copy)]
 enum Content {
     /// It stays.
     Kept,
@@ -41,7 +41,7 @@ enum Content {
 }
 
 /// What is opened.
-#[derive(Debug, Drop)]
+#[derive(Drop)]
 enum Target {
     /// An object that is there, and what becomes of its content.
     Present(Oid, Content),

@@ -23,7 +23,7 @@ use kern_model::{Answer, Errno, Name, Oid, Path, Pid, Place};
 use sys_lookup::{Caller, Effect, PathArgument, Shared, living};
 
 /// What becomes of the entry that is to move.
-#[derive(Clone, Copy, Debug, PartialEq, Eq)]
+#[derive(Clone, Copy)]
 enum Way {
     /// It stays, since the target is the object itself.
     Stays,
