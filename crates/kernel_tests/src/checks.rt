@@ -1,7 +1,7 @@
 // Verdicts with ample memory: no clause says that there is one.
 use cap_bits::{Cap, CapSet};
 use chk_rules::{Checks, Stop, must};
-use kern_model::{Check, CheckName, NoMemory, Pid, Place, Thing, Verdict};
+use kern_model::{Check, CheckName, Pid, Place, Thing, Verdict};
 use lab_lattice::bottom;
 use std::alloc::Global;
 
@@ -29,23 +29,44 @@ fn checks_with(alloc: Global, effective: CapSet) -> Checks {
     Checks::new(alloc, who(), bottom(), effective)
 }
 
-#[test]
-fn capability_lets_a_call_go_on(rt: HostRuntime) -> Result<(), NoMemory> {
-    let mut checks = checks_with(rt.alloc(), CapSet::none().with(Cap::MacRead));
-    assert_eq!(rt; checks.need(&mac_read(true))?, Verdict::Passed);
-    assert_eq!(rt; checks.need(&mac_read(false))?, Verdict::Exercised);
-    assert!(rt; must(&mut checks, &mac_read(false)).is_ok());
-    assert_eq!(rt; checks.exercises().len(), 2);
-    Ok(())
+// Whether this check has this verdict.
+fn has_verdict(checks: &mut Checks, check: &Check, verdict: Verdict) -> bool {
+    checks.need(check) == Ok(verdict)
+}
+
+// Whether a call goes on after a check that fails, and both checks that fail are kept.
+fn go_on(checks: &mut Checks) -> bool {
+    has_verdict(checks, &mac_read(true), Verdict::Passed)
+        && has_verdict(checks, &mac_read(false), Verdict::Exercised)
+        && must(checks, &mac_read(false)).is_ok()
+        && checks.exercises().len() == 2
+}
+
+fn call_goes_on(alloc: Global) -> bool {
+    go_on(&mut checks_with(alloc, CapSet::none().with(Cap::MacRead)))
 }
 
 #[test]
-fn call_stops_without_the_capability(rt: HostRuntime) -> Result<(), NoMemory> {
-    let mut checks = checks_with(rt.alloc(), CapSet::none().with(Cap::MacWrite));
-    assert!(rt; must(&mut checks, &mac_read(true)).is_ok());
-    assert_eq!(rt; checks.need(&mac_read(false))?, Verdict::Denied);
-    let stop = must(&mut checks, &mac_read(false));
-    assert!(rt; matches!(stop, Err(Stop::Denied(CheckName::MacRead, WHERE))));
-    assert!(rt; checks.into_exercises().items().is_empty());
-    Ok(())
+fn capability_lets_a_call_go_on(rt: HostRuntime) {
+    assert!(rt; call_goes_on(rt.alloc()));
+}
+
+// Whether a call stops at a check that fails.
+fn stop(checks: &mut Checks) -> bool {
+    must(checks, &mac_read(true)).is_ok()
+        && has_verdict(checks, &mac_read(false), Verdict::Denied)
+        && matches!(
+            must(checks, &mac_read(false)),
+            Err(Stop::Denied(CheckName::MacRead, WHERE))
+        )
+}
+
+fn call_stops(alloc: Global) -> bool {
+    let mut checks = checks_with(alloc, CapSet::none().with(Cap::MacWrite));
+    stop(&mut checks) && checks.into_exercises().items().is_empty()
+}
+
+#[test]
+fn call_stops_without_the_capability(rt: HostRuntime) {
+    assert!(rt; call_stops(rt.alloc()));
 }

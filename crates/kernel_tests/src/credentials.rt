@@ -1,26 +1,13 @@
 // What no clause says: that the calls succeed with ample memory.
 use cap_bits::{Cap, CapSet, CapState};
-use kern_model::{GroupList, Ids};
+use kern_model::{GroupList, Ids, NoMemory};
 use proc_creds::{Creds, NotAllowed, copy_ids};
 use std::alloc::Global;
-use std::test::Fail;
 
-#[test]
-fn sets_grow_by_nothing(rt: HostRuntime) -> Result<(), Fail> {
-    let alloc = rt.alloc();
-    let kill = CapSet::none().with(Cap::Kill);
+// Credentials without effective and permitted capabilities, whose inheritable set is this.
+fn creds(alloc: Global, inheritable: CapSet) -> Creds {
     let none = CapSet::none();
-    let inherits = CapState {
-        e: none,
-        i: kill,
-        p: none,
-    };
-    let grown = CapState {
-        e: none,
-        i: kill,
-        p: kill,
-    };
-    let mut creds = Creds {
+    Creds {
         ids: Ids {
             ruid: 1,
             euid: 2,
@@ -31,15 +18,49 @@ fn sets_grow_by_nothing(rt: HostRuntime) -> Result<(), Fail> {
             groups: GroupList::new(alloc),
         },
         label: lab_lattice::bottom(),
-        caps: inherits,
+        caps: CapState {
+            e: none,
+            i: inheritable,
+            p: none,
+        },
         umask: 18,
-    };
-    assert_eq!(rt; creds.cap_set(grown), Err(NotAllowed));
-    assert_eq!(rt; creds.caps, inherits);
-    assert_eq!(rt; creds.cap_set(CapState::none()), Ok(()));
+    }
+}
+
+// Whether a permitted capability is refused, and changes nothing.
+fn grow_by_nothing(creds: &mut Creds) -> bool {
+    let own = creds.caps;
+    let grown = CapState { p: own.i, ..own };
+    creds.cap_set(grown) == Err(NotAllowed)
+        && creds.caps == own
+        && creds.cap_set(CapState::none()) == Ok(())
+}
+
+fn grow(alloc: Global) -> bool {
+    grow_by_nothing(&mut creds(alloc, CapSet::none().with(Cap::Kill)))
+}
+
+#[test]
+fn sets_grow_by_nothing(rt: HostRuntime) {
+    assert!(rt; grow(rt.alloc()));
+}
+
+fn is_copied(creds: &Creds) -> Result<bool, NoMemory> {
     let copy = creds.copy()?;
-    assert_eq!(rt; (copy.ids.egid, copy.umask), (5, 18));
-    let ids = copy_ids(&creds.ids)?;
-    assert_eq!(rt; (ids.ruid, ids.sgid, ids.groups.items().len()), (1, 6, 0));
-    Ok(())
+    Ok(copy.ids.egid == 5 && copy.umask == 18)
+}
+
+fn ids_are_copied(ids: &Ids) -> Result<bool, NoMemory> {
+    let copy = copy_ids(ids)?;
+    Ok(copy.ruid == 1 && copy.sgid == 6 && copy.groups.items().is_empty())
+}
+
+fn copies(alloc: Global) -> Result<bool, NoMemory> {
+    let creds = creds(alloc, CapSet::none());
+    Ok(is_copied(&creds)? && ids_are_copied(&creds.ids)?)
+}
+
+#[test]
+fn credentials_are_copied(rt: HostRuntime) {
+    assert!(rt; copies(rt.alloc()) == Ok(true));
 }

@@ -1,64 +1,110 @@
 // What no clause says: that the calls succeed with ample memory, up to the limits.
 use fd_table::{FdError, FdTable, How};
 use fs_nodes::Nodes;
-use kern_model::{Fd, Oid, Pid};
+use kern_model::{Fd, NoMemory, Oid, Pid};
 use lab_lattice::bottom;
-use std::test::Fail;
-
-const FIRST_PROCESS: u16 = 1;
+use std::alloc::Global;
 
 fn process() -> Pid {
     Pid {
         label: bottom(),
-        n: FIRST_PROCESS,
-    }
-}
-
-// Opens a file for the process.
-fn open(table: &mut FdTable) -> Result<Fd, FdError> {
-    let file = Oid {
-        label: bottom(),
         n: 1,
-    };
-    let how = How {
-        reads: true,
-        writes: false,
+    }
+}
+
+// How a descriptor is open for reading, or for writing.
+pub fn how(reads: bool) -> How {
+    How {
+        reads,
+        writes: !reads,
         appends: false,
-    };
-    let who = process();
-    table.reserve(&who)?;
-    table.open_at_lowest(&who, &who.label, file, how)
-}
-
-// Opens a file, and closes it again.
-fn open_and_close(table: &mut FdTable, nodes: &mut Nodes) -> Result<(), FdError> {
-    let fd = open(table)?;
-    table.close(&process(), fd, nodes)
-}
-
-#[test]
-fn process_has_32_descriptors(rt: HostRuntime) -> Result<(), Fail> {
-    let mut table = FdTable::new(rt.alloc());
-    let mut nodes = Nodes::new(rt.alloc())?;
-    for fd in 0..32_u32 {
-        assert_eq!(rt; open(&mut table), Ok(fd));
     }
-    assert_eq!(rt; open(&mut table), Err(FdError::TooMany));
-    assert_eq!(rt; table.dup(&process(), 0), Err(FdError::TooMany));
-    assert_eq!(rt; table.close(&process(), 5, &mut nodes), Ok(()));
-    assert_eq!(rt; table.dup(&process(), 0), Ok(5));
-    Ok(())
 }
 
-#[test]
-fn label_has_65535_descriptions(rt: HostRuntime) -> Result<(), Fail> {
-    let mut table = FdTable::new(rt.alloc());
-    let mut nodes = Nodes::new(rt.alloc())?;
-    for _ in 0..65_535_u32 {
-        if open_and_close(&mut table, &mut nodes).is_err() {
-            return Err(Fail::new("a description is refused"));
+// The descriptors of a process, and the objects.
+#[derive(Drop)]
+pub struct Files {
+    pub table: FdTable,
+    pub nodes: Nodes,
+}
+
+impl Files {
+    pub fn new(alloc: Global) -> Result<Files, NoMemory> {
+        let nodes = Nodes::new(alloc)?;
+        Ok(Files {
+            table: FdTable::new(alloc),
+            nodes,
+        })
+    }
+
+    // Opens an object.
+    pub fn open(&mut self, id: &Oid, how: How) -> Result<Fd, FdError> {
+        let who = process();
+        self.table.reserve(&who)?;
+        self.table.open_at_lowest(&who, &who.label, *id, how)
+    }
+
+    // Opens a file.
+    fn open_file(&mut self) -> Result<Fd, FdError> {
+        let file = Oid {
+            label: bottom(),
+            n: 1,
+        };
+        self.open(&file, how(true))
+    }
+
+    fn dup(&mut self, fd: Fd) -> Result<Fd, FdError> {
+        self.table.dup(&process(), fd)
+    }
+
+    pub fn close(&mut self, fd: Fd) -> Result<(), FdError> {
+        self.table.close(&process(), fd, &mut self.nodes)
+    }
+
+    // Opens a file so many times, and returns whether the descriptors go up from 0.
+    fn open_in_order(&mut self, times: u32) -> bool {
+        for fd in 0..times {
+            if self.open_file() != Ok(fd) {
+                return false;
+            }
         }
+        true
     }
-    assert_eq!(rt; open(&mut table), Err(FdError::Full));
-    Ok(())
+
+    // Whether 32 descriptors are opened, and no more until one is closed.
+    fn open_32(&mut self) -> bool {
+        self.open_in_order(32)
+            && self.open_file() == Err(FdError::TooMany)
+            && self.dup(0) == Err(FdError::TooMany)
+            && self.close(5) == Ok(())
+            && self.dup(0) == Ok(5)
+    }
+
+    // To what the next description comes after so many that were opened and closed.
+    fn open_after(&mut self, times: u32) -> Result<Fd, FdError> {
+        for _ in 0..times {
+            let fd = self.open_file()?;
+            self.close(fd)?;
+        }
+        self.open_file()
+    }
+}
+
+fn opens_32(alloc: Global) -> Result<bool, NoMemory> {
+    Ok(Files::new(alloc)?.open_32())
+}
+
+#[test]
+fn process_has_32_descriptors(rt: HostRuntime) {
+    assert!(rt; opens_32(rt.alloc()) == Ok(true));
+}
+
+fn next_description(alloc: Global, after: u32) -> Result<Fd, FdError> {
+    Files::new(alloc)?.open_after(after)
+}
+
+#[test]
+fn label_has_65535_descriptions(rt: HostRuntime) {
+    assert!(rt; next_description(rt.alloc(), 65_534) == Ok(0));
+    assert!(rt; next_description(rt.alloc(), 65_535) == Err(FdError::Full));
 }

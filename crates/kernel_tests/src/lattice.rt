@@ -30,8 +30,7 @@ fn sets(rt: HostRuntime) {
     assert!(rt; Cats::one(64).is_none());
     assert!(rt; some.has(63) && !some.has(1) && !some.has(64) && !some.has(69));
     assert!(rt; !some.dominates(&others) && !others.dominates(&some));
-    assert_eq!(rt; some.lub(&others), cats(&[0, 5, 7, 63]));
-    assert_eq!(rt; some.glb(&others), cats(&[5]));
+    assert!(rt; some.lub(&others) == cats(&[0, 5, 7, 63]) && some.glb(&others) == cats(&[5]));
     assert!(rt; some.dominates(&some) && some.dominates(&Cats::empty()));
 }
 
@@ -39,8 +38,7 @@ fn sets(rt: HostRuntime) {
 fn labels(rt: HostRuntime) {
     let (low, high) = (label(2, &[1, 3]), label(9, &[1]));
     assert!(rt; !low.dominates(&high) && !high.dominates(&low) && !low.equal(&high));
-    assert_eq!(rt; low.lub(&high), label(9, &[1, 3]));
-    assert_eq!(rt; low.glb(&high), label(2, &[1]));
+    assert!(rt; low.lub(&high) == label(9, &[1, 3]) && low.glb(&high) == label(2, &[1]));
     assert!(rt; is_between(&bottom(), &low, &label(15, &[1, 2, 3])));
     assert!(rt; Level::new(16).is_none() && bottom() == label(0, &[]));
 }
@@ -52,17 +50,13 @@ fn labels_are_listed_by_level_and_then_by_number(rt: HostRuntime) {
     assert!(rt; label(2, &[3]) < label(2, &[0, 3]));
 }
 
+fn dual(inner: Label) -> Dual<Label> {
+    Dual { inner }
+}
+
 #[test]
 fn dual_order(rt: HostRuntime) {
-    let (low, high) = (
-        Dual {
-            inner: label(2, &[1, 3]),
-        },
-        Dual {
-            inner: label(1, &[]),
-        },
-    );
+    let (low, high) = (dual(label(2, &[1, 3])), dual(label(1, &[])));
     assert!(rt; high.dominates(&low) && !low.dominates(&high));
-    assert_eq!(rt; low.lub(&high), high);
-    assert_eq!(rt; low.glb(&high), low);
+    assert!(rt; low.lub(&high) == high && low.glb(&high) == low);
 }

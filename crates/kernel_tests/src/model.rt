@@ -12,9 +12,27 @@ fn label(level: u8) -> Label {
     }
 }
 
-fn object(alloc: Global, path: &[u8], level: u8, body: Body) -> Result<WorldObject, PathError> {
-    Ok(WorldObject {
-        path: Path::read(alloc, path)?,
+// The path of an object, its level and its kind.
+type Made<'a> = (&'a [u8], u8, Kind);
+
+fn body(alloc: Global, kind: Kind) -> Body {
+    match kind {
+        Kind::Dir => Body::Dir,
+        Kind::File => Body::File(ByteList::new(alloc)),
+        Kind::Fifo => Body::Fifo,
+        Kind::Pipe => Body::Pipe,
+    }
+}
+
+// Adds an object to those of a world.
+fn add(
+    alloc: Global,
+    objects: &mut ObjectList,
+    (path, level, kind): Made,
+) -> Result<(), PathError> {
+    let path = Path::read(alloc, path)?;
+    objects.push(WorldObject {
+        path,
         label: label(level),
         attr: Attr {
             owner: 0,
@@ -22,8 +40,9 @@ fn object(alloc: Global, path: &[u8], level: u8, body: Body) -> Result<WorldObje
             mode: 0o644,
             caps: CapState::none(),
         },
-        body,
-    })
+        body: body(alloc, kind),
+    })?;
+    Ok(())
 }
 
 fn process(alloc: Global, suid: u32) -> WorldProc {
@@ -43,23 +62,34 @@ fn process(alloc: Global, suid: u32) -> WorldProc {
 }
 
 // A root, and a file in a directory above it.
+const OBJECTS: [Made; 3] = [
+    (b"/", 0, Kind::Dir),
+    (b"/d", 1, Kind::Dir),
+    (b"/d/f", 2, Kind::File),
+];
+
+fn add_all(alloc: Global, objects: &mut ObjectList) -> Result<(), PathError> {
+    for made in &OBJECTS {
+        add(alloc, objects, *made)?;
+    }
+    Ok(())
+}
+
 fn world(alloc: Global) -> Result<World, PathError> {
-    let mut objects = ObjectList::new(alloc);
-    objects.push(object(alloc, b"/", 0, Body::Dir)?)?;
-    objects.push(object(alloc, b"/d", 1, Body::Dir)?)?;
-    objects.push(object(alloc, b"/d/f", 2, Body::File(ByteList::new(alloc)))?)?;
-    Ok(World {
+    let mut world = World {
         top: label(2),
         bound: CapSet::all(),
-        objects,
+        objects: ObjectList::new(alloc),
         procs: ProcList::new(alloc),
-    })
+    };
+    add_all(alloc, &mut world.objects)?;
+    Ok(world)
 }
 
 // Whether the world is valid with this object besides.
-fn is_valid_with(alloc: Global, path: &[u8], level: u8, body: Body) -> Result<bool, PathError> {
+fn is_valid_with(alloc: Global, made: Made) -> Result<bool, PathError> {
     let mut world = world(alloc)?;
-    world.objects.push(object(alloc, path, level, body)?)?;
+    add(alloc, &mut world.objects, made)?;
     Ok(world_valid(&world))
 }
 
@@ -70,14 +100,21 @@ fn is_valid_for(alloc: Global, suid: u32) -> Result<bool, PathError> {
     Ok(world_valid(&world))
 }
 
+// Further objects, and whether the world is valid with each.
+const FURTHER: [(Made, bool); 6] = [
+    ((b"/p", 0, Kind::Fifo), true),
+    ((b"/p", 3, Kind::Fifo), false),
+    ((b"/p", 0, Kind::Pipe), false),
+    ((b"/d", 1, Kind::Dir), false),
+    ((b"/d/p", 0, Kind::Fifo), false),
+    ((b"/d/f/g", 2, Kind::Fifo), false),
+];
+
 #[test]
 fn objects(rt: HostRuntime) {
-    assert!(rt; is_valid_with(rt.alloc(), b"/p", 0, Body::Fifo) == Ok(true));
-    assert!(rt; is_valid_with(rt.alloc(), b"/p", 3, Body::Fifo) == Ok(false));
-    assert!(rt; is_valid_with(rt.alloc(), b"/p", 0, Body::Pipe) == Ok(false));
-    assert!(rt; is_valid_with(rt.alloc(), b"/d", 1, Body::Dir) == Ok(false));
-    assert!(rt; is_valid_with(rt.alloc(), b"/d/p", 0, Body::Fifo) == Ok(false));
-    assert!(rt; is_valid_with(rt.alloc(), b"/d/f/g", 2, Body::Fifo) == Ok(false));
+    for (made, valid) in &FURTHER {
+        assert!(rt; is_valid_with(rt.alloc(), *made) == Ok(*valid));
+    }
 }
 
 #[test]

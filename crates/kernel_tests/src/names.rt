@@ -8,14 +8,6 @@ use std::alloc::Global;
 use std::cmp::Ordering;
 use std::marker::Brand;
 use std::sync::ledger::{Blank, Ledger};
-use std::test::Fail;
-
-fn name(alloc: Global, bytes: &[u8]) -> Result<Name, Fail> {
-    match Name::read(alloc, bytes)? {
-        Some(name) => Ok(name),
-        None => Err(Fail::new("these bytes are no name")),
-    }
-}
 
 // The order of two names, by one comparison that is counted.
 fn order<L: Ledger>(first: &Name, second: &Name, blank: Blank) -> Ordering
@@ -28,22 +20,16 @@ fn order<L: Ledger>(first: &Name, second: &Name, blank: Blank) -> Ordering
     first.compare(second, &mut steps)
 }
 
+// The order of the names with these bytes.
+fn order_of(alloc: Global, first: &[u8], second: &[u8]) -> Option<Ordering> {
+    let first = Name::read(alloc, first).ok()??;
+    let second = Name::read(alloc, second).ok()??;
+    Some(order::<Brand>(&first, &second, Blank::new(1)))
+}
+
 #[test]
-fn names_are_ordered_by_their_bytes(rt: HostRuntime) -> Result<(), Fail> {
-    let short = name(rt.alloc(), b"a")?;
-    let long = name(rt.alloc(), b"ab")?;
-    let high = name(rt.alloc(), b"\xff")?;
-    assert_eq!(rt;
-        order::<Brand>(&short, &long, Blank::new(1)),
-        Ordering::Less
-    );
-    assert_eq!(rt;
-        order::<Brand>(&high, &long, Blank::new(1)),
-        Ordering::Greater
-    );
-    assert_eq!(rt;
-        order::<Brand>(&long, &long, Blank::new(1)),
-        Ordering::Equal
-    );
-    Ok(())
+fn names_are_ordered_by_their_bytes(rt: HostRuntime) {
+    assert!(rt; order_of(rt.alloc(), b"a", b"ab") == Some(Ordering::Less));
+    assert!(rt; order_of(rt.alloc(), b"\xff", b"ab") == Some(Ordering::Greater));
+    assert!(rt; order_of(rt.alloc(), b"ab", b"ab") == Some(Ordering::Equal));
 }

@@ -1,15 +1,9 @@
 // What no clause says: that the calls succeed with ample memory.
-ghost use Rattle.std.specs.Prelude.{◌≡◌, [], Some, IfOk};
-ghost use Rattle.std.specs.FinMap as map;
-ghost use Rattle.kern_model.specs.declared.objects.Object.{Object};
-ghost use Rattle.fs_nodes.specs.Nodes.{IsFile, IsStream};
-
 use cap_bits::CapState;
 use fs_nodes::{Buffers, NodeError, Nodes, WriteError};
 use kern_model::{Attr, Body, ByteList, Kind, Oid};
 use lab_lattice::bottom;
 use std::alloc::Global;
-use std::test::Fail;
 
 fn attr() -> Attr {
     Attr {
@@ -20,90 +14,125 @@ fn attr() -> Attr {
     }
 }
 
-// The objects with one file, and its number.
-fn with_file(alloc: Global) -> Result<(Nodes, Oid), Fail>
-    ensures { IfOk result (λ made. IsFile made.0.table.objects made.1) }
-{
-    let mut nodes = Nodes::new(alloc)?;
-    let body = Body::File(ByteList::from_slice(alloc, b"abc")?);
-    match nodes.create(bottom(), attr(), body) {
-        Ok(id) => Ok((nodes, id)),
-        Err(_) => Err(Fail::new("no file is made")),
-    }
+// Makes a file with these bytes.
+fn make_file(alloc: Global, nodes: &mut Nodes, bytes: &[u8]) -> Option<Oid> {
+    let body = Body::File(ByteList::from_slice(alloc, bytes).ok()?);
+    nodes.create(bottom(), attr(), body).ok()
 }
 
-// The objects with one FIFO, and its number.
-pub fn with_fifo(alloc: Global) -> Result<(Nodes, Oid), Fail>
-    ensures stream { IfOk result (λ made. IsStream made.0.table.objects made.1) }
-    ensures empty { IfOk result (λ made. (o : Object) → map.get made.0.table.objects made.1 ≡ Some o → o.bytes ≡ []) }
-{
-    let mut nodes = Nodes::new(alloc)?;
-    match nodes.create(bottom(), attr(), Body::Fifo) {
-        Ok(id) => Ok((nodes, id)),
-        Err(_) => Err(Fail::new("no FIFO is made")),
-    }
+// Makes a FIFO.
+pub fn make_fifo(nodes: &mut Nodes) -> Result<Oid, NodeError> {
+    nodes.create(bottom(), attr(), Body::Fifo)
 }
 
-// Writes bytes into a file, if that is what has the number.
-fn write(nodes: &mut Nodes, id: &Oid, at: u32, bytes: &[u8]) -> Option<Result<(), WriteError>> {
+// Whether a write into a file ends so.
+fn write_ends(
+    nodes: &mut Nodes,
+    id: &Oid,
+    (at, bytes): (u32, &[u8]),
+    end: Result<(), WriteError>,
+) -> bool {
     match nodes.get(id) {
-        Some(object) if object.kind == Kind::File => Some(nodes.write_at(id, at, bytes)),
-        _ => None,
+        Some(object) if object.kind == Kind::File => nodes.write_at(id, at, bytes) == end,
+        _ => false,
     }
 }
 
-#[test]
-fn file_is_written_and_read(rt: HostRuntime) -> Result<(), Fail> {
-    let (mut nodes, id) = with_file(rt.alloc())?;
-    assert_eq!(rt; nodes.read_at(&id, 1, 9)?.items(), b"bc".as_slice());
-    assert!(rt; nodes.write_at(&id, 2, b"de").is_ok());
-    let bytes = nodes.get(&id).map(|o| o.bytes.items());
-    assert_eq!(rt; bytes, Some(b"abde".as_slice()));
-    assert_eq!(rt; (nodes.key(&id), nodes.slots().len()), (Some(0), 1));
-    Ok(())
+// Whether the bytes that are read of a file, so many from there on, are these.
+fn reads(nodes: &Nodes, id: &Oid, (at, n): (u32, u32), bytes: &[u8]) -> bool {
+    match nodes.read_at(id, at, n) {
+        Ok(read) => read.items() == bytes,
+        Err(_) => false,
+    }
+}
+
+// Whether an object holds these bytes.
+pub fn has_bytes(nodes: &Nodes, id: &Oid, bytes: &[u8]) -> bool {
+    match nodes.get(id) {
+        Some(object) => object.bytes.items() == bytes,
+        None => false,
+    }
+}
+
+// Whether the only object, a file of three bytes, is read and written.
+fn change(nodes: &mut Nodes, id: &Oid) -> bool {
+    reads(nodes, id, (1, 9), b"bc")
+        && write_ends(nodes, id, (2, b"de"), Ok(()))
+        && has_bytes(nodes, id, b"abde")
+        && nodes.key(id) == Some(0)
+        && nodes.slots().len() == 1
+}
+
+// Whether a file takes this many bytes at once.
+fn take(alloc: Global, nodes: &mut Nodes, id: &Oid, n: usize) -> Option<bool> {
+    let bytes = vec![in alloc; b'x'; n].ok()?;
+    Some(write_ends(nodes, id, (0, &bytes), Ok(())))
+}
+
+// Whether a file of 65,536 bytes takes bytes in the place of others alone.
+fn change_within(nodes: &mut Nodes, id: &Oid) -> bool {
+    write_ends(nodes, id, (65_536, b"y"), Err(WriteError::TooBig))
+        && write_ends(nodes, id, (65_535, b"yz"), Err(WriteError::TooBig))
+        && write_ends(nodes, id, (65_537, b"y"), Err(WriteError::PastEnd))
+        && reads(nodes, id, (65_534, 9), b"xx")
+        && write_ends(nodes, id, (65_535, b"y"), Ok(()))
+        && reads(nodes, id, (65_534, 9), b"xy")
+}
+
+// Whether one file is read and written, and then filled.
+fn play(alloc: Global, nodes: &mut Nodes) -> Option<bool> {
+    let id = make_file(alloc, nodes, b"abc")?;
+    Some(change(nodes, &id) && take(alloc, nodes, &id, 65_536)? && change_within(nodes, &id))
+}
+
+fn plays(alloc: Global) -> Option<bool> {
+    play(alloc, &mut Nodes::new(alloc).ok()?)
 }
 
 #[test]
-fn file_has_65536_bytes(rt: HostRuntime) -> Result<(), Fail> {
-    let (mut nodes, id) = with_file(rt.alloc())?;
-    let bytes = vec![in rt.alloc(); b'x'; 65_536]?;
-    assert_eq!(rt; write(&mut nodes, &id, 0, &bytes), Some(Ok(())));
-    assert_eq!(rt;
-        write(&mut nodes, &id, 65_536, b"y"),
-        Some(Err(WriteError::TooBig))
-    );
-    assert_eq!(rt;
-        write(&mut nodes, &id, 65_535, b"yz"),
-        Some(Err(WriteError::TooBig))
-    );
-    assert_eq!(rt;
-        write(&mut nodes, &id, 65_537, b"y"),
-        Some(Err(WriteError::PastEnd))
-    );
-    assert_eq!(rt; nodes.read_at(&id, 65_534, 9)?.items(), b"xx".as_slice());
-    assert_eq!(rt; write(&mut nodes, &id, 65_535, b"y"), Some(Ok(())));
-    assert_eq!(rt; nodes.read_at(&id, 65_534, 9)?.items(), b"xy".as_slice());
-    Ok(())
+fn file_is_written_and_has_65536_bytes(rt: HostRuntime) {
+    assert!(rt; plays(rt.alloc()) == Some(true));
 }
 
-#[test]
-fn bytes_wait_in_a_fifo(rt: HostRuntime) -> Result<(), Fail> {
-    let (mut nodes, id) = with_fifo(rt.alloc())?;
-    nodes.put_bytes(&id, b"abc")?;
-    let bytes = nodes.object(&id).map(|o| o.bytes.items());
-    assert_eq!(rt; bytes, Some(b"abc".as_slice()));
-    Ok(())
-}
-
-#[test]
-fn label_has_65535_objects(rt: HostRuntime) -> Result<(), Fail> {
-    let mut nodes = Nodes::new(rt.alloc())?;
-    for _ in 0..65_535_u32 {
-        if nodes.create(bottom(), attr(), Body::Fifo).is_err() {
-            return Err(Fail::new("an object is refused"));
+// Puts bytes into a FIFO that has none.
+fn put(nodes: &mut Nodes, id: &Oid, bytes: &[u8; 3]) -> bool {
+    match nodes.get(id) {
+        Some(object) if object.kind == Kind::Fifo && object.bytes.items().is_empty() => {
+            nodes.put_bytes(id, bytes).is_ok()
         }
+        _ => false,
     }
-    let next = nodes.create(bottom(), attr(), Body::Fifo);
-    assert_eq!(rt; next, Err(NodeError::Full));
-    Ok(())
+}
+
+// Whether bytes wait in a new FIFO.
+fn wait(nodes: &mut Nodes, bytes: &[u8; 3]) -> Result<bool, NodeError> {
+    let id = make_fifo(nodes)?;
+    Ok(put(nodes, &id, bytes) && has_bytes(nodes, &id, bytes))
+}
+
+fn bytes_wait(alloc: Global) -> Result<bool, NodeError> {
+    wait(&mut Nodes::new(alloc)?, b"abc")
+}
+
+#[test]
+fn bytes_wait_in_a_fifo(rt: HostRuntime) {
+    assert!(rt; bytes_wait(rt.alloc()) == Ok(true));
+}
+
+// To what the next FIFO comes after so many.
+fn make_after(nodes: &mut Nodes, n: u32) -> Result<Oid, NodeError> {
+    for _ in 0..n {
+        make_fifo(nodes)?;
+    }
+    make_fifo(nodes)
+}
+
+fn next_fifo(alloc: Global, after: u32) -> Result<Oid, NodeError> {
+    make_after(&mut Nodes::new(alloc)?, after)
+}
+
+#[test]
+fn label_has_65535_objects(rt: HostRuntime) {
+    assert!(rt; next_fifo(rt.alloc(), 65_534).is_ok());
+    assert!(rt; next_fifo(rt.alloc(), 65_535) == Err(NodeError::Full));
 }

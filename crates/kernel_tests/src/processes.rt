@@ -1,14 +1,10 @@
 // What no clause says: that the calls succeed with ample memory.
-ghost use Rattle.std.specs.Prelude.{IfOk};
-ghost use Rattle.kern_model.specs.Valid.{IsThere};
-
 use cap_bits::CapState;
-use kern_model::{GroupList, Ids, NoMemory, Oid, Pid};
+use kern_model::{GroupList, Ids, Mode, Oid, Pid};
 use lab_lattice::bottom;
 use proc_creds::Creds;
 use proc_table::{ProcError, Procs};
 use std::alloc::Global;
-use std::test::Fail;
 
 fn creds(alloc: Global) -> Creds {
     Creds {
@@ -31,48 +27,89 @@ fn directory(n: u16) -> Oid {
     Oid { label: bottom(), n }
 }
 
-// The processes with one that started in the first directory, and its number.
-fn with_process(alloc: Global) -> Result<(Procs, Pid), Fail>
-    ensures { IfOk result (λ made. IsThere made.0.procs made.1) }
-{
-    let mut procs = Procs::new(alloc);
-    match procs.boot(creds(alloc), directory(1)) {
-        Ok(who) => Ok((procs, who)),
-        Err(_) => Err(Fail::new("no process starts")),
-    }
-}
-
-#[test]
-fn process_starts_and_goes_on(rt: HostRuntime) -> Result<(), Fail> {
-    let (mut procs, who) = with_process(rt.alloc())?;
-    let started = procs.find(&who).map(|p| (p.cwd, p.parent, p.audited));
-    assert_eq!(rt; started, Some((directory(1), None, true)));
-    procs.set_cwd(&who, directory(2));
-    if let Some(creds) = procs.creds_mut(&who) {
-        creds.umask = 7;
-    }
-    let left = procs.find(&who).map(|p| (p.cwd, p.creds.umask));
-    assert_eq!(rt; left, Some((directory(2), 7)));
-    assert_eq!(rt; procs.live()?.items(), [who].as_slice());
-    Ok(())
-}
-
-// The answer to a fork of a living process.
-fn fork(procs: &mut Procs, who: &Pid) -> Result<Pid, ProcError> {
+// Whether a process lives, is in this directory and has this mask.
+fn is_in(procs: &Procs, who: &Pid, cwd: Oid, umask: Mode) -> bool {
     match procs.find(who) {
-        Some(_) => procs.fork(who),
-        None => Err(ProcError::NoMemory(NoMemory)),
+        Some(process) => process.cwd == cwd && process.creds.umask == umask,
+        None => false,
     }
 }
 
-#[test]
-fn label_has_4095_processes(rt: HostRuntime) -> Result<(), Fail> {
-    let (mut procs, who) = with_process(rt.alloc())?;
-    for _ in 0..4_094_u32 {
-        if fork(&mut procs, &who).is_err() {
-            return Err(Fail::new("a fork is refused"));
-        }
+// Whether a process lives, its switch is on, and it has no parent.
+fn is_first(procs: &Procs, who: &Pid) -> bool {
+    match procs.find(who) {
+        Some(process) => process.audited && process.parent.is_none(),
+        None => false,
     }
-    assert_eq!(rt; fork(&mut procs, &who), Err(ProcError::Full));
+}
+
+// Whether these are the living processes.
+fn are_living(procs: &Procs, numbers: &[Pid]) -> bool {
+    match procs.live() {
+        Ok(living) => living.items() == numbers,
+        Err(_) => false,
+    }
+}
+
+// Has a living process go to another directory.
+fn set_cwd(procs: &mut Procs, who: &Pid, cwd: Oid) {
+    if let Some(_) = procs.find(who) {
+        procs.set_cwd(who, cwd);
+    }
+}
+
+// Gives a living process another mask.
+fn set_umask(procs: &mut Procs, who: &Pid, umask: Mode) {
+    if let Some(creds) = procs.creds_mut(who) {
+        creds.umask = umask;
+    }
+}
+
+// Whether a process goes on from its start.
+fn go_on(procs: &mut Procs, who: &Pid) -> bool {
+    if !is_first(procs, who) || !is_in(procs, who, directory(1), 18) {
+        return false;
+    }
+    set_cwd(procs, who, directory(2));
+    set_umask(procs, who, 7);
+    is_in(procs, who, directory(2), 7) && are_living(procs, &[*who])
+}
+
+fn goes_on(alloc: Global) -> Result<bool, ProcError> {
+    let mut procs = Procs::new(alloc);
+    let who = procs.boot(creds(alloc), directory(1))?;
+    Ok(go_on(&mut procs, &who))
+}
+
+#[test]
+fn process_starts_and_goes_on(rt: HostRuntime) {
+    assert!(rt; goes_on(rt.alloc()) == Ok(true));
+}
+
+// Forks a living process.
+fn fork(procs: &mut Procs, who: &Pid) -> Result<(), ProcError> {
+    if let Some(_) = procs.find(who) {
+        procs.fork(who)?;
+    }
     Ok(())
+}
+
+// To what the next fork of a process comes after so many.
+fn fork_after(procs: &mut Procs, who: &Pid, times: u32) -> Result<(), ProcError> {
+    for _ in 0..times {
+        fork(procs, who)?;
+    }
+    fork(procs, who)
+}
+
+fn next_fork(alloc: Global, after: u32) -> Result<(), ProcError> {
+    let mut procs = Procs::new(alloc);
+    let who = procs.boot(creds(alloc), directory(1))?;
+    fork_after(&mut procs, &who, after)
+}
+
+#[test]
+fn label_has_4095_processes(rt: HostRuntime) {
+    assert!(rt; next_fork(rt.alloc(), 4_093) == Ok(()));
+    assert!(rt; next_fork(rt.alloc(), 4_094) == Err(ProcError::Full));
 }

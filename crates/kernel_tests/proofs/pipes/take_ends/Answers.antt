@@ -3,7 +3,7 @@ use Rattle.std.proofs.Common.{◌≡◌, ap, sym, rules}
 use Rattle.kern_model.specs.declared.objects.Kind.TheVariants.{Fifo}
 use Rattle.kern_model.specs.Kinds.{is_stream}
 use Rattle.kern_model.specs.contracts.objects.Kind.{the_type}
-use Rattle.kernel_tests.proofs.pipes.take.Goals as goal
+use Rattle.kernel_tests.proofs.pipes.take_ends.Goals as goal
 
 pub pipe_take-requires : goal.pipe_take-requires
 pipe_take-requires c = record {

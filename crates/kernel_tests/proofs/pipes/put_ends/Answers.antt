@@ -3,7 +3,7 @@ use Rattle.std.proofs.Common.{◌≡◌, ap, sym, rules}
 use Rattle.kern_model.specs.declared.objects.Kind.TheVariants.{Fifo}
 use Rattle.kern_model.specs.Kinds.{is_stream}
 use Rattle.kern_model.specs.contracts.objects.Kind.{the_type}
-use Rattle.kernel_tests.proofs.pipes.put.Goals as goal
+use Rattle.kernel_tests.proofs.pipes.put_ends.Goals as goal
 
 pub pipe_put-requires : goal.pipe_put-requires
 pipe_put-requires c = record {
