@@ -17,7 +17,7 @@ use Rattle.script_text.proofs.LineLaws.{parsed_played}
 use Rattle.world_text.specs.declared.world.WorldText.{WorldText}
 use Rattle.world_text.proofs.Accepted.{accepted_world, accepted_top, accepted_policy}
 use Rattle.world_text.specs.Reading.{Reading, Accepted, Refused as Stopped, Ended, read_text}
-use Rattle.labsys.specs.Input.{Accepted as AcceptedWorld, Script, items_in, after_line, script_from, input_by, input_of}
+use Rattle.lab_engine.specs.Input.{Accepted as AcceptedWorld, Script, items_in, after_line, script_from, input_by, input_of}
 
 -- ---- scripts
 

@@ -1,6 +1,7 @@
 -- The clauses of the top call, from what a run did.
 use Rattle.std.specs.Prelude.{Result, IfOk, IfSome, Ok, Err, None, Some}
 use Rattle.std.proofs.Common.{◌≡◌, ℕ, ◌+◌, List, ◌++◌, refl, sym, ◌∙◌, ap, subst}
+use Rattle.std.proofs.lemmas.List.{append_cancel_right}
 use Rattle.std.specs.declared.option.Option.{Option}
 use Rattle.std.specs.Io.KnownBytes.{Appends, Consumes}
 use Rattle.lab_lattice.specs.Label.{Label}
@@ -10,23 +11,26 @@ use Rattle.kern_model.specs.Lineage.{OnlyDrops, GrowsByExec}
 use Rattle.iso_laws.proofs.Laws.{drops_by_records, growth_by_records}
 use Rattle.labsys.specs.declared.command.Command.{Command}
 use Rattle.labsys.specs.declared.command.Command.TheVariants.{Play}
-use Rattle.labsys.specs.declared.status.InputEnd.{InputEnd}
-use Rattle.labsys.specs.declared.status.InputEnd.TheVariants.{Whole, Refused as IsRefused, TooMuch}
-use Rattle.labsys.specs.declared.status.Fault.{Fault}
-use Rattle.labsys.specs.declared.status.Fault.TheVariants.{Read, Write, Trail, NoMemory as Memory}
+use Rattle.lab_engine.specs.declared.ending.InputEnd.{InputEnd}
+use Rattle.lab_engine.specs.declared.ending.InputEnd.TheVariants.{Whole, Refused as IsRefused, TooMuch}
+use Rattle.lab_engine.specs.declared.ending.Fault.{Fault}
+use Rattle.lab_engine.specs.declared.ending.Fault.TheVariants.{Read, Write, Trail, NoMemory as Memory}
 use Rattle.labsys.specs.declared.status.Status.{Status}
 use Rattle.labsys.specs.declared.status.Status.TheVariants.{Done, Usage, Refused, ReadFault, WriteFault, TrailFault, NoMemory, TooLong}
-use Rattle.labsys.specs.Input.{Accepted, Script, input_of}
-use Rattle.labsys.specs.Session.{Session, session_of, bytes_of, replies_of, records_of, head_text, tail_text}
-use Rattle.labsys.specs.Order.{Sent, out_of, trail_of, session_order, order_by, order_of, IsInOrder}
+use Rattle.lab_engine.specs.Input.{Accepted, Script, input_of}
+use Rattle.lab_engine.specs.Session.{Session, session_of, bytes_of, replies_of, records_of, head_text, tail_text}
+use Rattle.lab_engine.specs.Order.{Sent, calls_by, out_of, trail_of, session_order, order_by, order_of, order_of_calls, IsInOrder}
 use Rattle.labsys.specs.Commands.{ends_with, due}
-use Rattle.labsys.specs.Counts.{counts_after, counted_by}
-use Rattle.labsys.specs.Playing.{Ends, EndsAs, RunDid, Sends, Writes, faults_of, left_of}
+use Rattle.lab_engine.specs.Counts.{counted_by}
+use Rattle.labsys.specs.Counts.{counts_after}
+use Rattle.lab_engine.specs.Playing.{Ends, Sends, Writes, faults_of}
+use Rattle.labsys.specs.Playing.{EndsAs, RunDid}
+use Rattle.lab_engine.specs.Reading.{left_of}
 use Rattle.labsys.specs.Lineage.{PrintedByAny}
 use Rattle.labsys.specs.Readable.{InputReadable}
-use Rattle.labsys.specs.Clauses.{status_of, OnWhole, Reports, reports, Moved, WhereReported, WhereAccepted, TakesAtMost, Covered, RepliesFirst, Printed, Dropped, Written, Isolated, IsolatedWhole, SameBelow, TwoInputs, TwoWhole}
-use Rattle.labsys.proofs.Sending.{out_of-append, trail_of-append, prefix_of}
-use Rattle.labsys.proofs.Coverage.{session_out, session_trail, covered, replies_first, recorded}
+use Rattle.labsys.specs.Clauses.{status_of, HasAllCalls, OnWhole, PlayedTaken, Reports, reports, Moved, WhereReported, WhereAccepted, TakesAtMost, Covered, RepliesFirst, Printed, Dropped, Written, Isolated, IsolatedWhole, SameBelow, TwoInputs, TwoWhole}
+use Rattle.lab_engine.proofs.Sending.{out_of-append, trail_of-append, prefix_of}
+use Rattle.labsys.proofs.Coverage.{records_alone, replies_alone, session_out, session_trail, covered, replies_first, recorded}
 use Rattle.labsys.proofs.AcceptedLemmas.{accepted_input}
 use Rattle.labsys.proofs.InputLemmas.{left_taken, text_left}
 use Rattle.labsys.proofs.LineageLemmas.{printed_by_any}
@@ -138,6 +142,21 @@ all_written text a out is so = record {
   whole_is = so ∙ ap (λ (w : Option Accepted). out_of (order_by w (input_of text).script)) is ∙ session_out (session_of a (input_of text).script);
 }
 
+-- what the order of all calls has for each sink
+all_calls : (a : Option Accepted) (m : Script) → HasAllCalls a m (out_of (calls_by a m)) (trail_of (calls_by a m))
+unfolding calls_by out_of trail_of
+all_calls None m = (refl, refl)
+all_calls (Some a) m = (replies_alone (session_of a m), records_alone (session_of a m))
+
+only_read : (r : Result InputEnd Fault) → status_of r ≡ ReadFault → r ≡ Err Read
+only_read (Ok Whole) is = absurd (cc)
+only_read (Ok (IsRefused n part why)) is = absurd (cc)
+only_read (Ok TooMuch) is = absurd (cc)
+only_read (Err Read) is = refl
+only_read (Err Write) is = absurd (cc)
+only_read (Err Trail) is = absurd (cc)
+only_read (Err Memory) is = absurd (cc)
+
 -- ---- a run
 
 module _ (r : Result InputEnd Fault) (l l' : Option (List ℕ)) (entry exit : Ends) (x : RunDid r l l' entry exit) where
@@ -194,6 +213,16 @@ module _ (r : Result InputEnd Fault) (l l' : Option (List ℕ)) (entry exit : En
       (λ text out trail. WhereAccepted text (λ a m. WhereAccepted other (λ b m'. SameBelow k a m b m' → TwoInputs k a m b m' out)))
   run_two_inputs k other = where_played (λ text a m out trail. WhereAccepted other (λ b m'. SameBelow k a m b m' → TwoInputs k a m b m' out)) (λ text a sent rest is e b is' same.
       two_agree k a (input_of text).script (accepted_input text a is) b (input_of other).script (accepted_input other b is') same (out_of sent) (session_written (session_of a (input_of text).script) sent rest e))
+
+  -- where a read failed, what was taken was played
+  pub run_line_by_line : (s : Status) → s ≡ status_of r → s ≡ ReadFault → WhereReported old now (λ text out trail. PlayedTaken text l' out trail)
+  run_line_by_line s is read text before above el eo et =
+      let sends = x.by_line (only_read r (sym is ∙ read)) in
+      moved l l' entry exit x.taken x.took (order_of_calls (input_of x.taken)) sends (λ text out trail. PlayedTaken text l' out trail) text before above el eo et
+      (λ taken rest text_is left_is.
+      let same : taken ≡ x.taken = append_cancel_right taken x.taken rest (sym text_is ∙ text_left l l' x.taken text el x.took ∙ ap (λ (o : Option (List ℕ)). x.taken ++ left_of o) left_is) in
+      subst (λ (t : List ℕ). HasAllCalls (input_of t).accepted (input_of t).script (out_of (order_of_calls (input_of x.taken))) (trail_of (order_of_calls (input_of x.taken)))) (sym same)
+      (all_calls (input_of x.taken).accepted (input_of x.taken).script))
 
   pub run_counts : (s : Status) → s ≡ status_of r → faults_of exit ≡ counts_after s (faults_of entry)
   run_counts s is = subst (λ (z : Status). faults_of exit ≡ counts_after z (faults_of entry)) (sym is) (counts_by r (order_of (input_of (x.taken ++ left_of l'))) entry exit x.writes)

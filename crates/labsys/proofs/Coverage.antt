@@ -8,10 +8,10 @@ use Rattle.kern_model.specs.Run.{CallRecord}
 use Rattle.lab_text.specs.Policy.{PolicyNames}
 use Rattle.line_text.specs.Words.{pid_text}
 use Rattle.line_text.specs.Reply.{outcome_words, reply_line}
-use Rattle.labsys.specs.Texts.{reply_text}
-use Rattle.labsys.specs.Session.{Session, CallBytes, bytes_from, bytes_of, replies_of, records_of, head_text, tail_text}
-use Rattle.labsys.specs.Order.{Sent, out_of, trail_of, to_out, to_trail, call_order, session_order}
-use Rattle.labsys.proofs.Sending.{out_of-append, trail_of-append, out_of-to_out, out_of-to_trail, trail_of-to_out, trail_of-to_trail}
+use Rattle.lab_engine.specs.Texts.{reply_text}
+use Rattle.lab_engine.specs.Session.{Session, CallBytes, bytes_from, bytes_of, replies_of, records_of, head_text, tail_text}
+use Rattle.lab_engine.specs.Order.{Sent, out_of, trail_of, to_out, to_trail, call_order, order_before_end, session_order}
+use Rattle.lab_engine.proofs.Sending.{out_of-append, trail_of-append, out_of-to_out, out_of-to_trail, trail_of-to_out, trail_of-to_trail}
 
 -- a prefix of `a ++ b` is a proper prefix of a, or a and then a prefix of b
 pub data Split {X : Type 0} (a b prefix rest : List X) : Type 0 where
@@ -69,6 +69,22 @@ session_out s = out_after (head_text s) (flat_map call_order (bytes_of s) ++ to_
 pub session_trail : (s : Session) → trail_of (session_order s) ≡ head_text s ++ records_of (bytes_of s)
 unfolding session_order
 session_trail s = trail_after (head_text s) (flat_map call_order (bytes_of s) ++ to_out (tail_text s)) ∙ ap (λ (z : List ℕ). head_text s ++ z) (calls_trail (bytes_of s) (tail_text s))
+
+-- ---- each sink alone, up to the end of the output
+
+pub replies_alone : (s : Session) → out_of (order_before_end s) ≡ replies_of (bytes_of s)
+unfolding order_before_end to_out
+replies_alone s =
+    out_after (head_text s) (flat_map call_order (bytes_of s))
+    ∙ ap out_of (sym (append-nil (flat_map call_order (bytes_of s))))
+    ∙ calls_out (bytes_of s) []
+    ∙ append-nil (replies_of (bytes_of s))
+
+pub records_alone : (s : Session) → trail_of (order_before_end s) ≡ head_text s ++ records_of (bytes_of s)
+unfolding order_before_end to_out
+records_alone s =
+    trail_after (head_text s) (flat_map call_order (bytes_of s))
+    ∙ ap (λ (z : List ℕ). head_text s ++ z) (ap trail_of (sym (append-nil (flat_map call_order (bytes_of s)))) ∙ calls_trail (bytes_of s) [])
 
 -- ---- no reply line is empty
 

@@ -6,8 +6,8 @@ use Rattle.kern_model.specs.Run.{CallRecord}
 use Rattle.kern_model.specs.Isolation.{answers, alone, crossing, up_to}
 use Rattle.kern_model.specs.Prefixes.{IsPrefix, Agree}
 use Rattle.iso_laws.proofs.Laws.{isolated_prefix, isolated_whole, two_worlds_agree, two_worlds_same}
-use Rattle.labsys.specs.Input.{Accepted, Script}
-use Rattle.labsys.specs.Session.{CallBytes, session_of, bytes_of, replies_of}
+use Rattle.lab_engine.specs.Input.{Accepted, Script}
+use Rattle.lab_engine.specs.Session.{CallBytes, session_of, bytes_of, replies_of}
 use Rattle.labsys.proofs.AcceptedLemmas.{IsPlayable}
 use Rattle.labsys.proofs.Coverage.{Within, Past, split}
 use Rattle.labsys.specs.Clauses.{Written, Isolated, IsolatedWhole, SameBelow, TwoInputs, TwoWhole, run_of}

@@ -1,6 +1,3 @@
-pub mod ReadLemmas
-pub mod Sending
-pub mod ScriptLemmas
 pub mod InputLemmas
 pub mod Coverage
 pub mod AcceptedLemmas
@@ -8,7 +5,5 @@ pub mod Printing
 pub mod Isolating
 pub mod LineageLemmas
 pub mod ReadableLemmas
+pub mod PlayLemmas
 pub mod ClauseLemmas
-pub mod CallLemmas
-pub mod ToolLemmas
-pub mod FewCalls

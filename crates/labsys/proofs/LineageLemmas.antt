@@ -17,11 +17,13 @@ use Rattle.kern_model.specs.declared.records.Rec.{Rec}
 use Rattle.kern_model.specs.declared.records.Rec.TheVariants as rec
 use Rattle.iso_laws.specs.Labels.{HasLabelsBelow, labels_in}
 use Rattle.iso_laws.proofs.Laws.{labels_below}
-use Rattle.labsys.specs.Input.{Accepted, Script}
-use Rattle.labsys.specs.Clauses.{Printed, Dropped, numbered_recs, recs_in}
-use Rattle.labsys.specs.Lineage.{HasLine, IsTrailOf, GivenBy, PrintedByAny}
-use Rattle.labsys.specs.Readable.{IsReadable}
-use Rattle.labsys.specs.Session.{Session, session_of, bytes_of, replies_of}
+use Rattle.lab_engine.specs.Input.{Accepted, Script}
+use Rattle.labsys.specs.Clauses.{Printed, Dropped, recs_in}
+use Rattle.lab_engine.specs.Session.{numbered_recs}
+use Rattle.labsys.specs.Lineage.{IsTrailOf, GivenBy, PrintedByAny}
+use Rattle.lab_engine.specs.Readable.{HasLine}
+use Rattle.lab_engine.specs.Readable.{IsReadable}
+use Rattle.lab_engine.specs.Session.{Session, session_of, bytes_of, replies_of}
 use Rattle.labsys.proofs.AcceptedLemmas.{IsPlayable}
 use Rattle.labsys.proofs.Printing.{all_numbered}
 

@@ -1,5 +1,5 @@
 -- What is promised of a run, by the bytes of its ends.
-use Rattle.std.specs.Prelude.{◌≡◌, ℕ, ◌+◌, ◌≤◌, ◌<◌, List, [], ◌∷◌, ◌++◌, length, map, take, Result, Ok, Err, Option, Some}
+use Rattle.std.specs.Prelude.{◌≡◌, ℕ, ◌+◌, ◌≤◌, ◌<◌, List, [], ◌++◌, length, map, take, Result, Ok, Err, Option, None, Some}
 use Rattle.std.specs.List.{flat_map}
 use Rattle.std.specs.Io.KnownBytes.{Consumes}
 use Rattle.std.specs.FinMap as finite
@@ -11,15 +11,15 @@ use Rattle.kern_model.specs.Run.{CallRecord, run}
 use Rattle.kern_model.specs.Lineage.{caps_of, OnlyDrops, GrowsByExec}
 use Rattle.kern_model.specs.Isolation.{part, part_script, answers, alone, up_to}
 use Rattle.kern_model.specs.Prefixes.{IsPrefix, Agree}
-use Rattle.labsys.specs.declared.status.InputEnd.{InputEnd}
-use Rattle.labsys.specs.declared.status.InputEnd.TheVariants.{Whole, Refused as IsRefused, TooMuch}
-use Rattle.labsys.specs.declared.status.Fault.{Fault}
-use Rattle.labsys.specs.declared.status.Fault.TheVariants.{Read, Write, Trail, NoMemory as Memory}
+use Rattle.lab_engine.specs.declared.ending.InputEnd.{InputEnd}
+use Rattle.lab_engine.specs.declared.ending.InputEnd.TheVariants.{Whole, Refused as IsRefused, TooMuch}
+use Rattle.lab_engine.specs.declared.ending.Fault.{Fault}
+use Rattle.lab_engine.specs.declared.ending.Fault.TheVariants.{Read, Write, Trail, NoMemory as Memory}
 use Rattle.labsys.specs.declared.status.Status.{Status}
 use Rattle.labsys.specs.declared.status.Status.TheVariants.{Done, Refused, ReadFault, WriteFault, TrailFault, NoMemory, TooLong}
-use Rattle.labsys.specs.Input.{Accepted, Script, input_of}
-use Rattle.labsys.specs.Session.{Session, CallBytes, session_of, bytes_of, replies_of, records_of, head_text}
-use Rattle.labsys.specs.Texts.{end_text, label_in, last_text}
+use Rattle.lab_engine.specs.Input.{Accepted, Script, input_of}
+use Rattle.lab_engine.specs.Session.{Session, CallBytes, session_of, bytes_of, replies_of, records_of, head_text, numbered_recs}
+use Rattle.lab_engine.specs.Texts.{end_text, label_in, last_text}
 
 -- ---- what the ends report
 
@@ -51,6 +51,16 @@ WhereReported old now P = (text before above : List ℕ) → old.left ≡ Some t
 -- the world of a text was accepted, and P holds of it and of its script
 abbrev pub WhereAccepted : List ℕ → (Accepted → Script → Type 0) → Type 0
 WhereAccepted text P = (a : Accepted) → (input_of text).accepted ≡ Some a → P a (input_of text).script
+
+-- the output has the replies to all calls, and the trail its head and their records; without an accepted world both have nothing
+abbrev pub HasAllCalls : Option Accepted → Script → List ℕ → List ℕ → Type 0
+HasAllCalls None script out trail = (out ≡ []) × (trail ≡ [])
+HasAllCalls (Some a) script out trail =
+    (out ≡ replies_of (bytes_of (session_of a script))) × (trail ≡ head_text (session_of a script) ++ records_of (bytes_of (session_of a script)))
+
+-- the same of the world and the calls in the bytes that were taken of a text
+abbrev pub PlayedTaken : List ℕ → Option (List ℕ) → List ℕ → List ℕ → Type 0
+PlayedTaken text left out trail = (taken rest : List ℕ) → text ≡ taken ++ rest → left ≡ Some rest → HasAllCalls (input_of taken).accepted (input_of taken).script out trail
 
 -- at most so many bytes were taken
 pub record TakesAtMost (most : ℕ) (left now : Option (List ℕ)) : Type 0 where
@@ -97,15 +107,6 @@ pub record Written (calls : List CallBytes) (out : List ℕ) : Type 0 where
   pub no_more : count + 1 ≤ length calls → length out < length (replies_of (take (count + 1) calls))
 
 -- ---- records and capability sets
-
--- the records of calls from the n-th on, each with the number of its call
-abbrev pub numbered_from : ℕ → List CallRecord → List (ℕ × Rec)
-numbered_from n [] = []
-numbered_from n (p ∷ ps) = map (λ (r : Rec). (n, r)) p.recs ++ numbered_from (n + 1) ps
-
--- all records, each with the number of its call; 0 is that of the start
-abbrev pub numbered_recs : Session → List (ℕ × Rec)
-numbered_recs s = map (λ (r : Rec). (0, r)) s.boot_recs ++ numbered_from 1 s.calls
 
 -- records without the numbers of their calls
 abbrev pub recs_in : List (ℕ × Rec) → List Rec

@@ -5,12 +5,12 @@ use Rattle.std.specs.declared.alloc.Global.{Global}
 use Rattle.lab_text.specs.Names.{same_bytes}
 use Rattle.labsys.specs.declared.command.Command.{Command}
 use Rattle.labsys.specs.declared.command.Command.TheVariants.{Play}
-use Rattle.labsys.specs.declared.status.InputEnd.{InputEnd}
-use Rattle.labsys.specs.declared.status.InputEnd.TheVariants.{Whole, Refused as IsRefused, TooMuch}
+use Rattle.lab_engine.specs.declared.ending.InputEnd.{InputEnd}
+use Rattle.lab_engine.specs.declared.ending.InputEnd.TheVariants.{Whole, Refused as IsRefused, TooMuch}
 use Rattle.labsys.specs.declared.status.Status.{Status}
 use Rattle.labsys.specs.declared.status.Status.TheVariants.{Done, Refused, TooLong}
-use Rattle.labsys.specs.Input.{input_of}
-use Rattle.labsys.specs.Order.{Sent, order_of}
+use Rattle.lab_engine.specs.Input.{input_of}
+use Rattle.lab_engine.specs.Order.{Sent, order_of}
 
 -- a word that names a file: it is not empty, and does not begin with `-`
 abbrev pub is_file_word : List ℕ → Bool

@@ -1,12 +1,7 @@
-pub mod Input
-pub mod Texts
-pub mod Session
-pub mod Order
 pub mod Commands
 pub mod Counts
-pub mod Reading
+pub mod Readable
 pub mod Playing
 pub mod Clauses
 pub mod Lineage
-pub mod Readable
 pub mod Exit

@@ -1,17 +1,12 @@
 -- What the written trail gives, whoever reads it.
-use Rattle.std.specs.Prelude.{◌≡◌, ℕ, ◌^◌, ◌<◌, true, List, length}
+use Rattle.std.specs.Prelude.{◌≡◌, ℕ, ◌<◌, List, length}
 use Rattle.std.specs.List.{AllByRecursion}
-use Rattle.lab_text.specs.Policy.{PolicyNames}
-use Rattle.aud_record.specs.Fits.{rec_fits}
 use Rattle.kern_model.specs.declared.records.Rec.{Rec}
 use Rattle.kern_model.specs.Lineage.{OnlyDrops, GrowsByExec}
 use Rattle.kern_model.specs.Prefixes.{IsPrefix}
-use Rattle.labsys.specs.Session.{Session, bytes_of, replies_of}
-use Rattle.labsys.specs.Clauses.{numbered_recs, recs_in, trail_with, out_with}
-
--- a record has a line: its labels are valid in the policy, and its numbers, its bytes and the number of its call have the sizes of their types
-abbrev pub HasLine : PolicyNames → ℕ × Rec → Type 0
-HasLine policy r = (r.0 < 2 ^ 64) × (rec_fits policy r.1 ≡ true)
+use Rattle.lab_engine.specs.Readable.{HasLine}
+use Rattle.lab_engine.specs.Session.{Session, bytes_of, numbered_recs, replies_of}
+use Rattle.labsys.specs.Clauses.{recs_in, trail_with, out_with}
 
 -- the trail is the header and the lines of these records
 pub record IsTrailOf (s : Session) (recs : List (ℕ × Rec)) (trail : List ℕ) : Type 0 where

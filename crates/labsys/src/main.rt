@@ -3,15 +3,13 @@
 
 mod command;
 mod playing;
-mod reading;
 mod running;
 mod status;
-mod texts;
 
 pub use command::Command;
 use io_ends::{FileSink, FileSource};
 pub use running::run;
-pub use status::{Fault, InputEnd, Part, Refusal, Status};
+pub use status::Status;
 use std::alloc::{AllocError, Global};
 use std::env;
 use std::io::{self, ErrorKind};

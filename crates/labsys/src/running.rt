@@ -3,17 +3,19 @@ ghost use Rattle.std.specs.Prelude.{◌≡◌, ◌↔◌, ◌+◌, None, Some, L
 ghost use Rattle.std.specs.Io.KnownBytes.{IsAtEnd};
 ghost use Rattle.lab_lattice.specs.Label.{Label};
 ghost use Rattle.kern_model.specs.declared.limits.TheConstants.{MAX_INPUT};
-ghost use Rattle.labsys.specs.Session.{session_of};
-ghost use Rattle.labsys.specs.Order.{out_of, trail_of, IsInOrder};
+ghost use Rattle.lab_engine.specs.Session.{session_of};
+ghost use Rattle.lab_engine.specs.Order.{out_of, trail_of, IsInOrder};
 ghost use Rattle.labsys.specs.Commands.{LeavesAlone, command_of, due};
-ghost use Rattle.labsys.specs.Counts.{counts, counts_after};
+ghost use Rattle.lab_engine.specs.Counts.{counts};
+ghost use Rattle.labsys.specs.Counts.{counts_after};
 ghost use Rattle.labsys.specs.Lineage.{PrintedByAny};
-ghost use Rattle.labsys.specs.Clauses.{status_of, OnWhole, TakesAtMost, WhereReported, reports, WhereAccepted, Covered, RepliesFirst, Printed, Dropped, Isolated, IsolatedWhole, SameBelow, TwoInputs, TwoWhole};
+ghost use Rattle.labsys.specs.Clauses.{status_of, OnWhole, PlayedTaken, TakesAtMost, WhereReported, reports, WhereAccepted, Covered, RepliesFirst, Printed, Dropped, Isolated, IsolatedWhole, SameBelow, TwoInputs, TwoWhole};
 
 use crate::command::command_of;
 use crate::playing::play;
-use crate::{Command, Fault, InputEnd, Status};
+use crate::{Command, Status};
 use io_ends::{Sink, Source};
+use lab_engine::{Fault, InputEnd};
 use std::alloc::Global;
 
 fn status_of(played: Result<InputEnd, Fault>) -> Status
@@ -62,6 +64,10 @@ pub fn run<S: Source, K: Sink, T: Sink>(
     // A byte of a call's record is written only after the replies to all calls before it.
     ensures replies_first { command_of words.now ≡ Some Command.Play → WhereReported (reports (S.left source.old) (K.held out.old) (T.held trail.old)) (reports (S.left source.new) (K.held out.new) (T.held trail.new))
         (λ text o t. WhereAccepted text (λ a script. RepliesFirst (session_of a script) o t)) }
+
+    // Where a read failed, all calls in the bytes that were taken were played, and nothing else was written.
+    ensures line_by_line { command_of words.now ≡ Some Command.Play → result ≡ Status.ReadFault → WhereReported (reports (S.left source.old) (K.held out.old) (T.held trail.old)) (reports (S.left source.new) (K.held out.new) (T.held trail.new))
+        (λ text o t. PlayedTaken text (S.left source.new) o t) }
 
     // Up to the first record that crosses a label, the replies below it are those of the part below it alone.
     ensures isolated { (l : Label) → command_of words.now ≡ Some Command.Play → WhereReported (reports (S.left source.old) (K.held out.old) (T.held trail.old)) (reports (S.left source.new) (K.held out.new) (T.held trail.new))

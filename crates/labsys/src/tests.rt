@@ -1,5 +1,6 @@
 // Whole runs over ends in memory: what each status leaves in the output and in the trail.
 use super::*;
+use fs_path::{next_line, number_of};
 use io_ends::{MemSink, MemSource};
 use std::alloc::Global;
 use std::test::Fail;
@@ -124,7 +125,8 @@ fn played(alloc: Global, input: &[&[u8]], fails: Fails) -> Result<Left, Fail> {
 // What each fault leaves of the worked input.
 const FAULTS: [(Fails, Status, Pieces, Pieces); 12] = [
     (Fails::Read(1), Status::ReadFault, &[], &[]),
-    (Fails::Read(2), Status::ReadFault, &[], &[]),
+    // The second read finds the end, so each call was played before it.
+    (Fails::Read(2), Status::ReadFault, &[REPLY], TRAIL),
     (Fails::Note(1), Status::TrailFault, &[], &[]),
     (Fails::Note(2), Status::TrailFault, &[], &[HEADER]),
     (Fails::Note(3), Status::TrailFault, &[], &[HEADER, BOOT]),
@@ -170,6 +172,134 @@ fn a_reply_stands_before_the_next_records(rt: HostRuntime) -> Result<(), Fail> {
             "{fails:?}"
         );
     }
+    Ok(())
+}
+
+// A day of logins, programs and relabelling.
+const DAY: &[u8] = b"world 1\n\
+    levels public internal secret top\n\
+    categories hr eng ops fin net med\n\
+    bound all\n\
+    dir / 0755 0 0 public\n\
+    dir /bin 0755 0 0 public\n\
+    file /bin/login 0755 0 0 public \"login\" \"cap_setuid,cap_setgid,cap_mac_relabel_subj=ep\"\n\
+    file /bin/passwd 4755 5 5 public \"passwd\" \"cap_dac_write=p\"\n\
+    file /bin/sh 0755 0 0 public \"sh\"\n\
+    dir /users 0755 0 0 public\n\
+    dir /users/ann 0700 100 100 internal:eng\n\
+    dir /users/bob 0700 101 101 secret:fin\n\
+    file /users/bob/pay 0600 101 101 secret:fin \"4200\"\n\
+    file /shadow 0600 5 5 public \"ann:x\"\n\
+    proc public 0 0 - \"cap_kill,cap_setfcap,cap_mac_upgrade=ep\"\n\
+    proc secret:fin 101 101 - \"=\"\n\
+    script\n\
+    1@public getfcap /bin/login /bin/sh\n\
+    1@public fork\n\
+    2@public exec /bin/login\n\
+    2@public mac_set_proc internal:eng\n\
+    2@public setgid 100\n\
+    2@public setuid 100\n\
+    2@public cap_set_proc \"=\"\n\
+    2@public exec /bin/sh\n\
+    2@public chdir /users/ann\n\
+    2@public open notes rwc 0644\n\
+    2@public write 0 \"plan\"\n\
+    2@public lseek 0 set 0\n\
+    2@public read 0 16\n\
+    2@public open /users/bob/pay r\n\
+    2@public exec /bin/passwd\n\
+    2@public getids\n\
+    2@public open /shadow w\n\
+    2@public setuid 100\n\
+    1@public setfcap \"cap_kill=ep\" /bin/sh\n\
+    1@public mkdir /drop 0755\n\
+    1@public setfmac secret /drop\n\
+    1@public getfmac /drop /bin\n\
+    1@secret:fin open /users/bob/pay rw\n\
+    1@secret:fin read 0 64\n\
+    2@public exit 0\n\
+    1@public wait\n\
+    1@public kill 1@secret:fin TERM\n";
+
+// How many writes the day makes to the output, one for each line.
+const DAY_ANSWERS: usize = 32;
+
+// How many it makes to the trail: one for the header, and one for each record.
+const DAY_NOTES: usize = 21;
+
+// The text up to its rest.
+fn text_before<'a>(text: &'a [u8], rest: &[u8]) -> &'a [u8] {
+    let length = text.len().saturating_sub(rest.len());
+    text.get(..length).unwrap_or(text)
+}
+
+// The first lines of a text, and its rest.
+fn first_lines(text: &[u8], count: usize) -> (&[u8], &[u8]) {
+    let mut rest = text;
+    for _ in 0..count {
+        if let Some((_, after)) = next_line(rest) {
+            rest = after;
+        }
+    }
+    (text_before(text, rest), rest)
+}
+
+// The number of the call that the first of these lines of the trail is about.
+fn first_call(lines: &[u8]) -> usize {
+    let word = lines.split(|byte| *byte == b' ').next().unwrap_or(&[]);
+    number_of(word).unwrap_or(0) as usize
+}
+
+// The trail up to the last record of a call. Its header has four lines.
+fn records_up_to(trail: &[u8], call: usize) -> &[u8] {
+    let (_, mut rest) = first_lines(trail, 4);
+    for _ in 0..DAY_NOTES {
+        if first_call(rest) > call {
+            break;
+        }
+        if let Some((_, after)) = next_line(rest) {
+            rest = after;
+        }
+    }
+    text_before(trail, rest)
+}
+
+// The n-th answer that fails leaves those before it, and the records of the n-th call.
+#[test]
+fn each_answer_of_a_day_fails_in_turn(rt: HostRuntime) -> Result<(), Fail> {
+    let alloc = rt.alloc();
+    let whole = played(alloc, &[DAY], Fails::Nothing)?;
+    for count in 1..=DAY_ANSWERS {
+        let (out, _) = first_lines(&whole.out, count - 1);
+        let trail = records_up_to(&whole.trail, count);
+        assert_eq!(rt;
+            played(alloc, &[DAY], Fails::Write(count as u64))?,
+            Left::new(alloc, Status::WriteFault, &[out], &[trail])?,
+            "{count}"
+        );
+    }
+    let fails = Fails::Write(DAY_ANSWERS as u64 + 1);
+    assert_eq!(rt; played(alloc, &[DAY], fails)?, whole);
+    Ok(())
+}
+
+// The n-th piece of the trail that fails leaves those before it, and the replies to the calls before its own.
+#[test]
+fn each_record_of_a_day_fails_in_turn(rt: HostRuntime) -> Result<(), Fail> {
+    let alloc = rt.alloc();
+    let whole = played(alloc, &[DAY], Fails::Nothing)?;
+    for count in 1..=DAY_NOTES {
+        let lines = if count == 1 { 0 } else { count + 2 };
+        let (trail, rest) = first_lines(&whole.trail, lines);
+        let (out, _) = first_lines(&whole.out, first_call(rest).saturating_sub(1));
+        assert_eq!(rt;
+            played(alloc, &[DAY], Fails::Note(count as u64))?,
+            Left::new(alloc, Status::TrailFault, &[out], &[trail])?,
+            "{count}"
+        );
+    }
+    let fails = Fails::Note(DAY_NOTES as u64 + 1);
+    assert_eq!(rt; played(alloc, &[DAY], fails)?, whole);
     Ok(())
 }
 

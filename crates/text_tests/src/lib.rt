@@ -4,6 +4,8 @@
 #[cfg(test)]
 mod capability_texts;
 #[cfg(test)]
+mod generated;
+#[cfg(test)]
 mod labels;
 #[cfg(test)]
 mod paths;

@@ -130,8 +130,17 @@ fn oid(policy: &Policy, at: &[u8], n: u16) -> Result<Oid, Fail> {
     Ok(Oid { label, n })
 }
 
+// The line of the record that is read from a whole line.
+fn round_trip(alloc: Global, policy: &Policy, line: &[u8]) -> Result<Vec<u8>, Fail> {
+    let read = rec_read(alloc, policy, line).ok().ok_or("a record")?;
+    if read.used != line.len() {
+        return Err(Fail::new("bytes after the record"));
+    }
+    Ok(rec_text(alloc, policy, read.call, &read.rec)?)
+}
+
 // Whether a record has this line, is read from it, and the record that is read has this line again.
-fn is_written(
+fn has_line(
     alloc: Global,
     policy: &Policy,
     call: u64,
@@ -139,77 +148,122 @@ fn is_written(
     line: &[u8],
 ) -> Result<bool, Fail> {
     let text = rec_text(alloc, policy, call, rec)?;
-    let read = rec_read(alloc, policy, &text).ok().ok_or("a record")?;
-    let round_trip = rec_text(alloc, policy, read.call, &read.rec)?;
-    Ok(text.as_slice() == line && round_trip.as_slice() == line && read.used == line.len())
+    Ok(text.as_slice() == line && round_trip(alloc, policy, line)?.as_slice() == line)
 }
 
-// The number of the first call whose record has another line.
-fn other_line(
+fn is_written(
     alloc: Global,
     policy: &Policy,
-    lines: &[(u64, Rec, &[u8])],
-) -> Result<Option<u64>, Fail> {
-    for (call, rec, line) in lines {
-        if !is_written(alloc, policy, *call, rec, line)? {
-            return Ok(Some(*call));
-        }
-    }
-    Ok(None)
+    call: u64,
+    rec: Rec,
+    line: &[u8],
+) -> Result<bool, Fail> {
+    has_line(alloc, policy, call, &rec, line)
+}
+
+fn ends(
+    alloc: Global,
+    policy: &Policy,
+    call: u64,
+    ending: Ending,
+    line: &[u8],
+) -> Result<bool, Fail> {
+    let exit = Rec::Exit(pid(policy, LOW, 1)?, ending);
+    is_written(alloc, policy, call, exit, line)
 }
 
 #[test]
-fn processes_come_and_go(rt: HostRuntime) -> Result<(), Fail> {
-    let policy = policy(rt.alloc(), &[b"a", b"b"])?;
+fn processes_begin(rt: HostRuntime) -> Result<(), Fail> {
+    let alloc = rt.alloc();
+    let policy = policy(alloc, &[b"a", b"b"])?;
     let one = pid(&policy, LOW, 1)?;
     let boot = Rec::Boot(one, label(&policy, HIGH)?, CapState::none());
+    assert!(rt; is_written(alloc, &policy, 0, boot, b"0 boot 1@unc sec:a \"=\"\n")?);
     let fork = Rec::Fork(one, pid(&policy, HIGH, 2)?);
-    let file = oid(&policy, HIGH, 7)?;
-    let exec = Rec::Exec(one, file, kill_permitted(), CapState::none());
-    let exit = Rec::Exit(one, Ending::Exit(255));
-    let lines: [(u64, Rec, &[u8]); 6] = [
-        (0, boot, b"0 boot 1@unc sec:a \"=\"\n"),
-        (1, fork, b"1 fork 1@unc 2@sec:a\n"),
-        (2, exec, b"2 exec 1@unc 7@sec:a \"cap_kill=ep\" \"=\"\n"),
-        (3, exit, b"3 exit 1@unc exit 255\n"),
-        (4, Rec::Exit(one, Ending::Term), b"4 exit 1@unc kill TERM\n"),
-        (5, Rec::Exit(one, Ending::Kill), b"5 exit 1@unc kill KILL\n"),
-    ];
-    assert_eq!(rt; other_line(rt.alloc(), &policy, &lines)?, None);
+    assert!(rt; is_written(alloc, &policy, 1, fork, b"1 fork 1@unc 2@sec:a\n")?);
+    let exec = Rec::Exec(
+        one,
+        oid(&policy, HIGH, 7)?,
+        kill_permitted(),
+        CapState::none(),
+    );
+    assert!(rt;
+        is_written(
+            alloc,
+            &policy,
+            2,
+            exec,
+            b"2 exec 1@unc 7@sec:a \"cap_kill=ep\" \"=\"\n"
+        )?
+    );
     Ok(())
 }
 
 #[test]
-fn sets_and_labels(rt: HostRuntime) -> Result<(), Fail> {
-    let policy = policy(rt.alloc(), &[b"a", b"b"])?;
+fn processes_end(rt: HostRuntime) -> Result<(), Fail> {
+    let alloc = rt.alloc();
+    let policy = policy(alloc, &[b"a", b"b"])?;
+    assert!(rt;
+        ends(
+            alloc,
+            &policy,
+            3,
+            Ending::Exit(255),
+            b"3 exit 1@unc exit 255\n"
+        )?
+    );
+    assert!(rt; ends(alloc, &policy, 4, Ending::Term, b"4 exit 1@unc kill TERM\n")?);
+    assert!(rt; ends(alloc, &policy, 5, Ending::Kill, b"5 exit 1@unc kill KILL\n")?);
+    Ok(())
+}
+
+#[test]
+fn sets_of_capabilities(rt: HostRuntime) -> Result<(), Fail> {
+    let alloc = rt.alloc();
+    let policy = policy(alloc, &[b"a", b"b"])?;
     let one = pid(&policy, LOW, 1)?;
-    let file = oid(&policy, HIGH, 7)?;
+    let proc = Rec::CapSetProc(one, kill_permitted());
+    assert!(rt;
+        is_written(
+            alloc,
+            &policy,
+            6,
+            proc,
+            b"6 cap_set_proc 1@unc \"cap_kill=ep\"\n"
+        )?
+    );
+    let file = Rec::CapSetFile(one, oid(&policy, HIGH, 7)?, kill_permitted());
+    assert!(rt;
+        is_written(
+            alloc,
+            &policy,
+            7,
+            file,
+            b"7 cap_set_file 1@unc 7@sec:a \"cap_kill=ep\"\n"
+        )?
+    );
+    Ok(())
+}
+
+#[test]
+fn new_labels(rt: HostRuntime) -> Result<(), Fail> {
+    let alloc = rt.alloc();
+    let policy = policy(alloc, &[b"a", b"b"])?;
+    let one = pid(&policy, LOW, 1)?;
     let low = label(&policy, LOW)?;
     let high = label(&policy, HIGH)?;
-    let caps = kill_permitted();
-    let lines: [(u64, Rec, &[u8]); 4] = [
-        (
-            6,
-            Rec::CapSetProc(one, caps),
-            b"6 cap_set_proc 1@unc \"cap_kill=ep\"\n",
-        ),
-        (
-            7,
-            Rec::CapSetFile(one, file, caps),
-            b"7 cap_set_file 1@unc 7@sec:a \"cap_kill=ep\"\n",
-        ),
-        (
-            8,
-            Rec::MacSetProc(one, low, high),
-            b"8 mac_set_proc 1@unc unc sec:a\n",
-        ),
-        (
+    let proc = Rec::MacSetProc(one, low, high);
+    assert!(rt; is_written(alloc, &policy, 8, proc, b"8 mac_set_proc 1@unc unc sec:a\n")?);
+    let file = Rec::MacSetFile(one, oid(&policy, HIGH, 7)?, high, low);
+    assert!(rt;
+        is_written(
+            alloc,
+            &policy,
             9,
-            Rec::MacSetFile(one, file, high, low),
-            b"9 mac_set_file 1@unc 7@sec:a sec:a unc\n",
-        ),
-    ];
-    assert_eq!(rt; other_line(rt.alloc(), &policy, &lines)?, None);
+            file,
+            b"9 mac_set_file 1@unc 7@sec:a sec:a unc\n"
+        )?
+    );
     Ok(())
 }
 
@@ -241,69 +295,116 @@ fn signal(policy: &Policy) -> Result<Rec, Fail> {
     ))
 }
 
-#[test]
-fn checks(rt: HostRuntime) -> Result<(), Fail> {
-    let policy = policy(rt.alloc(), &[b"a", b"b"])?;
-    let denied = Rec::Deny(
-        pid(&policy, LOW, 1)?,
+fn denied(policy: &Policy) -> Result<Rec, Fail> {
+    Ok(Rec::Deny(
+        pid(policy, LOW, 1)?,
         CallName::OpenPath,
         Errno::EACCES,
         CheckName::DacWrite,
         Place::First(0),
-    );
-    let lines: [(u64, Rec, &[u8]); 3] = [
-        (
+    ))
+}
+
+#[test]
+fn checks(rt: HostRuntime) -> Result<(), Fail> {
+    let alloc = rt.alloc();
+    let policy = policy(alloc, &[b"a", b"b"])?;
+    assert!(rt;
+        is_written(
+            alloc,
+            &policy,
             10,
             upgrade(&policy)?,
-            b"10 exercise 1@unc unc cap_mac_upgrade mac_upgrade obj:7@sec:a unc sec:a q10\n",
-        ),
-        (
+            b"10 exercise 1@unc unc cap_mac_upgrade mac_upgrade obj:7@sec:a unc sec:a q10\n"
+        )?
+    );
+    assert!(rt;
+        is_written(
+            alloc,
+            &policy,
             11,
             signal(&policy)?,
-            b"11 exercise 1@unc unc cap_kill kill proc:2@sec:a sec:a - pid\n",
-        ),
-        (12, denied, b"12 deny 1@unc open EACCES dac_write p0\n"),
-    ];
-    assert_eq!(rt; other_line(rt.alloc(), &policy, &lines)?, None);
+            b"11 exercise 1@unc unc cap_kill kill proc:2@sec:a sec:a - pid\n"
+        )?
+    );
+    assert!(rt;
+        is_written(
+            alloc,
+            &policy,
+            12,
+            denied(&policy)?,
+            b"12 deny 1@unc open EACCES dac_write p0\n"
+        )?
+    );
     Ok(())
 }
 
 #[test]
-fn switches_and_notes(rt: HostRuntime) -> Result<(), Fail> {
-    let policy = policy(rt.alloc(), &[b"a", b"b"])?;
-    let one = pid(&policy, LOW, 1)?;
+fn switches(rt: HostRuntime) -> Result<(), Fail> {
+    let alloc = rt.alloc();
+    let policy = policy(alloc, &[b"a", b"b"])?;
     let two = pid(&policy, HIGH, 2)?;
-    let note = ByteList::from_slice(rt.alloc(), b"a \"\\\n\xff")?;
-    let nothing = ByteList::new(rt.alloc());
-    let lines: [(u64, Rec, &[u8]); 4] = [
-        (13, Rec::Switch(two, true), b"13 switch 2@sec:a on\n"),
-        (14, Rec::Switch(two, false), b"14 switch 2@sec:a off\n"),
-        (
-            15,
-            Rec::Note(one, note),
-            b"15 note 1@unc \"a \\\"\\\\\\x0a\\xff\"\n",
-        ),
-        (16, Rec::Note(one, nothing), b"16 note 1@unc \"\"\n"),
-    ];
-    assert_eq!(rt; other_line(rt.alloc(), &policy, &lines)?, None);
+    let on = Rec::Switch(two, true);
+    assert!(rt; is_written(alloc, &policy, 13, on, b"13 switch 2@sec:a on\n")?);
+    let off = Rec::Switch(two, false);
+    assert!(rt; is_written(alloc, &policy, 14, off, b"14 switch 2@sec:a off\n")?);
     Ok(())
+}
+
+// Whether a note of these bytes has this line.
+fn is_noted(
+    alloc: Global,
+    policy: &Policy,
+    call: u64,
+    bytes: &[u8],
+    line: &[u8],
+) -> Result<bool, Fail> {
+    let one = pid(policy, LOW, 1)?;
+    let note = Rec::Note(one, ByteList::from_slice(alloc, bytes)?);
+    is_written(alloc, policy, call, note, line)
+}
+
+#[test]
+fn notes(rt: HostRuntime) -> Result<(), Fail> {
+    let alloc = rt.alloc();
+    let policy = policy(alloc, &[b"a", b"b"])?;
+    assert!(rt;
+        is_noted(
+            alloc,
+            &policy,
+            15,
+            b"a \"\\\n\xff",
+            b"15 note 1@unc \"a \\\"\\\\\\x0a\\xff\"\n"
+        )?
+    );
+    assert!(rt; is_noted(alloc, &policy, 16, b"", b"16 note 1@unc \"\"\n")?);
+    Ok(())
+}
+
+fn is_header(alloc: Global, cats: &[&[u8]], bound: &CapSet, text: &[u8]) -> Result<bool, Fail> {
+    let policy = policy(alloc, cats)?;
+    let header = header_text(alloc, &policy, bound)?;
+    Ok(header.as_slice() == text)
 }
 
 #[test]
 fn headers(rt: HostRuntime) -> Result<(), Fail> {
-    let alloc = rt.alloc();
-    let two = policy(alloc, &[b"a", b"b"])?;
-    let none = policy(alloc, &[])?;
     let bound = CapSet::none().with(Cap::Kill).with(Cap::Setuid);
-    let text = header_text(alloc, &two, &bound)?;
-    assert_eq!(rt;
-        text.as_slice(),
-        b"trail 1\nlevels unc conf sec\ncategories a b\nbound cap_kill,cap_setuid\n".as_slice()
+    assert!(rt;
+        is_header(
+            rt.alloc(),
+            &[b"a", b"b"],
+            &bound,
+            b"trail 1\nlevels unc conf sec\ncategories a b\nbound cap_kill,cap_setuid\n"
+        )?
     );
-    let text = header_text(alloc, &none, &CapSet::all())?;
-    assert_eq!(rt;
-        text.as_slice(),
-        b"trail 1\nlevels unc conf sec\ncategories\nbound all\n".as_slice()
+    assert!(rt;
+        is_header(
+            rt.alloc(),
+            &[],
+            &CapSet::all(),
+            b"trail 1\nlevels unc conf sec\ncategories\nbound all\n"
+        )?
     );
     Ok(())
 }

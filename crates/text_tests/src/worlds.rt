@@ -1,4 +1,5 @@
 // What no clause says: tables of worlds, with the line and the cause of each that is refused.
+use fs_path::next_line;
 use kern_model::Body;
 use lab_text::mac_to_text;
 use std::alloc::Global;
@@ -19,55 +20,73 @@ enum Answer {
 use Answer::{Ended, Refused, World};
 
 // A text: what stands first, a part, how often it stands after that, and what stands after the parts.
-type Text = (&'static [u8], &'static [u8], usize, &'static [u8]);
+type Repeated = (&'static [u8], &'static [u8], usize, &'static [u8]);
 
 // Three levels and two categories.
 const HEAD: &[u8] = b"world 1\nlevels unc conf sec\ncategories a b\nbound all\n";
 
-const ROOT: &[u8] = b"dir / 0777 0 0 unc\n";
+// The head, and the root.
+const HEAD_AND_ROOT: &[u8] =
+    b"world 1\nlevels unc conf sec\ncategories a b\nbound all\ndir / 0777 0 0 unc\n";
 
 // Whole texts.
-const HEADS: &[(Text, Answer)] = &[
-    ((b"", b"", 0, b""), Ended(1, 0)),
-    ((b"world 1", b"", 0, b""), Ended(1, 7)),
-    ((b"world 1\n", b"", 0, b""), Ended(2, 0)),
-    ((b"\n# first\n world  1 \n", b"", 0, b""), Ended(4, 0)),
-    ((b"world 2\n", b"", 0, b""), Refused(1, Syntax)),
-    ((b"world \"1\"\n", b"", 0, b""), Ended(2, 0)),
-    ((b"\"world\" 1\n", b"", 0, b""), Refused(1, Syntax)),
-    ((b"levels unc\n", b"", 0, b""), Refused(1, Syntax)),
-    ((b"world 1\nlevels\n", b"", 0, b""), Refused(2, Syntax)),
+const HEADS: &[(&[u8], Answer)] = &[
+    (b"", Ended(1, 0)),
+    (b"world 1", Ended(1, 7)),
+    (b"world 1\n", Ended(2, 0)),
+    (b"\n# first\n world  1 \n", Ended(4, 0)),
+    (b"world 2\n", Refused(1, Syntax)),
+    (b"world \"1\"\n", Ended(2, 0)),
+    (b"\"world\" 1\n", Refused(1, Syntax)),
+    (b"levels unc\n", Refused(1, Syntax)),
+    (b"world 1\nlevels\n", Refused(2, Syntax)),
+    (b"world 1\nlevels a a\n", Refused(2, Repeated)),
+    (b"world 1\nlevels a 9 a\n", Refused(2, Syntax)),
     (
-        (b"world 1\nlevels a a\n", b"", 0, b""),
-        Refused(2, Repeated),
-    ),
-    (
-        (b"world 1\nlevels a 9 a\n", b"", 0, b""),
-        Refused(2, Syntax),
-    ),
-    ((b"world 1\nlevels", b" a", 17, b"\n"), Refused(2, TooMany)),
-    ((b"world 1\nlevels", b" a", 17, b" 9\n"), Refused(2, Syntax)),
-    (
-        (
-            b"world 1\nlevels unc conf sec n4 n5 n6 n7 n8 n9 n10 n11 n12 n13 n14 n15 n16 n17\n",
-            b"",
-            0,
-            b"",
-        ),
+        b"world 1\nlevels unc conf sec n4 n5 n6 n7 n8 n9 n10 n11 n12 n13 n14 n15 n16 n17\n",
         Refused(2, TooMany),
     ),
+    (b"world 1\nlevels a\ncategories\nbound none\n", Ended(5, 0)),
+    (b"world 1\nlevels a\ncategories a\n", Ended(4, 0)),
+    (b"world 1\nlevels a\ncategories b b\n", Refused(3, Repeated)),
     (
-        (b"world 1\nlevels a\ncategories\nbound none\n", b"", 0, b""),
+        b"world 1\nlevels a\ncategories\nbound\n",
+        Refused(4, Syntax),
+    ),
+    (
+        b"world 1\nlevels a\ncategories\nbound cap_kill\n",
         Ended(5, 0),
     ),
     (
-        (b"world 1\nlevels a\ncategories a\n", b"", 0, b""),
-        Ended(4, 0),
+        b"world 1\nlevels a\ncategories\nbound CAP_SETUID,cap_Kill\n",
+        Ended(5, 0),
     ),
     (
-        (b"world 1\nlevels a\ncategories b b\n", b"", 0, b""),
-        Refused(3, Repeated),
+        b"world 1\nlevels a\ncategories\nbound \"all\"\n",
+        Ended(5, 0),
     ),
+    (
+        b"world 1\nlevels a\ncategories\nbound cap_x\n",
+        Refused(4, UnknownName),
+    ),
+    (
+        b"world 1\nlevels a\ncategories\nbound cap_kill,\n",
+        Refused(4, UnknownName),
+    ),
+    (
+        b"world 1\nlevels a\ncategories\nbound \"\"\n",
+        Refused(4, Syntax),
+    ),
+    (
+        b"world 1\nlevels a\ncategories\nbound cap_kill cap_setuid\n",
+        Refused(4, Syntax),
+    ),
+];
+
+// Texts with a part that stands many times.
+const LONG_HEADS: &[(Repeated, Answer)] = &[
+    ((b"world 1\nlevels", b" a", 17, b"\n"), Refused(2, TooMany)),
+    ((b"world 1\nlevels", b" a", 17, b" 9\n"), Refused(2, Syntax)),
     (
         (b"world 1\nlevels a\ncategories", b" b", 65, b"\n"),
         Refused(3, TooMany),
@@ -76,261 +95,125 @@ const HEADS: &[(Text, Answer)] = &[
         (b"world 1\nlevels a\ncategories", b" b", 65, b" 9\n"),
         Refused(3, Syntax),
     ),
-    (
-        (b"world 1\nlevels a\ncategories\nbound\n", b"", 0, b""),
-        Refused(4, Syntax),
-    ),
-    (
-        (
-            b"world 1\nlevels a\ncategories\nbound cap_kill\n",
-            b"",
-            0,
-            b"",
-        ),
-        Ended(5, 0),
-    ),
-    (
-        (
-            b"world 1\nlevels a\ncategories\nbound CAP_SETUID,cap_Kill\n",
-            b"",
-            0,
-            b"",
-        ),
-        Ended(5, 0),
-    ),
-    (
-        (
-            b"world 1\nlevels a\ncategories\nbound \"all\"\n",
-            b"",
-            0,
-            b"",
-        ),
-        Ended(5, 0),
-    ),
-    (
-        (b"world 1\nlevels a\ncategories\nbound cap_x\n", b"", 0, b""),
-        Refused(4, UnknownName),
-    ),
-    (
-        (
-            b"world 1\nlevels a\ncategories\nbound cap_kill,\n",
-            b"",
-            0,
-            b"",
-        ),
-        Refused(4, UnknownName),
-    ),
-    (
-        (b"world 1\nlevels a\ncategories\nbound \"\"\n", b"", 0, b""),
-        Refused(4, Syntax),
-    ),
-    (
-        (
-            b"world 1\nlevels a\ncategories\nbound cap_kill cap_setuid\n",
-            b"",
-            0,
-            b"",
-        ),
-        Refused(4, Syntax),
-    ),
-    ((HEAD, b"script\n", 1, b""), Refused(5, Syntax)),
-    (
-        (HEAD, b"proc unc 0 0 - \"=\"\n", 1, b""),
-        Refused(5, NoParent),
-    ),
-    (
-        (HEAD, b"proc unc 0 0 - \"cap_x=p\"\n", 1, b""),
-        Refused(5, UnknownName),
-    ),
-    (
-        (HEAD, b"dir /a 0777 0 0 unc\n", 1, b""),
-        Refused(5, NoParent),
-    ),
-    (
-        (HEAD, b"dir / 0777 0 0 sec\n", 1, b""),
-        Refused(5, RootLabel),
-    ),
-    (
-        (HEAD, b"fifo / 0777 0 0 unc\n", 1, b""),
-        Refused(5, RootLabel),
-    ),
-    (
-        (HEAD, b"dir / 0777 0 0 zzz\n", 1, b""),
-        Refused(5, UnknownName),
-    ),
+];
+
+// What stands after the head, which has four lines.
+const ROOTS: &[(&[u8], Answer)] = &[
+    (b"script\n", Refused(5, Syntax)),
+    (b"proc unc 0 0 - \"=\"\n", Refused(5, NoParent)),
+    (b"proc unc 0 0 - \"cap_x=p\"\n", Refused(5, UnknownName)),
+    (b"dir /a 0777 0 0 unc\n", Refused(5, NoParent)),
+    (b"dir / 0777 0 0 sec\n", Refused(5, RootLabel)),
+    (b"fifo / 0777 0 0 unc\n", Refused(5, RootLabel)),
+    (b"dir / 0777 0 0 zzz\n", Refused(5, UnknownName)),
 ];
 
 // What stands after the root, which is line 5.
-const TREES: &[(Text, Answer)] = &[
-    ((b"script\n", b"1@unc", 1, b""), World(7)),
-    ((b" script # no comment\n", b"", 0, b""), Refused(6, Syntax)),
-    ((b"script", b"", 0, b""), Ended(6, 6)),
-    ((b"dir /d 0755 10 10 unc\n", b"", 0, b""), Ended(7, 0)),
-    ((b"", b"#", 2048, b"\nscript\n"), World(8)),
-    ((b"", b"#", 2049, b"\nscript\n"), Refused(6, Syntax)),
+const TREES: &[(&[u8], Answer)] = &[
+    (b"script\n1@unc", World(7)),
+    (b" script # no comment\n", Refused(6, Syntax)),
+    (b"script", Ended(6, 6)),
+    (b"dir /d 0755 10 10 unc\n", Ended(7, 0)),
+    (b"dir /x/y 0755 0 0 unc\n", Refused(6, NoParent)),
     (
-        (b"dir /x/y 0755 0 0 unc\n", b"", 0, b""),
-        Refused(6, NoParent),
-    ),
-    (
-        (b"\n  \n#\n # \"\ndir /x/y 0755 0 0 unc\n", b"", 0, b""),
+        b"\n  \n#\n # \"\ndir /x/y 0755 0 0 unc\n",
         Refused(10, NoParent),
     ),
     (
-        (
-            b"dir /h 0755 0 0 sec\nfile /h/f 0644 0 0 unc \"\"\n",
-            b"",
-            0,
-            b"",
-        ),
+        b"dir /h 0755 0 0 sec\nfile /h/f 0644 0 0 unc \"\"\n",
         Refused(7, LabelOrder),
     ),
     (
-        (
-            b"dir /h 0755 0 0 sec:a\nfile /h/f 0644 0 0 sec:b \"\"\n",
-            b"",
-            0,
-            b"",
-        ),
+        b"dir /h 0755 0 0 sec:a\nfile /h/f 0644 0 0 sec:b \"\"\n",
         Refused(7, LabelOrder),
     ),
-    ((ROOT, b"", 0, b""), Refused(6, Repeated)),
+    (b"dir / 0777 0 0 unc\n", Refused(6, Repeated)),
+    (b"dir //./ 0777 0 0 unc\n", Refused(6, Repeated)),
     (
-        (b"dir //./ 0777 0 0 unc\n", b"", 0, b""),
-        Refused(6, Repeated),
-    ),
-    (
-        (
-            b"file \"/a b\" 0644 0 0 unc \"\"\n",
-            b"",
-            0,
-            b"fifo \"/a\\x20b\" 0644 0 0 sec\n",
-        ),
+        b"file \"/a b\" 0644 0 0 unc \"\"\nfifo \"/a\\x20b\" 0644 0 0 sec\n",
         Refused(7, Repeated),
     ),
     (
-        (
-            b"file /a 0644 0 0 unc \"\"\n",
-            b"",
-            0,
-            b"dir /a/b 0 0 0 unc\n",
-        ),
+        b"file /a 0644 0 0 unc \"\"\ndir /a/b 0 0 0 unc\n",
         Refused(7, NoParent),
     ),
+    (b"file /a 0644 0 0 zzz \"\"\n", Refused(6, UnknownName)),
+    (b"file /a 0644 0 0 unc:z \"\"\n", Refused(6, UnknownName)),
     (
-        (b"file /a 0644 0 0 zzz \"\"\n", b"", 0, b""),
-        Refused(6, UnknownName),
-    ),
-    (
-        (b"file /a 0644 0 0 unc:z \"\"\n", b"", 0, b""),
-        Refused(6, UnknownName),
-    ),
-    (
-        (
-            b"file /a 0644 0 0 unc \"\"\n",
-            b"",
-            0,
-            b"file /a 0644 0 0 zzz \"\"\n",
-        ),
+        b"file /a 0644 0 0 unc \"\"\nfile /a 0644 0 0 zzz \"\"\n",
         Refused(7, UnknownName),
     ),
+    (b"file /x/y 0644 0 0 zzz \"\"\n", Refused(6, UnknownName)),
     (
-        (b"file /x/y 0644 0 0 zzz \"\"\n", b"", 0, b""),
-        Refused(6, UnknownName),
-    ),
-    (
-        (
-            b"file /a 0644 0 0 unc \"\" \"cap_kill=e cap_chown=i\"\n",
-            b"",
-            0,
-            b"",
-        ),
+        b"file /a 0644 0 0 unc \"\" \"cap_kill=e cap_chown=i\"\n",
         Ended(7, 0),
     ),
+    (b"file /a 0644 0 0 unc \"\" CAP_KILL+ei-e\n", Ended(7, 0)),
     (
-        (b"file /a 0644 0 0 unc \"\" CAP_KILL+ei-e\n", b"", 0, b""),
+        b"file /a 0644 0 0 zzz \"\" \"cap_kill=ep\"\n",
+        Refused(6, UnknownName),
+    ),
+    (
+        b"file /a 0644 0 0 unc \"\" \"cap_x=e\"\n",
+        Refused(6, UnknownName),
+    ),
+    (
+        b"file / 0644 0 0 unc \"\" \"cap_kill,cap_x=e\"\n",
+        Refused(6, UnknownName),
+    ),
+    (
+        b"file /a 0644 0 0 unc \"\" \"cap_x=e +e\"\n",
+        Refused(6, UnknownName),
+    ),
+    (
+        b"file /a 0644 0 0 unc \"\" \"+e cap_x=e\"\n",
+        Refused(6, Syntax),
+    ),
+    (b"file /a 0644 0 0 unc \"\" \"\"\n", Refused(6, Syntax)),
+    (
+        b"file /a 0644 0 0 zzz \"\" \"cap_kill\"\n",
+        Refused(6, Syntax),
+    ),
+    (
+        b"file /a 0644 0 0 unc: \"\" \"cap_x=ep\"\n",
+        Refused(6, Syntax),
+    ),
+    (
+        b"file a 0644 0 0 zzz \"\" \"cap_x=ep\"\n",
+        Refused(6, Syntax),
+    ),
+    (
+        b"proc unc 0 0 - \"cap_mac_read=ep cap_kill=i\"\n",
         Ended(7, 0),
     ),
+    (b"proc unc 0 0 - \"=eip\"\n", Ended(7, 0)),
+    (b"proc zzz 0 0 - \"cap_mac_read=e\"\n", Refused(6, Syntax)),
     (
-        (b"file /a 0644 0 0 zzz \"\" \"cap_kill=ep\"\n", b"", 0, b""),
+        b"proc unc 0 0 - \"cap_kill=ep cap_chown=ei\"\n",
+        Refused(6, Syntax),
+    ),
+    (
+        b"proc unc 0 0 - \"cap_kill=e cap_x=e\"\n",
         Refused(6, UnknownName),
     ),
-    (
-        (b"file /a 0644 0 0 unc \"\" \"cap_x=e\"\n", b"", 0, b""),
-        Refused(6, UnknownName),
-    ),
-    (
-        (
-            b"file / 0644 0 0 unc \"\" \"cap_kill,cap_x=e\"\n",
-            b"",
-            0,
-            b"",
-        ),
-        Refused(6, UnknownName),
-    ),
-    (
-        (b"file /a 0644 0 0 unc \"\" \"cap_x=e +e\"\n", b"", 0, b""),
-        Refused(6, UnknownName),
-    ),
-    (
-        (b"file /a 0644 0 0 unc \"\" \"+e cap_x=e\"\n", b"", 0, b""),
-        Refused(6, Syntax),
-    ),
-    (
-        (b"file /a 0644 0 0 unc \"\" \"\"\n", b"", 0, b""),
-        Refused(6, Syntax),
-    ),
-    (
-        (b"file /a 0644 0 0 zzz \"\" \"cap_kill\"\n", b"", 0, b""),
-        Refused(6, Syntax),
-    ),
-    (
-        (b"file /a 0644 0 0 unc: \"\" \"cap_x=ep\"\n", b"", 0, b""),
-        Refused(6, Syntax),
-    ),
-    (
-        (b"file a 0644 0 0 zzz \"\" \"cap_x=ep\"\n", b"", 0, b""),
-        Refused(6, Syntax),
-    ),
-    (
-        (
-            b"proc unc 0 0 - \"cap_mac_read=ep cap_kill=i\"\n",
-            b"",
-            0,
-            b"",
-        ),
-        Ended(7, 0),
-    ),
-    ((b"proc unc 0 0 - \"=eip\"\n", b"", 0, b""), Ended(7, 0)),
-    (
-        (b"proc zzz 0 0 - \"cap_mac_read=e\"\n", b"", 0, b""),
-        Refused(6, Syntax),
-    ),
-    (
-        (
-            b"proc unc 0 0 - \"cap_kill=ep cap_chown=ei\"\n",
-            b"",
-            0,
-            b"",
-        ),
-        Refused(6, Syntax),
-    ),
-    (
-        (b"proc unc 0 0 - \"cap_kill=e cap_x=e\"\n", b"", 0, b""),
-        Refused(6, UnknownName),
-    ),
-    (
-        (b"proc unc 0 0 - \"cap_kill=e-\"\n", b"", 0, b""),
-        Refused(6, Syntax),
-    ),
-    (
-        (b"proc unc 0 0 , \"cap_x=p\"\n", b"", 0, b""),
-        Refused(6, Syntax),
-    ),
-    (
-        (b"proc zzz 0 0 - \"=\"\n", b"", 0, b""),
-        Refused(6, UnknownName),
-    ),
+    (b"proc unc 0 0 - \"cap_kill=e-\"\n", Refused(6, Syntax)),
+    (b"proc unc 0 0 , \"cap_x=p\"\n", Refused(6, Syntax)),
+    (b"proc zzz 0 0 - \"=\"\n", Refused(6, UnknownName)),
+    (b"dir a 0755 0 0 unc\n", Refused(6, Syntax)),
+    (b"dir /.. 0755 0 0 unc\n", Refused(6, Syntax)),
+    (b"dir /a 1755 0 0 unc\n", Refused(6, Syntax)),
+    (b"dir /a 0755 4294967296 0 unc\n", Refused(6, Syntax)),
+    (b"dir /a 0755 0 0 unc \"\"\n", Refused(6, Syntax)),
+    (b"file /a 0755 0 0 unc\n", Refused(6, Syntax)),
+    (b"file /a 0755 0 0 unc \"\" = =\n", Refused(6, Syntax)),
+    (b"pipe /a 0755 0 0 unc\n", Refused(6, Syntax)),
+    (b"dir /a 0755 0 0 unc\r\n", Refused(6, Syntax)),
+];
+
+// Texts there with a part that stands many times.
+const LONG_TREES: &[(Repeated, Answer)] = &[
+    ((b"", b"#", 2048, b"\nscript\n"), World(8)),
+    ((b"", b"#", 2049, b"\nscript\n"), Refused(6, Syntax)),
     (
         (b"proc unc 1 1 1", b",1", 15, b" \"=\"\nscript\n"),
         World(8),
@@ -343,27 +226,6 @@ const TREES: &[(Text, Answer)] = &[
     (
         (b"", b"proc sec 1 1 - =\n", 4096, b"script\n"),
         Refused(4101, TooMany),
-    ),
-    ((b"dir a 0755 0 0 unc\n", b"", 0, b""), Refused(6, Syntax)),
-    ((b"dir /.. 0755 0 0 unc\n", b"", 0, b""), Refused(6, Syntax)),
-    ((b"dir /a 1755 0 0 unc\n", b"", 0, b""), Refused(6, Syntax)),
-    (
-        (b"dir /a 0755 4294967296 0 unc\n", b"", 0, b""),
-        Refused(6, Syntax),
-    ),
-    (
-        (b"dir /a 0755 0 0 unc \"\"\n", b"", 0, b""),
-        Refused(6, Syntax),
-    ),
-    ((b"file /a 0755 0 0 unc\n", b"", 0, b""), Refused(6, Syntax)),
-    (
-        (b"file /a 0755 0 0 unc \"\" = =\n", b"", 0, b""),
-        Refused(6, Syntax),
-    ),
-    ((b"pipe /a 0755 0 0 unc\n", b"", 0, b""), Refused(6, Syntax)),
-    (
-        (b"dir /a 0755 0 0 unc\r\n", b"", 0, b""),
-        Refused(6, Syntax),
     ),
 ];
 
@@ -383,13 +245,16 @@ const WHOLE: &[u8] = b"# a world\n\
     script\n\
     1@conf:a mac_get_file /d\n";
 
-fn canonical(alloc: Global, before: &[&[u8]], text: Text) -> Result<Vec<u8>, Fail> {
+// The lines before a text, and this text.
+fn whole_text(alloc: Global, before: &[u8], text: &[u8]) -> Result<Vec<u8>, NoMemory> {
+    let mut bytes = Vec::from_slice(alloc, before)?;
+    bytes.extend_from_slice(text)?;
+    Ok(bytes)
+}
+
+fn repeated(alloc: Global, text: Repeated) -> Result<Vec<u8>, NoMemory> {
     let (prefix, part, times, back) = text;
-    let mut bytes = Vec::new(alloc);
-    for piece in before {
-        bytes.extend_from_slice(piece)?;
-    }
-    bytes.extend_from_slice(prefix)?;
+    let mut bytes = Vec::from_slice(alloc, prefix)?;
     for _ in 0..times {
         bytes.extend_from_slice(part)?;
     }
@@ -397,21 +262,53 @@ fn canonical(alloc: Global, before: &[&[u8]], text: Text) -> Result<Vec<u8>, Fai
     Ok(bytes)
 }
 
-fn answered(prefix: &Prefix<'_>) -> Answer {
-    match prefix {
-        Prefix::World(_, number, _) => World(*number),
-        Prefix::Refused(number, fault) => Refused(*number, *fault),
-        Prefix::Ended(number, rest) => Ended(*number, rest.len()),
+// What a text gives that is read one line at a time.
+fn answered(alloc: Global, text: &[u8]) -> Result<Answer, NoMemory> {
+    let mut expecting = Expecting::Format;
+    let mut rest = text;
+    let mut number = 1;
+    while let Some((line, after)) = next_line(rest) {
+        expecting = match parse_line(alloc, expecting, line)? {
+            Parsed::Refuses(fault) => return Ok(Refused(number, fault)),
+            Parsed::GoesOn(expecting) => expecting,
+            Parsed::Begins(_) => return Ok(World(number + 1)),
+        };
+        rest = after;
+        number += 1;
     }
+    Ok(Ended(number, rest.len()))
 }
 
-// The first of the texts that comes out otherwise, after those that stand before each.
-fn other(alloc: Global, before: &[&[u8]], texts: &[(Text, Answer)]) -> Result<Option<usize>, Fail> {
+// Whether a text comes out so after the lines before it, and is read whole only where it is a world.
+fn comes_out(alloc: Global, before: &[u8], text: &[u8], wanted: Answer) -> Result<bool, NoMemory> {
+    let text = whole_text(alloc, before, text)?;
+    let accepted = WorldText::read(alloc, &text).is_ok();
+    Ok(answered(alloc, &text)? == wanted && accepted == matches!(wanted, World(_)))
+}
+
+// The first of the texts that comes out otherwise, after the lines before each.
+fn other(
+    alloc: Global,
+    before: &[u8],
+    texts: &[(&[u8], Answer)],
+) -> Result<Option<usize>, NoMemory> {
     for (place, (text, wanted)) in texts.iter().enumerate() {
-        let text = canonical(alloc, before, *text)?;
-        let prefix = answered(&read_prefix(alloc, &text)?);
-        let accepted = WorldText::read(alloc, &text).is_ok();
-        if prefix != *wanted || accepted != matches!(wanted, World(_)) {
+        if !comes_out(alloc, before, text, *wanted)? {
+            return Ok(Some(place));
+        }
+    }
+    Ok(None)
+}
+
+// The same for texts with a part that stands many times.
+fn other_long(
+    alloc: Global,
+    before: &[u8],
+    texts: &[(Repeated, Answer)],
+) -> Result<Option<usize>, NoMemory> {
+    for (place, (text, wanted)) in texts.iter().enumerate() {
+        let text = repeated(alloc, *text)?;
+        if !comes_out(alloc, before, &text, *wanted)? {
             return Ok(Some(place));
         }
     }
@@ -420,49 +317,75 @@ fn other(alloc: Global, before: &[&[u8]], texts: &[(Text, Answer)]) -> Result<Op
 
 #[test]
 fn heads(rt: HostRuntime) -> Result<(), Fail> {
-    assert_eq!(rt; other(rt.alloc(), &[], HEADS)?, None);
+    assert_eq!(rt; other(rt.alloc(), b"", HEADS)?, None);
+    Ok(())
+}
+
+#[test]
+fn long_heads(rt: HostRuntime) -> Result<(), Fail> {
+    assert_eq!(rt; other_long(rt.alloc(), b"", LONG_HEADS)?, None);
+    Ok(())
+}
+
+#[test]
+fn roots(rt: HostRuntime) -> Result<(), Fail> {
+    assert_eq!(rt; other(rt.alloc(), HEAD, ROOTS)?, None);
     Ok(())
 }
 
 #[test]
 fn trees(rt: HostRuntime) -> Result<(), Fail> {
-    assert_eq!(rt; other(rt.alloc(), &[HEAD, ROOT], TREES)?, None);
+    assert_eq!(rt; other(rt.alloc(), HEAD_AND_ROOT, TREES)?, None);
     Ok(())
 }
 
-// The file of the whole world, and the text of its label.
 #[test]
-fn whole(rt: HostRuntime) -> Result<(), Fail> {
-    let Prefix::World(text, number, script) = read_prefix(rt.alloc(), WHOLE)? else {
-        panic!(rt; "no world");
-    };
-    assert_eq!(rt; number, 14);
-    assert_eq!(rt; script, b"1@conf:a mac_get_file /d\n".as_slice());
-    let Some(file) = text.world.objects.items().get(2) else {
-        panic!(rt; "no file");
+fn long_trees(rt: HostRuntime) -> Result<(), Fail> {
+    assert_eq!(rt; other_long(rt.alloc(), HEAD_AND_ROOT, LONG_TREES)?, None);
+    Ok(())
+}
+
+// Whether the third object is the file of the whole world, with the text of its label.
+fn has_file(alloc: Global, text: &WorldText) -> Result<bool, NoMemory> {
+    let [_, _, file, ..] = text.world.objects.items() else {
+        return Ok(false);
     };
     let [_, name] = file.path.components() else {
-        panic!(rt; "no name in a directory");
+        return Ok(false);
     };
-    assert_eq!(rt; name.bytes(), b"x y".as_slice());
-    let label = mac_to_text(rt.alloc(), &text.policy, &file.label)?;
-    assert_eq!(rt; label.as_slice(), b"sec:a,b".as_slice());
-    assert_eq!(rt; file.attr.mode, 0o6644);
-    assert!(rt; matches!(&file.body, Body::File(bytes) if bytes.items() == b"\0\"".as_slice()));
+    let label = mac_to_text(alloc, &text.policy, &file.label)?;
+    Ok(
+        name.bytes() == b"x y".as_slice()
+            && label.as_slice() == b"sec:a,b".as_slice()
+            && file.attr.mode == 0o6644
+            && matches!(&file.body, Body::File(bytes) if bytes.items() == b"\0\"".as_slice()),
+    )
+}
+
+#[test]
+fn whole(rt: HostRuntime) -> Result<(), Fail> {
+    assert_eq!(rt; answered(rt.alloc(), WHOLE)?, World(14));
+    let text = WorldText::read(rt.alloc(), WHOLE)?;
+    assert!(rt; has_file(rt.alloc(), &text)?);
     Ok(())
+}
+
+// A world with so many files of one label.
+fn files(alloc: Global, count: u32) -> Result<Vec<u8>, NoMemory> {
+    let mut text = Vec::from_slice(alloc, HEAD_AND_ROOT)?;
+    for n in 0..count {
+        text.extend_from_slice(b"file /")?;
+        text.extend_from_slice(n.to_string(alloc)?.as_bytes())?;
+        text.extend_from_slice(b" 0644 0 0 unc \"\"\n")?;
+    }
+    Ok(text)
 }
 
 // One object more than a label has numbers.
 #[test]
 fn many_objects(rt: HostRuntime) -> Result<(), Fail> {
-    let mut text = canonical(rt.alloc(), &[HEAD, ROOT], (b"", b"", 0, b""))?;
-    for n in 0..65_535_u32 {
-        text.extend_from_slice(b"file /")?;
-        text.extend_from_slice(n.to_string(rt.alloc())?.as_bytes())?;
-        text.extend_from_slice(b" 0644 0 0 unc \"\"\n")?;
-    }
-    let prefix = read_prefix(rt.alloc(), &text)?;
-    assert_eq!(rt; answered(&prefix), Refused(65_540, TooMany));
+    let text = files(rt.alloc(), 65_535)?;
+    assert_eq!(rt; answered(rt.alloc(), &text)?, Refused(65_540, TooMany));
     Ok(())
 }
 
@@ -494,13 +417,15 @@ const WRITTEN: &[u8] = b"world 1\n\
     proc low 0 0 - \"=\"\n\
     script\n";
 
+fn is_written(alloc: Global, text: &[u8], written: &[u8]) -> Result<bool, WorldError> {
+    let found = WorldText::read(alloc, text)?.write()?;
+    Ok(found.as_slice() == written)
+}
+
 #[test]
 fn written_round_trip(rt: HostRuntime) -> Result<(), Fail> {
-    let alloc = rt.alloc();
-    for text in [SPELLED, WRITTEN] {
-        let written = WorldText::read(alloc, text)?.write()?;
-        assert_eq!(rt; written.as_slice(), WRITTEN);
-    }
+    assert!(rt; is_written(rt.alloc(), SPELLED, WRITTEN)?);
+    assert!(rt; is_written(rt.alloc(), WRITTEN, WRITTEN)?);
     Ok(())
 }
 
@@ -515,13 +440,19 @@ const HIDDEN: &[u8] = b"world 1\n\
     proc unc 10 10 - \"=\"\n\
     script\n";
 
+// How many objects and processes a text has.
+fn counts(alloc: Global, text: &[u8]) -> Result<(usize, usize), WorldError> {
+    let text = WorldText::read(alloc, text)?;
+    Ok((
+        text.world.objects.items().len(),
+        text.world.procs.items().len(),
+    ))
+}
+
 #[test]
 fn hidden_file_round_trip(rt: HostRuntime) -> Result<(), Fail> {
-    let alloc = rt.alloc();
-    let written = canonical_text(alloc, HIDDEN)?;
-    assert_eq!(rt; written.as_slice(), HIDDEN);
-    let round_trip = WorldText::read(alloc, &written)?;
-    assert_eq!(rt; round_trip.world.objects.items().len(), 3);
-    assert_eq!(rt; round_trip.world.procs.items().len(), 1);
+    let written = canonical_text(rt.alloc(), HIDDEN)?;
+    assert!(rt; written.as_slice() == HIDDEN);
+    assert_eq!(rt; counts(rt.alloc(), &written)?, (3, 1));
     Ok(())
 }

@@ -47,6 +47,7 @@ use Rattle.world_text.specs.declared.expecting.Parsed.TheVariants.{Refuses, Goes
 use Rattle.world_text.specs.declared.world.WorldText.{WorldText}
 use Rattle.world_text.specs.Tree.{Tree}
 use Rattle.world_text.specs.Placing.{is_directory, is_above, directory_of, is_root, object_fault, process_fault}
+use Rattle.world_text.specs.CanBeRead.{IsWorldText}
 use Rattle.world_text.specs.Expecting.{world_of, unless, refuse_or, with_form, with_value, or_else, by_keyword, parse_format, parse_levels, parse_categories, parse_bound, set_of, caps_of, absolute_path, label_value, label_of, both, proc_caps, proc_caps_of, parse_object, object_of, parse_tree, ids_of, parse_process, parse_proc, object_fields_of, proc_fields_of, parse_plain, parse_file, parse_proc_line, parse_script, parse_tree_line, parse_words, parse_line}
 use Rattle.world_text.specs.Reading.{Reading, Accepted, after, reading, read_text}
 use Rattle.world_text.proofs.BuilderLemmas.{count_more}
@@ -488,3 +489,7 @@ accepted_top text w n script e = (text_sound text w n script e).top
 -- the names of an accepted world make a policy
 pub accepted_policy : (text : List ℕ) (w : WorldText) (n : ℕ) (script : List (List ℕ)) → read_text text ≡ Accepted w n script → MakePolicy w.policy
 accepted_policy text w n script e = (text_sound text w n script e).policy
+
+-- an accepted text gives a world whose highest label is that of its policy
+pub accepted_text : (text : List ℕ) (w : WorldText) (n : ℕ) (script : List (List ℕ)) → read_text text ≡ Accepted w n script → IsWorldText w
+accepted_text text w n script e = record { world = accepted_world text w n script e; top = accepted_top text w n script e }

@@ -24,7 +24,7 @@ use Rattle.kern_model.specs.Rules.{same_label}
 use Rattle.kern_model.specs.World.{same_names, parent_names, given, objects_at, procs_at}
 use Rattle.world_text.specs.declared.builder.PathEntry.{PathEntry}
 use Rattle.world_text.specs.Placing.{directory_of, is_directory, is_above}
-use Rattle.world_text.specs.PathEntry.{path_entry_of, text_cmp, count_in, is_dir_entry, is_above_entry}
+use Rattle.world_text.specs.PathEntry.{path_entry_of, text_cmp, count_in, IsEntered, is_dir_entry, is_above_entry}
 use Rattle.world_text.specs.Written.{path_text}
 use Rattle.world_text.proofs.WrittenValues.{path_is}
 use Rattle.kern_model.proofs.WorldLemmas.{names_same}
@@ -103,14 +103,18 @@ or_none : (x : Option WorldObject) → option_or x None ≡ x
 or_none None = refl
 or_none (Some o) = refl
 
+-- an entry that is put at the text of an object's path
+pub entered : (old new : BTreeMap (List ℕ) PathEntry) (o : WorldObject) (key : List ℕ) (s : PathEntry)
+    → ((t : List ℕ) → get text_cmp new t ≡ cond (is_at (text_cmp key) t) (Some s) (get text_cmp old t)) → key ≡ path_text o.path.names → s ≡ path_entry_of o → IsEntered old new o
+entered old new o key s updates text is t = updates t ∙ (λ i. cond (is_at (text_cmp (text i)) t) (Some (is i)) (get text_cmp old t))
+
 -- one more object has the entry at the text of its path, where there was none
-pub stands_more : (old new : BTreeMap (List ℕ) PathEntry) (objects more : List WorldObject) (o : WorldObject) (key : List ℕ) (s : PathEntry)
-    → ((t : List ℕ) → get text_cmp new t ≡ cond (is_at (text_cmp key) t) (Some s) (get text_cmp old t)) → key ≡ path_text o.path.names → s ≡ path_entry_of o → more ≡ objects ++ o ∷ []
+pub stands_more : (old new : BTreeMap (List ℕ) PathEntry) (objects more : List WorldObject) (o : WorldObject) → IsEntered old new o → more ≡ objects ++ o ∷ []
     → list_all is_name o.path.names ≡ true → given objects o.path.names ≡ None
     → ((q : List Name) → list_all is_name q ≡ true → get text_cmp old (path_text q) ≡ option_map path_entry_of (given objects q))
     → (q : List Name) → list_all is_name q ≡ true → get text_cmp new (path_text q) ≡ option_map path_entry_of (given more q)
-stands_more old new objects more o key s updates text is grown named free before q h =
-    updates (path_text q) ∙ (λ i. cond (is_eq (text_cmp (text i) (path_text q))) (Some (is i)) (before q h i))
+stands_more old new objects more o updates grown named free before q h =
+    updates (path_text q) ∙ ap (λ e. cond (is_eq (text_cmp (path_text o.path.names) (path_text q))) (Some (path_entry_of o)) e) (before q h)
     ∙ ap (λ t. cond t (Some (path_entry_of o)) (option_map path_entry_of (given objects q))) (texts_tie o.path.names q named h)
     ∙ by_test (same_names o.path.names q) refl ∙ sym (ap (option_map path_entry_of) (ap (λ (os : List WorldObject). given os q) grown ∙ given_after objects o q))
   where

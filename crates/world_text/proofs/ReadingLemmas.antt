@@ -1,14 +1,17 @@
 -- How a text is read on by one line.
-use Rattle.std.proofs.Common.{◌≡◌, ℕ, ◌+◌, List, ◌∷◌, sym, ◌∙◌, ap, Some, None}
+use Rattle.std.proofs.Common.{◌≡◌, ℕ, ◌+◌, List, ◌∷◌, sym, ◌∙◌, ap, subst, Some, None}
 use Rattle.fs_path.specs.Split.{split_once, pieces}
 use Rattle.fs_path.proofs.SplitLemmas.{pieces_some, pieces_none, pieces_first}
+use Rattle.world_text.specs.declared.fault.WorldError.{WorldError}
+use Rattle.world_text.specs.declared.fault.WorldError.TheVariants as error
 use Rattle.world_text.specs.declared.fault.WorldFault.{WorldFault}
+use Rattle.world_text.specs.declared.fault.WorldFault.TheVariants as cause
 use Rattle.world_text.specs.declared.world.WorldText.{WorldText}
 use Rattle.world_text.specs.declared.expecting.Expecting.{Expecting}
 use Rattle.world_text.specs.declared.expecting.Parsed.{Parsed}
 use Rattle.world_text.specs.declared.expecting.Parsed.TheVariants.{Refuses, GoesOn, Begins}
 use Rattle.world_text.specs.Expecting.{parse_line}
-use Rattle.world_text.specs.Reading.{Reading, Accepted, Refused, Ended, after, reading}
+use Rattle.world_text.specs.Reading.{Reading, Accepted, Refused, Ended, after, reading, error_at, error_of, IsNotRead}
 
 more_lines : (n : ℕ) (expecting : Expecting) (line : List ℕ) (ls : List (List ℕ)) (p : List ℕ) (ps : List (List ℕ)) → ls ≡ p ∷ ps → reading n expecting (line ∷ ls) ≡ after (parse_line expecting line) n ls (λ s. reading (n + 1) s ls)
 unfolding reading
@@ -40,3 +43,20 @@ read_world r n expecting text line rest parsed world so_far e is begins =
 pub read_end : (r : Reading) (n : ℕ) (expecting : Expecting) (text : List ℕ) → r ≡ reading n expecting (pieces 10 text) → split_once 10 text ≡ None → r ≡ Ended n text
 unfolding reading
 read_end r n expecting text so_far e = so_far ∙ ap (reading n expecting) (pieces_none 10 text e)
+
+-- ---- why no world is read
+
+pub refused_for : (n : ℕ) (fault : WorldFault) (e : WorldError) (r : Reading) → e ≡ error_at n fault → r ≡ Refused n fault → IsNotRead r e
+refused_for n fault e r is read = subst (λ (e : WorldError). IsNotRead r e) (sym is) (by_fault fault read)
+  where
+    by_fault : (fault : WorldFault) → r ≡ Refused n fault → IsNotRead r (error_at n fault)
+    by_fault cause.Syntax read = ap error_of read
+    by_fault cause.UnknownName read = ap error_of read
+    by_fault cause.Repeated read = ap error_of read
+    by_fault cause.NoParent read = ap error_of read
+    by_fault cause.LabelOrder read = ap error_of read
+    by_fault cause.RootLabel read = ap error_of read
+    by_fault cause.TooMany read = ap error_of read
+
+pub ended_for : (n : ℕ) (last : List ℕ) (r : Reading) → r ≡ Ended n last → IsNotRead r (error.Syntax n)
+ended_for n last r read = ap error_of read

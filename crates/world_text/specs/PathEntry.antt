@@ -1,6 +1,6 @@
 -- What stands at each path of a world so far, and how many objects and processes each label has.
-use Rattle.std.specs.Prelude.{◌≡◌, ℕ, Bool, true, false, List, Option, None, Some, unwrap_or}
-use Rattle.std.specs.BTreeMap.{BTreeMap, get}
+use Rattle.std.specs.Prelude.{◌≡◌, ℕ, ◌+◌, Bool, true, false, cond, List, Option, None, Some, unwrap_or}
+use Rattle.std.specs.BTreeMap.{BTreeMap, get, is_at}
 use Rattle.std.specs.Cmp.Lexicographic.{slice_cmp}
 use Rattle.std.specs.List.{list_all}
 use Rattle.std.specs.Option.{option_map}
@@ -11,6 +11,7 @@ use Rattle.lab_lattice.specs.Label.{Label, dominates, label_cmp}
 use Rattle.kern_model.specs.declared.world.WorldObject.{WorldObject}
 use Rattle.kern_model.specs.Kinds.{kind_of}
 use Rattle.kern_model.specs.Kinds.{is_dir}
+use Rattle.kern_model.specs.Rules.{same_label}
 use Rattle.kern_model.specs.World.{given, objects_at, procs_at}
 use Rattle.world_text.specs.declared.builder.PathEntry.{PathEntry}
 use Rattle.world_text.specs.Tree.{Tree}
@@ -27,6 +28,14 @@ text_cmp = slice_cmp nat_cmp
 -- how many are counted at a label
 abbrev pub count_in : BTreeMap Label ℕ → Label → ℕ
 count_in counts l = unwrap_or (get label_cmp counts l) 0
+
+-- one more is counted at a label
+abbrev pub IsCounted : BTreeMap Label ℕ → BTreeMap Label ℕ → Label → Type 0
+IsCounted old new label = (l : Label) → count_in new l ≡ count_in old l + cond (same_label label l) 1 0
+
+-- an object is entered at the text of its path
+abbrev pub IsEntered : BTreeMap (List ℕ) PathEntry → BTreeMap (List ℕ) PathEntry → WorldObject → Type 0
+IsEntered old new o = (t : List ℕ) → get text_cmp new t ≡ cond (is_at (text_cmp (path_text o.path.names)) t) (Some (path_entry_of o)) (get text_cmp old t)
 
 -- the index says at the text of each path what was given, and the counts how many objects and processes have a label
 pub record IsIndexed (t : Tree) (index : BTreeMap (List ℕ) PathEntry) (object_counts proc_counts : BTreeMap Label ℕ) : Type 0 where

@@ -1,18 +1,16 @@
 -- What a text says of a world, line by line.
-use Rattle.std.specs.Prelude.{◌≡◌, ℕ, ◌+◌, ◌≤◌, List, [], ◌∷◌, length, Option, None, Some}
+use Rattle.std.specs.Prelude.{◌≡◌, ℕ, ◌+◌, List, [], ◌∷◌, Option, None, Some}
 use Rattle.fs_path.specs.Split.{pieces}
 use Rattle.world_text.specs.declared.fault.WorldFault.{WorldFault}
 use Rattle.world_text.specs.declared.fault.WorldFault.TheVariants as fault
 use Rattle.world_text.specs.declared.fault.WorldError.{WorldError}
 use Rattle.world_text.specs.declared.fault.WorldError.TheVariants as error
-use Rattle.world_text.specs.declared.reading.Prefix.{Prefix}
-use Rattle.world_text.specs.declared.reading.Prefix.TheVariants as prefix
 use Rattle.world_text.specs.declared.world.WorldText.{WorldText}
 use Rattle.world_text.specs.declared.expecting.Expecting.{Expecting}
 use Rattle.world_text.specs.declared.expecting.Expecting.TheVariants as at
 use Rattle.world_text.specs.declared.expecting.Parsed.{Parsed}
 use Rattle.world_text.specs.declared.expecting.Parsed.TheVariants.{Refuses, GoesOn, Begins}
-use Rattle.world_text.specs.CanBeRead.{IsWorldText, HasShortLines}
+use Rattle.world_text.specs.CanBeRead.{HasShortLines}
 use Rattle.world_text.specs.Expecting.{parse_line}
 use Rattle.world_text.specs.Written.{next_number, written}
 
@@ -66,23 +64,6 @@ error_of (Ended n last) = Some (error.Syntax n)
 abbrev pub IsNotRead : Reading → WorldError → Type 0
 IsNotRead r (error.NoMemory _) = Unit {0}
 IsNotRead r e = error_of r ≡ Some e
-
--- the answer says what the text says
-abbrev pub IsPrefix : Reading → Prefix → Type 0
-IsPrefix (Accepted world n script) (prefix.World w m rest) = (world ≡ w) × (n ≡ m) × (script ≡ pieces 10 rest.now)
-IsPrefix (Refused n fault) (prefix.Refused m why) = (n ≡ m) × (fault ≡ why)
-IsPrefix (Ended n last) (prefix.Ended m rest) = (n ≡ m) × (last ≡ rest.now)
-IsPrefix _ _ = ⊥
-
--- each line before the script takes at least one byte, its line feed
-abbrev pub IsWithin : ℕ → Prefix → Type 0
-IsWithin size (prefix.World w n rest) = length rest.now + n ≤ size + 1
-IsWithin size _ = Unit {0}
-
--- what is accepted is a world
-abbrev pub IsAcceptedWorld : Prefix → Type 0
-IsAcceptedWorld (prefix.World w n rest) = IsWorldText w
-IsAcceptedWorld _ = Unit {0}
 
 -- a text is the written form of the world that was read
 abbrev pub IsWorldWritten : Reading → List ℕ → Type 0

@@ -1,5 +1,5 @@
 // Objects and processes of a world as they are read.
-ghost use Rattle.std.specs.Prelude.{◌≡◌, ◌+◌, ◌<◌, ◌==◌, ◌&&◌, ◌||◌, not, [], ◌∷◌, ◌++◌, nat_le, is_some, true, IfOk, OnOk, cond, length, None};
+ghost use Rattle.std.specs.Prelude.{◌≡◌, ◌<◌, ◌==◌, ◌&&◌, ◌||◌, not, [], ◌∷◌, ◌++◌, nat_le, is_some, true, IfOk, OnOk, length, None};
 ghost use Rattle.std.specs.List.{list_all};
 ghost use Rattle.std.specs.Option.{option_map};
 ghost use Rattle.fs_path.specs.Name.{is_name};
@@ -8,7 +8,7 @@ ghost use Rattle.kern_model.specs.declared.limits.TheConstants.{MAX_OBJECTS, MAX
 ghost use Rattle.kern_model.specs.Kinds.{kind_of, is_dir};
 ghost use Rattle.kern_model.specs.Rules.{same_label};
 ghost use Rattle.kern_model.specs.World.{given, objects_at, procs_at};
-ghost use Rattle.world_text.specs.PathEntry.{path_entry_of, count_in, is_dir_entry, is_above_entry};
+ghost use Rattle.world_text.specs.PathEntry.{path_entry_of, count_in, IsCounted, IsEntered, is_dir_entry, is_above_entry};
 ghost use Rattle.world_text.specs.Placing.{directory_of, is_root, object_fault, process_fault};
 ghost use Rattle.world_text.specs.Written.{path_text};
 
@@ -34,7 +34,7 @@ fn count_at(counts: &Counts, label: &Label) -> usize
 // Counts one more.
 fn count_one(counts: &mut Counts, label: &Label) -> Result<(), NoMemory>
     requires { count_in counts.old label.now < MAX_OBJECTS }
-    ensures { OnOk result ((l : Label) → count_in counts.new l ≡ count_in counts.old l + cond (same_label label.now l) 1 0) }
+    ensures { OnOk result (IsCounted counts.old counts.new label.now) }
 {
     let count = count_at(counts, label);
     counts.insert(*label, count + 1)?;
@@ -117,13 +117,33 @@ fn key_of(alloc: Global, names: &[Name]) -> Result<ByteList, NoMemory>
     ByteList::from_slice(alloc, text.as_slice())
 }
 
+/// What stands at each path, by its text.
+type Index = BTreeMap<ByteList, PathEntry>;
+
+// Enters an object at its path, and counts it.
+fn enter(
+    alloc: Global,
+    index: &mut Index,
+    counts: &mut Counts,
+    object: &WorldObject,
+) -> Result<(), NoMemory>
+    requires { count_in counts.old object.now.label < MAX_OBJECTS }
+    ensures entered { OnOk result (IsEntered index.old index.new object.now) }
+    ensures counted { OnOk result (IsCounted counts.old counts.new object.now.label) }
+    ensures named { list_all is_name object.now.path.names ≡ true }
+{
+    let key = key_of(alloc, object.path.components())?;
+    index.insert(key, path_entry_of(object))?;
+    count_one(counts, &object.label)
+}
+
 /// Objects and processes in the order of their lines, with an index of their paths and counts at each label, so that no
 /// line is compared with all lines before it.
 #[derive(Drop)]
 pub struct WorldBuilder {
     objects: ObjectList,
     procs: ProcList,
-    index: BTreeMap<ByteList, PathEntry>,
+    index: Index,
     object_counts: Counts,
     proc_counts: Counts,
 }
@@ -256,9 +276,12 @@ impl WorldBuilder {
         ensures { IfOk result (λ builder. builder ≡ record self { objects = self.objects ++ object ∷ [] }) }
     {
         let mut builder = self;
-        let key = key_of(alloc, object.path.components())?;
-        builder.index.insert(key, path_entry_of(&object))?;
-        count_one(&mut builder.object_counts, &object.label)?;
+        enter(
+            alloc,
+            &mut builder.index,
+            &mut builder.object_counts,
+            &object,
+        )?;
         builder.objects.push(object)?;
         Ok(builder)
     }

@@ -17,37 +17,55 @@ use line_text::path_of;
 use std::alloc::Global;
 use std::marker::Model;
 
-/// Which line of a world is due.
-#[derive(Drop)]
+/// Which line of a world is due, and what the lines before it gave. Blank lines and comments may stand before each.
 pub enum Expecting {
-    /// The format.
+    /// The format, with which the reading of a world begins.
     Format,
     /// The names of the levels.
     Levels,
     /// The names of the categories, after these of the levels.
     Categories(LevelNames),
-    /// The bound.
+    /// The bound, after the names of this policy.
     Bound(Policy),
-    /// A tree line, a process or the beginning of the script.
+    /// A tree line, a process or the beginning of the script, after this part of the world.
     Tree(PartialWorld),
 }
 
+// Written out, here and below, so that a drop is one call.
+impl Drop for Expecting {
+    fn drop(self) {
+        match self {
+            Expecting::Format | Expecting::Levels => {}
+            Expecting::Categories(_) | Expecting::Bound(_) | Expecting::Tree(_) => {}
+        }
+    }
+}
+
 /// A world of which the head is read, with the objects and processes so far.
-#[derive(Drop)]
 pub struct PartialWorld {
     policy: Policy,
     bound: CapSet,
     builder: WorldBuilder,
 }
 
-/// What comes of a line.
+impl Drop for PartialWorld {
+    fn drop(self) {
+        let PartialWorld {
+            policy: _,
+            bound: _,
+            builder: _,
+        } = self;
+    }
+}
+
+/// What comes of a line of a world.
 #[derive(Drop)]
 pub enum Parsed {
-    /// It is refused.
+    /// The line is refused, and so is the text.
     Refuses(WorldFault),
-    /// The reading goes on.
+    /// The line is read, or it is blank, and this is due in the next one.
     GoesOn(Expecting),
-    /// The world is complete, and its script begins.
+    /// The line was the last of this world, and the script begins with the next one.
     Begins(WorldText),
 }
 
@@ -340,51 +358,67 @@ fn proc_fields_in(
     }))
 }
 
-// Puts an object after those before it.
-fn parse_object(
-    alloc: Global,
-    so_far: PartialWorld,
-    object: WorldObject,
-) -> Result<Parsed, NoMemory>
-    ensures { IfOk result (λ parsed. parsed ≡ parse_object so_far object) }
-{
-    let PartialWorld {
-        policy,
-        bound,
-        builder,
-    } = so_far;
-    match builder.object_fault(alloc, &object)? {
-        Some(fault) => Ok(Parsed::Refuses(fault)),
-        None => {
-            let builder = builder.with_object(alloc, object)?;
-            Ok(Parsed::GoesOn(Expecting::Tree(PartialWorld {
-                policy,
-                bound,
-                builder,
-            })))
+impl PartialWorld {
+    // Puts an object after those before it.
+    fn parse_object(self, alloc: Global, object: WorldObject) -> Result<Parsed, NoMemory>
+        ensures { IfOk result (λ parsed. parsed ≡ parse_object self object) }
+    {
+        match self.builder.object_fault(alloc, &object)? {
+            Some(fault) => Ok(Parsed::Refuses(fault)),
+            None => {
+                let PartialWorld {
+                    policy,
+                    bound,
+                    builder,
+                } = self;
+                let builder = builder.with_object(alloc, object)?;
+                Ok(Parsed::GoesOn(Expecting::Tree(PartialWorld {
+                    policy,
+                    bound,
+                    builder,
+                })))
+            }
         }
     }
-}
 
-// Puts a process after those before it.
-fn parse_process(so_far: PartialWorld, process: WorldProc) -> Result<Parsed, NoMemory>
-    ensures { IfOk result (λ parsed. parsed ≡ parse_process so_far process) }
-{
-    let PartialWorld {
-        policy,
-        bound,
-        builder,
-    } = so_far;
-    match builder.process_fault(&process) {
-        Some(fault) => Ok(Parsed::Refuses(fault)),
-        None => {
-            let builder = builder.with_process(process)?;
-            Ok(Parsed::GoesOn(Expecting::Tree(PartialWorld {
-                policy,
-                bound,
-                builder,
-            })))
+    // Puts a process after those before it.
+    fn parse_process(self, process: WorldProc) -> Result<Parsed, NoMemory>
+        ensures { IfOk result (λ parsed. parsed ≡ parse_process self process) }
+    {
+        match self.builder.process_fault(&process) {
+            Some(fault) => Ok(Parsed::Refuses(fault)),
+            None => {
+                let PartialWorld {
+                    policy,
+                    bound,
+                    builder,
+                } = self;
+                let builder = builder.with_process(process)?;
+                Ok(Parsed::GoesOn(Expecting::Tree(PartialWorld {
+                    policy,
+                    bound,
+                    builder,
+                })))
+            }
         }
+    }
+
+    fn into_world(self) -> WorldText
+        ensures { result ≡ world_of self }
+    {
+        let PartialWorld {
+            policy,
+            bound,
+            builder,
+        } = self;
+        let (objects, procs) = builder.into_lists();
+        let world = World {
+            top: top(&policy),
+            bound,
+            objects,
+            procs,
+        };
+        WorldText { policy, world }
     }
 }
 
@@ -424,7 +458,7 @@ fn parse_tree(
                 attr,
                 body,
             };
-            parse_object(alloc, so_far, object)
+            so_far.parse_object(alloc, object)
         }
     }
 }
@@ -460,7 +494,7 @@ fn parse_proc(
                 sgid: group,
                 groups,
             };
-            parse_process(so_far, WorldProc { label, ids, caps })
+            so_far.parse_process(WorldProc { label, ids, caps })
         }
     }
 }
@@ -520,24 +554,6 @@ fn parse_proc_line(
     parse_proc(alloc, so_far, words, caps)
 }
 
-fn world_of(so_far: PartialWorld) -> WorldText
-    ensures { result ≡ world_of so_far }
-{
-    let PartialWorld {
-        policy,
-        bound,
-        builder,
-    } = so_far;
-    let (objects, procs) = builder.into_lists();
-    let world = World {
-        top: top(&policy),
-        bound,
-        objects,
-        procs,
-    };
-    WorldText { policy, world }
-}
-
 // `script`.
 fn parse_script(so_far: PartialWorld, words: &[LineWord]) -> Parsed
     ensures { result ≡ parse_script so_far (bytes_in words.now) }
@@ -545,7 +561,7 @@ fn parse_script(so_far: PartialWorld, words: &[LineWord]) -> Parsed
     if !words.is_empty() || so_far.builder.is_empty() {
         return syntax();
     }
-    Parsed::Begins(world_of(so_far))
+    Parsed::Begins(so_far.into_world())
 }
 
 // A tree line, a process or the beginning of the script.
@@ -574,33 +590,36 @@ fn parse_tree_line(
     }
 }
 
-// What the words of the line say that is due.
-#[tactic(auto, unfolding(crate::specs::Expecting::parse_words))]
-fn parse_words(alloc: Global, expecting: Expecting, words: &[LineWord]) -> Result<Parsed, NoMemory>
-    ensures { IfOk result (λ parsed. parsed ≡ parse_words expecting words.now) }
-{
-    match expecting {
-        Expecting::Format => match after_keyword(b"world", words) {
-            Some(words) => Ok(parse_format(words)),
-            None => Ok(syntax()),
-        },
-        Expecting::Levels => match after_keyword(b"levels", words) {
-            Some(words) => parse_levels(alloc, words),
-            None => Ok(syntax()),
-        },
-        Expecting::Categories(levels) => match after_keyword(b"categories", words) {
-            Some(words) => parse_categories(alloc, &levels, words),
-            None => Ok(syntax()),
-        },
-        Expecting::Bound(policy) => match after_keyword(b"bound", words) {
-            Some(words) => Ok(parse_bound(alloc, policy, words)),
-            None => Ok(syntax()),
-        },
-        Expecting::Tree(so_far) => parse_tree_line(alloc, so_far, words),
+impl Expecting {
+    // What the words of the line say that is due.
+    #[tactic(auto, unfolding(crate::specs::Expecting::parse_words))]
+    fn parse_words(self, alloc: Global, words: &[LineWord]) -> Result<Parsed, NoMemory>
+        ensures { IfOk result (λ parsed. parsed ≡ parse_words self words.now) }
+    {
+        match self {
+            Expecting::Format => match after_keyword(b"world", words) {
+                Some(words) => Ok(parse_format(words)),
+                None => Ok(syntax()),
+            },
+            Expecting::Levels => match after_keyword(b"levels", words) {
+                Some(words) => parse_levels(alloc, words),
+                None => Ok(syntax()),
+            },
+            Expecting::Categories(levels) => match after_keyword(b"categories", words) {
+                Some(words) => parse_categories(alloc, &levels, words),
+                None => Ok(syntax()),
+            },
+            Expecting::Bound(policy) => match after_keyword(b"bound", words) {
+                Some(words) => Ok(parse_bound(alloc, policy, words)),
+                None => Ok(syntax()),
+            },
+            Expecting::Tree(so_far) => parse_tree_line(alloc, so_far, words),
+        }
     }
 }
 
-/// What a line says.
+/// What a line, without its line feed, says of a world of which this is due. The reading begins with
+/// `Expecting::Format`, and goes on with what each line gives.
 #[tactic(auto, using(std::proofs::lemmas::Bool::Decides::nat_tests), unfolding(crate::specs::Expecting::parse_line))]
 pub fn parse_line(alloc: Global, expecting: Expecting, line: &[u8]) -> Result<Parsed, NoMemory>
     ensures { IfOk result (λ parsed. parsed ≡ parse_line expecting line.now) }
@@ -612,7 +631,7 @@ pub fn parse_line(alloc: Global, expecting: Expecting, line: &[u8]) -> Result<Pa
         return Ok(Parsed::GoesOn(expecting));
     }
     match words_of(alloc, line)? {
-        Some(words) => parse_words(alloc, expecting, words.items()),
+        Some(words) => expecting.parse_words(alloc, words.items()),
         None => Ok(syntax()),
     }
 }

@@ -10,7 +10,7 @@ mod world;
 mod writing;
 
 pub use canonical::canonical_text;
+pub use expecting::{Expecting, Parsed, parse_line};
 pub use fault::{WorldError, WorldFault};
-pub use reading::{Prefix, read_prefix};
 pub use std::alloc::AllocError as NoMemory;
 pub use world::WorldText;

@@ -3,12 +3,12 @@ use super::small_policy;
 use cap_bits::{Cap, CapSet, CapState};
 use kern_model::{Call, OpenFlags, Path, Pid, Signal, Whence};
 use lab_text::{Policy, mac_from_text, top};
-use script_text::{Line, read_line};
+use script_text::{Line, LineError, read_line};
 use std::alloc::Global;
 use std::test::Fail;
 
 // Each call once. A path is named as its call, a label is top's, and capability sets have `cap_kill` as permitted.
-const LINES: [&[u8]; 44] = [
+const LINES: &[&[u8]] = &[
     b"1@unc open open wcxta 4644",
     b"1@unc close 1",
     b"1@unc read 0000000003 65536",
@@ -169,44 +169,63 @@ fn call(alloc: Global, policy: &Policy, line: &[u8]) -> Result<Call, Fail> {
     }
 }
 
+// Whether a line says the call that stands first in it, with the values of its table.
+fn is_of_table(alloc: Global, policy: &Policy, line: &[u8]) -> Result<bool, Fail> {
+    let call = call(alloc, policy, line)?;
+    let word = call.name().word();
+    let parsed = is_parsed(policy, &call) && line.get(6..6 + word.len()) == Some(word);
+    drop(call);
+    Ok(parsed)
+}
+
+// The first of the lines that says another call.
+fn other(alloc: Global, policy: &Policy) -> Result<Option<usize>, Fail> {
+    for (place, line) in LINES.iter().enumerate() {
+        if !is_of_table(alloc, policy, line)? {
+            return Ok(Some(place));
+        }
+    }
+    Ok(None)
+}
+
 #[test]
 fn calls(rt: HostRuntime) -> Result<(), Fail> {
     let policy = small_policy(rt.alloc())?;
-    for line in LINES {
-        let call = call(rt.alloc(), &policy, line)?;
-        let word = call.name().word();
-        assert!(rt;
-            is_parsed(&policy, &call) && line.get(6..6 + word.len()) == Some(word),
-            "{line:?}"
-        );
-    }
+    assert_eq!(rt; other(rt.alloc(), &policy)?, None);
     Ok(())
 }
 
-const BLANK: [&[u8]; 4] = [b"", b"   ", b"# getpid", b"  #\t\"\xff"];
+fn says_nothing(alloc: Global, policy: &Policy, line: &[u8]) -> Result<bool, LineError> {
+    let line = read_line(alloc, policy, line)?;
+    let blank = matches!(&line, Line::Blank);
+    drop(line);
+    Ok(blank)
+}
 
 #[test]
 fn blank_lines(rt: HostRuntime) -> Result<(), Fail> {
     let policy = small_policy(rt.alloc())?;
-    for line in BLANK {
-        let parsed = read_line(rt.alloc(), &policy, line)?;
-        assert!(rt; matches!(parsed, Line::Blank));
-    }
+    assert!(rt; says_nothing(rt.alloc(), &policy, b"")?);
+    assert!(rt; says_nothing(rt.alloc(), &policy, b"   ")?);
+    assert!(rt; says_nothing(rt.alloc(), &policy, b"# getpid")?);
+    assert!(rt; says_nothing(rt.alloc(), &policy, b"  #\t\"\xff")?);
     Ok(())
 }
 
-const TAGGED: [&[u8]; 2] = [b"7@sec:a,b wait", b"  0007@sec:b,a,b   wait "];
+// Whether a line says that this process waits.
+fn says_wait(alloc: Global, policy: &Policy, line: &[u8], wanted: &Pid) -> Result<bool, LineError> {
+    let line = read_line(alloc, policy, line)?;
+    let waits = matches!(&line, Line::One { who, call: Call::Wait } if who == wanted);
+    drop(line);
+    Ok(waits)
+}
 
 #[test]
 fn tags(rt: HostRuntime) -> Result<(), Fail> {
     let policy = small_policy(rt.alloc())?;
     let label = mac_from_text(&policy, b"sec:a,b")?;
-    for line in TAGGED {
-        let Line::One { who, call } = read_line(rt.alloc(), &policy, line)? else {
-            return Err(Fail::new("the line says nothing"));
-        };
-        assert_eq!(rt; who, Pid { label, n: 7 });
-        assert!(rt; matches!(call, Call::Wait));
-    }
+    let who = Pid { label, n: 7 };
+    assert!(rt; says_wait(rt.alloc(), &policy, b"7@sec:a,b wait", &who)?);
+    assert!(rt; says_wait(rt.alloc(), &policy, b"  0007@sec:b,a,b   wait ", &who)?);
     Ok(())
 }

@@ -46,26 +46,40 @@ fn pid(policy: &Policy, n: u16) -> Pid {
     }
 }
 
-// The reply line to a process of the lowest level.
-fn line(
+fn has_line(
     alloc: Global,
     policy: &Policy,
     n: u16,
     word: &[u8],
     reply: &Reply,
-) -> Result<Vec<u8>, NoMemory> {
-    reply_text(alloc, policy, &pid(policy, n), word, reply)
+    line: &[u8],
+) -> Result<bool, NoMemory> {
+    let text = reply_text(alloc, policy, &pid(policy, n), word, reply)?;
+    Ok(text.as_slice() == line)
 }
 
-// The reply line of a call that was done.
-fn done(
+// Whether a reply to a process of the lowest level has this line.
+fn is_line(
+    alloc: Global,
+    policy: &Policy,
+    n: u16,
+    word: &[u8],
+    reply: Reply,
+    line: &[u8],
+) -> Result<bool, NoMemory> {
+    has_line(alloc, policy, n, word, &reply, line)
+}
+
+// Whether the reply of a call that was done has this line.
+fn is_done(
     alloc: Global,
     policy: &Policy,
     n: u16,
     word: &[u8],
     answer: Answer,
-) -> Result<Vec<u8>, NoMemory> {
-    line(alloc, policy, n, word, &Reply::Done(answer))
+    line: &[u8],
+) -> Result<bool, NoMemory> {
+    is_line(alloc, policy, n, word, Reply::Done(answer), line)
 }
 
 fn ids(alloc: Global, groups: &[u32]) -> Result<Ids, Fail> {
@@ -93,14 +107,46 @@ fn day_policy(alloc: Global) -> Result<Policy, PolicyError> {
 fn numbers(rt: HostRuntime) -> Result<(), Fail> {
     let alloc = rt.alloc();
     let policy = day_policy(alloc)?;
-    let text = done(alloc, &policy, 2, b"exec", Answer::Nothing)?;
-    assert_eq!(rt; text.as_slice(), b"2@public exec ok\n".as_slice());
-    let text = done(alloc, &policy, 2, b"write", Answer::Number(4))?;
-    assert_eq!(rt; text.as_slice(), b"2@public write ok 4\n".as_slice());
-    let text = done(alloc, &policy, 2, b"pipe", Answer::Two(0, 31))?;
-    assert_eq!(rt; text.as_slice(), b"2@public pipe ok 0 31\n".as_slice());
-    let text = done(alloc, &policy, 2, b"umask", Answer::Bits(0o22))?;
-    assert_eq!(rt; text.as_slice(), b"2@public umask ok 0022\n".as_slice());
+    assert!(rt;
+        is_done(
+            alloc,
+            &policy,
+            2,
+            b"exec",
+            Answer::Nothing,
+            b"2@public exec ok\n"
+        )?
+    );
+    assert!(rt;
+        is_done(
+            alloc,
+            &policy,
+            2,
+            b"write",
+            Answer::Number(4),
+            b"2@public write ok 4\n"
+        )?
+    );
+    assert!(rt;
+        is_done(
+            alloc,
+            &policy,
+            2,
+            b"pipe",
+            Answer::Two(0, 31),
+            b"2@public pipe ok 0 31\n"
+        )?
+    );
+    assert!(rt;
+        is_done(
+            alloc,
+            &policy,
+            2,
+            b"umask",
+            Answer::Bits(0o22),
+            b"2@public umask ok 0022\n"
+        )?
+    );
     Ok(())
 }
 
@@ -109,19 +155,26 @@ fn quoted(rt: HostRuntime) -> Result<(), Fail> {
     let alloc = rt.alloc();
     let policy = day_policy(alloc)?;
     let plan = ByteList::from_slice(alloc, b"plan")?;
-    let text = done(alloc, &policy, 2, b"read", Answer::Bytes(plan))?;
-    assert_eq!(rt; text.as_slice(), b"2@public read ok \"plan\"\n".as_slice());
+    assert!(rt;
+        is_done(
+            alloc,
+            &policy,
+            2,
+            b"read",
+            Answer::Bytes(plan),
+            b"2@public read ok \"plan\"\n"
+        )?
+    );
     let caps = both_sets(&[Cap::Setgid, Cap::Setuid, Cap::MacRelabelSubj]);
-    let text = done(
-        alloc,
-        &policy,
-        1,
-        b"getfcap \"/bin/login\"",
-        Answer::Caps(caps),
-    )?;
-    assert_eq!(rt;
-        text.as_slice(),
-        b"1@public getfcap \"/bin/login\" ok \"cap_setgid,cap_setuid,cap_mac_relabel_subj=ep\"\n".as_slice()
+    assert!(rt;
+        is_done(
+            alloc,
+            &policy,
+            1,
+            b"getfcap \"/bin/login\"",
+            Answer::Caps(caps),
+            b"1@public getfcap \"/bin/login\" ok \"cap_setgid,cap_setuid,cap_mac_relabel_subj=ep\"\n"
+        )?
     );
     Ok(())
 }
@@ -131,13 +184,26 @@ fn listed(rt: HostRuntime) -> Result<(), Fail> {
     let alloc = rt.alloc();
     let policy = small_policy(alloc)?;
     let none = names(alloc, &[])?;
-    let text = done(alloc, &policy, 1, b"readdir", Answer::Names(none))?;
-    assert_eq!(rt; text.as_slice(), b"1@unc readdir ok\n".as_slice());
+    assert!(rt;
+        is_done(
+            alloc,
+            &policy,
+            1,
+            b"readdir",
+            Answer::Names(none),
+            b"1@unc readdir ok\n"
+        )?
+    );
     let some = names(alloc, &[b"e", b"g\"", b"n"])?;
-    let text = done(alloc, &policy, 1, b"readdir", Answer::Names(some))?;
-    assert_eq!(rt;
-        text.as_slice(),
-        b"1@unc readdir ok \"e\" \"g\\\"\" \"n\"\n".as_slice()
+    assert!(rt;
+        is_done(
+            alloc,
+            &policy,
+            1,
+            b"readdir",
+            Answer::Names(some),
+            b"1@unc readdir ok \"e\" \"g\\\"\" \"n\"\n"
+        )?
     );
     Ok(())
 }
@@ -159,15 +225,25 @@ fn reported(rt: HostRuntime) -> Result<(), Fail> {
         },
         label: top(&policy),
     };
-    let text = done(alloc, &policy, 1, b"stat", Answer::Stat(stat))?;
-    assert_eq!(rt;
-        text.as_slice(),
-        b"1@unc stat ok file 0755 10 11 65536 1 2@unc sec:a,b\n".as_slice()
+    assert!(rt;
+        is_done(
+            alloc,
+            &policy,
+            1,
+            b"stat",
+            Answer::Stat(stat),
+            b"1@unc stat ok file 0755 10 11 65536 1 2@unc sec:a,b\n"
+        )?
     );
-    let text = done(alloc, &policy, 1, b"mac_get_fd", Answer::Mark(top(&policy)))?;
-    assert_eq!(rt;
-        text.as_slice(),
-        b"1@unc mac_get_fd ok sec:a,b\n".as_slice()
+    assert!(rt;
+        is_done(
+            alloc,
+            &policy,
+            1,
+            b"mac_get_fd",
+            Answer::Mark(top(&policy)),
+            b"1@unc mac_get_fd ok sec:a,b\n"
+        )?
     );
     Ok(())
 }
@@ -177,16 +253,26 @@ fn users(rt: HostRuntime) -> Result<(), Fail> {
     let alloc = rt.alloc();
     let policy = small_policy(alloc)?;
     let alone = ids(alloc, &[])?;
-    let text = done(alloc, &policy, 1, b"getids", Answer::Ids(alone))?;
-    assert_eq!(rt;
-        text.as_slice(),
-        b"1@unc getids ok 100 5 6 101 102 103 -\n".as_slice()
+    assert!(rt;
+        is_done(
+            alloc,
+            &policy,
+            1,
+            b"getids",
+            Answer::Ids(alone),
+            b"1@unc getids ok 100 5 6 101 102 103 -\n"
+        )?
     );
     let grouped = ids(alloc, &[7, 8])?;
-    let text = done(alloc, &policy, 1, b"getids", Answer::Ids(grouped))?;
-    assert_eq!(rt;
-        text.as_slice(),
-        b"1@unc getids ok 100 5 6 101 102 103 7,8\n".as_slice()
+    assert!(rt;
+        is_done(
+            alloc,
+            &policy,
+            1,
+            b"getids",
+            Answer::Ids(grouped),
+            b"1@unc getids ok 100 5 6 101 102 103 7,8\n"
+        )?
     );
     Ok(())
 }
@@ -195,18 +281,36 @@ fn users(rt: HostRuntime) -> Result<(), Fail> {
 fn processes(rt: HostRuntime) -> Result<(), Fail> {
     let alloc = rt.alloc();
     let policy = small_policy(alloc)?;
-    let text = done(alloc, &policy, 1, b"fork", Answer::Process(pid(&policy, 2)))?;
-    assert_eq!(rt; text.as_slice(), b"1@unc fork ok 2@unc\n".as_slice());
-    let text = done(
-        alloc,
-        &policy,
-        4,
-        b"getppid",
-        Answer::Parent(Some(pid(&policy, 3))),
-    )?;
-    assert_eq!(rt; text.as_slice(), b"4@unc getppid ok 3@unc\n".as_slice());
-    let text = done(alloc, &policy, 1, b"getppid", Answer::Parent(None))?;
-    assert_eq!(rt; text.as_slice(), b"1@unc getppid ok none\n".as_slice());
+    assert!(rt;
+        is_done(
+            alloc,
+            &policy,
+            1,
+            b"fork",
+            Answer::Process(pid(&policy, 2)),
+            b"1@unc fork ok 2@unc\n"
+        )?
+    );
+    assert!(rt;
+        is_done(
+            alloc,
+            &policy,
+            4,
+            b"getppid",
+            Answer::Parent(Some(pid(&policy, 3))),
+            b"4@unc getppid ok 3@unc\n"
+        )?
+    );
+    assert!(rt;
+        is_done(
+            alloc,
+            &policy,
+            1,
+            b"getppid",
+            Answer::Parent(None),
+            b"1@unc getppid ok none\n"
+        )?
+    );
     Ok(())
 }
 
@@ -214,38 +318,35 @@ fn processes(rt: HostRuntime) -> Result<(), Fail> {
 fn endings(rt: HostRuntime) -> Result<(), Fail> {
     let alloc = rt.alloc();
     let policy = day_policy(alloc)?;
-    let text = done(
-        alloc,
-        &policy,
-        1,
-        b"wait",
-        Answer::Ended(pid(&policy, 2), Ending::Exit(0)),
-    )?;
-    assert_eq!(rt;
-        text.as_slice(),
-        b"1@public wait ok 2@public exit 0\n".as_slice()
+    assert!(rt;
+        is_done(
+            alloc,
+            &policy,
+            1,
+            b"wait",
+            Answer::Ended(pid(&policy, 2), Ending::Exit(0)),
+            b"1@public wait ok 2@public exit 0\n"
+        )?
     );
-    let text = done(
-        alloc,
-        &policy,
-        1,
-        b"wait",
-        Answer::Ended(pid(&policy, 2), Ending::Term),
-    )?;
-    assert_eq!(rt;
-        text.as_slice(),
-        b"1@public wait ok 2@public kill TERM\n".as_slice()
+    assert!(rt;
+        is_done(
+            alloc,
+            &policy,
+            1,
+            b"wait",
+            Answer::Ended(pid(&policy, 2), Ending::Term),
+            b"1@public wait ok 2@public kill TERM\n"
+        )?
     );
-    let text = done(
-        alloc,
-        &policy,
-        1,
-        b"wait",
-        Answer::Ended(pid(&policy, 2), Ending::Kill),
-    )?;
-    assert_eq!(rt;
-        text.as_slice(),
-        b"1@public wait ok 2@public kill KILL\n".as_slice()
+    assert!(rt;
+        is_done(
+            alloc,
+            &policy,
+            1,
+            b"wait",
+            Answer::Ended(pid(&policy, 2), Ending::Kill),
+            b"1@public wait ok 2@public kill KILL\n"
+        )?
     );
     Ok(())
 }
@@ -254,29 +355,35 @@ fn endings(rt: HostRuntime) -> Result<(), Fail> {
 fn stopped(rt: HostRuntime) -> Result<(), Fail> {
     let alloc = rt.alloc();
     let policy = day_policy(alloc)?;
-    let text = line(
-        alloc,
-        &policy,
-        2,
-        b"open",
-        &denied(CheckName::MacRead, Place::First(2)),
-    )?;
-    assert_eq!(rt;
-        text.as_slice(),
-        b"2@public open EACCES mac_read p2\n".as_slice()
+    assert!(rt;
+        is_line(
+            alloc,
+            &policy,
+            2,
+            b"open",
+            denied(CheckName::MacRead, Place::First(2)),
+            b"2@public open EACCES mac_read p2\n"
+        )?
     );
-    let text = line(
-        alloc,
-        &policy,
-        1,
-        b"kill",
-        &denied(CheckName::MacWrite, Place::Target),
-    )?;
-    assert_eq!(rt;
-        text.as_slice(),
-        b"1@public kill EACCES mac_write pid\n".as_slice()
+    assert!(rt;
+        is_line(
+            alloc,
+            &policy,
+            1,
+            b"kill",
+            denied(CheckName::MacWrite, Place::Target),
+            b"1@public kill EACCES mac_write pid\n"
+        )?
     );
-    let text = line(alloc, &policy, 1, b"mkdir", &Reply::Refused(Errno::EEXIST))?;
-    assert_eq!(rt; text.as_slice(), b"1@public mkdir EEXIST\n".as_slice());
+    assert!(rt;
+        is_line(
+            alloc,
+            &policy,
+            1,
+            b"mkdir",
+            Reply::Refused(Errno::EEXIST),
+            b"1@public mkdir EEXIST\n"
+        )?
+    );
     Ok(())
 }

@@ -1,4 +1,4 @@
-use Rattle.labsys.proofs.Sending.{passes_on}
+use Rattle.lab_engine.proofs.Sending.{passes_on}
 use Rattle.labsys.proofs.playing.end_without_world.Goals as goal
 
 pub returns-in_err-report_last-clause-writes : goal.returns-in_err-report_last-clause-writes

@@ -1,5 +1,5 @@
 use Rattle.std.proofs.Common.{sym}
-use Rattle.labsys.proofs.Sending.{goes_on, in_order, stops, to_out-append}
+use Rattle.lab_engine.proofs.Sending.{goes_on, in_order, stops, to_out-append}
 use Rattle.labsys.proofs.playing.finish.Goals as goal
 
 pub returns-in_err-report_ends : goal.returns-in_err-report_ends

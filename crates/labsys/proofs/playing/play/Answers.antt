@@ -1,22 +1,42 @@
-use Rattle.std.proofs.Common.{ap, inr}
-use Rattle.labsys.specs.Counts.{Counts}
-use Rattle.labsys.proofs.InputLemmas.{plays_taken, plays_nothing, input_taken}
-use Rattle.labsys.proofs.ReadableLemmas.{readable_taken}
-use Rattle.labsys.proofs.Sending.{prefix_nothing}
+use Rattle.std.proofs.Common.{inr}
+use Rattle.lab_engine.proofs.Sending.{prefix_nothing}
+use Rattle.labsys.proofs.PlayLemmas.{ended_readable, read_ended, read_more, read_playable, read_plays, read_readable, read_small, run_fails, run_memory}
 use Rattle.labsys.proofs.playing.play.Goals as goal
 
-pub returns-in_err-whole-clause-did : goal.returns-in_err-whole-clause-did
-returns-in_err-whole-clause-did g c = plays_nothing _ _ _ _ _ _ _ _ _ c.in_err-whole.ensures.takes (c.in_err-whole.ensures.counts _ _) c.from_residual.ensures.1
+pub returns-in_err-lines-clause-did : goal.returns-in_err-lines-clause-did
+returns-in_err-lines-clause-did g c = run_memory _ _ _ c.from_residual.ensures.1
 
-pub play_text-requires : goal.play_text-requires
-play_text-requires g c = let t = c.in_ok-whole.ensures.takes in (input_taken c.in_ok-whole.whole t.got _ c.items.result.now t.shows c.items.ensures).small
+pub returns-in_err-lines-clause-readable : goal.returns-in_err-lines-clause-readable
+returns-in_err-lines-clause-readable g c = λ text is a accepted. inr (prefix_nothing _ _ _ _ _)
+
+pub returns-in_err-read-clause-did : goal.returns-in_err-read-clause-did
+returns-in_err-read-clause-did g c =
+    let reads = c.in_err-read.ensures.reads in
+    run_fails _ c.in_ok-lines.ensures _ _ _ _ reads.taken reads.takes _ _ _ _ _ (c.in_err-read.ensures.counts _ _) reads.shows c.from_residual-in_err-read.ensures.1
+
+pub returns-in_err-read-clause-readable : goal.returns-in_err-read-clause-readable
+returns-in_err-read-clause-readable g c = λ text is a accepted. inr (prefix_nothing _ _ _ _ _)
+
+pub play_world-requires-clause-world : goal.play_world-requires-clause-world
+play_world-requires-clause-world g c = (read_playable _ c.in_ok-lines.ensures _ _ _ _ c.in_ok-read.ensures.reads c.in-World.read c.in-World.is).1.world
+
+pub play_world-requires-clause-top : goal.play_world-requires-clause-top
+play_world-requires-clause-top g c = (read_playable _ c.in_ok-lines.ensures _ _ _ _ c.in_ok-read.ensures.reads c.in-World.read c.in-World.is).1.top
+
+pub play_world-requires-clause-more : goal.play_world-requires-clause-more
+play_world-requires-clause-more g c = read_more _ c.in_ok-lines.ensures _ _ _ _ c.in_ok-read.ensures.reads c.in-World.read c.in-World.is
+
+pub play_world-requires-clause-small : goal.play_world-requires-clause-small
+play_world-requires-clause-small g c = read_small _ c.in_ok-lines.ensures _ _ _ _ c.in_ok-read.ensures.reads c.in-World.read c.in-World.is
+
+pub returns-in-World-clause-did : goal.returns-in-World-clause-did
+returns-in-World-clause-did g c = read_plays _ c.in_ok-lines.ensures _ _ _ _ c.in_ok-read.ensures.reads c.in-World.read c.in-World.is c.play_world.result _ _ _ _ _ _ c.in_ok-read.ensures.counts _ c.play_world.ensures
+
+pub returns-in-World-clause-readable : goal.returns-in-World-clause-readable
+returns-in-World-clause-readable g c = read_readable _ c.in_ok-lines.ensures _ _ _ _ c.in_ok-read.ensures.reads c.in-World.read c.in-World.is c.play_world.result _ _ _ _ _ _ c.in_ok-read.ensures.counts _ c.play_world.ensures
 
 pub returns-clause-did : goal.returns-clause-did
-returns-clause-did g c = plays_taken c.in_ok-whole.whole _ _ c.items.result.now c.in_ok-whole.ensures.takes c.items.ensures c.play_text.result _ _ _ _ _ _
-    (ap (λ (k : Counts). k.source) (c.in_ok-whole.ensures.counts 0 0)) (c.play_text.ensures.writes _) c.play_text.ensures.ending
-
-pub returns-in_err-whole-clause-readable : goal.returns-in_err-whole-clause-readable
-returns-in_err-whole-clause-readable g c = λ text left a is. inr (prefix_nothing _ _ _ _ _)
+returns-clause-did g c = read_ended _ c.in_ok-lines.ensures _ _ _ _ c.in_ok-read.ensures.reads c.in-Ended.ending c.in-Ended.is c.end_without_world.result _ _ _ _ _ c.in_ok-read.ensures.counts c.end_without_world.ensures.writes c.end_without_world.ensures.ending
 
 pub returns-clause-readable : goal.returns-clause-readable
-returns-clause-readable g c = readable_taken c.in_ok-whole.whole _ _ c.items.result.now c.in_ok-whole.ensures.takes c.items.ensures _ _ _ _ _ _ (ap (λ (k : Counts). k.source) (c.in_ok-whole.ensures.counts 0 0)) (c.play_text.ensures.readable _)
+returns-clause-readable g c = ended_readable _ c.in_ok-lines.ensures _ _ _ _ c.in_ok-read.ensures.reads c.in-Ended.ending c.in-Ended.is _ _

@@ -1,4 +1,4 @@
-use Rattle.labsys.proofs.ClauseLemmas.{run_counts, run_order, run_whole, run_ending, run_covered, run_replies_first, run_printed, run_printed_by_any, run_dropped, run_isolated, run_isolated_whole, run_two_inputs, run_two_whole, run_few}
+use Rattle.labsys.proofs.ClauseLemmas.{run_counts, run_line_by_line, run_order, run_whole, run_ending, run_covered, run_replies_first, run_printed, run_printed_by_any, run_dropped, run_isolated, run_isolated_whole, run_two_inputs, run_two_whole, run_few}
 use Rattle.labsys.proofs.running.run.Goals as goal
 
 pub returns-in-Some-Play-clause-counts : goal.returns-in-Some-Play-clause-counts
@@ -42,3 +42,6 @@ returns-in-Some-Play-clause-few g c = run_few c.play.result _ _ _ _ c.play.ensur
 
 pub returns-in-Some-Play-clause-printed_by_any : goal.returns-in-Some-Play-clause-printed_by_any
 returns-in-Some-Play-clause-printed_by_any g c = λ _. run_printed_by_any c.play.result _ _ _ _ c.play.ensures.did c.play.ensures.readable
+
+pub returns-in-Some-Play-clause-line_by_line : goal.returns-in-Some-Play-clause-line_by_line
+returns-in-Some-Play-clause-line_by_line g c = λ _ read. run_line_by_line c.play.result _ _ _ _ c.play.ensures.did _ c.status_of.ensures read

@@ -1,25 +1,20 @@
-use Rattle.std.proofs.Common.{sym, ◌∙◌, ap, arith}
-use Rattle.std.specs.List.{list_all}
-use Rattle.fs_path.specs.Name.{is_name}
+use Rattle.std.proofs.Common.{◌∙◌, ap, arith}
 use Rattle.kern_model.specs.World.{given, objects_at}
 use Rattle.world_text.specs.Tree.{Tree}
-use Rattle.world_text.specs.Written.{path_text}
 use Rattle.world_text.proofs.BuilderLemmas.{stands_more, objects_counted}
 use Rattle.world_text.proofs.PlacingLemmas.{without_fault}
 use Rattle.world_text.proofs.builder.WorldBuilder.with_object.Goals as goal
 
-pub count_one-requires : goal.count_one-requires
-count_one-requires c =
+pub enter-requires : goal.enter-requires
+enter-requires c =
     let room = (without_fault c.args.self c.args.object c.requires).room in
     let counts = c.builder.invariant.objects_are c.args.object.label ∙ ap (λ (t : Tree). objects_at c.args.object.label t.objects) c.builder.view_is in
     omega arith
 
 pub invariant_of-builder : goal.invariant_of-builder
 invariant_of-builder c = record {
-  stands = stands_more c.builder.inside.index c.insert.new.self c.builder.inside.objects c.push.new.self c.args.object c.in_ok-key.key c.path_entry_of.result c.in_ok-insert.ensures.updates.0
-      (c.in_ok-key.ensures ∙ ap path_text c.components.ensures.names) c.path_entry_of.ensures c.in_ok-push.ensures.ok
-      (ap (list_all is_name) (sym c.components.ensures.names) ∙ c.components.ensures.named)
+  stands = stands_more c.builder.inside.index c.enter.new.index c.builder.inside.objects c.push.new.self c.args.object c.in_ok-enter.ensures.entered c.in_ok-push.ensures.ok c.enter.ensures.named
       (ap (λ (t : Tree). given t.objects c.args.object.path.names) c.builder.view_is ∙ (without_fault c.args.self c.args.object c.requires).free) c.builder.invariant.stands;
-  objects_are = objects_counted c.builder.inside.object_counts c.count_one.new.counts c.builder.inside.objects c.push.new.self c.args.object c.in_ok-count_one.ensures c.in_ok-push.ensures.ok c.builder.invariant.objects_are;
+  objects_are = objects_counted c.builder.inside.object_counts c.enter.new.counts c.builder.inside.objects c.push.new.self c.args.object c.in_ok-enter.ensures.counted c.in_ok-push.ensures.ok c.builder.invariant.objects_are;
   procs_are = c.builder.invariant.procs_are;
 }

@@ -1,0 +1,10 @@
+pub mod ReadLemmas
+pub mod Sending
+pub mod ScriptLemmas
+pub mod Progress
+pub mod WorldProgress
+pub mod ScriptSteps
+pub mod ReadableLemmas
+pub mod CallLemmas
+pub mod ToolLemmas
+pub mod FewCalls

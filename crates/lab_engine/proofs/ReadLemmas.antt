@@ -1,0 +1,407 @@
+-- What each answer of a reader of lines says of the world, and of the script, that is left at it.
+use Rattle.std.proofs.Common.{◌≡◌, ◌⊎◌, inl, inr, ℕ, ◌+◌, ◌≤◌, ◌<◌, Bool, true, false, cond, zero, suc, List, [], ◌∷◌, ◌++◌, length, take, refl, sym, ◌∙◌, ap, subst, arith, append_assoc, Option, Some, None}
+use Rattle.std.proofs.lemmas.Bool.{lt-ltb}
+use Rattle.std.proofs.lemmas.Bool.Decides.{nat_tests}
+use Rattle.std.proofs.lemmas.List.{append-nil, take_all}
+use Rattle.std.specs.Prelude.{nat_lt, IsErrAnd, Result, Ok, Err}
+use Rattle.std.specs.Io.KnownBytes.{IsAtEnd}
+use Rattle.fs_path.specs.Split.{pieces}
+use Rattle.fs_path.proofs.SplitLemmas.{pieces_first}
+use Rattle.io_ends.specs.declared.lines.Next.{Next}
+use Rattle.io_ends.specs.declared.lines.Next.TheVariants as next_line
+use Rattle.io_ends.specs.declared.whole.ReadError.{ReadError}
+use Rattle.io_ends.specs.declared.whole.ReadError.TheVariants as read
+use Rattle.io_ends.specs.Lines.{Advances, Answers, GivesLine, has_line_feed, HoldsLongLine, HoldsPart}
+use Rattle.io_ends.specs.Whole.{CountsRead}
+use Rattle.io_ends.specs.LinesState.{LinesState}
+use Rattle.io_ends.proofs.LineLaws.{over_line, over_past, pieces_line, pieces_long, pieces_part, pieces_past}
+use Rattle.kern_model.specs.declared.limits.TheConstants.{MAX_LINE}
+use Rattle.lab_text.specs.Policy.{PolicyNames, top_of}
+use Rattle.script_text.specs.declared.line.Line.{Line}
+use Rattle.script_text.specs.Reading.{IsCause}
+use Rattle.script_text.specs.declared.fault.LineError.{LineError}
+use Rattle.script_text.specs.declared.fault.LineError.TheVariants as error
+use Rattle.script_text.specs.Line as script_lines
+use Rattle.script_text.specs.Line.{MayBePlayed}
+use Rattle.script_text.specs.declared.line.Line.TheVariants as line_is
+use Rattle.world_text.specs.declared.expecting.Expecting.{Expecting}
+use Rattle.world_text.specs.declared.expecting.Parsed.{Parsed}
+use Rattle.world_text.specs.declared.expecting.Parsed.TheVariants.{Refuses, GoesOn as More, Begins}
+use Rattle.world_text.specs.declared.fault.WorldFault.{WorldFault}
+use Rattle.world_text.specs.declared.fault.WorldFault.TheVariants as fault
+use Rattle.world_text.specs.declared.world.WorldText.{WorldText}
+use Rattle.fs_path.specs.Words.{is_blank, words_of}
+use Rattle.world_text.specs.Expecting.{parse_line, parse_words, unless, with_form}
+use Rattle.world_text.specs.Reading.{after, reading}
+use Rattle.lab_engine.specs.declared.ending.Fault.{Fault}
+use Rattle.lab_engine.specs.declared.ending.Fault.TheVariants.{NoMemory}
+use Rattle.lab_engine.specs.declared.ending.InputEnd.{InputEnd}
+use Rattle.lab_engine.specs.declared.ending.InputEnd.TheVariants.{Whole, Refused, TooMuch}
+use Rattle.lab_engine.specs.declared.ending.Part.TheVariants as part
+use Rattle.lab_engine.specs.declared.ending.Refusal.{Refusal}
+use Rattle.lab_engine.specs.declared.ending.Refusal.TheVariants as refusal
+use Rattle.lab_engine.specs.declared.reading.NextLine.{NextLine}
+use Rattle.lab_engine.specs.declared.reading.NextLine.TheVariants as next_is
+use Rattle.lab_engine.specs.declared.reading.WorldLine.{WorldLine}
+use Rattle.lab_engine.specs.declared.reading.WorldLine.TheVariants as world_line_is
+use Rattle.lab_engine.specs.Counts.{CountsOnce, counted_by, counts, fault_of_read}
+use Rattle.lab_engine.specs.Input.{Input, Script, after_line, ends_at, input_by, last_piece, no_world, refusal_of, refusal_of_line, script, script_from}
+use Rattle.lab_engine.specs.Reading.{Accepts, BeginsWith, EndsScript, EndsWorld, Follows, GoesOn, IsRefusal, ReadsLine, Takes, input_at, left_of, script_at}
+use Rattle.lab_engine.proofs.FewCalls.{few_calls}
+
+-- ---- bytes
+
+-- at its end a source has nothing left
+pub nothing_left : (left : Option (List ℕ)) → IsAtEnd left → left_of left ≡ []
+nothing_left None h = refl
+nothing_left (Some bytes) h = h
+
+within_limit : (n k : ℕ) → k ≤ n → nat_lt n k ≡ false
+within_limit n k le = grind (arith, nat_tests)
+
+take_nothing : (n : ℕ) → has_line_feed (take n []) ≡ false
+take_nothing zero = refl
+take_nothing (suc n) = refl
+
+take_none : (n : ℕ) → length (take {A = ℕ} n []) ≡ 0
+take_none zero = refl
+take_none (suc n) = refl
+
+-- ---- one step of each definition
+
+reading_last : (n : ℕ) (e : Expecting) (last : List ℕ) (ps : List (List ℕ)) → ps ≡ last ∷ [] → (over : Bool) → input_by over (reading n e ps) ≡ no_world (ends_at over n part.World refusal.Syntax last)
+unfolding reading
+reading_last n e last ps is over = ap (λ (q : List (List ℕ)). input_by over (reading n e q)) is
+
+reading_more : (n : ℕ) (e : Expecting) (line : List ℕ) (ps : List (List ℕ)) (p : List ℕ) (qs : List (List ℕ)) → ps ≡ p ∷ qs
+    → reading n e (line ∷ ps) ≡ after (parse_line e line) n ps (λ next. reading (n + 1) next ps)
+unfolding reading
+reading_more n e line ps p qs is =
+    ap (λ (r : List (List ℕ)). reading n e (line ∷ r)) is ∙ sym (ap (λ (r : List (List ℕ)). after (parse_line e line) n r (λ next. reading (n + 1) next r)) is)
+
+script_last : (over : Bool) (policy : PolicyNames) (n : ℕ) (last : List ℕ) (ps : List (List ℕ)) → ps ≡ last ∷ [] → script_from over policy n ps ≡ script [] (last_piece over n last)
+unfolding script_from
+script_last over policy n last ps is = ap (script_from over policy n) is
+
+script_more : (over : Bool) (policy : PolicyNames) (n : ℕ) (line : List ℕ) (ps : List (List ℕ)) (p : List ℕ) (qs : List (List ℕ)) → ps ≡ p ∷ qs
+    → script_from over policy n (line ∷ ps) ≡ after_line (script_lines.parse_line policy line) n (script_from over policy (n + 1) ps)
+unfolding script_from
+script_more over policy n line ps p qs is =
+    ap (λ (r : List (List ℕ)). script_from over policy n (line ∷ r)) is ∙ sym (ap (λ (r : List (List ℕ)). after_line (script_lines.parse_line policy line) n (script_from over policy (n + 1) r)) is)
+
+-- a line that is too long is refused
+world_long : (e : Expecting) (line : List ℕ) → 2048 < length line → parse_line e line ≡ Refuses fault.Syntax
+unfolding parse_line
+world_long e line long = ap (λ b. unless b fault.Syntax (cond (is_blank line) (More e) (with_form (words_of line) (parse_words e)))) (lt-ltb MAX_LINE (length line) long)
+
+script_long : (policy : PolicyNames) (line : List ℕ) → 2048 < length line → script_lines.parse_line policy line ≡ Err error.TooLong
+unfolding script_lines.parse_line
+script_long policy line long = ap (λ b. cond b (Err error.TooLong) (cond (is_blank line) (Ok line_is.Blank) (script_lines.parse_words policy (words_of line)))) (lt-ltb MAX_LINE (length line) long)
+
+-- ---- a step of a reader, which took these bytes
+module _ (before now : LinesState) (got : List ℕ) (number : now.number ≡ before.number + 1) where
+  abbrev text : List ℕ
+  text = before.held ++ got
+
+  -- what is left before the step, by the text and the bytes after it
+  input_text : (e : Expecting) (more : List ℕ) → input_at e before (got ++ more) ≡ input_by (nat_lt before.room (length (text ++ more))) (reading now.number e (pieces 10 (take before.room (text ++ more))))
+  unfolding input_at
+  input_text e more =
+      ap (λ (t : List ℕ). input_by (nat_lt before.room (length t)) (reading (before.number + 1) e (pieces 10 (take before.room t)))) (sym (append_assoc before.held got more))
+      ∙ ap (λ k. input_by (nat_lt before.room (length (text ++ more))) (reading k e (pieces 10 (take before.room (text ++ more))))) (sym number)
+
+  script_text : (policy : PolicyNames) (more : List ℕ) → script_at policy before (got ++ more) ≡ script_from (nat_lt before.room (length (text ++ more))) policy now.number (pieces 10 (take before.room (text ++ more)))
+  unfolding script_at
+  script_text policy more =
+      ap (λ (t : List ℕ). script_from (nat_lt before.room (length t)) policy (before.number + 1) (pieces 10 (take before.room t))) (sym (append_assoc before.held got more))
+      ∙ ap (λ k. script_from (nat_lt before.room (length (text ++ more))) policy k (pieces 10 (take before.room (text ++ more)))) (sym number)
+
+  -- ---- a line
+  module _ (gives : GivesLine text before.room now) where
+    abbrev left : List ℕ → List (List ℕ)
+    left more = pieces 10 (take now.room (now.held ++ more))
+
+    fewer : now.room < before.room
+    fewer = omega (arith, gives.room_is)
+
+    world_line : (e : Expecting) (more : List ℕ)
+        → input_at e before (got ++ more) ≡ input_by (nat_lt now.room (length (now.held ++ more))) (after (parse_line e now.line) now.number (left more) (λ next. reading (now.number + 1) next (left more)))
+    world_line e more =
+        let first = pieces_first 10 (take now.room (now.held ++ more)) in
+        input_text e more
+        ∙ ap (λ b. input_by b (reading now.number e (pieces 10 (take before.room (text ++ more))))) (over_line text before.room now gives more)
+        ∙ ap (λ (ps : List (List ℕ)). input_by (nat_lt now.room (length (now.held ++ more))) (reading now.number e ps)) (pieces_line text before.room now gives more)
+        ∙ ap (input_by (nat_lt now.room (length (now.held ++ more)))) (reading_more now.number e now.line (left more) first.0 first.1 first.2)
+
+    abbrev by_parsed : Parsed → List ℕ → Input
+    by_parsed parsed more = input_by (nat_lt now.room (length (now.held ++ more))) (after parsed now.number (left more) (λ next. reading (now.number + 1) next (left more)))
+
+    pub line_goes_on : (e : Expecting) (parsed : Parsed) → parsed ≡ parse_line e now.line → (next : Expecting) → parsed ≡ More next → GoesOn e before now got next
+    unfolding input_at
+    line_goes_on e parsed is next more = record {
+      says = λ rest. world_line e rest ∙ ap (λ p. by_parsed p rest) (sym is ∙ more);
+      more = gives.more;
+      fewer = fewer;
+    }
+
+    pub line_accepts : (e : Expecting) (parsed : Parsed) → parsed ≡ parse_line e now.line → (w : WorldText) → parsed ≡ Begins w → Accepts e before now got w
+    unfolding script_at
+    line_accepts e parsed is w begins = record {
+      says = λ rest. world_line e rest ∙ ap (λ p. by_parsed p rest) (sym is ∙ begins);
+      more = gives.more;
+      fewer = fewer;
+    }
+
+    pub line_refused : (e : Expecting) (parsed : Parsed) → parsed ≡ parse_line e now.line → (why : WorldFault) → parsed ≡ Refuses why → (left : Option (List ℕ)) → EndsWorld e before left got (Refused now.number part.World (refusal_of why))
+    line_refused e parsed is why refuses left = record {
+      says = world_line e (left_of left) ∙ ap (λ p. by_parsed p (left_of left)) (sym is ∙ refuses);
+      to_the_end = λ h. absurd (cc);
+    }
+
+    -- the script that begins with the line
+    script_line : (policy : PolicyNames) (parsed : Result Line LineError) → script_lines.parse_line policy now.line ≡ parsed → (more : List ℕ) → script_at policy before (got ++ more) ≡ after_line parsed now.number (script_at policy now more)
+    unfolding script_at
+    script_line policy parsed is more =
+        let first = pieces_first 10 (take now.room (now.held ++ more)) in
+        let over = nat_lt now.room (length (now.held ++ more)) in
+        script_text policy more
+        ∙ ap (λ b. script_from b policy now.number (pieces 10 (take before.room (text ++ more)))) (over_line text before.room now gives more)
+        ∙ ap (script_from over policy now.number) (pieces_line text before.room now gives more)
+        ∙ script_more over policy now.number now.line (left more) first.0 first.1 first.2
+        ∙ ap (λ (r : Result Line LineError). after_line r now.number (script_from over policy (now.number + 1) (left more))) is
+
+    pub line_begins : (policy : PolicyNames) (l : Line) → script_lines.parse_line policy now.line ≡ Ok l → MayBePlayed (top_of policy) l → BeginsWith policy before now got l
+    line_begins policy l is calls = record {
+      says = λ rest. script_line policy (Ok l) is rest;
+      calls = calls;
+      more = gives.more;
+      fewer = omega (arith, gives.room_is, few_calls policy now.line l is calls);
+    }
+
+    module _ (policy : PolicyNames) (left : Option (List ℕ)) where
+      by_word : (why : Refusal) {word : Refusal} → why ≡ word → EndsScript policy before left got (Refused now.number part.Script word) → EndsScript policy before left got (Refused now.number part.Script why)
+      by_word why is ends = subst (λ (w : Refusal). EndsScript policy before left got (Refused now.number part.Script w)) (sym is) ends
+
+      refused_line : (e : LineError) → script_lines.parse_line policy now.line ≡ Err e → EndsScript policy before left got (Refused now.number part.Script (refusal_of_line e))
+      refused_line e is = record { says = script_line policy (Err e) is (left_of left); to_the_end = λ h. absurd (cc) }
+
+      pub line_refused_by : (e : LineError) (why : Refusal) → IsRefusal e why → IsCause (script_lines.parse_line policy now.line) e → EndsScript policy before left got (Refused now.number part.Script why)
+      line_refused_by (error.NoMemory m) why word is = absurd word
+      line_refused_by error.TooLong why word is = by_word why word (refused_line error.TooLong is)
+      line_refused_by error.Syntax why word is = by_word why word (refused_line error.Syntax is)
+      line_refused_by error.BadTag why word is = by_word why word (refused_line error.BadTag is)
+      line_refused_by error.BadPath why word is = by_word why word (refused_line error.BadPath is)
+      line_refused_by error.BadLabel why word is = by_word why word (refused_line error.BadLabel is)
+      line_refused_by error.BadCaps why word is = by_word why word (refused_line error.BadCaps is)
+
+  -- ---- no line
+
+  -- nothing comes after the text
+  no_more : (left : Option (List ℕ)) → IsAtEnd left → text ++ left_of left ≡ text
+  no_more left end = ap (λ (m : List ℕ). text ++ m) (nothing_left left end) ∙ append-nil text
+
+  -- the pieces of a text within the limit that holds a part of a line
+  whole_part : HoldsPart text before.room → length text ≤ before.room → pieces 10 (take before.room text) ≡ text ∷ []
+  whole_part holds le = pieces_part text before.room holds ∙ ap (λ (t : List ℕ). t ∷ []) (take_all before.room text le)
+
+  module _ (holds : HoldsPart text before.room) (le : length text ≤ before.room) (left : Option (List ℕ)) (end : IsAtEnd left) where
+    -- the source ended within the limit
+    world_ended : (e : Expecting) → input_at e before (got ++ left_of left) ≡ no_world (Refused now.number part.World refusal.Syntax)
+    world_ended e =
+        input_text e (left_of left)
+        ∙ ap (λ (t : List ℕ). input_by (nat_lt before.room (length t)) (reading now.number e (pieces 10 (take before.room t)))) (no_more left end)
+        ∙ ap (λ b. input_by b (reading now.number e (pieces 10 (take before.room text)))) (within_limit before.room (length text) le)
+        ∙ reading_last now.number e text (pieces 10 (take before.room text)) (whole_part holds le) false
+
+    script_ended : (policy : PolicyNames) → script_at policy before (got ++ left_of left) ≡ script [] (last_piece false now.number text)
+    script_ended policy =
+        script_text policy (left_of left)
+        ∙ ap (λ (t : List ℕ). script_from (nat_lt before.room (length t)) policy now.number (pieces 10 (take before.room t))) (no_more left end)
+        ∙ ap (λ b. script_from b policy now.number (pieces 10 (take before.room text))) (within_limit before.room (length text) le)
+        ∙ script_last false policy now.number text (pieces 10 (take before.room text)) (whole_part holds le)
+
+    pub world_unended : (e : Expecting) → EndsWorld e before left got (Refused now.number part.World refusal.Syntax)
+    world_unended e = record { says = world_ended e; to_the_end = λ h. absurd (cc) }
+
+    pub script_unended : (policy : PolicyNames) → 0 < length text → EndsScript policy before left got (Refused now.number part.Script refusal.Syntax)
+    script_unended policy some =
+        let short : length text ≤ 2048 = subst (λ (t : List ℕ). length t ≤ 2048) (take_all before.room text le) holds.short in
+        record { says = script_ended policy ∙ ap (script []) (unended_piece text some short); to_the_end = λ h. absurd (cc) }
+      where
+        unended_piece : (t : List ℕ) → 0 < length t → length t ≤ 2048 → last_piece false now.number t ≡ Refused now.number part.Script refusal.Syntax
+        unended_piece [] some short = absurd (omega (arith, some))
+        unended_piece (x ∷ t) some short = ap (λ b. Refused now.number part.Script (cond b refusal.TooLong refusal.Syntax)) (within_limit MAX_LINE (length (x ∷ t)) short)
+
+  -- an empty text is a part of a line
+  empty_part : text ≡ [] → HoldsPart text before.room
+  empty_part none = subst (λ (t : List ℕ). HoldsPart t before.room) (sym none) (record { no_line = take_nothing before.room; short = omega (arith, take_none before.room) })
+
+  module _ (none : text ≡ []) (left : Option (List ℕ)) (end : IsAtEnd left) where
+    abbrev le : length text ≤ before.room
+    le = subst (λ (t : List ℕ). length t ≤ before.room) (sym none) (omega arith)
+
+    pub world_ends : (e : Expecting) → EndsWorld e before left got (Refused now.number part.World refusal.Syntax)
+    world_ends e = world_unended (empty_part none) le left end e
+
+    pub script_ends : (policy : PolicyNames) → EndsScript policy before left got Whole
+    script_ends policy = record { says = script_ended (empty_part none) le left end policy ∙ ap (λ (t : List ℕ). script [] (last_piece false now.number t)) none; to_the_end = λ h. end }
+
+  module _ (holds : HoldsPart text before.room) (past : before.room < length text) (left : Option (List ℕ)) where
+    cut : (n : ℕ) (last : List ℕ) → length last ≤ 2048 → nat_lt MAX_LINE (length last) ≡ false
+    cut n last short = within_limit MAX_LINE (length last) short
+
+    pub world_too_much : (e : Expecting) → EndsWorld e before left got TooMuch
+    world_too_much e = record {
+      says = input_text e (left_of left)
+          ∙ ap (λ b. input_by b (reading now.number e (pieces 10 (take before.room (text ++ left_of left))))) (over_past text before.room past (left_of left))
+          ∙ reading_last now.number e (take before.room text) (pieces 10 (take before.room (text ++ left_of left))) (pieces_past text before.room holds past (left_of left)) true
+          ∙ ap (λ b. no_world (cond b (Refused now.number part.World refusal.Syntax) TooMuch)) (cut now.number (take before.room text) holds.short);
+      to_the_end = λ h. absurd (cc);
+    }
+
+    pub script_too_much : (policy : PolicyNames) → EndsScript policy before left got TooMuch
+    script_too_much policy = record {
+      says = script_text policy (left_of left)
+          ∙ ap (λ b. script_from b policy now.number (pieces 10 (take before.room (text ++ left_of left)))) (over_past text before.room past (left_of left))
+          ∙ script_last true policy now.number (take before.room text) (pieces 10 (take before.room (text ++ left_of left))) (pieces_past text before.room holds past (left_of left))
+          ∙ ap (λ b. script [] (cond b (Refused now.number part.Script refusal.TooLong) TooMuch)) (cut now.number (take before.room text) holds.short);
+      to_the_end = λ h. absurd (cc);
+    }
+
+  -- a line that is too long is refused, wherever it ends
+  module _ (long : HoldsLongLine text before.room) (left : Option (List ℕ)) where
+    world_by_pieces : (over : Bool) (e : Expecting) (line : List ℕ) (ps : List (List ℕ)) → 2048 < length line → input_by over (reading now.number e (line ∷ ps)) ≡ no_world (Refused now.number part.World refusal.Syntax)
+    world_by_pieces false e line [] long = reading_last now.number e line (line ∷ []) refl false
+    world_by_pieces true e line [] long = reading_last now.number e line (line ∷ []) refl true ∙ ap (λ b. no_world (cond b (Refused now.number part.World refusal.Syntax) TooMuch)) (lt-ltb MAX_LINE (length line) long)
+    world_by_pieces over e line (p ∷ ps) long = ap (input_by over) (reading_more now.number e line (p ∷ ps) p ps refl)
+        ∙ ap (λ (r : Parsed). input_by over (after r now.number (p ∷ ps) (λ next. reading (now.number + 1) next (p ∷ ps)))) (world_long e line long)
+
+    script_by_pieces : (over : Bool) (policy : PolicyNames) (line : List ℕ) (ps : List (List ℕ)) → 2048 < length line → script_from over policy now.number (line ∷ ps) ≡ script [] (Refused now.number part.Script refusal.TooLong)
+    script_by_pieces over policy [] ps long = absurd (omega (arith, long))
+    script_by_pieces false policy (x ∷ line) [] long = script_last false policy now.number (x ∷ line) ((x ∷ line) ∷ []) refl
+        ∙ ap (λ b. script [] (Refused now.number part.Script (cond b refusal.TooLong refusal.Syntax))) (lt-ltb MAX_LINE (length (x ∷ line)) long)
+    script_by_pieces true policy (x ∷ line) [] long = script_last true policy now.number (x ∷ line) ((x ∷ line) ∷ []) refl
+        ∙ ap (λ b. script [] (cond b (Refused now.number part.Script refusal.TooLong) TooMuch)) (lt-ltb MAX_LINE (length (x ∷ line)) long)
+    script_by_pieces over policy (x ∷ line) (p ∷ ps) long = script_more over policy now.number (x ∷ line) (p ∷ ps) p ps refl
+        ∙ ap (λ (r : Result Line LineError). after_line r now.number (script_from over policy (now.number + 1) (p ∷ ps))) (script_long policy (x ∷ line) long)
+
+    pub world_long_line : (e : Expecting) → EndsWorld e before left got (Refused now.number part.World refusal.Syntax)
+    world_long_line e =
+        let first = pieces_long text before.room long (left_of left) in
+        let over = nat_lt before.room (length (text ++ left_of left)) in
+        record {
+          says = input_text e (left_of left) ∙ ap (λ (ps : List (List ℕ)). input_by over (reading now.number e ps)) first.2 ∙ world_by_pieces over e first.0 first.1 first.3;
+          to_the_end = λ h. absurd (cc);
+        }
+
+    pub script_long_line : (policy : PolicyNames) → EndsScript policy before left got (Refused now.number part.Script refusal.TooLong)
+    script_long_line policy =
+        let first = pieces_long text before.room long (left_of left) in
+        let over = nat_lt before.room (length (text ++ left_of left)) in
+        record {
+          says = script_text policy (left_of left) ∙ ap (script_from over policy now.number) first.2 ∙ script_by_pieces over policy first.0 first.1 first.3;
+          to_the_end = λ h. absurd (cc);
+        }
+
+  -- ---- a read that failed
+  module _ (holds : HoldsPart text before.room) where
+    pub failed_world : (e : Expecting) → (input_at e before got).accepted ≡ None
+    failed_world e =
+        let over = nat_lt before.room (length (text ++ [])) in
+        ap (λ (t : List ℕ). (input_at e before t).accepted) (sym (append-nil got))
+        ∙ ap (λ (i : Input). i.accepted) (input_text e []
+        ∙ ap (λ (t : List ℕ). input_by over (reading now.number e (pieces 10 (take before.room t)))) (append-nil text)
+        ∙ reading_last now.number e (take before.room text) (pieces 10 (take before.room text)) (pieces_part text before.room holds) over)
+
+    pub failed_script : (policy : PolicyNames) → (script_at policy before got).items ≡ []
+    failed_script policy =
+        let over = nat_lt before.room (length (text ++ [])) in
+        ap (λ (t : List ℕ). (script_at policy before t).items) (sym (append-nil got))
+        ∙ ap (λ (m : Script). m.items) (script_text policy []
+        ∙ ap (λ (t : List ℕ). script_from over policy now.number (pieces 10 (take before.room t))) (append-nil text)
+        ∙ script_last over policy now.number (take before.room text) (pieces 10 (take before.room text)) (pieces_part text before.room holds))
+
+-- ---- what a step leaves
+module _ (before now : LinesState) (left left' : Option (List ℕ)) where
+  pub step_takes : {r : Result Next ReadError} → (a : Advances r before now left left') → Takes before now left left' a.got
+  step_takes a = record { took = a.took; within = a.within }
+
+  -- a read that failed
+  pub line_fails : (r : Result WorldLine Fault) (e : Expecting) (error : ReadError) → IsErrAnd r (λ q. q ≡ fault_of_read error) → Advances (Err error) before now left left' → ReadsLine r e before now left left'
+  line_fails (Ok line) e error is a = absurd is
+  line_fails (Err fault) e read.Failed is a = record { taken = a.got; takes = step_takes a; shows = λ _. failed_world before now a.got a.number a.answers.1 e }
+  line_fails (Err fault) e read.NoMemory is a = absurd a.answers
+
+  pub next_fails : (r : Result NextLine Fault) (policy : PolicyNames) (error : ReadError) → IsErrAnd r (λ q. q ≡ fault_of_read error) → Advances (Err error) before now left left' → Follows r policy before now left left'
+  next_fails (Ok line) policy error is a = absurd is
+  next_fails (Err fault) policy read.Failed is a = record { taken = a.got; takes = step_takes a; shows = λ _. failed_script before now a.got a.number a.answers.1 policy }
+  next_fails (Err fault) policy read.NoMemory is a = absurd a.answers
+
+  module _ (next : Next) (a : Advances (Ok next) before now left left') where
+    answers : (n : Next) → next ≡ n → Answers n (before.held ++ a.got) before.room now left'
+    answers n is = subst (λ k. Answers k (before.held ++ a.got) before.room now left') is a.answers
+
+    ended_line : (e : Expecting) (ending : InputEnd) → EndsWorld e before left' a.got ending → (is : InputEnd) → is ≡ ending → ReadsLine (Ok (world_line_is.Ended is)) e before now left left'
+    ended_line e ending ends is same = record { taken = a.got; takes = step_takes a; shows = subst (EndsWorld e before left' a.got) (sym same) ends }
+
+    ended_next : (policy : PolicyNames) (ending : InputEnd) → EndsScript policy before left' a.got ending → (is : InputEnd) → is ≡ ending → Follows (Ok (next_is.Ended is)) policy before now left left'
+    ended_next policy ending ends is same = record { taken = a.got; takes = step_takes a; shows = subst (EndsScript policy before left' a.got) (sym same) ends }
+
+    -- a line was given
+    module _ (given : next ≡ next_line.Line) (line : List ℕ) (line_is_now : line ≡ now.line) where
+      abbrev gives : GivesLine (before.held ++ a.got) before.room now
+      gives = answers next_line.Line given
+
+      module _ (e : Expecting) (parsed : Parsed) (is : parsed ≡ parse_line e line) where
+        as_now : parsed ≡ parse_line e now.line
+        as_now = is ∙ ap (parse_line e) line_is_now
+
+        pub reads_more : (after : Expecting) → parsed ≡ More after → ReadsLine (Ok (world_line_is.GoesOn after)) e before now left left'
+        reads_more after more = record { taken = a.got; takes = step_takes a; shows = line_goes_on before now a.got a.number gives e parsed as_now after more }
+
+        pub reads_world : (w : WorldText) → parsed ≡ Begins w → ReadsLine (Ok (world_line_is.World w)) e before now left left'
+        reads_world w begins = record { taken = a.got; takes = step_takes a; shows = line_accepts before now a.got a.number gives e parsed as_now w begins }
+
+        pub reads_refused : (why : WorldFault) → parsed ≡ Refuses why → (ending : InputEnd) → ending ≡ Refused now.number part.World (refusal_of why) → ReadsLine (Ok (world_line_is.Ended ending)) e before now left left'
+        reads_refused why refuses ending same = ended_line e (Refused now.number part.World (refusal_of why)) (line_refused before now a.got a.number gives e parsed as_now why refuses left') ending same
+
+      module _ (policy : PolicyNames) where
+        pub follows_line : (l : Line) → script_lines.parse_line policy line ≡ Ok l → MayBePlayed (top_of policy) l → Follows (Ok (next_is.Line l)) policy before now left left'
+        follows_line l is calls = record { taken = a.got; takes = step_takes a; shows = line_begins before now a.got a.number gives policy l (ap (script_lines.parse_line policy) (sym line_is_now) ∙ is) calls }
+
+        pub follows_refused : (e : LineError) (why : Refusal) → IsRefusal e why → IsCause (script_lines.parse_line policy line) e → (ending : InputEnd) → ending ≡ Refused now.number part.Script why → Follows (Ok (next_is.Ended ending)) policy before now left left'
+        follows_refused e why word is ending same = ended_next policy (Refused now.number part.Script why)
+            (line_refused_by before now a.got a.number gives policy left' e why word (subst (λ (l : List ℕ). IsCause (script_lines.parse_line policy l) e) line_is_now is)) ending same
+
+    -- no line was given
+    pub reads_too_much : next ≡ next_line.TooMuch → (e : Expecting) → ReadsLine (Ok (world_line_is.Ended TooMuch)) e before now left left'
+    reads_too_much is e = let x = answers next_line.TooMuch is in ended_line e TooMuch (world_too_much before now a.got a.number x.1 x.2 left' e) TooMuch refl
+
+    pub reads_no_line : (next ≡ next_line.End) ⊎ ((next ≡ next_line.Unended) ⊎ (next ≡ next_line.LongLine)) → (e : Expecting) (ending : InputEnd) → ending ≡ Refused now.number part.World refusal.Syntax → ReadsLine (Ok (world_line_is.Ended ending)) e before now left left'
+    reads_no_line (inl is) e ending same = let x = answers next_line.End is in ended_line e _ (world_ends before now a.got a.number x.1 left' x.2 e) ending same
+    reads_no_line (inr (inl is)) e ending same = let x = answers next_line.Unended is in ended_line e _ (world_unended before now a.got a.number x.1 x.3 left' x.4 e) ending same
+    reads_no_line (inr (inr is)) e ending same = let x = answers next_line.LongLine is in ended_line e _ (world_long_line before now a.got a.number x.1 left' e) ending same
+
+    pub follows_end : next ≡ next_line.End → (policy : PolicyNames) → Follows (Ok (next_is.Ended Whole)) policy before now left left'
+    follows_end is policy = let x = answers next_line.End is in ended_next policy Whole (script_ends before now a.got a.number x.1 left' x.2 policy) Whole refl
+
+    pub follows_unended : next ≡ next_line.Unended → (policy : PolicyNames) (ending : InputEnd) → ending ≡ Refused now.number part.Script refusal.Syntax → Follows (Ok (next_is.Ended ending)) policy before now left left'
+    follows_unended is policy ending same = let x = answers next_line.Unended is in ended_next policy _ (script_unended before now a.got a.number x.1 x.3 left' x.4 policy x.2) ending same
+
+    pub follows_long_line : next ≡ next_line.LongLine → (policy : PolicyNames) (ending : InputEnd) → ending ≡ Refused now.number part.Script refusal.TooLong → Follows (Ok (next_is.Ended ending)) policy before now left left'
+    follows_long_line is policy ending same = let x = answers next_line.LongLine is in ended_next policy _ (script_long_line before now a.got a.number x.1 left' policy) ending same
+
+    pub follows_too_much : next ≡ next_line.TooMuch → (policy : PolicyNames) → Follows (Ok (next_is.Ended TooMuch)) policy before now left left'
+    follows_too_much is policy = let x = answers next_line.TooMuch is in ended_next policy TooMuch (script_too_much before now a.got a.number x.1 x.2 left' policy) TooMuch refl
+
+-- a fault that is counted once
+pub counts_failed : {T : Type 0} (r : Result T Fault) (error : ReadError) → IsErrAnd r (λ q. q ≡ fault_of_read error) → (n n' : ℕ) → CountsRead {T = Next} (Err error) n n' → (o t : ℕ) → CountsOnce r (counts n o t) (counts n' o t)
+unfolding counted_by
+counts_failed (Ok x) error is n n' once o t = absurd is
+counts_failed (Err q) read.Failed is n n' once o t = subst (λ f. counts n' o t ≡ counted_by f (counts n o t)) (sym is) (ap (λ k. counts k o t) once)
+counts_failed (Err q) read.NoMemory is n n' once o t = subst (λ f. counts n' o t ≡ counted_by f (counts n o t)) (sym is) (ap (λ k. counts k o t) once)
+
+pub counts_memory : {T : Type 0} (r : Result T Fault) → IsErrAnd r (λ q. q ≡ NoMemory) → (n n' : ℕ) → n' ≡ n → (o t : ℕ) → CountsOnce r (counts n o t) (counts n' o t)
+unfolding counted_by
+counts_memory (Ok x) is n n' still o t = absurd is
+counts_memory (Err q) is n n' still o t = subst (λ f. counts n' o t ≡ counted_by f (counts n o t)) (sym is) (ap (λ k. counts k o t) still)

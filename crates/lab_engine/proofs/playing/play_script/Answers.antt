@@ -1,0 +1,43 @@
+use Rattle.std.proofs.Common.{◌∙◌, ap, subst, sym}
+use Rattle.lab_lattice.specs.Label.{Label}
+use Rattle.kern_model.specs.State.{State}
+use Rattle.script_text.specs.Line.{MayBePlayed}
+use Rattle.lab_engine.specs.Input.{items_in}
+use Rattle.lab_engine.proofs.Progress.{not_a_read, progress_begins}
+use Rattle.lab_engine.proofs.ScriptSteps.{line_calls, line_fewer, line_played, line_small, line_stops, next_ends, next_stops}
+use Rattle.lab_engine.proofs.ToolLemmas.{top_after}
+use Rattle.lab_engine.proofs.playing.play_script.Goals as goal
+
+pub loop-line-init : goal.loop-line-init
+loop-line-init g c = record { progress = progress_begins _ _ _ _ _ c.requires.more c.requires.small; top = c.requires.top }
+
+pub read_next-requires : goal.read_next-requires
+read_next-requires g c = c.loop-line.invariant.progress.more
+
+pub returns-in_err-line : goal.returns-in_err-line
+returns-in_err-line g c = next_stops _ _ _ _ _ _ _ _ _ _ _ _ _ _ _ c.loop-line.invariant.progress _ _ c.from_residual.ensures.1 c.in_err-line.ensures.follows c.in_err-line.ensures.counts _
+
+pub play_line-requires-clause-calls : goal.play_line-requires-clause-calls
+play_line-requires-clause-calls g c = subst (λ (top : Label). MayBePlayed top c.in-Line.line) (sym c.loop-line.invariant.top) (line_calls _ _ _ _ _ _ c.in_ok-line.ensures.follows _ c.in-Line.is)
+
+pub play_line-requires-clause-small : goal.play_line-requires-clause-small
+play_line-requires-clause-small g c = line_small _ _ _ _ _ _ c.in_ok-line.ensures.follows _ c.in-Line.is _ _ _ _ _ _ _ _ _ _ c.in_ok-line.ensures.counts c.loop-line.invariant.progress
+
+pub returns-in_err-count-in-Line : goal.returns-in_err-count-in-Line
+returns-in_err-count-in-Line g c =
+    line_stops _ _ _ _ _ _ c.in_ok-line.ensures.follows _ c.in-Line.is _ _ _ _ _ _ _ _ _ _ c.in_ok-line.ensures.counts c.loop-line.invariant.progress
+    _ _ c.from_residual-in_err-count-in-Line.ensures.1 _ _ _ (c.in_err-count-in-Line.ensures.writes _) (not_a_read _ _ _ _ _ _ (c.in_err-count-in-Line.ensures.writes 0))
+
+pub loop-line-smaller : goal.loop-line-smaller
+loop-line-smaller g c = line_fewer _ _ _ _ _ _ c.in_ok-line.ensures.follows _ c.in-Line.is
+
+pub loop-line-preserved : goal.loop-line-preserved
+loop-line-preserved g c =
+    let played = c.in_ok-count-in-Line.ensures in
+    record {
+      progress = line_played _ _ _ _ _ _ c.in_ok-line.ensures.follows _ c.in-Line.is _ _ _ _ _ _ _ _ _ _ c.in_ok-line.ensures.counts c.loop-line.invariant.progress _ _ _ _ played.state played.count (played.writes _) played.readable;
+      top = ap (λ (s : State). s.top) played.state ∙ top_after (g.C.Calls.state c.loop-line.kernel) (items_in c.in-Line.line) ∙ c.loop-line.invariant.top;
+    }
+
+pub returns-in-Ended : goal.returns-in-Ended
+returns-in-Ended g c = next_ends _ _ _ _ _ _ _ _ _ _ _ _ _ _ _ c.loop-line.invariant.progress _ c.in_ok-line.ensures.follows _ c.in-Ended.is c.in_ok-line.ensures.counts

@@ -1,0 +1,111 @@
+use Rattle.std.proofs.Common.{◌≡◌, ℕ, ◌<◌, ◌≤◌, true, ◌+◌, [], ◌∷◌, length, drop, get_or, refl, sym, ◌∙◌, ap, subst, arith}
+use Rattle.std.specs.Prelude.{List}
+use Rattle.kern_model.specs.declared.calls.Call.{Call}
+use Rattle.kern_model.specs.Arguments.{is_call}
+use Rattle.kern_model.specs.State.{State}
+use Rattle.kern_model.specs.Run.{state_after_run}
+use Rattle.lab_lattice.specs.Label.{Label}
+use Rattle.iso_laws.proofs.Laws.{top_step}
+use Rattle.sec_utils.specs.declared.util.Util.{Util}
+use Rattle.sec_utils.specs.Calls.{calls_of, IsWhole}
+use Rattle.sec_utils.specs.Items.{item_of, items_of}
+use Rattle.sec_utils.proofs.ItemLaws.{items_from, items_length, items_played}
+use Rattle.std.proofs.lemmas.List.{drop_all}
+use Rattle.lab_engine.specs.Playing.{items_order}
+use Rattle.lab_engine.proofs.ReadableLemmas.{readable_call, readable_none}
+use Rattle.lab_engine.proofs.Sending.{out_of_memory}
+use Rattle.lab_engine.proofs.ScriptLemmas.{items_left, items_none, underway_begins, underway_ends, underway_more, underway_stops}
+use Rattle.lab_engine.proofs.ToolLemmas.{first_playable}
+use Rattle.lab_engine.proofs.playing.play_tool.Goals as goal
+
+-- the items from an index on begin with the call there
+module _ (util : Util) (whole : IsWhole util) (calls : List Call) (are : calls ≡ calls_of util) (each : length calls ≡ length util.paths) (at : ℕ) (call : Call) (within : at < length calls) (is : call ≡ get_or calls at call) where
+  pub within_paths : at < length util.paths
+  within_paths = omega (arith, within, each)
+
+  pub first : drop at (items_of util) ≡ item_of util (get_or util.texts at []) call ∷ drop (at + 1) (items_of util)
+  first =
+      items_from util whole at call within_paths
+      ∙ ap (λ (c : Call). item_of util (get_or util.texts at []) c ∷ drop (at + 1) (items_of util)) (ap (λ (cs : List Call). get_or cs at call) (sym are) ∙ sym is)
+
+-- no item is left after the last call
+no_more : (util : Util) → IsWhole util → (calls : List Call) → length calls ≡ length util.paths → (at : ℕ) → length calls ≤ at → drop at (items_of util) ≡ []
+no_more util whole calls each at after = drop_all at (items_of util) (omega (arith, items_length util whole, each, after))
+
+pub returns-in_err-calls-clause-writes : goal.returns-in_err-calls-clause-writes
+returns-in_err-calls-clause-writes g c = λ source. out_of_memory _ _ _ c.from_residual.ensures.1
+
+pub loop-at-init : goal.loop-at-init
+loop-at-init g c =
+    record {
+      underway = λ source. underway_begins _ _;
+      readable = λ h. h;
+      counted = omega arith;
+      after = refl;
+      top = refl;
+      playable = items_played c.args.util.now _ c.requires.calls.0 c.requires.calls.1;
+    }
+
+pub overflow_add-number : goal.overflow_add-number
+overflow_add-number g c =
+    let len = items_length c.args.util.now c.requires.calls.2 in
+    let within = within_paths c.args.util.now c.requires.calls.2 c.items-call-items.result.now (c.items-call-items.ensures ∙ c.in_ok-calls.ensures.calls) (ap length c.items-call-items.ensures ∙ c.in_ok-calls.ensures.each) c.loop-at.at c.call-item.result c.loop-at-test.true c.call-item.is in
+    let counted = c.loop-at.invariant.counted in
+    let small = c.requires.small in
+    omega arith
+
+pub play_path-requires-clause-arguments : goal.play_path-requires-clause-arguments
+play_path-requires-clause-arguments g c =
+    subst (λ (top : Label). is_call top c.call-item.result ≡ true) (sym c.loop-at.invariant.top)
+    (first_playable _ _ _ _ (first c.args.util.now c.requires.calls.2 c.items-call-items.result.now (c.items-call-items.ensures ∙ c.in_ok-calls.ensures.calls) (ap length c.items-call-items.ensures ∙ c.in_ok-calls.ensures.each) c.loop-at.at c.call-item.result c.loop-at-test.true c.call-item.is) c.loop-at.invariant.playable).first
+
+pub play_path-requires-clause-at : goal.play_path-requires-clause-at
+play_path-requires-clause-at g c =
+    within_paths c.args.util.now c.requires.calls.2 c.items-call-items.result.now (c.items-call-items.ensures ∙ c.in_ok-calls.ensures.calls) (ap length c.items-call-items.ensures ∙ c.in_ok-calls.ensures.each) c.loop-at.at c.call-item.result c.loop-at-test.true c.call-item.is
+
+pub play_path-requires-clause-whole : goal.play_path-requires-clause-whole
+play_path-requires-clause-whole g c =
+    c.requires.calls.2
+
+pub returns-in_err-play_path-clause-writes : goal.returns-in_err-play_path-clause-writes
+returns-in_err-play_path-clause-writes g c =
+    λ source. underway_stops _ _ _ _ (c.loop-at.invariant.underway source) _ _ (items_left c.args.texts.policy.now c.loop-at.number (g.C.Calls.state c.loop-at.kernel) _ _ _ _ (first c.args.util.now c.requires.calls.2 c.items-call-items.result.now (c.items-call-items.ensures ∙ c.in_ok-calls.ensures.calls) (ap length c.items-call-items.ensures ∙ c.in_ok-calls.ensures.each) c.loop-at.at c.call-item.result c.loop-at-test.true c.call-item.is) refl)
+    _ _ _ (c.in_err-play_path.ensures.writes source) c.from_residual-in_err-play_path.ensures.1
+
+pub loop-at-preserved : goal.loop-at-preserved
+loop-at-preserved g c =
+    let i = c.loop-at.invariant in
+    let state = c.in_ok-play_path.ensures.state in
+    let s = g.C.Calls.state c.loop-at.kernel in
+    let left = drop (c.loop-at.at + 1) (items_of c.args.util.now) in
+    record {
+      underway = λ source. underway_more _ _ _ _ (i.underway source) _ _
+          (items_left c.args.texts.policy.now c.loop-at.number s _ _ _ _ (first c.args.util.now c.requires.calls.2 c.items-call-items.result.now (c.items-call-items.ensures ∙ c.in_ok-calls.ensures.calls) (ap length c.items-call-items.ensures ∙ c.in_ok-calls.ensures.each) c.loop-at.at c.call-item.result c.loop-at-test.true c.call-item.is) state)
+          _ (c.in_ok-play_path.ensures.writes source);
+      readable = λ h. i.readable (readable_call c.args.texts.policy.now c.loop-at.number s _ _ _ _ (first c.args.util.now c.requires.calls.2 c.items-call-items.result.now (c.items-call-items.ensures ∙ c.in_ok-calls.ensures.calls) (ap length c.items-call-items.ensures ∙ c.in_ok-calls.ensures.each) c.loop-at.at c.call-item.result c.loop-at-test.true c.call-item.is) state c.in_ok-play_path.ensures.readable h);
+      counted = omega (arith, i.counted);
+      after = ap (λ (x : State). state_after_run x left) state ∙ sym (ap (state_after_run s) (first c.args.util.now c.requires.calls.2 c.items-call-items.result.now (c.items-call-items.ensures ∙ c.in_ok-calls.ensures.calls) (ap length c.items-call-items.ensures ∙ c.in_ok-calls.ensures.each) c.loop-at.at c.call-item.result c.loop-at-test.true c.call-item.is)) ∙ i.after;
+      top = ap (λ (x : State). x.top) state ∙ top_step s c.args.util.now.who c.call-item.result ∙ i.top;
+      playable = (first_playable _ _ _ _ (first c.args.util.now c.requires.calls.2 c.items-call-items.result.now (c.items-call-items.ensures ∙ c.in_ok-calls.ensures.calls) (ap length c.items-call-items.ensures ∙ c.in_ok-calls.ensures.each) c.loop-at.at c.call-item.result c.loop-at-test.true c.call-item.is) i.playable).others;
+    }
+
+pub returns-clause-writes : goal.returns-clause-writes
+returns-clause-writes g c =
+    let none = no_more c.args.util.now c.requires.calls.2 c.items-call-items.result.now (ap length c.items-call-items.ensures ∙ c.in_ok-calls.ensures.each) c.loop-at.at c.loop-at-test.false in
+    λ source. underway_ends _ _ _ _ (c.loop-at.invariant.underway source) (ap (items_order c.args.texts.policy.now c.loop-at.number (g.C.Calls.state c.loop-at.kernel)) none ∙ items_none c.args.texts.policy.now c.loop-at.number (g.C.Calls.state c.loop-at.kernel))
+
+pub returns-clause-state : goal.returns-clause-state
+returns-clause-state g c =
+    let none = no_more c.args.util.now c.requires.calls.2 c.items-call-items.result.now (ap length c.items-call-items.ensures ∙ c.in_ok-calls.ensures.each) c.loop-at.at c.loop-at-test.false in
+    sym (ap (state_after_run (g.C.Calls.state c.loop-at.kernel)) none) ∙ c.loop-at.invariant.after
+
+pub returns-clause-count : goal.returns-clause-count
+returns-clause-count g c =
+    let len = items_length c.args.util.now c.requires.calls.2 in
+    let each = ap length c.items-call-items.ensures ∙ c.in_ok-calls.ensures.each in
+    omega (arith, c.loop-at.invariant.counted, c.loop-at-test.false, c.loop-at.auto.at-end)
+
+pub returns-clause-readable : goal.returns-clause-readable
+returns-clause-readable g c =
+    let none = no_more c.args.util.now c.requires.calls.2 c.items-call-items.result.now (ap length c.items-call-items.ensures ∙ c.in_ok-calls.ensures.each) c.loop-at.at c.loop-at-test.false in
+    c.loop-at.invariant.readable (readable_none c.args.texts.policy.now c.loop-at.number (g.C.Calls.state c.loop-at.kernel) _ none)

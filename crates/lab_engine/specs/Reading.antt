@@ -1,0 +1,126 @@
+-- What is left of an input at a reader of its lines, and what each line says of it.
+use Rattle.std.specs.Prelude.{◌≡◌, ℕ, ◌+◌, ◌<◌, true, List, [], ◌++◌, length, take, nat_lt, Option, Some, None, Result, MatchResult}
+use Rattle.std.specs.Io.KnownBytes.{Consumes, IsAtEnd}
+use Rattle.fs_path.specs.Split.{pieces}
+use Rattle.io_ends.specs.LinesState.{LinesState, may_take}
+use Rattle.lab_text.specs.Policy.{PolicyNames, top_of}
+use Rattle.script_text.specs.Line.{MayBePlayed}
+use Rattle.script_text.specs.declared.line.Line.{Line}
+use Rattle.script_text.specs.declared.fault.LineError.{LineError}
+use Rattle.script_text.specs.declared.fault.LineError.TheVariants as line_error
+use Rattle.world_text.specs.declared.expecting.Expecting.{Expecting}
+use Rattle.world_text.specs.declared.expecting.Expecting.TheVariants as at
+use Rattle.world_text.specs.declared.world.WorldText.{WorldText}
+use Rattle.world_text.specs.Reading.{reading}
+use Rattle.lab_engine.specs.declared.ending.Fault.{Fault}
+use Rattle.lab_engine.specs.declared.ending.Fault.TheVariants.{Read as ReadFault}
+use Rattle.lab_engine.specs.declared.ending.InputEnd.{InputEnd}
+use Rattle.lab_engine.specs.declared.ending.InputEnd.TheVariants.{Whole}
+use Rattle.lab_engine.specs.declared.ending.Refusal.{Refusal}
+use Rattle.lab_engine.specs.declared.reading.ReadWorld.{ReadWorld}
+use Rattle.lab_engine.specs.declared.reading.ReadWorld.TheVariants as world
+use Rattle.lab_engine.specs.declared.reading.WorldLine.{WorldLine}
+use Rattle.lab_engine.specs.declared.reading.WorldLine.TheVariants as world_line
+use Rattle.lab_engine.specs.declared.reading.NextLine.{NextLine}
+use Rattle.lab_engine.specs.declared.reading.NextLine.TheVariants as next
+use Rattle.lab_engine.specs.Input.{Input, Script, input_by, items_in, no_world, refusal_of_line, script, script_from}
+
+-- ---- what is left at a reader, where these bytes come after those that it holds
+
+-- the input, from a line of its world on
+unfoldable pub input_at : Expecting → LinesState → List ℕ → Input
+input_at expecting s more = input_by (nat_lt s.room (length (s.held ++ more))) (reading (s.number + 1) expecting (pieces 10 (take s.room (s.held ++ more))))
+
+-- the script
+unfoldable pub script_at : PolicyNames → LinesState → List ℕ → Script
+script_at policy s more = script_from (nat_lt s.room (length (s.held ++ more))) policy (s.number + 1) (pieces 10 (take s.room (s.held ++ more)))
+
+-- the bytes that a source has left, where it reports them
+abbrev pub left_of : Option (List ℕ) → List ℕ
+left_of None = []
+left_of (Some bytes) = bytes
+
+-- a reader took these bytes from its source
+pub record Takes (before now : LinesState) (left left' : Option (List ℕ)) (taken : List ℕ) : Type 0 where
+  pub took : Consumes left left' taken
+  pub within : may_take before ≡ length taken + may_take now
+
+-- ---- the world
+
+-- a world was accepted, and its script is what is left
+pub record Accepts (e : Expecting) (before now : LinesState) (taken : List ℕ) (w : WorldText) : Type 0 where
+  pub says : (more : List ℕ) → input_at e before (taken ++ more) ≡ record { accepted = Some w; script = script_at w.policy now more }
+  pub more : now.more ≡ true
+  pub fewer : now.room < before.room
+
+-- the input ends before its world does
+pub record EndsWorld (e : Expecting) (before : LinesState) (left : Option (List ℕ)) (taken : List ℕ) (ending : InputEnd) : Type 0 where
+  pub says : input_at e before (taken ++ left_of left) ≡ no_world ending
+  pub to_the_end : ending ≡ Whole → IsAtEnd left
+
+-- after a line of the world another one is expected
+pub record GoesOn (e : Expecting) (before now : LinesState) (taken : List ℕ) (after : Expecting) : Type 0 where
+  pub says : (more : List ℕ) → input_at e before (taken ++ more) ≡ input_at after now more
+  pub more : now.more ≡ true
+  pub fewer : now.room < before.room
+
+-- where a read failed, the bytes that were taken have no whole world
+abbrev pub HasNoWorld : Expecting → LinesState → List ℕ → Fault → Type 0
+HasNoWorld e before taken fault = fault ≡ ReadFault → (input_at e before taken).accepted ≡ None
+
+-- what a line of a world says
+abbrev pub SaysLine : Expecting → LinesState → LinesState → Option (List ℕ) → List ℕ → WorldLine → Type 0
+SaysLine e before now left taken (world_line.GoesOn after) = GoesOn e before now taken after
+SaysLine e before now left taken (world_line.World w) = Accepts e before now taken w
+SaysLine e before now left taken (world_line.Ended ending) = EndsWorld e before left taken ending
+
+-- what a world says
+abbrev pub SaysWorld : Expecting → LinesState → LinesState → Option (List ℕ) → List ℕ → ReadWorld → Type 0
+SaysWorld e before now left taken (world.World w) = Accepts e before now taken w
+SaysWorld e before now left taken (world.Ended ending) = EndsWorld e before left taken ending
+
+-- a line of a world was read
+pub record ReadsLine (result : Result WorldLine Fault) (e : Expecting) (before now : LinesState) (left left' : Option (List ℕ)) : Type 0 where
+  pub taken : List ℕ
+  pub takes : Takes before now left left' taken
+  pub shows : MatchResult result (λ line. SaysLine e before now left' taken line) (λ fault. HasNoWorld e before taken fault)
+
+-- a world was read, from its first line on
+pub record ReadsWorld (result : Result ReadWorld Fault) (before now : LinesState) (left left' : Option (List ℕ)) : Type 0 where
+  pub taken : List ℕ
+  pub takes : Takes before now left left' taken
+  pub shows : MatchResult result (λ world. SaysWorld at.Format before now left' taken world) (λ fault. HasNoWorld at.Format before taken fault)
+
+-- ---- the script
+
+-- a script begins with a line, whose calls may be played, and goes on with what is left; the line has more bytes than calls
+pub record BeginsWith (policy : PolicyNames) (before now : LinesState) (taken : List ℕ) (line : Line) : Type 0 where
+  pub says : (more : List ℕ) → script_at policy before (taken ++ more) ≡ script (items_in line ++ (script_at policy now more).items) (script_at policy now more).ending
+  pub calls : MayBePlayed (top_of policy) line
+  pub more : now.more ≡ true
+  pub fewer : length (items_in line) + now.room < before.room
+
+-- a script ends without a further call
+pub record EndsScript (policy : PolicyNames) (before : LinesState) (left : Option (List ℕ)) (taken : List ℕ) (ending : InputEnd) : Type 0 where
+  pub says : script_at policy before (taken ++ left_of left) ≡ script [] ending
+  pub to_the_end : ending ≡ Whole → IsAtEnd left
+
+-- the refusal of a fault of a line; out of memory is none
+abbrev pub IsRefusal : LineError → Refusal → Type 0
+IsRefusal (line_error.NoMemory e) why = ⊥
+IsRefusal fault why = why ≡ refusal_of_line fault
+
+-- what is next in a script
+abbrev pub SaysNext : PolicyNames → LinesState → LinesState → Option (List ℕ) → List ℕ → NextLine → Type 0
+SaysNext policy before now left taken (next.Line line) = BeginsWith policy before now taken line
+SaysNext policy before now left taken (next.Ended ending) = EndsScript policy before left taken ending
+
+-- where a read failed, the bytes that were taken have no further whole line
+abbrev pub HasNoCall : PolicyNames → LinesState → List ℕ → Fault → Type 0
+HasNoCall policy before taken fault = fault ≡ ReadFault → (script_at policy before taken).items ≡ []
+
+-- the next line of a script was read
+pub record Follows (result : Result NextLine Fault) (policy : PolicyNames) (before now : LinesState) (left left' : Option (List ℕ)) : Type 0 where
+  pub taken : List ℕ
+  pub takes : Takes before now left left' taken
+  pub shows : MatchResult result (λ line. SaysNext policy before now left' taken line) (λ fault. HasNoCall policy before taken fault)

@@ -1,0 +1,76 @@
+-- The lines of the output.
+use Rattle.std.specs.Prelude.{ℕ, List, [], ◌∷◌, ◌++◌, Option, Some, None, codes}
+use Rattle.std.specs.List.{flat_map}
+use Rattle.std.specs.Option.{option_map}
+use Rattle.std.specs.Fmt.{decimal}
+use Rattle.std.specs.FinMap as map
+use Rattle.cap_bits.specs.declared.state.CapState.{CapState}
+use Rattle.fs_path.specs.Words.{line_text}
+use Rattle.lab_lattice.specs.Label.{Label}
+use Rattle.lab_text.specs.Policy.{PolicyNames}
+use Rattle.lab_text.specs.Text.{label_text}
+use Rattle.line_text.specs.Words.{pid_text, caps_word}
+use Rattle.kern_model.specs.declared.numbers.Pid.{Pid}
+use Rattle.kern_model.specs.State.{State, Process}
+use Rattle.kern_model.specs.Run.{CallRecord}
+use Rattle.line_text.specs.Reply.{reply_line}
+use Rattle.lab_engine.specs.declared.ending.InputEnd.{InputEnd}
+use Rattle.lab_engine.specs.declared.ending.InputEnd.TheVariants.{Whole, Refused, TooMuch}
+use Rattle.lab_engine.specs.declared.ending.Part.{Part}
+use Rattle.lab_engine.specs.declared.ending.Part.TheVariants as part
+use Rattle.lab_engine.specs.declared.ending.Refusal.{Refusal}
+use Rattle.lab_engine.specs.declared.ending.Refusal.TheVariants as refusal
+
+-- the reply line of a call that was played
+unfoldable pub reply_text : PolicyNames → CallRecord → List ℕ
+reply_text policy p = reply_line policy p.who p.head p.reply
+
+-- the end line of a process that lives: `end PID LABEL "CAPS"`
+unfoldable pub life_text : PolicyNames → Pid → Label → CapState → List ℕ
+life_text policy who l caps = line_text (codes "end" ∷ pid_text policy who ∷ label_text policy l ∷ caps_word caps ∷ []) ++ 10 ∷ []
+
+-- the end line, where the process lives
+abbrev pub end_text : PolicyNames → Pid → Option Label → Option CapState → List ℕ
+end_text policy who (Some l) (Some caps) = life_text policy who l caps
+end_text policy who (Some l) None = []
+end_text policy who None caps = []
+
+-- the label of a process that lives
+abbrev pub label_in : State → Pid → Option Label
+label_in s who = option_map (λ (p : Process). p.label) (map.get s.procs who)
+
+-- the capability sets of a process that lives
+abbrev pub caps_in : State → Pid → Option CapState
+caps_in s who = option_map (λ (p : Process). p.caps) (map.get s.procs who)
+
+-- the end lines of all that live, in the order of their numbers
+unfoldable pub ends_text : PolicyNames → State → List ℕ
+ends_text policy s = flat_map (λ who. end_text policy who (label_in s who) (caps_in s who)) (map.keys s.procs)
+
+unfoldable pub part_text : Part → List ℕ
+part_text part.World = codes "world"
+part_text part.Script = codes "script"
+
+unfoldable pub refusal_text : Refusal → List ℕ
+refusal_text refusal.Syntax = codes "syntax"
+refusal_text refusal.UnknownName = codes "unknown_name"
+refusal_text refusal.Repeated = codes "repeated"
+refusal_text refusal.NoParent = codes "no_parent"
+refusal_text refusal.RootLabel = codes "root_label"
+refusal_text refusal.LabelOrder = codes "label_order"
+refusal_text refusal.TooMany = codes "too_many"
+refusal_text refusal.TooLong = codes "too_long"
+refusal_text refusal.BadTag = codes "bad_tag"
+refusal_text refusal.BadPath = codes "bad_path"
+refusal_text refusal.BadLabel = codes "bad_label"
+refusal_text refusal.BadCaps = codes "bad_caps"
+
+-- the words of the last line: `done COUNT`, `refused LINE PART WORD` or `too long`
+abbrev pub last_words : ℕ → InputEnd → List (List ℕ)
+last_words count Whole = codes "done" ∷ decimal count ∷ []
+last_words count (Refused n part why) = codes "refused" ∷ decimal n ∷ part_text part ∷ refusal_text why ∷ []
+last_words count TooMuch = codes "too" ∷ codes "long" ∷ []
+
+-- the last line
+unfoldable pub last_text : ℕ → InputEnd → List ℕ
+last_text count ending = line_text (last_words count ending) ++ 10 ∷ []

@@ -1,0 +1,13 @@
+//! The engine of a session: reads an input line by line, plays each call of its script as soon as it is read, and
+//! writes records and replies, over any kernel and any ends.
+#![tactic(auto)]
+
+mod ending;
+mod playing;
+mod reading;
+mod texts;
+
+pub use ending::{Fault, InputEnd, Part, Refusal};
+pub use playing::{Played, answer, begin, play_script, report_last};
+pub use reading::{NextLine, ReadWorld, read_next, read_world};
+pub use texts::{Texts, end_line};

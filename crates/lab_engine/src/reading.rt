@@ -1,0 +1,142 @@
+// An input, read line by line.
+ghost use Rattle.std.specs.Prelude.{◌≡◌, ℕ, true, IfOk};
+ghost use Rattle.lab_engine.specs.Counts.{CountsOnce, counts};
+ghost use Rattle.lab_engine.specs.Reading.{Follows, IsRefusal, ReadsLine, ReadsWorld};
+
+use crate::texts::Texts;
+use crate::{Fault, InputEnd, Part, Refusal};
+use io_ends::{Lines, Next, Source};
+use kern_model::NoMemory;
+use script_text::{Line, LineError, read_line};
+use std::alloc::Global;
+use world_text::{Expecting, Parsed, WorldText, parse_line};
+
+/// What reading a world leads to.
+#[derive(Drop)]
+pub enum ReadWorld {
+    /// A world, after which the script begins.
+    World(WorldText),
+    /// The input ends before its world does.
+    Ended(InputEnd),
+}
+
+/// What reading one line of a world leads to.
+#[derive(Drop)]
+pub enum WorldLine {
+    /// Another line is expected.
+    GoesOn(Expecting),
+    /// The world is complete.
+    World(WorldText),
+    /// The input ends here.
+    Ended(InputEnd),
+}
+
+/// What is next in a script.
+#[derive(Drop)]
+pub enum NextLine {
+    /// A line.
+    Line(Line),
+    /// The input ends here.
+    Ended(InputEnd),
+}
+
+// The end of an input at a line that is refused.
+fn refused(lines: &Lines, part: Part, why: Refusal) -> InputEnd
+    ensures { result ≡ InputEnd.Refused lines.now.number part why }
+{
+    InputEnd::Refused(u64::from(lines.number()), part, why)
+}
+
+// Reads a line of a world.
+fn read_world_line<S: Source>(
+    alloc: Global,
+    expecting: Expecting,
+    lines: &mut Lines,
+    source: &mut S,
+) -> Result<WorldLine, Fault>
+    requires { lines.old.more ≡ true }
+    ensures reads { ReadsLine result expecting lines.old lines.new (S.left source.old) (S.left source.new) }
+    ensures counts { (o t : ℕ) → CountsOnce result (counts (S.faults source.old) o t) (counts (S.faults source.new) o t) }
+{
+    match lines.next(source)? {
+        Next::Line => match parse_line(alloc, expecting, lines.line())? {
+            Parsed::GoesOn(after) => Ok(WorldLine::GoesOn(after)),
+            Parsed::Begins(world) => Ok(WorldLine::World(world)),
+            Parsed::Refuses(fault) => {
+                let ending = refused(lines, Part::World, Refusal::from(fault));
+                Ok(WorldLine::Ended(ending))
+            }
+        },
+        Next::TooMuch => Ok(WorldLine::Ended(InputEnd::TooMuch)),
+        Next::End | Next::Unended | Next::LongLine => {
+            let ending = refused(lines, Part::World, Refusal::Syntax);
+            Ok(WorldLine::Ended(ending))
+        }
+    }
+}
+
+/// Reads the world of an input, and takes no more of it from the source than the reader needs for its last line.
+pub fn read_world<S: Source>(
+    alloc: Global,
+    lines: &mut Lines,
+    source: &mut S,
+) -> Result<ReadWorld, Fault>
+    requires { lines.old.more ≡ true }
+    ensures reads { ReadsWorld result lines.old lines.new (S.left source.old) (S.left source.new) }
+    ensures counts { (o t : ℕ) → CountsOnce result (counts (S.faults source.old) o t) (counts (S.faults source.new) o t) }
+{
+    let mut expecting = Expecting::Format;
+    loop {
+        match read_world_line(alloc, expecting, lines, source)? {
+            WorldLine::GoesOn(after) => expecting = after,
+            WorldLine::World(world) => return Ok(ReadWorld::World(world)),
+            WorldLine::Ended(ending) => return Ok(ReadWorld::Ended(ending)),
+        }
+    }
+}
+
+// Why a line is refused that `read_line` refuses. Out of memory is no refusal.
+fn refusal_of(fault: LineError) -> Result<Refusal, NoMemory>
+    ensures { IfOk result (IsRefusal fault) }
+{
+    match fault {
+        LineError::TooLong => Ok(Refusal::TooLong),
+        LineError::Syntax => Ok(Refusal::Syntax),
+        LineError::BadTag => Ok(Refusal::BadTag),
+        LineError::BadPath => Ok(Refusal::BadPath),
+        LineError::BadLabel => Ok(Refusal::BadLabel),
+        LineError::BadCaps => Ok(Refusal::BadCaps),
+        LineError::NoMemory(e) => Err(e),
+    }
+}
+
+/// Reads the next line of a script.
+pub fn read_next<S: Source>(
+    texts: Texts<'_>,
+    lines: &mut Lines,
+    source: &mut S,
+) -> Result<NextLine, Fault>
+    requires { lines.old.more ≡ true }
+    ensures follows { Follows result texts.entry.policy.now lines.old lines.new (S.left source.old) (S.left source.new) }
+    ensures counts { (o t : ℕ) → CountsOnce result (counts (S.faults source.old) o t) (counts (S.faults source.new) o t) }
+{
+    match lines.next(source)? {
+        Next::Line => match read_line(texts.alloc, texts.policy, lines.line()) {
+            Ok(line) => Ok(NextLine::Line(line)),
+            Err(fault) => {
+                let ending = refused(lines, Part::Script, refusal_of(fault)?);
+                Ok(NextLine::Ended(ending))
+            }
+        },
+        Next::End => Ok(NextLine::Ended(InputEnd::Whole)),
+        Next::Unended => {
+            let ending = refused(lines, Part::Script, Refusal::Syntax);
+            Ok(NextLine::Ended(ending))
+        }
+        Next::LongLine => {
+            let ending = refused(lines, Part::Script, Refusal::TooLong);
+            Ok(NextLine::Ended(ending))
+        }
+        Next::TooMuch => Ok(NextLine::Ended(InputEnd::TooMuch)),
+    }
+}

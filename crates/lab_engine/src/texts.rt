@@ -1,0 +1,98 @@
+// The lines of the output other than replies.
+ghost use Rattle.std.specs.Prelude.{◌≡◌, ◌++◌, IfOk};
+ghost use Rattle.fs_path.specs.Words.{line_text};
+ghost use Rattle.lab_engine.specs.Texts.{life_text, part_text, refusal_text, last_text, last_words};
+
+use crate::{InputEnd, Part, Refusal};
+use cap_bits::CapState;
+use kern_model::{NoMemory, Pid};
+use lab_lattice::Label;
+use lab_text::Policy;
+use line_text::LineWriter;
+use std::alloc::Global;
+
+/// What writing a line takes: memory, and the names of the world's labels.
+#[derive(Clone, Copy)]
+pub struct Texts<'a> {
+    pub alloc: Global,
+    pub policy: &'a Policy,
+}
+
+impl Part {
+    /// Its word in a last line.
+    #[tactic(auto, unfolding(crate::specs::Texts::part_text))]
+    pub fn word(self) -> &'static [u8]
+        ensures { result.now ≡ part_text self }
+    {
+        match self {
+            Part::World => b"world",
+            Part::Script => b"script",
+        }
+    }
+}
+
+impl Refusal {
+    /// Its word in a last line.
+    #[tactic(auto, unfolding(crate::specs::Texts::refusal_text))]
+    pub fn word(self) -> &'static [u8]
+        ensures { result.now ≡ refusal_text self }
+    {
+        match self {
+            Refusal::Syntax => b"syntax",
+            Refusal::UnknownName => b"unknown_name",
+            Refusal::Repeated => b"repeated",
+            Refusal::NoParent => b"no_parent",
+            Refusal::RootLabel => b"root_label",
+            Refusal::LabelOrder => b"label_order",
+            Refusal::TooMany => b"too_many",
+            Refusal::TooLong => b"too_long",
+            Refusal::BadTag => b"bad_tag",
+            Refusal::BadPath => b"bad_path",
+            Refusal::BadLabel => b"bad_label",
+            Refusal::BadCaps => b"bad_caps",
+        }
+    }
+}
+
+/// The end line of a process that lives at the end, with its label and its capability sets.
+#[tactic(auto, unfolding(crate::specs::Texts::life_text))]
+pub fn end_line(
+    texts: Texts<'_>,
+    who: &Pid,
+    label: &Label,
+    caps: &CapState,
+) -> Result<Vec<u8>, NoMemory>
+    ensures { IfOk result (λ text. text.items ≡ life_text texts.entry.policy.now who.now label.now caps.now) }
+{
+    let line = LineWriter::new(texts.alloc)
+        .bytes(b"end")?
+        .pid(texts.policy, who)?
+        .label(texts.policy, label)?
+        .caps(caps)?
+        .line_feed()?;
+    Ok(line.into_text())
+}
+
+// Appends the words of the last line.
+fn put_last(line: LineWriter, count: u64, ending: InputEnd) -> Result<LineWriter, NoMemory>
+    ensures { IfOk result (λ new. new ≡ line ++ line_text (last_words count ending)) }
+{
+    match ending {
+        InputEnd::Whole => line.bytes(b"done ")?.digits(count),
+        InputEnd::Refused(number, part, why) => line
+            .bytes(b"refused ")?
+            .digits(number)?
+            .word(part.word())?
+            .word(why.word()),
+        InputEnd::TooMuch => line.bytes(b"too long"),
+    }
+}
+
+/// The last line, after `count` calls.
+#[tactic(auto, unfolding(crate::specs::Texts::last_text))]
+pub fn last_line(alloc: Global, count: u64, ending: InputEnd) -> Result<Vec<u8>, NoMemory>
+    ensures { IfOk result (λ text. text.items ≡ last_text count ending) }
+{
+    let line = put_last(LineWriter::new(alloc), count, ending)?;
+    Ok(line.line_feed()?.into_text())
+}

@@ -1,0 +1,310 @@
+-- What a run leaves: an accepted world that is played with its script, and an input without a world.
+use Rattle.std.proofs.Common.{◌≡◌, inl, inr, ℕ, ◌+◌, ◌≤◌, ◌^◌, true, List, [], ◌∷◌, ◌++◌, length, map, refl, sym, ◌∙◌, ap, subst, append_assoc, arith}
+use Rattle.std.proofs.KnownBytes.{Appends-nil, Consumes-nil}
+use Rattle.std.proofs.lemmas.Result.{IfOk-weaker}
+use Rattle.std.specs.Prelude.{Option, None, Some, Result, Ok, Err, IsErrAnd, IfOk}
+use Rattle.std.specs.List.{AllByRecursion, flat_map}
+use Rattle.io_ends.specs.LinesState.{LinesState, may_take}
+use Rattle.io_ends.specs.Sinks.{SinkView}
+use Rattle.aud_record.specs.Written.{header_text, rec_text}
+use Rattle.kern_model.specs.declared.limits.TheConstants.{MAX_INPUT}
+use Rattle.kern_model.specs.declared.records.Rec.{Rec}
+use Rattle.kern_model.specs.declared.world.ScriptItem.{ScriptItem}
+use Rattle.kern_model.specs.Boot.{boot, boot_recs}
+use Rattle.kern_model.specs.Run.{run, state_after_run}
+use Rattle.kern_model.specs.State.{State}
+use Rattle.kern_model.specs.Step.{step}
+use Rattle.iso_laws.proofs.AllLemmas.{all-append}
+use Rattle.lab_engine.specs.declared.ending.Fault.{Fault}
+use Rattle.lab_engine.specs.declared.ending.Fault.TheVariants.{Read, NoMemory}
+use Rattle.lab_engine.specs.declared.ending.InputEnd.{InputEnd}
+use Rattle.lab_engine.specs.declared.ending.InputEnd.TheVariants.{TooMuch}
+use Rattle.lab_engine.specs.declared.reading.ReadWorld.{ReadWorld}
+use Rattle.lab_engine.specs.declared.reading.ReadWorld.TheVariants as world
+use Rattle.lab_engine.specs.declared.playing.Played.{Played}
+use Rattle.world_text.specs.declared.expecting.Expecting.TheVariants as at
+use Rattle.lab_engine.specs.Counts.{Counts, counts, counted_by}
+use Rattle.lab_engine.specs.Input.{Accepted, Input, Script, input_of, no_world}
+use Rattle.lab_engine.specs.Order.{Sent, calls_by, call_order, order_before_end, order_by, order_of, order_of_calls, out_of, session_order, to_out, to_trail, trail_of}
+use Rattle.lab_engine.specs.Playing.{Ends, ends, PlaysAll, Sends, SendsAll, SendsPrefix, StopsBy, StopsIn, Writes, items_order}
+use Rattle.lab_engine.specs.Readable.{AreReadable, IsReadable}
+use Rattle.lab_engine.specs.Reading.{Accepts, EndsWorld, HasNoWorld, ReadsWorld, Takes, left_of, script_at}
+use Rattle.lab_engine.specs.Session.{bytes_of, head_text, numbered_from, session_of, tail_text}
+use Rattle.lab_engine.specs.Texts.{ends_text, last_text}
+use Rattle.lab_engine.proofs.Progress.{not_a_read, takes_more, takes_nothing}
+use Rattle.lab_engine.proofs.ReadableLemmas.{with_numbers}
+use Rattle.lab_engine.proofs.Sending.{goes_on, in_order, out_of_memory, passes_on, prefix_after, prefix_longer, prefix_nothing, sends_more, stops_after, stops_longer}
+use Rattle.labsys.specs.Playing.{EndsAs, PlaysWorld, RunDid}
+use Rattle.labsys.specs.Readable.{InputReadable, SessionReadable}
+use Rattle.labsys.proofs.AcceptedLemmas.{IsPlayable, accepted_input}
+use Rattle.labsys.proofs.InputLemmas.{input_starts, no_calls, text_left, without_world}
+use Rattle.labsys.proofs.ReadableLemmas.{input_played, input_without_world}
+
+-- ---- a run that failed
+module _ (r : Result InputEnd Fault) (fault : Fault) (is : IsErrAnd r (λ q. q ≡ fault)) where
+  pub failed_ending : (P : InputEnd → Type 0) → IfOk r P
+  failed_ending = by_result r is
+    where
+      by_result : (x : Result InputEnd Fault) → IsErrAnd x (λ q. q ≡ fault) → (P : InputEnd → Type 0) → IfOk x P
+      by_result (Ok e) is P = absurd is
+      by_result (Err q) is P = tt
+
+  pub failed_read : r ≡ Err Read → fault ≡ Read
+  failed_read read = sym (subst (λ (x : Result InputEnd Fault). IsErrAnd x (λ q. q ≡ fault)) read is)
+
+-- memory is no read
+pub memory_not_read : (r : Result InputEnd Fault) → IsErrAnd r (λ q. q ≡ NoMemory) → r ≡ Err Read → ⊥
+memory_not_read r is read = let same : NoMemory ≡ Read = failed_read r NoMemory is read in absurd (cc)
+
+nothing_sent : (n n' : ℕ) (o t : SinkView) → Sends [] (ends n o t) (ends n' o t)
+unfolding out_of trail_of
+nothing_sent n n' o t = record { to_out = Appends-nil o.held; to_trail = Appends-nil t.held }
+
+-- ---- an accepted world
+
+run_length : (s : State) (is : List ScriptItem) → length (run s is) ≡ length is
+run_length s [] = refl
+run_length s (i ∷ is) = let more = run_length (step s i.who i.call).state is in omega (arith, more)
+
+module _ (a : Accepted) (recs : List Rec) (recs_are : recs ≡ boot_recs a.world) (s : State) (s_is : s ≡ boot a.world) where
+  abbrev head : List Sent
+  head = to_trail (header_text a.policy a.world.bound ++ flat_map (rec_text a.policy 0) recs)
+
+  abbrev calls : Script → List Sent
+  calls m = items_order a.policy 0 s m.items
+
+  head_first : (m : Script) → head ++ calls m ≡ order_before_end (session_of a m)
+  unfolding order_before_end head_text items_order
+  head_first m =
+      ap (λ (rs : List Rec). to_trail (header_text a.policy a.world.bound ++ flat_map (rec_text a.policy 0) rs) ++ items_order a.policy 0 s m.items) recs_are
+      ∙ ap (λ (x : State). to_trail (head_text (session_of a m)) ++ items_order a.policy 0 x m.items) s_is
+
+  calls_are : (m : Script) → head ++ calls m ≡ calls_by (Some a) m
+  unfolding calls_by
+  calls_are m = head_first m
+
+  abbrev tail : Script → List Sent
+  tail m = to_out (tail_text (session_of a m))
+
+  order_is : (m : Script) → head ++ (calls m ++ tail m) ≡ order_by (Some a) m
+  unfolding order_by session_order order_before_end
+  order_is m =
+      sym (append_assoc head (calls m) (tail m))
+      ∙ ap (λ (o : List Sent). o ++ tail m) (head_first m)
+      ∙ append_assoc (to_trail (head_text (session_of a m))) (flat_map call_order (bytes_of (session_of a m))) (tail m)
+
+  -- the end of the output, after a script that was played
+  end_is : (m : Script) (s' : State) (left : Option (List ℕ)) (p : Played) (before after : Ends) → PlaysAll a.policy s s' m left p before after → to_out (ends_text a.policy s' ++ last_text p.count p.ending) ≡ tail m
+  unfolding tail_text
+  end_is m s' left p before after all =
+      let same : p.count ≡ length (run (boot a.world) m.items) = all.count ∙ sym (run_length (boot a.world) m.items) in
+      ap (λ (x : State). to_out (ends_text a.policy x ++ last_text p.count p.ending)) (all.state ∙ ap (λ (x : State). state_after_run x m.items) s_is)
+      ∙ ap (λ k. to_out (ends_text a.policy (state_after_run (boot a.world) m.items) ++ last_text k p.ending)) same
+      ∙ ap (λ e. to_out (ends_text a.policy (state_after_run (boot a.world) m.items) ++ last_text (length (run (boot a.world) m.items)) e)) all.ending
+
+  module _ (r : Result InputEnd Fault) (lines : LinesState) (left : Option (List ℕ)) (before : Ends) where
+    -- there is no memory for the first state
+    pub boot_fails : IsErrAnd r (λ q. q ≡ NoMemory) → PlaysWorld r a lines lines left left before before
+    boot_fails is = record {
+      taken = [];
+      takes = takes_nothing lines left;
+      writes = out_of_memory r _ before is;
+      ending = failed_ending r NoMemory is _;
+      by_line = λ read. absurd (memory_not_read r is read);
+      readable = inr (prefix_nothing _ before.source before.source before.out before.trail);
+    }
+
+    -- a fault cut the head of the trail off
+    pub head_fails : (fault : Fault) (after : Ends) → StopsBy fault head before after → (fault ≡ Read → ⊥) → IsErrAnd r (λ q. q ≡ fault) → PlaysWorld r a lines lines left left before after
+    head_fails fault after stop not_read is =
+        let m = script_at a.policy lines (left_of left) in
+        record {
+          taken = [];
+          takes = takes_nothing lines left;
+          writes = passes_on r fault (order_by (Some a) m) before after (subst (λ (o : List Sent). StopsBy fault o before after) (order_is m) (stops_longer fault head (calls m ++ tail m) before after stop)) is;
+          ending = failed_ending r fault is _;
+          by_line = λ read. absurd (not_read (failed_read r fault is read));
+          readable = inr (subst (λ (o : List Sent). SendsPrefix o before after) (head_first m) (prefix_longer head (calls m) before after stop.sends));
+        }
+
+    -- the head was written
+    module _ (now : Ends) (headed : SendsAll head before now) (lines' : LinesState) (left' : Option (List ℕ)) (taken : List ℕ) (takes : Takes lines lines' left left' taken) (after : Ends) where
+      abbrev m : Script
+      m = script_at a.policy lines (taken ++ left_of left')
+
+      -- a fault stopped the script
+      pub script_fails : (fault : Fault) → StopsIn a.policy s m (script_at a.policy lines taken) fault now after → IsErrAnd r (λ q. q ≡ fault) → PlaysWorld r a lines lines' left left' before after
+      script_fails fault stop is = record {
+        taken = taken;
+        takes = takes;
+        writes = passes_on r fault (order_by (Some a) m) before after
+            (subst (λ (o : List Sent). StopsBy fault o before after) (order_is m) (stops_after fault head (calls m ++ tail m) before now after headed (stops_longer fault (calls m) (tail m) now after stop.stops))) is;
+        ending = failed_ending r fault is _;
+        by_line = λ read. subst (λ (o : List Sent). Sends o before after) (calls_are (script_at a.policy lines taken)) (sends_more head (calls (script_at a.policy lines taken)) before now after headed.sends (stop.by_line (failed_read r fault is read)));
+        readable = inr (subst (λ (o : List Sent). SendsPrefix o before after) (head_first m) (prefix_after head (calls m) before now after headed.sends stop.stops.sends));
+      }
+
+      -- the script was played
+      module _ (own : AreReadable a.policy 0 recs) (s' : State) (p : Played) (played : Ends) (all : PlaysAll a.policy s s' m left' p now played) where
+        all_readable : SessionReadable a m before after
+        all_readable = inl (all-append (IsReadable a.policy) (map (λ (x : Rec). (0, x)) (boot_recs a.world)) _
+            (with_numbers a.policy 0 (boot_recs a.world) (subst (AreReadable a.policy 0) recs_are own))
+            (subst (λ (x : State). AllByRecursion (IsReadable a.policy) (numbered_from 1 (run x m.items))) s_is all.readable))
+
+        written : Writes r (to_out (ends_text a.policy s' ++ last_text p.count p.ending)) played after → Writes r (order_by (Some a) m) before after
+        written w = in_order r _ _ before after (order_is m)
+            (goes_on r head (calls m ++ tail m) before now after headed
+            (goes_on r (calls m) (tail m) now played after all.sends
+            (in_order r _ _ played after (end_is m s' left' p now played all) w)))
+
+        -- a fault cut the end of the output off
+        pub end_fails : (fault : Fault) → StopsBy fault (to_out (ends_text a.policy s' ++ last_text p.count p.ending)) played after → (fault ≡ Read → ⊥) → IsErrAnd r (λ q. q ≡ fault) → PlaysWorld r a lines lines' left left' before after
+        end_fails fault stop not_read is = record {
+          taken = taken;
+          takes = takes;
+          writes = written (passes_on r fault _ played after stop is);
+          ending = failed_ending r fault is _;
+          by_line = λ read. absurd (not_read (failed_read r fault is read));
+          readable = all_readable;
+        }
+
+        -- all is written
+        pub world_played : r ≡ Ok p.ending → SendsAll (to_out (ends_text a.policy s' ++ last_text p.count p.ending)) played after → PlaysWorld r a lines lines' left left' before after
+        world_played is sends = record {
+          taken = taken;
+          takes = takes;
+          writes = written (subst (λ (x : Result InputEnd Fault). Writes x (to_out (ends_text a.policy s' ++ last_text p.count p.ending)) played after) (sym is) sends);
+          ending = subst (λ (x : Result InputEnd Fault). IfOk x (λ e. EndsAs e m.ending left')) (sym is) (record { same = all.ending; to_the_end = all.to_the_end });
+          by_line = λ read. let no : Ok p.ending ≡ Err Read = sym is ∙ read in absurd (cc);
+          readable = all_readable;
+        }
+
+-- ---- a run from its start
+module _ (lines0 : LinesState) (starts : lines0 ≡ record { line = []; held = []; room = MAX_INPUT; number = 0; more = true }) (r : Result InputEnd Fault) (left left' : Option (List ℕ)) where
+  -- no more was taken than the limit and one byte
+  few_taken : (lines : LinesState) (taken : List ℕ) → Takes lines0 lines left left' taken → length taken ≤ MAX_INPUT + 1
+  few_taken lines taken takes =
+      let most : may_take lines0 ≡ MAX_INPUT + 1 = ap may_take starts in
+      omega (arith, takes.within, most)
+
+  -- memory ran out, or a read failed, before a world was read
+  pub run_fails : (lines : LinesState) (taken : List ℕ) → Takes lines0 lines left left' taken → (fault : Fault) (n n' : ℕ) (o t : SinkView) → counts n' o.faults t.faults ≡ counted_by fault (counts n o.faults t.faults)
+      → HasNoWorld at.Format lines0 taken fault → IsErrAnd r (λ q. q ≡ fault) → RunDid r left left' (ends n o t) (ends n' o t)
+  run_fails lines taken takes fault n n' o t once none is = record {
+    taken = taken;
+    took = takes.took;
+    few = few_taken lines taken takes;
+    writes = passes_on r fault _ (ends n o t) (ends n' o t) (record { sends = prefix_nothing _ n n' o t; one_fault = once }) is;
+    ending = failed_ending r fault is _;
+    by_line = λ read.
+        let no_world : (input_of taken).accepted ≡ None = ap (λ (i : Input). i.accepted) (input_starts lines0 starts taken) ∙ none (failed_read r fault is read) in
+        subst (λ (o' : List Sent). Sends o' (ends n o t) (ends n' o t)) (sym (no_calls (input_of taken) no_world)) (nothing_sent n n' o t);
+  }
+
+  -- an input without a world ends
+  pub run_without_world : (lines : LinesState) (taken : List ℕ) → Takes lines0 lines left left' taken → (ending : InputEnd) → EndsWorld at.Format lines0 left' taken ending
+      → (n n' : ℕ) (o o' t : SinkView) → n' ≡ n → Writes r (to_out (last_text 0 ending)) (ends n' o t) (ends n' o' t) → IfOk r (λ e. e ≡ ending) → (r ≡ Err Read → ⊥) → RunDid r left left' (ends n o t) (ends n' o' t)
+  run_without_world lines taken takes ending last n n' o o' t still w is not_read =
+      let input : input_of (taken ++ left_of left') ≡ no_world ending = input_starts lines0 starts (taken ++ left_of left') ∙ last.says in
+      record {
+        taken = taken;
+        took = takes.took;
+        few = few_taken lines taken takes;
+        writes = subst (λ k. Writes r (order_of (input_of (taken ++ left_of left'))) (ends k o t) (ends n' o' t)) still
+            (in_order r _ _ (ends n' o t) (ends n' o' t) (without_world ending ∙ sym (ap order_of input)) w);
+        ending = IfOk-weaker r _ _ (λ e same. record { same = same ∙ sym (ap (λ (i : Input). i.script.ending) input); to_the_end = λ whole. last.to_the_end (sym same ∙ whole) }) is;
+        by_line = λ read. absurd (not_read read);
+      }
+
+  -- an accepted world was played
+  module _ (between : Option (List ℕ)) (lines lines' : LinesState) (first : List ℕ) (takes : Takes lines0 lines left between first) (a : Accepted) (accepts : Accepts at.Format lines0 lines first a) where
+    input_is : (text : List ℕ) → input_of (first ++ text) ≡ record { accepted = Some a; script = script_at a.policy lines text }
+    input_is text = input_starts lines0 starts (first ++ text) ∙ accepts.says text
+
+    pub world_playable : IsPlayable a (input_of (first ++ [])).script
+    world_playable = accepted_input (first ++ []) a (ap (λ (i : Input). i.accepted) (input_is []))
+
+    module _ (n n' : ℕ) (still : n' ≡ n) (o t : SinkView) (after : Ends) (did : PlaysWorld r a lines lines' between left' (ends n' o t) after) where
+      text_is : (rest : List ℕ) → input_of ((first ++ did.taken) ++ rest) ≡ record { accepted = Some a; script = script_at a.policy lines (did.taken ++ rest) }
+      text_is rest = ap input_of (append_assoc first did.taken rest) ∙ input_is (did.taken ++ rest)
+
+      from_start : (order : List Sent) → Writes r order (ends n' o t) after → Writes r order (ends n o t) after
+      from_start order w = subst (λ k. Writes r order (ends k o t) after) still w
+
+      pub run_plays : RunDid r left left' (ends n o t) after
+      run_plays =
+          let all = takes_more lines0 lines lines' left between left' first did.taken takes did.takes in
+          let input = text_is (left_of left') in
+          record {
+            taken = first ++ did.taken;
+            took = all.took;
+            few = few_taken lines' (first ++ did.taken) all;
+            writes = from_start (order_of (input_of ((first ++ did.taken) ++ left_of left'))) (in_order r _ _ (ends n' o t) after (sym (ap order_of input)) did.writes);
+            ending = IfOk-weaker r _ _ (λ e is. record { same = is.same ∙ sym (ap (λ (i : Input). i.script.ending) input); to_the_end = is.to_the_end }) did.ending;
+            by_line = λ read. subst (λ (order : List Sent). Sends order (ends n o t) after) (sym (ap order_of_calls (input_is did.taken)))
+                (subst (λ k. Sends (calls_by (Some a) (script_at a.policy lines did.taken)) (ends k o t) after) still (did.by_line read));
+          }
+
+      pub run_readable : (text : List ℕ) → left ≡ Some text → InputReadable (input_of text) (ends n o t) after
+      run_readable text is =
+          let all = takes_more lines0 lines lines' left between left' first did.taken takes did.takes in
+          let same : text ≡ (first ++ did.taken) ++ left_of left' = text_left left left' (first ++ did.taken) text is all.took in
+          input_played (input_of text) (ends n o t) after a (script_at a.policy lines (did.taken ++ left_of left')) (ap input_of same ∙ text_is (left_of left'))
+          (subst (λ k. SessionReadable a (script_at a.policy lines (did.taken ++ left_of left')) (ends k o t) after) still did.readable)
+
+  -- an input without a world has no records
+  pub readable_without_world : (lines : LinesState) (taken : List ℕ) → Takes lines0 lines left left' taken → (ending : InputEnd) → EndsWorld at.Format lines0 left' taken ending → (before after : Ends)
+      → (text : List ℕ) → left ≡ Some text → InputReadable (input_of text) before after
+  readable_without_world lines taken takes ending last before after text is =
+      let same : text ≡ taken ++ left_of left' = text_left left left' taken text is takes.took in
+      input_without_world (input_of text) before after ending (ap input_of same ∙ input_starts lines0 starts (taken ++ left_of left') ∙ last.says)
+
+-- there is no memory for a reader
+pub run_memory : (r : Result InputEnd Fault) (left : Option (List ℕ)) (e : Ends) → IsErrAnd r (λ q. q ≡ NoMemory) → RunDid r left left e e
+run_memory r left e is = record {
+  taken = [];
+  took = Consumes-nil left;
+  few = omega arith;
+  writes = out_of_memory r _ e is;
+  ending = failed_ending r NoMemory is _;
+  by_line = λ read. absurd (memory_not_read r is read);
+}
+
+-- ---- a world that was read
+module _ (lines0 : LinesState) (starts : lines0 ≡ record { line = []; held = []; room = MAX_INPUT; number = 0; more = true }) (lines : LinesState) (left between : Option (List ℕ)) (x : ReadWorld) (reads : ReadsWorld (Ok x) lines0 lines left between) where
+  module _ (a : Accepted) (is : x ≡ world.World a) where
+    abbrev accepted : ReadsWorld (Ok (world.World a)) lines0 lines left between
+    accepted = subst (λ k. ReadsWorld (Ok k) lines0 lines left between) is reads
+
+    pub read_playable : (s : Script) × IsPlayable a s
+    read_playable = (_, world_playable lines0 starts (Ok (TooMuch)) left between between lines lines accepted.taken accepted.takes a accepted.shows)
+
+    pub read_more : lines.more ≡ true
+    read_more = accepted.shows.more
+
+    pub read_small : lines.room ≤ 2 ^ 24
+    read_small = let most : lines0.room ≡ MAX_INPUT = ap (λ (s : LinesState). s.room) starts in omega (arith, accepted.shows.fewer, most)
+
+    module _ (r : Result InputEnd Fault) (left' : Option (List ℕ)) (lines' : LinesState) (n n' : ℕ) (o t : SinkView) (still : (u v : ℕ) → counts n' u v ≡ counts n u v) (after : Ends) (did : PlaysWorld r a lines lines' between left' (ends n' o t) after) where
+      pub read_plays : RunDid r left left' (ends n o t) after
+      read_plays = run_plays lines0 starts r left left' between lines lines' accepted.taken accepted.takes a accepted.shows n n' (ap (λ (c : Counts). c.source) (still 0 0)) o t after did
+
+      pub read_readable : (text : List ℕ) → left ≡ Some text → InputReadable (input_of text) (ends n o t) after
+      read_readable = run_readable lines0 starts r left left' between lines lines' accepted.taken accepted.takes a accepted.shows n n' (ap (λ (c : Counts). c.source) (still 0 0)) o t after did
+
+  -- the input ended before its world did
+  module _ (ending : InputEnd) (is : x ≡ world.Ended ending) where
+    abbrev ended : ReadsWorld (Ok (world.Ended ending)) lines0 lines left between
+    ended = subst (λ k. ReadsWorld (Ok k) lines0 lines left between) is reads
+
+    pub read_ended : (r : Result InputEnd Fault) (n n' : ℕ) (o o' t : SinkView) → ((u v : ℕ) → counts n' u v ≡ counts n u v) → ((source : ℕ) (trail : SinkView) → Writes r (to_out (last_text 0 ending)) (ends source o trail) (ends source o' trail)) → IfOk r (λ e. e ≡ ending)
+        → RunDid r left between (ends n o t) (ends n' o' t)
+    read_ended r n n' o o' t still writes is =
+        run_without_world lines0 starts r left between lines ended.taken ended.takes ending ended.shows n n' o o' t (ap (λ (c : Counts). c.source) (still 0 0)) (writes n' t) is (no_read r (to_out (last_text 0 ending)) o o' (writes 0 t))
+      where
+        no_read : (x : Result InputEnd Fault) (order : List Sent) (o o' : SinkView) → Writes x order (ends 0 o t) (ends 0 o' t) → x ≡ Err Read → ⊥
+        no_read (Ok e) order o o' w read = absurd (cc)
+        no_read (Err fault) order o o' w read = let same : fault ≡ Read = cc in not_a_read fault order o o' t t w same
+
+    pub ended_readable : (before after : Ends) (text : List ℕ) → left ≡ Some text → InputReadable (input_of text) before after
+    ended_readable = readable_without_world lines0 starts (Ok ending) left between lines ended.taken ended.takes ending ended.shows
