@@ -5,7 +5,8 @@
 
 First scripts of doubling length on a world of one file and one process, up to the limit of an input, of one call and of
 three; then worlds of doubling size, up to the limits of a label, with one call for each file; then worlds that fill an input
-up to its limit, all files in one directory or 32 names deep; then scripts on directories, descriptors, processes and attributes.
+up to its limit, all files in one directory or 32 names deep; then scripts of short lines, and on directories, descriptors, processes
+and attributes.
 It prints the rows of the tables in README.md: wall time, and the most memory that the run held at a time. Names of these parts
 as arguments, as in `bench/play.py directories descriptors`, print the rows of these parts alone.
 """
@@ -33,6 +34,13 @@ def mixed_script(size):
     """The same world with all capabilities permitted, and the three calls in turn up to this many bytes."""
     world = HEAD + b'file /a 0644 10 10 sec "hello"\nproc unc 10 10 - "all=p"\nscript\n'
     lines = b'1@unc cap_set_proc "cap_mac_read+e all+p"\n1@unc mac_get_file /a\n1@unc cap_get_proc\n'
+    return world + lines * ((size - len(world)) // len(lines))
+
+
+def asking_script(size):
+    """The same world, and three calls in turn that change nothing, up to this many bytes."""
+    world = HEAD + b'file /a 0644 10 10 sec "hello"\nproc sec 10 10 - "all=p"\nscript\n'
+    lines = b"1@sec mac_get_file /a\n1@sec getpid\n1@sec cap_get_proc\n"
     return world + lines * ((size - len(world)) // len(lines))
 
 
@@ -192,6 +200,12 @@ def show(folder, title, make, *args, counted=b"\n"):
     print(f"| {title.format(count)} | {path.stat().st_size:,} | {seconds:.2f} | {resident:,.0f} MiB |{ended}", flush=True)
 
 
+def lines(folder):
+    """The rows of scripts of short lines that change nothing."""
+    for part in (32, 16, 8, 4, 2, 1):
+        show(folder, "{:,} calls of `mac_get_file`, `getpid` and `cap_get_proc`", asking_script, LIMIT // part, counted=b"1@sec ")
+
+
 def directories(folder):
     """The rows of scripts on directories."""
     for shuffled in (False, True):
@@ -243,7 +257,7 @@ def attributes(folder):
         show(folder, f"{files:,} files get a mode, an owner, capability sets and a label", attributed, files)
 
 
-PARTS = {"directories": directories, "descriptors": descriptors, "processes": processes, "attributes": attributes}
+PARTS = {"lines": lines, "directories": directories, "descriptors": descriptors, "processes": processes, "attributes": attributes}
 
 
 def main():
