@@ -62,7 +62,7 @@ fn line_of(alloc: Global, policy: &Policy, call: u64, rec: &Rec) -> Result<Vec<u
     ensures text { IfOk result (λ text. text.items ≡ rec_text policy.now call rec.now) }
     ensures in_range { OnOk result (IsInRange call rec.now) }
 {
-    let line = LineWriter::new(alloc)
+    let line = LineWriter::new(alloc)?
         .digits(call)?
         .word(Event::of(rec).word())?
         .pid(policy, &who(rec))?;
@@ -87,7 +87,7 @@ pub fn header_text(alloc: Global, policy: &Policy, bound: &CapSet) -> Result<Vec
     ensures { IfOk result (λ text. text.items ≡ header_text policy.now bound.now) }
 {
     let bound = set_to_text(alloc, bound)?;
-    let line = LineWriter::new(alloc)
+    let line = LineWriter::new(alloc)?
         .bytes(b"trail 1\nlevels")?
         .words(policy.levels())?
         .bytes(b"\ncategories")?

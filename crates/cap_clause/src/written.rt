@@ -13,6 +13,9 @@ use crate::NoMemory;
 use cap_bits::{Cap, CapSet, CapState, Flag};
 use std::alloc::Global;
 
+// For how many bytes the text of a state has room from the start.
+const USUAL_TEXT: usize = 32;
+
 // Writes the names of capabilities with commas between them.
 fn put_names(text: &mut Vec<u8>, caps: &CapSet) -> Result<(), NoMemory>
     ensures { OnOk result (text.new.items ≡ text.old.items ++ join_with_byte 44 (map cap_name (caps_of caps.now))) }
@@ -139,7 +142,7 @@ pub fn cap_to_text(alloc: Global, state: &CapState) -> Result<Vec<u8>, NoMemory>
     ensures text { IfOk result (λ text. text.items ≡ caps_text state.now) }
     ensures round_trip { IfOk result (λ text. parse_caps text.items ≡ Ok state.now) }
 {
-    let mut text = Vec::new(alloc);
+    let mut text = Vec::with_capacity(alloc, USUAL_TEXT)?;
     put_groups(&mut text, state)?;
     if text.is_empty() {
         text.push(b'=')?;

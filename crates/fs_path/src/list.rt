@@ -36,6 +36,14 @@ impl<T: Drop> List<T> {
         }
     }
 
+    /// An empty list with room for so many items.
+    pub fn with_capacity(alloc: Global, capacity: usize) -> Result<Self, NoMemory>
+        ensures { IfOk result (λ list. list ≡ []) }
+    {
+        let kept = Vec::with_capacity(alloc, capacity)?;
+        Ok(List { kept })
+    }
+
     /// Appends an item.
     pub fn push(&mut self, item: T) -> Result<(), NoMemory>
         ensures ok { OnOk result (self.new ≡ self.old ++ item ∷ []) }

@@ -6,6 +6,7 @@ ghost use Rattle.fs_path.specs.Options.{keep_if};
 ghost use Rattle.fs_path.specs.Values.{is_digit, digits_value, numeral, number_of, mode_of, is_mode, numbers_of, groups_of, mode_text, groups_text};
 
 use crate::{List, NoMemory};
+use itoa::Buffer;
 use std::alloc::Global;
 
 const MAX_NUMBER: u64 = u32::MAX as u64;
@@ -115,11 +116,10 @@ pub fn groups_of(alloc: Global, word: &[u8]) -> Result<Option<List<u32>>, NoMemo
 }
 
 /// Writes a number in decimal.
-pub fn put_number(alloc: Global, text: &mut Vec<u8>, n: u64) -> Result<(), NoMemory>
+pub fn put_number(text: &mut Vec<u8>, n: u64) -> Result<(), NoMemory>
     ensures { OnOk result (text.new.items ≡ text.old.items ++ decimal n) }
 {
-    let digits = n.to_string(alloc)?;
-    text.extend_from_slice(digits.as_bytes())
+    text.extend_from_slice(Buffer::new().format(n).as_bytes())
 }
 
 // The last octal digit of a number.
@@ -144,17 +144,17 @@ pub fn put_mode(text: &mut Vec<u8>, mode: u16) -> Result<(), NoMemory>
 
 /// Writes groups: `-` where there are none, else the numbers with commas between them.
 #[tactic(auto, unfolding(crate::specs::Values::groups_text))]
-pub fn put_groups(alloc: Global, text: &mut Vec<u8>, groups: &[u32]) -> Result<(), NoMemory>
+pub fn put_groups(text: &mut Vec<u8>, groups: &[u32]) -> Result<(), NoMemory>
     ensures { OnOk result (text.new.items ≡ text.old.items ++ groups_text groups.now) }
 {
     let [first, more @ ..] = groups else {
         text.push(b'-')?;
         return Ok(());
     };
-    put_number(alloc, text, u64::from(*first))?;
+    put_number(text, u64::from(*first))?;
     for group in more {
         text.push(b',')?;
-        put_number(alloc, text, u64::from(*group))?;
+        put_number(text, u64::from(*group))?;
     }
     Ok(())
 }

@@ -1,10 +1,80 @@
 // The words of a line.
-ghost use Rattle.std.specs.Prelude.{◌≡◌, ◌++◌, ◌<◌, OnOk, IfOk, IfSome, MatchOption, None, Some};
+ghost use Rattle.std.specs.Prelude.{◌≡◌, [], ◌∷◌, ◌++◌, ◌<◌, OnOk, IfOk, IfSome, MatchOption, None, Some};
 ghost use Rattle.std.specs.List.{list_all, prefix_len};
 ghost use Rattle.fs_path.specs.Words.{words_of, is_blank, quoted_text, with_quotes_if_needed, spelling, is_plain, is_bare, is_bare_text, hex_value, hex_pair, escaped, first_item, items_of, is_apart, leading_word, first_word, trim_spaces, hex_digit, item_text};
 
 use crate::{ByteList, List, NoMemory};
+use smallvec::SmallVec;
 use std::alloc::Global;
+use std::marker::Model;
+
+// The most bytes of a word that take no memory of their own.
+const SHORT_WORD: usize = 24;
+
+// For how many words the list of them has room from the start.
+const USUAL_WORDS: usize = 6;
+
+/// The bytes of a word, seen as the list of them.
+#[derive(Debug)]
+pub struct WordBytes {
+    kept: SmallVec<u8, SHORT_WORD>,
+}
+
+impl Model for WordBytes {
+    ghost use Rattle.std.specs.Prelude.{List, ℕ};
+
+    ghost Value = { List ℕ };
+
+    ghost view = { λ w. w.kept.items };
+}
+
+// Written out, so that a drop is one call, whether or not the bytes have memory of their own.
+impl Drop for WordBytes {
+    fn drop(self) {
+        let WordBytes { kept: _ } = self;
+    }
+}
+
+impl WordBytes {
+    // No byte.
+    fn new(alloc: Global) -> WordBytes
+        ensures { result ≡ [] }
+    {
+        WordBytes {
+            kept: SmallVec::new(alloc),
+        }
+    }
+
+    // These bytes.
+    fn from_slice(alloc: Global, bytes: &[u8]) -> Result<WordBytes, NoMemory>
+        ensures { IfOk result (λ word. word ≡ bytes.now) }
+    {
+        let kept = SmallVec::from_slice(alloc, bytes)?;
+        Ok(WordBytes { kept })
+    }
+
+    // Appends a byte.
+    fn push(&mut self, byte: u8) -> Result<(), NoMemory>
+        ensures { OnOk result (self.new ≡ self.old ++ byte ∷ []) }
+    {
+        self.kept.push(byte)?;
+        Ok(())
+    }
+
+    /// The bytes.
+    pub fn items(&self) -> &[u8]
+        ensures { result.now ≡ self.now }
+    {
+        self.kept.as_slice()
+    }
+
+    /// A list of the bytes.
+    pub fn to_list(&self) -> Result<ByteList, NoMemory>
+        ensures { IfOk result (λ list. list ≡ self.now) }
+    {
+        ByteList::from_slice(*self.kept.allocator(), self.items())
+    }
+}
 
 /// A word of a line, without its quotes and escapes.
 #[derive(Debug, Drop)]
@@ -12,7 +82,7 @@ pub struct LineWord {
     /// Whether it is written between quotes.
     pub quoted: bool,
     /// Its bytes.
-    pub bytes: ByteList,
+    pub bytes: WordBytes,
 }
 
 // Whether a byte stands for itself between quotes.
@@ -83,10 +153,10 @@ fn first_item(text: &[u8]) -> Option<(u8, &[u8])>
 }
 
 // The bytes between quotes, from after the first quote, and the text after the second.
-fn between_quotes(alloc: Global, text: &[u8]) -> Result<Option<(ByteList, &[u8])>, NoMemory>
+fn between_quotes(alloc: Global, text: &[u8]) -> Result<Option<(WordBytes, &[u8])>, NoMemory>
     ensures { IfOk result (λ parsed. MatchOption parsed (items_of text.now ≡ None) (λ items. items_of text.now ≡ Some (items.0, items.1.now))) }
 {
-    let mut bytes = List::new(alloc);
+    let mut bytes = WordBytes::new(alloc);
     let mut left = text;
     while let [first, after @ ..] = left {
         if *first == b'"' {
@@ -128,7 +198,7 @@ fn leading_word(alloc: Global, text: &[u8]) -> Result<Option<(LineWord, &[u8])>,
     if count == 0 {
         return Ok(None);
     }
-    let bytes = ByteList::from_slice(alloc, &text[..count])?;
+    let bytes = WordBytes::from_slice(alloc, &text[..count])?;
     Ok(Some((
         LineWord {
             quoted: false,
@@ -176,7 +246,7 @@ fn trim_spaces(text: &[u8]) -> &[u8]
 pub fn words_of(alloc: Global, line: &[u8]) -> Result<Option<List<LineWord>>, NoMemory>
     ensures { IfOk result (λ parsed. parsed ≡ words_of line.now) }
 {
-    let mut words = List::new(alloc);
+    let mut words = List::with_capacity(alloc, USUAL_WORDS)?;
     let mut left = trim_spaces(line);
     while !left.is_empty() {
         let Some((word, rest)) = first_word(alloc, left)? else {

@@ -5,7 +5,6 @@ ghost use Rattle.kern_model.specs.Names.{check_word, errno_word, kind_word, plac
 
 use crate::{CheckName, Ending, Errno, Kind, NoMemory, Place};
 use fs_path::put_number;
-use std::alloc::Global;
 
 impl CheckName {
     /// Its word.
@@ -88,20 +87,20 @@ impl Kind {
 }
 
 // A letter and a number.
-fn put_counted(alloc: Global, text: &mut Vec<u8>, letter: u8, n: u8) -> Result<(), NoMemory>
+fn put_counted(text: &mut Vec<u8>, letter: u8, n: u8) -> Result<(), NoMemory>
     ensures { OnOk result (text.new.items ≡ text.old.items ++ letter ∷ decimal n) }
 {
     text.push(letter)?;
-    put_number(alloc, text, u64::from(n))
+    put_number(text, u64::from(n))
 }
 
 /// Writes a place: `p0`, `p1` and on for the first path, `q0`, `q1` and on for the second, `fd`, `pid` or `self`.
-pub fn put_place(alloc: Global, text: &mut Vec<u8>, place: Place) -> Result<(), NoMemory>
+pub fn put_place(text: &mut Vec<u8>, place: Place) -> Result<(), NoMemory>
     ensures { OnOk result (text.new.items ≡ text.old.items ++ place_text place) }
 {
     match place {
-        Place::First(n) => put_counted(alloc, text, b'p', n),
-        Place::Second(n) => put_counted(alloc, text, b'q', n),
+        Place::First(n) => put_counted(text, b'p', n),
+        Place::Second(n) => put_counted(text, b'q', n),
         Place::Handle => text.extend_from_slice(b"fd"),
         Place::Target => text.extend_from_slice(b"pid"),
         Place::Caller => text.extend_from_slice(b"self"),
@@ -109,13 +108,13 @@ pub fn put_place(alloc: Global, text: &mut Vec<u8>, place: Place) -> Result<(), 
 }
 
 /// Writes how a process ended: `exit N`, `kill TERM` or `kill KILL`.
-pub fn put_ending(alloc: Global, text: &mut Vec<u8>, ending: Ending) -> Result<(), NoMemory>
+pub fn put_ending(text: &mut Vec<u8>, ending: Ending) -> Result<(), NoMemory>
     ensures { OnOk result (text.new.items ≡ text.old.items ++ ending_text ending) }
 {
     match ending {
         Ending::Exit(code) => {
             text.extend_from_slice(b"exit ")?;
-            put_number(alloc, text, u64::from(code))
+            put_number(text, u64::from(code))
         }
         Ending::Term => text.extend_from_slice(b"kill TERM"),
         Ending::Kill => text.extend_from_slice(b"kill KILL"),

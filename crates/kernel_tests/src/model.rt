@@ -125,7 +125,7 @@ fn processes(rt: HostRuntime) {
 
 fn is_place(alloc: Global, place: Place, word: &[u8]) -> bool {
     let mut text = Vec::new(alloc);
-    put_place(alloc, &mut text, place).is_ok() && text.as_slice() == word
+    put_place(&mut text, place).is_ok() && text.as_slice() == word
 }
 
 #[test]
@@ -139,7 +139,7 @@ fn places(rt: HostRuntime) {
 
 fn is_ending(alloc: Global, ending: Ending, words: &[u8]) -> bool {
     let mut text = Vec::new(alloc);
-    put_ending(alloc, &mut text, ending).is_ok() && text.as_slice() == words
+    put_ending(&mut text, ending).is_ok() && text.as_slice() == words
 }
 
 #[test]

@@ -11,5 +11,5 @@ mod word;
 pub use numbered::put_numbered;
 pub use policy::{Policy, PolicyError, are_label_names, bottom, mac_valid, top};
 pub use std::alloc::AllocError as NoMemory;
-pub use text::{LabelError, mac_from_text, mac_to_text};
+pub use text::{LabelError, mac_from_text, mac_to_text, put_label};
 pub use word::Word;

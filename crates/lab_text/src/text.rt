@@ -1,5 +1,5 @@
 // The texts of labels.
-ghost use Rattle.std.specs.Prelude.{◌≡◌, ◌+◌, ◌<◌, ◌^◌, true, get_or, [], IfOk, IfErr, Some, None};
+ghost use Rattle.std.specs.Prelude.{◌≡◌, ◌+◌, ◌++◌, ◌<◌, ◌^◌, true, get_or, [], IfOk, IfErr, OnOk, Some, None};
 ghost use Rattle.std.specs.FinSet as set;
 ghost use Rattle.std.specs.Option.{option_copied, option_map};
 ghost use Rattle.fs_path.specs.Split.{pieces_of_rest, bytes_from};
@@ -73,13 +73,12 @@ fn level_name<'a>(policy: &'a Policy, label: &Label) -> &'a [u8]
     }
 }
 
-/// The text of a label: each of its categories once, in the policy's order. Of a label that is not valid in the policy
-/// only the names that the policy has are written.
-pub fn mac_to_text(alloc: Global, policy: &Policy, label: &Label) -> Result<Vec<u8>, NoMemory>
-    ensures text { IfOk result (λ text. text.items ≡ label_text policy.now label.now) }
-    ensures round_trip { IfOk result (λ text. is_valid policy.now label.now ≡ true → parse_label policy.now text.items ≡ Some label.now) }
+/// Writes a label: each of its categories once, in the policy's order. Of a label that is not valid in the policy only the
+/// names that the policy has are written.
+pub fn put_label(text: &mut Vec<u8>, policy: &Policy, label: &Label) -> Result<(), NoMemory>
+    ensures { OnOk result (text.new.items ≡ text.old.items ++ label_text policy.now label.now) }
 {
-    let mut text = Vec::from_slice(alloc, level_name(policy, label))?;
+    text.extend_from_slice(level_name(policy, label))?;
     let mut mark = b':';
     for (place, name) in policy.cats().iter().enumerate() {
         if label.second.has(place as u8) {
@@ -88,5 +87,17 @@ pub fn mac_to_text(alloc: Global, policy: &Policy, label: &Label) -> Result<Vec<
             mark = b',';
         }
     }
+    Ok(())
+}
+
+/// The text of a label, as `put_label` writes it.
+pub fn mac_to_text(alloc: Global, policy: &Policy, label: &Label) -> Result<Vec<u8>, NoMemory>
+    ensures text { IfOk result (λ text. text.items ≡ label_text policy.now label.now) }
+    ensures round_trip { IfOk result (λ text. is_valid policy.now label.now ≡ true → parse_label policy.now text.items ≡ Some label.now) }
+{
+    // Its names make a policy, which the clause `round_trip` needs.
+    let _names = policy.levels();
+    let mut text = Vec::new(alloc);
+    put_label(&mut text, policy, label)?;
     Ok(text)
 }

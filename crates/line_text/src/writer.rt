@@ -15,9 +15,12 @@ use cap_clause::cap_to_text;
 use fs_path::{put_groups, put_mode, put_number, put_quoted, put_word};
 use kern_model::{Ending, Oid, Pid, Place, Thing, put_ending, put_place};
 use lab_lattice::Label;
-use lab_text::{Policy, Word, mac_to_text, put_numbered};
+use lab_text::{Policy, Word, put_label, put_numbered};
 use std::alloc::Global;
 use std::marker::Model;
+
+// For how many bytes a writer has room from the start.
+const USUAL_LINE: usize = 96;
 
 /// Lines under construction. Its value is the bytes written so far. Each method appends and returns the writer; at an
 /// error, which is always out of memory, the writer is dropped.
@@ -36,14 +39,12 @@ impl Model for LineWriter {
 }
 
 impl LineWriter {
-    /// An empty writer.
-    pub fn new(alloc: Global) -> LineWriter
-        ensures { result ≡ [] }
+    /// An empty writer, with room for a line of usual length.
+    pub fn new(alloc: Global) -> Result<LineWriter, NoMemory>
+        ensures { IfOk result (λ line. line ≡ []) }
     {
-        LineWriter {
-            alloc,
-            text: Vec::new(alloc),
-        }
+        let text = Vec::with_capacity(alloc, USUAL_LINE)?;
+        Ok(LineWriter { alloc, text })
     }
 
     /// Appends bytes as they are.
@@ -58,7 +59,7 @@ impl LineWriter {
     pub fn digits(mut self, n: u64) -> Result<LineWriter, NoMemory>
         ensures { IfOk result (λ line. line ≡ self ++ decimal n) }
     {
-        put_number(self.alloc, &mut self.text, n)?;
+        put_number(&mut self.text, n)?;
         Ok(self)
     }
 
@@ -71,7 +72,7 @@ impl LineWriter {
     ) -> Result<LineWriter, NoMemory>
         ensures { IfOk result (λ line. line ≡ self ++ numbered_text policy.now n label.now) }
     {
-        put_numbered(self.alloc, &mut self.text, policy, u64::from(n), label)?;
+        put_numbered(&mut self.text, policy, u64::from(n), label)?;
         Ok(self)
     }
 
@@ -150,7 +151,7 @@ impl LineWriter {
         ensures in_range { OnOk result (are_numbers groups.now ≡ true) }
     {
         let mut line = self.bytes(b" ")?;
-        put_groups(line.alloc, &mut line.text, groups)?;
+        put_groups(&mut line.text, groups)?;
         Ok(line)
     }
 
@@ -158,8 +159,9 @@ impl LineWriter {
     pub fn label(self, policy: &Policy, label: &Label) -> Result<LineWriter, NoMemory>
         ensures { IfOk result (λ line. line ≡ self ++ 32 ∷ label_text policy.now label.now) }
     {
-        let label = mac_to_text(self.alloc, policy, label)?;
-        self.word(label.as_slice())
+        let mut line = self.bytes(b" ")?;
+        put_label(&mut line.text, policy, label)?;
+        Ok(line)
     }
 
     /// Appends a space and the new label of a check, or `-`.
@@ -213,7 +215,7 @@ impl LineWriter {
         ensures in_range { OnOk result (PlaceInRange place) }
     {
         let mut line = self.bytes(b" ")?;
-        put_place(line.alloc, &mut line.text, place)?;
+        put_place(&mut line.text, place)?;
         Ok(line)
     }
 
@@ -223,7 +225,7 @@ impl LineWriter {
         ensures in_range { OnOk result (EndingInRange ending) }
     {
         let mut line = self.bytes(b" ")?;
-        put_ending(line.alloc, &mut line.text, ending)?;
+        put_ending(&mut line.text, ending)?;
         Ok(line)
     }
 

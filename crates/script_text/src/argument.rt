@@ -118,7 +118,7 @@ pub fn permissions(word: &LineWord) -> Result<Mode, LineError>
 pub fn bytes(word: &LineWord) -> Result<ByteList, LineError>
     ensures { Answers (argument.bytes word.now.bytes) result }
 {
-    word.bytes.copy().map_err(LineError::NoMemory)
+    word.bytes.to_list().map_err(LineError::NoMemory)
 }
 
 fn signed(word: &[u8]) -> Option<i64>

@@ -19,7 +19,7 @@ pub fn reply_text(
 ) -> Result<Vec<u8>, NoMemory>
     ensures { IfOk result (λ text. text.items ≡ reply_line policy.now who.now word.now reply.now) }
 {
-    let line = LineWriter::new(alloc)
+    let line = LineWriter::new(alloc)?
         .numbered(policy, who.n, &who.label)?
         .word(word)?
         .outcome(policy, reply)?;

@@ -27,7 +27,7 @@ fn texts_of(alloc: Global, words: &[LineWord]) -> Result<ByteLists, NoMemory>
 {
     let mut texts = List::new(alloc);
     for word in words {
-        texts.push(word.bytes.copy()?)?;
+        texts.push(word.bytes.to_list()?)?;
     }
     Ok(texts)
 }

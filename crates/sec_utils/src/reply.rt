@@ -23,7 +23,7 @@ pub fn util_text(
     requires texts { length util.now.texts ≡ length util.now.paths }
     ensures { IfOk result (λ text. text.items ≡ reply_line policy.now util.now.who (head_at util.now at) reply.now) }
 {
-    let line = LineWriter::new(alloc)
+    let line = LineWriter::new(alloc)?
         .numbered(policy, util.who.n, &util.who.label)?
         .word(util.tool.word())?
         .quoted(util.texts.items()[at].items())?

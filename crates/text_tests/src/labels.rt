@@ -139,7 +139,7 @@ fn number_drawn_at_a_label(rt: HostRuntime) -> Result<(), Fail> {
     let policy = three_levels(rt.alloc())?;
     let label = mac_from_text(&policy, b"sec:b,a")?;
     let mut text = Vec::new(rt.alloc());
-    put_numbered(rt.alloc(), &mut text, &policy, 4_095, &label)?;
+    put_numbered(&mut text, &policy, 4_095, &label)?;
     assert!(rt; text.as_slice() == b"4095@sec:a,b".as_slice());
     Ok(())
 }

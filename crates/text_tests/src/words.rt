@@ -87,7 +87,7 @@ fn is_word(alloc: Global, word: &[u8], text: &[u8]) -> bool {
 
 fn is_number(alloc: Global, number: u64, text: &[u8]) -> bool {
     let mut written = Vec::new(alloc);
-    put_number(alloc, &mut written, number).is_ok() && written.as_slice() == text
+    put_number(&mut written, number).is_ok() && written.as_slice() == text
 }
 
 fn is_mode(alloc: Global, mode: u16, text: &[u8]) -> bool {
@@ -97,7 +97,7 @@ fn is_mode(alloc: Global, mode: u16, text: &[u8]) -> bool {
 
 fn is_list(alloc: Global, numbers: &[u32], text: &[u8]) -> bool {
     let mut written = Vec::new(alloc);
-    put_groups(alloc, &mut written, numbers).is_ok() && written.as_slice() == text
+    put_groups(&mut written, numbers).is_ok() && written.as_slice() == text
 }
 
 #[test]

@@ -8,7 +8,7 @@ use crate::builder::WorldBuilder;
 use crate::{NoMemory, WorldFault, WorldText};
 use cap_bits::{CapSet, CapState};
 use cap_clause::{CapTextError, cap_from_text, set_from_text};
-use fs_path::{ByteList, LineWord, List, Path, groups_of, is_blank, mode_of, number_of, words_of};
+use fs_path::{LineWord, List, Path, groups_of, is_blank, mode_of, number_of, words_of};
 use kern_model::limits::MAX_LINE;
 use kern_model::{Attr, Body, Gid, GroupList, Ids, Mode, Uid, World, WorldObject, WorldProc};
 use lab_lattice::Label;
@@ -516,10 +516,10 @@ fn parse_plain(
 }
 
 // A file with the bytes that a word stands for.
-fn file_of(alloc: Global, word: &LineWord) -> Result<Body, NoMemory>
+fn file_of(word: &LineWord) -> Result<Body, NoMemory>
     ensures { IfOk result (λ file. file ≡ body.File word.now.bytes) }
 {
-    Ok(Body::File(ByteList::from_slice(alloc, word.bytes.items())?))
+    Ok(Body::File(word.bytes.to_list()?))
 }
 
 // `file PATH MODE UID GID LABEL BYTES [CAPS]`.
@@ -528,12 +528,12 @@ fn parse_file(alloc: Global, so_far: PartialWorld, words: &[LineWord]) -> Result
 {
     if words.len() == 6 {
         let caps = WordValue::Known(CapState::none());
-        let body = file_of(alloc, &words[5])?;
+        let body = file_of(&words[5])?;
         return parse_tree(alloc, so_far, words, caps, body);
     }
     if words.len() == 7 {
         let caps = caps_of(words[6].bytes.items());
-        let body = file_of(alloc, &words[5])?;
+        let body = file_of(&words[5])?;
         return parse_tree(alloc, so_far, words, caps, body);
     }
     Ok(syntax())

@@ -186,7 +186,7 @@ impl WorldText {
         // The names of its levels make a policy, which the clause `round_trip` needs.
         let _names = self.policy.levels();
         let alloc = self.policy.allocator();
-        let line = LineWriter::new(alloc);
+        let line = LineWriter::new(alloc)?;
         let line = put_head(alloc, line, &self.policy, &self.world.bound)?;
         let line = put_objects(alloc, line, &self.policy, self.world.objects.items())?;
         let line = put_processes(line, &self.policy, self.world.procs.items())?;

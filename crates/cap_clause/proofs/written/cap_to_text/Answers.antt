@@ -12,7 +12,7 @@ written : (c : Joined-is_empty) → c.if-is_empty.text.items ≡ caps_text c.arg
 written c =
     let s = c.args.state.now in
     let text = c.put_groups.new.text in
-    let clauses = c.in_ok-put_groups.ensures ∙ ap (λ (t : List ℕ). t ++ join_with_byte 32 (map (group_text s) (firsts_of s))) c.new-text.ensures.items in
+    let clauses = c.in_ok-put_groups.ensures ∙ ap (λ (t : List ℕ). t ++ join_with_byte 32 (map (group_text s) (firsts_of s))) c.in_ok-text.ensures.items in
     let count = ap (λ n. n == 0) (sym text.ok.0) ∙ sym c.is_empty.ensures in
     elim c.if-is_empty.branch [
       | then-is_empty+in_ok-push w ↦ ap (λ t. t.items) w.text-is ∙ w.in_ok-push.ensures.items ∙ none_written s text.items clauses (count ∙ w.if-is_empty.true)

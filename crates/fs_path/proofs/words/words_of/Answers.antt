@@ -4,7 +4,7 @@ use Rattle.fs_path.proofs.WordSteps.{word_shorter, past_shorter}
 use Rattle.fs_path.proofs.words.words_of.Goals as goal
 
 pub loop-left-init : goal.loop-left-init
-loop-left-init c = words_init c.args.line.now c.trim_spaces-left.result.now c.new-words.result c.new-words.ensures c.trim_spaces-left.ensures
+loop-left-init c = words_init c.args.line.now c.trim_spaces-left.result.now _ c.in_ok-words.ensures c.trim_spaces-left.ensures
 
 pub loop-left-smaller : goal.loop-left-smaller
 loop-left-smaller c =
