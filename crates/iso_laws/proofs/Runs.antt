@@ -8,7 +8,7 @@ use Rattle.kern_model.specs.declared.world.ScriptItem.{ScriptItem}
 use Rattle.kern_model.specs.Arguments.{has_names, is_call, is_item, is_script}
 use Rattle.kern_model.specs.State.{State}
 use Rattle.kern_model.specs.Step.{StepResult, step}
-use Rattle.kern_model.specs.Run.{CallRecord, played, run}
+use Rattle.kern_model.specs.Run.{CallRecord, played, run, state_after_run}
 use Rattle.kern_model.specs.Isolation.{low, part, part_script, crossing, Answered, answered, answers, all_answers, up_to, Kept}
 use Rattle.kern_model.specs.Valid.{IsValid}
 use Rattle.kern_model.specs.Prefixes.{IsPrefix}
@@ -100,3 +100,43 @@ module _ (l : Label) where
   whole_alone items s args valid kept e =
       let alone = answers_alone items s args valid kept in
       ap (answers l) (sym e) ∙ sym (append-nil _) ∙ ap (λ xs. answers l (up_to l (run s items)) ++ xs) (sym (alone.all e)) ∙ sym alone.whole_is
+
+  -- the first call of a run that crosses nothing, and the others
+  inside_first : (p : CallRecord) (ps : List CallRecord) → up_to l (p ∷ ps) ≡ p ∷ ps → (crossing l p.recs ≡ false) × (up_to l ps ≡ ps)
+  inside_first p ps e = elim (crossing l p.recs) as (λ b. cond b [] (p ∷ up_to l ps) ≡ p ∷ ps → (b ≡ false) × (up_to l ps ≡ ps)) [
+    | true ↦ λ e. absurd (cc)
+    | false ↦ λ e. (refl, cc)
+  ] e
+
+  -- a run ends kept, in a state whose part is that in which the run of the part alone ends, and that run crosses nothing
+  pub record EndsAlone (last alone : State) (ps : List CallRecord) : Type 0 where
+    pub kept : Kept l last
+    pub same : part l last ≡ alone
+    pub inside : up_to l ps ≡ ps
+
+  -- one call more, which crosses nothing
+  inside_more : (last alone : State) (p : CallRecord) (ps : List CallRecord) → crossing l p.recs ≡ false → EndsAlone last alone ps → EndsAlone last alone (p ∷ ps)
+  inside_more last alone p ps inside ends = record {
+    kept = ends.kept;
+    same = ends.same;
+    inside = ap (λ t. cond t [] (p ∷ up_to l ps)) inside ∙ ap (λ qs. p ∷ qs) ends.inside;
+  }
+
+  -- where nothing crosses, a run ends as that of the part alone
+  pub ends_alone : (items : List ScriptItem) (s : State) → is_script s.top items ≡ true → IsValid s → Kept l s → up_to l (run s items) ≡ run s items
+      → EndsAlone (state_after_run s items) (state_after_run (part l s) (part_script l items)) (run (part l s) (part_script l items))
+  ends_alone [] s args valid kept e = record { kept = kept; same = refl; inside = refl }
+  ends_alone (i ∷ is) s args valid kept e =
+      let first = first_of_script s i is args in
+      let next : State = (step s i.who i.call).state in
+      let inside = inside_first (played s i) (run next is) e in
+      let rest : EndsAlone (state_after_run next is) (state_after_run (part l next) (part_script l is)) (run (part l next) (part_script l is)) =
+      ends_alone is next first.later_args (valid_step s i.who i.call first.args first.names valid) (kept_step l s i.who i.call first.args valid kept inside.0) inside.1 in
+      elim (low l i.who.label) as (λ b. low l i.who.label ≡ b → EndsAlone (state_after_run next is) (state_after_run (part l s) (cond b (i ∷ part_script l is) (part_script l is))) (run (part l s) (cond b (i ∷ part_script l is) (part_script l is)))) [
+        | true ↦ λ is_low.
+            let e' = low_step l s i.who i.call (record { arguments = first.args; valid = valid; kept = kept; is_low = is_low; inside = inside.0 }) in
+            subst (λ (o : StepResult). EndsAlone (state_after_run next is) (state_after_run o.state (part_script l is)) (record { who = i.who; head = i.head; reply = o.reply; recs = o.recs } ∷ run o.state (part_script l is))) (sym e')
+            (inside_more _ _ (played s i) (run (part l next) (part_script l is)) inside.0 rest)
+        | false ↦ λ high.
+            subst (λ t. EndsAlone (state_after_run next is) (state_after_run t (part_script l is)) (run t (part_script l is))) (other_step l s i.who i.call first.args valid kept high inside.0) rest
+      ] refl

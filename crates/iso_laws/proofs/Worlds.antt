@@ -9,9 +9,9 @@ use Rattle.kern_model.specs.Boot.{boot}
 use Rattle.kern_model.specs.Run.{run}
 use Rattle.kern_model.specs.Isolation.{part, part_script, answers, all_answers, alone, up_to}
 use Rattle.kern_model.specs.Prefixes.{IsPrefix}
-use Rattle.iso_laws.specs.Laws.{IsolatedPrefix, IsolatedWhole, TwoWorldsAgree, TwoWorldsSame}
+use Rattle.iso_laws.specs.Laws.{IsolatedPrefix, IsolatedWhole, IsolatedEnd, IsolatedInside, TwoWorldsAgree, TwoWorldsSame}
 use Rattle.iso_laws.proofs.PrefixLemmas.{prefixes_agree}
-use Rattle.iso_laws.proofs.Runs.{prefix_alone, whole_alone}
+use Rattle.iso_laws.proofs.Runs.{ends_alone, prefix_alone, whole_alone}
 use Rattle.iso_laws.proofs.Booting.{kept_boot, top_boot}
 use Rattle.iso_laws.proofs.ValidBoot.{valid_boot}
 
@@ -24,6 +24,12 @@ isolated_prefix l w items m is args = prefix_alone l items m (boot w) (on_first 
 
 pub isolated_whole : IsolatedWhole
 isolated_whole l w items is args none = whole_alone l items (boot w) (on_first w items args) (valid_boot w is) (kept_boot l w) none
+
+pub isolated_end : IsolatedEnd
+isolated_end l w items is args none = let ends = ends_alone l items (boot w) (on_first w items args) (valid_boot w is) (kept_boot l w) none in (ends.kept, ends.same)
+
+pub isolated_inside : IsolatedInside
+isolated_inside l w items is args none = (ends_alone l items (boot w) (on_first w items args) (valid_boot w is) (kept_boot l w) none).inside
 
 -- worlds and scripts with equal parts have the same answers alone
 same_alone : (l : Label) (w v : World) (is js : List ScriptItem) → part l (boot w) ≡ part l (boot v) → part_script l is ≡ part_script l js → alone l w is ≡ alone l v js

@@ -78,6 +78,16 @@ abbrev pub IsolatedWhole : Type 0
 IsolatedWhole = (l : Label) (w : World) (items : List ScriptItem) → IsWorld w → is_script w.top items ≡ true
     → up_to l (run (boot w) items) ≡ run (boot w) items → answers l (run (boot w) items) ≡ alone l w items
 
+-- where no call crosses, the last state is kept, and its part is the last state of the part alone
+abbrev pub IsolatedEnd : Type 0
+IsolatedEnd = (l : Label) (w : World) (items : List ScriptItem) → IsWorld w → is_script w.top items ≡ true → up_to l (run (boot w) items) ≡ run (boot w) items
+    → Kept l (state_after_run (boot w) items) × (part l (state_after_run (boot w) items) ≡ state_after_run (part l (boot w)) (part_script l items))
+
+-- and the run of the part alone crosses nothing either
+abbrev pub IsolatedInside : Type 0
+IsolatedInside = (l : Label) (w : World) (items : List ScriptItem) → IsWorld w → is_script w.top items ≡ true → up_to l (run (boot w) items) ≡ run (boot w) items
+    → up_to l (run (part l (boot w)) (part_script l items)) ≡ run (part l (boot w)) (part_script l items)
+
 -- on two worlds with the same part, two scripts with the same Low items answer Low tags alike, up to any calls before the first that crosses: one list is a
 -- prefix of the other
 abbrev pub TwoWorldsAgree : Type 0

@@ -5,7 +5,7 @@
 #![tactic(auto)]
 
 ghost use Rattle.iso_laws.specs.Laws.{LowStepReply, LowStepRecords, LowStepState, OtherStep, KeptStep, ValidStep};
-ghost use Rattle.iso_laws.specs.Laws.{KeptBoot, ValidBoot, IsolatedPrefix, IsolatedWhole, TwoWorldsAgree, TwoWorldsSame};
+ghost use Rattle.iso_laws.specs.Laws.{KeptBoot, ValidBoot, IsolatedPrefix, IsolatedWhole, IsolatedEnd, IsolatedInside, TwoWorldsAgree, TwoWorldsSame};
 ghost use Rattle.iso_laws.specs.Laws.{LabelsBelow};
 ghost use Rattle.iso_laws.specs.Laws.{CapsByRecords, DropsByRecords, GrowthByRecords};
 ghost use Rattle.iso_laws.specs.Laws.{RefusalsAreNamed, DrawnStep, NumbersStep, NumbersRun, GoneRun};
@@ -39,10 +39,12 @@ pub fn kept_boot()
 
 /// What Low tags are answered up to any call before the first one that crosses is a prefix of what they are answered
 /// where the part of the world is all there is, and only the Low items are played. Where no call crosses, both are the
-/// same.
+/// same, and so are the parts of the states in which both end.
 pub fn isolated()
     ensures prefix { IsolatedPrefix }
     ensures whole { IsolatedWhole }
+    ensures end { IsolatedEnd }
+    ensures inside { IsolatedInside }
 {}
 
 /// In two worlds with the same part and two scripts with the same Low items, Low tags are answered the same, as far as
