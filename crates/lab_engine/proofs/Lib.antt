@@ -1,6 +1,10 @@
 pub mod ReadLemmas
 pub mod Sending
 pub mod ScriptLemmas
+pub mod ReportLemmas
+pub mod RunReports
+pub mod ReadSoFar
+pub mod CheckLemmas
 pub mod Progress
 pub mod WorldProgress
 pub mod ScriptSteps
@@ -8,3 +12,8 @@ pub mod ReadableLemmas
 pub mod CallLemmas
 pub mod ToolLemmas
 pub mod FewCalls
+pub mod GeneratedLines
+pub mod GeneratedWorld
+pub mod GeneratedInput
+pub mod ViewLemmas
+pub mod PieceLemmas

@@ -14,7 +14,7 @@ use Rattle.lab_engine.specs.declared.reading.WorldLine.TheVariants as line
 use Rattle.lab_engine.specs.Counts.{Counts, CountsOnce, counted_by}
 use Rattle.lab_engine.specs.Input.{Input}
 use Rattle.lab_engine.specs.Reading.{HasNoWorld, ReadsLine, ReadsWorld, Takes, input_at, left_of}
-use Rattle.lab_engine.proofs.Progress.{takes_more, takes_nothing}
+use Rattle.lab_engine.proofs.ReadSoFar.{takes_more, takes_nothing}
 
 pub record WorldProgress (lines0 lines : LinesState) (left0 left : Option (List ℕ)) (e : Expecting) : Type 0 where
   pub taken : List ℕ

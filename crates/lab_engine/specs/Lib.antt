@@ -2,7 +2,11 @@ pub mod Input
 pub mod Texts
 pub mod Session
 pub mod Order
+pub mod Report
 pub mod Counts
 pub mod Readable
 pub mod Reading
 pub mod Playing
+pub mod Checking
+pub mod Viewing
+pub mod Generated

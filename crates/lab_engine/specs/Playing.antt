@@ -19,6 +19,9 @@ use Rattle.lab_engine.specs.Readable.{CallsReadable}
 use Rattle.lab_engine.specs.Reading.{Takes, left_of, script_at}
 use Rattle.lab_engine.specs.Order.{Sent, out_of, trail_of, to_out, to_trail, call_order}
 use Rattle.lab_engine.specs.Session.{bytes_from}
+use Rattle.lab_engine.specs.declared.reporting.Report.{Report}
+use Rattle.lab_engine.specs.declared.reporting.Report.TheVariants.{All}
+use Rattle.lab_engine.specs.Report.{report_after, reported}
 
 -- ---- the order of calls
 
@@ -82,22 +85,23 @@ WritesTrail result bytes trail trail' = (source : ℕ) (out : SinkView) → Writ
 -- ---- a script that is played
 
 -- all calls of a script were played
-pub record PlaysAll (policy : PolicyNames) (s s' : State) (m : Script) (left : Option (List ℕ)) (p : Played) (before after : Ends) : Type 0 where
+pub record PlaysAll (policy : PolicyNames) (r r' : Report) (s s' : State) (m : Script) (left : Option (List ℕ)) (p : Played) (before after : Ends) : Type 0 where
   pub ending : p.ending ≡ m.ending
   pub count : p.count ≡ length m.items
   pub state : s' ≡ state_after_run s m.items
-  pub sends : SendsAll (items_order policy 0 s m.items) before after
-  pub readable : CallsReadable policy 0 s m.items
+  pub report : r' ≡ report_after r (run s m.items)
+  pub sends : SendsAll (reported r policy 1 (run s m.items)) before after
+  pub readable : r ≡ All → CallsReadable policy 0 s m.items
   pub to_the_end : p.ending ≡ Whole → IsAtEnd left
 
 -- a script was played up to a fault; where a read failed, all calls in the bytes that were taken were played
-pub record StopsIn (policy : PolicyNames) (s : State) (m taken : Script) (fault : Fault) (before after : Ends) : Type 0 where
-  pub stops : StopsBy fault (items_order policy 0 s m.items) before after
-  pub by_line : fault ≡ Read → Sends (items_order policy 0 s taken.items) before after
+pub record StopsIn (policy : PolicyNames) (r : Report) (s : State) (m taken : Script) (fault : Fault) (before after : Ends) : Type 0 where
+  pub stops : StopsBy fault (reported r policy 1 (run s m.items)) before after
+  pub by_line : fault ≡ Read → Sends (reported r policy 1 (run s taken.items)) before after
 
 -- a script was read from a reader of lines, and played
-pub record PlaysScript (result : Result Played Fault) (policy : PolicyNames) (s s' : State) (lines lines' : LinesState) (left left' : Option (List ℕ)) (before after : Ends) : Type 0 where
+pub record PlaysScript (result : Result Played Fault) (policy : PolicyNames) (r r' : Report) (s s' : State) (lines lines' : LinesState) (left left' : Option (List ℕ)) (before after : Ends) : Type 0 where
   pub taken : List ℕ
   pub takes : Takes lines lines' left left' taken
-  pub did : MatchResult result (λ p. PlaysAll policy s s' (script_at policy lines (taken ++ left_of left')) left' p before after)
-      (λ fault. StopsIn policy s (script_at policy lines (taken ++ left_of left')) (script_at policy lines taken) fault before after)
+  pub did : MatchResult result (λ p. PlaysAll policy r r' s s' (script_at policy lines (taken ++ left_of left')) left' p before after)
+      (λ fault. StopsIn policy r s (script_at policy lines (taken ++ left_of left')) (script_at policy lines taken) fault before after)

@@ -50,6 +50,7 @@ ends_text policy s = flat_map (λ who. end_text policy who (label_in s who) (cap
 unfoldable pub part_text : Part → List ℕ
 part_text part.World = codes "world"
 part_text part.Script = codes "script"
+part_text part.View = codes "view"
 
 unfoldable pub refusal_text : Refusal → List ℕ
 refusal_text refusal.Syntax = codes "syntax"

@@ -9,6 +9,8 @@ use world_text::WorldFault;
 pub enum Part {
     World,
     Script,
+    /// The label of `view`, which stands on no line of the input.
+    View,
 }
 
 /// Why a line is refused.

@@ -2,12 +2,18 @@
 //! writes records and replies, over any kernel and any ends.
 #![tactic(auto)]
 
+mod checking;
 mod ending;
+mod generated;
 mod playing;
 mod reading;
+mod reporting;
 mod texts;
 
+pub use checking::check_script;
 pub use ending::{Fault, InputEnd, Part, Refusal};
+pub use generated::Generated;
 pub use playing::{Played, answer, begin, play_script, report_last};
 pub use reading::{NextLine, ReadWorld, read_next, read_world};
+pub use reporting::{Report, Tally};
 pub use texts::{Texts, end_line};

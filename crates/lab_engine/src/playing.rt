@@ -1,7 +1,7 @@
 // A script that is played, and the lines of the output and of the trail.
-ghost use Rattle.std.specs.Prelude.{◌≡◌, ℕ, ◌≤◌, ◌<◌, ◌+◌, ◌^◌, ◌++◌, true, OnOk, IfOk, length};
+ghost use Rattle.std.specs.Prelude.{◌≡◌, ℕ, ◌≤◌, ◌<◌, ◌+◌, ◌^◌, ◌++◌, true, cond, List, Some, None, OnOk, IfOk, length};
 ghost use Rattle.std.specs.List.{flat_map};
-ghost use Rattle.kern_model.specs.Run.{played, state_after_run};
+ghost use Rattle.kern_model.specs.Run.{played, run, state_after_run};
 ghost use Rattle.kern_model.specs.Step.{step};
 ghost use Rattle.kern_model.specs.Arguments.{is_call};
 ghost use Rattle.lab_text.specs.Policy.{top_of};
@@ -13,12 +13,14 @@ ghost use Rattle.script_text.specs.Line.{MayBePlayed};
 ghost use Rattle.script_text.specs.declared.line.Line.TheVariants as line;
 ghost use Rattle.lab_engine.specs.Input.{item_of, items_in};
 ghost use Rattle.lab_engine.specs.Texts.{last_text};
-ghost use Rattle.lab_engine.specs.Session.{call_bytes};
-ghost use Rattle.lab_engine.specs.Order.{call_order};
+ghost use Rattle.lab_engine.specs.declared.reporting.Report.TheVariants as a_report;
+ghost use Rattle.lab_engine.specs.declared.reporting.Shown.TheVariants as a_shown;
+ghost use Rattle.lab_engine.specs.Report.{CountsAtMost, before_reply, call_sends, has_reply, items_reported, report_after, report_after_call, shown_of};
 ghost use Rattle.lab_engine.specs.Readable.{AreReadable, CallsReadable};
-ghost use Rattle.lab_engine.specs.Playing.{PlaysScript, WritesBoth, WritesOut, WritesTrail, ends, items_order};
+ghost use Rattle.lab_engine.specs.Playing.{PlaysScript, WritesBoth, WritesOut, WritesTrail, ends};
 
 use crate::reading::{NextLine, read_next};
+use crate::reporting::{Report, Shown};
 use crate::texts::{Texts, last_line};
 use crate::{Fault, InputEnd};
 use aud_record::{header_text, rec_text};
@@ -61,53 +63,95 @@ fn note_all<T: Sink>(texts: Texts<'_>, call: u64, recs: &[Rec], trail: &mut T) -
     Ok(())
 }
 
-// Plays one call, and writes its records to the trail.
-fn play_call<C: Calls, T: Sink>(
+// Writes what of a call comes before its reply, and returns whether the reply is to be written.
+fn show<K: Sink, T: Sink>(
+    texts: Texts<'_>,
+    shown: Shown,
+    number: u64,
+    recs: &[Rec],
+    out: &mut K,
+    trail: &mut T,
+) -> Result<bool, Fault>
+    ensures writes { WritesBoth result (before_reply shown texts.entry.policy.now number recs.now)
+        (sink_view (K.held out.old) (K.faults out.old)) (sink_view (K.held out.new) (K.faults out.new)) (sink_view (T.held trail.old) (T.faults trail.old)) (sink_view (T.held trail.new) (T.faults trail.new)) }
+    ensures reply { IfOk result (λ reply. reply ≡ has_reply shown) }
+    ensures readable { OnOk result (shown ≡ a_shown.Call → AreReadable texts.entry.policy.now number recs.now) }
+{
+    match shown {
+        Shown::Call => {
+            note_all(texts, number, recs, trail)?;
+            Ok(true)
+        }
+        Shown::Reply => Ok(true),
+        Shown::Crossing => {
+            answer(out, b"crossed\n")?;
+            Ok(false)
+        }
+        Shown::Nothing => Ok(false),
+    }
+}
+
+// Plays one call, and writes what of it comes before its reply. Returns the reply where it is to be written.
+fn play_call<C: Calls, K: Sink, T: Sink>(
     texts: Texts<'_>,
     kernel: &mut C,
     number: u64,
+    report: &mut Report,
     who: &Pid,
     call: &Call,
+    out: &mut K,
     trail: &mut T,
-) -> Result<Reply, Fault>
+) -> Result<Option<Reply>, Fault>
     requires arguments { is_call (C.state kernel.old).top call.now ≡ true }
-    ensures writes { WritesTrail result (flat_map (rec_line texts.entry.policy.now number) (step (C.state kernel.old) who.now call.now).recs)
-        (sink_view (T.held trail.old) (T.faults trail.old)) (sink_view (T.held trail.new) (T.faults trail.new)) }
-    ensures reply { IfOk result (λ reply. reply ≡ (step (C.state kernel.old) who.now call.now).reply) }
+    requires small { CountsAtMost (2 ^ 60) report.old }
+    ensures writes { let recs = (step (C.state kernel.old) who.now call.now).recs in
+        WritesBoth result (before_reply (shown_of report.old who.now recs) texts.entry.policy.now number recs)
+        (sink_view (K.held out.old) (K.faults out.old)) (sink_view (K.held out.new) (K.faults out.new)) (sink_view (T.held trail.old) (T.faults trail.old)) (sink_view (T.held trail.new) (T.faults trail.new)) }
+    ensures reply { let s = step (C.state kernel.old) who.now call.now in IfOk result (λ reply. reply ≡ cond (has_reply (shown_of report.old who.now s.recs)) (Some s.reply) None) }
     ensures state { OnOk result (C.state kernel.new ≡ (step (C.state kernel.old) who.now call.now).state) }
-    ensures readable { OnOk result (AreReadable texts.entry.policy.now number (step (C.state kernel.old) who.now call.now).recs) }
+    ensures report { (head : List ℕ) → OnOk result (report.new ≡ report_after_call report.old (played (C.state kernel.old) (record { who = who.now; head = head; call = call.now }))) }
+    ensures readable { OnOk result (report.old ≡ a_report.All → AreReadable texts.entry.policy.now number (step (C.state kernel.old) who.now call.now).recs) }
 {
     let outcome = kernel.call(who, call)?;
-    note_all(texts, number, outcome.recs.items(), trail)?;
-    Ok(outcome.reply)
+    let shown = report.take_in(who, &outcome)?;
+    let replies = show(texts, shown, number, outcome.recs.items(), out, trail)?;
+    Ok(replies.then_some(outcome.reply))
 }
 
-// Plays a line that is one call: its records go to the trail, and then its reply to the output.
+// Plays a line that is one call, and writes what is reported of it.
 fn play_one<C: Calls, K: Sink, T: Sink>(
     texts: Texts<'_>,
     kernel: &mut C,
     number: u64,
+    report: &mut Report,
     who: &Pid,
     call: &Call,
     out: &mut K,
     trail: &mut T,
 ) -> Result<(), Fault>
     requires arguments { is_call (C.state kernel.old).top call.now ≡ true }
-    ensures writes { WritesBoth result (call_order (call_bytes texts.entry.policy.now number (played (C.state kernel.old) (item_of who.now call.now))))
+    requires small { CountsAtMost (2 ^ 60) report.old }
+    ensures writes { WritesBoth result (call_sends report.old texts.entry.policy.now number (played (C.state kernel.old) (item_of who.now call.now)))
         (sink_view (K.held out.old) (K.faults out.old)) (sink_view (K.held out.new) (K.faults out.new)) (sink_view (T.held trail.old) (T.faults trail.old)) (sink_view (T.held trail.new) (T.faults trail.new)) }
     ensures state { OnOk result (C.state kernel.new ≡ (step (C.state kernel.old) who.now call.now).state) }
-    ensures readable { OnOk result (AreReadable texts.entry.policy.now number (step (C.state kernel.old) who.now call.now).recs) }
+    ensures report { OnOk result (report.new ≡ report_after_call report.old (played (C.state kernel.old) (item_of who.now call.now))) }
+    ensures readable { OnOk result (report.old ≡ a_report.All → AreReadable texts.entry.policy.now number (step (C.state kernel.old) who.now call.now).recs) }
 {
-    let reply = play_call(texts, kernel, number, who, call, trail)?;
-    let text = reply_text(texts.alloc, texts.policy, who, call.name().word(), &reply)?;
-    answer(out, &text)
+    match play_call(texts, kernel, number, report, who, call, out, trail)? {
+        Some(reply) => {
+            let text = reply_text(texts.alloc, texts.policy, who, call.name().word(), &reply)?;
+            answer(out, &text)
+        }
+        None => Ok(()),
+    }
 }
 
-// Plays the call of a utility on one of its paths, in the same order.
+// Plays the call of a utility on one of its paths, in the same way.
 fn play_path<C: Calls, K: Sink, T: Sink>(
     texts: Texts<'_>,
     kernel: &mut C,
     number: u64,
+    report: &mut Report,
     util: &Util,
     at: usize,
     call: &Call,
@@ -117,14 +161,20 @@ fn play_path<C: Calls, K: Sink, T: Sink>(
     requires arguments { is_call (C.state kernel.old).top call.now ≡ true }
     requires at { at < length util.now.paths }
     requires whole { IsWhole util.now }
-    ensures writes { WritesBoth result (call_order (call_bytes texts.entry.policy.now number (played (C.state kernel.old) (record { who = util.now.who; head = head_at util.now at; call = call.now }))))
+    requires small { CountsAtMost (2 ^ 60) report.old }
+    ensures writes { WritesBoth result (call_sends report.old texts.entry.policy.now number (played (C.state kernel.old) (record { who = util.now.who; head = head_at util.now at; call = call.now })))
         (sink_view (K.held out.old) (K.faults out.old)) (sink_view (K.held out.new) (K.faults out.new)) (sink_view (T.held trail.old) (T.faults trail.old)) (sink_view (T.held trail.new) (T.faults trail.new)) }
     ensures state { OnOk result (C.state kernel.new ≡ (step (C.state kernel.old) util.now.who call.now).state) }
-    ensures readable { OnOk result (AreReadable texts.entry.policy.now number (step (C.state kernel.old) util.now.who call.now).recs) }
+    ensures report { OnOk result (report.new ≡ report_after_call report.old (played (C.state kernel.old) (record { who = util.now.who; head = head_at util.now at; call = call.now }))) }
+    ensures readable { OnOk result (report.old ≡ a_report.All → AreReadable texts.entry.policy.now number (step (C.state kernel.old) util.now.who call.now).recs) }
 {
-    let reply = play_call(texts, kernel, number, &util.who, call, trail)?;
-    let text = util_text(texts.alloc, texts.policy, util, at, &reply)?;
-    answer(out, &text)
+    match play_call(texts, kernel, number, report, &util.who, call, out, trail)? {
+        Some(reply) => {
+            let text = util_text(texts.alloc, texts.policy, util, at, &reply)?;
+            answer(out, &text)
+        }
+        None => Ok(()),
+    }
 }
 
 // Plays the calls of a utility, one for each path, and returns the number of the last one.
@@ -132,23 +182,26 @@ fn play_tool<C: Calls, K: Sink, T: Sink>(
     texts: Texts<'_>,
     kernel: &mut C,
     count: u64,
+    report: &mut Report,
     util: &Util,
     out: &mut K,
     trail: &mut T,
 ) -> Result<u64, Fault>
     requires calls { MayBePlayed (C.state kernel.old).top (line.Tool util.now) }
     requires small { count + length (items_of util.now) ≤ 2 ^ 60 }
-    ensures writes { WritesBoth result (items_order texts.entry.policy.now count (C.state kernel.old) (items_of util.now))
+    requires counted { CountsAtMost count report.old }
+    ensures writes { WritesBoth result (items_reported report.old texts.entry.policy.now count (C.state kernel.old) (items_of util.now))
         (sink_view (K.held out.old) (K.faults out.old)) (sink_view (K.held out.new) (K.faults out.new)) (sink_view (T.held trail.old) (T.faults trail.old)) (sink_view (T.held trail.new) (T.faults trail.new)) }
     ensures state { OnOk result (C.state kernel.new ≡ state_after_run (C.state kernel.old) (items_of util.now)) }
+    ensures report { OnOk result (report.new ≡ report_after report.old (run (C.state kernel.old) (items_of util.now))) }
     ensures count { IfOk result (λ last. last ≡ count + length (items_of util.now)) }
-    ensures readable { OnOk result (CallsReadable texts.entry.policy.now count (C.state kernel.old) (items_of util.now)) }
+    ensures readable { OnOk result (report.old ≡ a_report.All → CallsReadable texts.entry.policy.now count (C.state kernel.old) (items_of util.now)) }
 {
     let calls = expand(texts.alloc, util)?;
     let mut number = count;
     for (at, call) in calls.items().iter().enumerate() {
         number += 1;
-        play_path(texts, kernel, number, util, at, call, out, trail)?;
+        play_path(texts, kernel, number, report, util, at, call, out, trail)?;
     }
     Ok(number)
 }
@@ -158,25 +211,28 @@ fn play_line<C: Calls, K: Sink, T: Sink>(
     texts: Texts<'_>,
     kernel: &mut C,
     count: u64,
+    report: &mut Report,
     line: Line,
     out: &mut K,
     trail: &mut T,
 ) -> Result<u64, Fault>
     requires calls { MayBePlayed (C.state kernel.old).top line }
     requires small { count + length (items_in line) ≤ 2 ^ 60 }
-    ensures writes { WritesBoth result (items_order texts.entry.policy.now count (C.state kernel.old) (items_in line))
+    requires counted { CountsAtMost count report.old }
+    ensures writes { WritesBoth result (items_reported report.old texts.entry.policy.now count (C.state kernel.old) (items_in line))
         (sink_view (K.held out.old) (K.faults out.old)) (sink_view (K.held out.new) (K.faults out.new)) (sink_view (T.held trail.old) (T.faults trail.old)) (sink_view (T.held trail.new) (T.faults trail.new)) }
     ensures state { OnOk result (C.state kernel.new ≡ state_after_run (C.state kernel.old) (items_in line)) }
+    ensures report { OnOk result (report.new ≡ report_after report.old (run (C.state kernel.old) (items_in line))) }
     ensures count { IfOk result (λ last. last ≡ count + length (items_in line)) }
-    ensures readable { OnOk result (CallsReadable texts.entry.policy.now count (C.state kernel.old) (items_in line)) }
+    ensures readable { OnOk result (report.old ≡ a_report.All → CallsReadable texts.entry.policy.now count (C.state kernel.old) (items_in line)) }
 {
     match line {
         Line::Blank => Ok(count),
         Line::One { who, call } => {
-            play_one(texts, kernel, count + 1, &who, &call, out, trail)?;
+            play_one(texts, kernel, count + 1, report, &who, &call, out, trail)?;
             Ok(count + 1)
         }
-        Line::Tool(util) => play_tool(texts, kernel, count, &util, out, trail),
+        Line::Tool(util) => play_tool(texts, kernel, count, report, &util, out, trail),
     }
 }
 
@@ -200,27 +256,30 @@ pub struct Played {
     pub ending: InputEnd,
 }
 
-/// Plays a script to its end, each line as soon as it is read: the records of a call go to the trail, and then its
-/// reply to the output.
+/// Plays a script to its end, each line as soon as it is read, and writes what is reported of its calls.
 pub fn play_script<C: Calls, S: Source, K: Sink, T: Sink>(
     texts: Texts<'_>,
     kernel: &mut C,
     lines: &mut Lines,
     source: &mut S,
+    report: &mut Report,
     out: &mut K,
     trail: &mut T,
 ) -> Result<Played, Fault>
     requires more { lines.old.more ≡ true }
     requires small { lines.old.room ≤ 2 ^ 24 }
     requires top { (C.state kernel.old).top ≡ top_of texts.policy.now }
-    ensures { PlaysScript result texts.entry.policy.now (C.state kernel.old) (C.state kernel.new) lines.old lines.new (S.left source.old) (S.left source.new)
+    requires counted { CountsAtMost 0 report.old }
+    ensures { PlaysScript result texts.entry.policy.now report.old report.new (C.state kernel.old) (C.state kernel.new) lines.old lines.new (S.left source.old) (S.left source.new)
         (ends (S.faults source.old) (sink_view (K.held out.old) (K.faults out.old)) (sink_view (T.held trail.old) (T.faults trail.old)))
         (ends (S.faults source.new) (sink_view (K.held out.new) (K.faults out.new)) (sink_view (T.held trail.new) (T.faults trail.new))) }
 {
     let mut count = 0u64;
     loop {
         match read_next(texts, lines, source)? {
-            NextLine::Line(line) => count = play_line(texts, kernel, count, line, out, trail)?,
+            NextLine::Line(line) => {
+                count = play_line(texts, kernel, count, report, line, out, trail)?;
+            }
             NextLine::Ended(ending) => return Ok(Played { count, ending }),
         }
     }

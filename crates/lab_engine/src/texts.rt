@@ -27,6 +27,7 @@ impl Part {
         match self {
             Part::World => b"world",
             Part::Script => b"script",
+            Part::View => b"view",
         }
     }
 }
@@ -64,7 +65,7 @@ pub fn end_line(
 ) -> Result<Vec<u8>, NoMemory>
     ensures { IfOk result (λ text. text.items ≡ life_text texts.entry.policy.now who.now label.now caps.now) }
 {
-    let line = LineWriter::new(texts.alloc)
+    let line = LineWriter::new(texts.alloc)?
         .bytes(b"end")?
         .pid(texts.policy, who)?
         .label(texts.policy, label)?
@@ -93,6 +94,6 @@ fn put_last(line: LineWriter, count: u64, ending: InputEnd) -> Result<LineWriter
 pub fn last_line(alloc: Global, count: u64, ending: InputEnd) -> Result<Vec<u8>, NoMemory>
     ensures { IfOk result (λ text. text.items ≡ last_text count ending) }
 {
-    let line = put_last(LineWriter::new(alloc), count, ending)?;
+    let line = put_last(LineWriter::new(alloc)?, count, ending)?;
     Ok(line.line_feed()?.into_text())
 }

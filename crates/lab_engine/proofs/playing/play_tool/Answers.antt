@@ -1,9 +1,9 @@
-use Rattle.std.proofs.Common.{◌≡◌, ℕ, ◌<◌, ◌≤◌, true, ◌+◌, [], ◌∷◌, length, drop, get_or, refl, sym, ◌∙◌, ap, subst, arith}
+use Rattle.std.proofs.Common.{◌≡◌, ℕ, ◌<◌, ◌≤◌, ◌^◌, true, ◌+◌, [], ◌∷◌, length, drop, get_or, refl, sym, ◌∙◌, ap, subst, arith}
 use Rattle.std.specs.Prelude.{List}
 use Rattle.kern_model.specs.declared.calls.Call.{Call}
 use Rattle.kern_model.specs.Arguments.{is_call}
 use Rattle.kern_model.specs.State.{State}
-use Rattle.kern_model.specs.Run.{state_after_run}
+use Rattle.kern_model.specs.Run.{run, state_after_run}
 use Rattle.lab_lattice.specs.Label.{Label}
 use Rattle.iso_laws.proofs.Laws.{top_step}
 use Rattle.sec_utils.specs.declared.util.Util.{Util}
@@ -11,10 +11,12 @@ use Rattle.sec_utils.specs.Calls.{calls_of, IsWhole}
 use Rattle.sec_utils.specs.Items.{item_of, items_of}
 use Rattle.sec_utils.proofs.ItemLaws.{items_from, items_length, items_played}
 use Rattle.std.proofs.lemmas.List.{drop_all}
-use Rattle.lab_engine.specs.Playing.{items_order}
+use Rattle.kern_model.specs.declared.world.ScriptItem.{ScriptItem}
+use Rattle.lab_engine.specs.Report.{CountsAtMost, items_reported, report_after}
+use Rattle.lab_engine.proofs.ReportLemmas.{after_first, after_none, call_stays, counts_call, counts_longer, items_left, items_none}
 use Rattle.lab_engine.proofs.ReadableLemmas.{readable_call, readable_none}
 use Rattle.lab_engine.proofs.Sending.{out_of_memory}
-use Rattle.lab_engine.proofs.ScriptLemmas.{items_left, items_none, underway_begins, underway_ends, underway_more, underway_stops}
+use Rattle.lab_engine.proofs.ScriptLemmas.{underway_begins, underway_ends, underway_more, underway_stops}
 use Rattle.lab_engine.proofs.ToolLemmas.{first_playable}
 use Rattle.lab_engine.proofs.playing.play_tool.Goals as goal
 
@@ -39,7 +41,10 @@ pub loop-at-init : goal.loop-at-init
 loop-at-init g c =
     record {
       underway = λ source. underway_begins _ _;
-      readable = λ h. h;
+      readable = λ all h. h;
+      all = λ all. all;
+      kept = refl;
+      few = c.requires.counted;
       counted = omega arith;
       after = refl;
       top = refl;
@@ -67,9 +72,17 @@ pub play_path-requires-clause-whole : goal.play_path-requires-clause-whole
 play_path-requires-clause-whole g c =
     c.requires.calls.2
 
+pub play_path-requires-clause-small : goal.play_path-requires-clause-small
+play_path-requires-clause-small g c =
+    let len = items_length c.args.util.now c.requires.calls.2 in
+    let within = within_paths c.args.util.now c.requires.calls.2 c.items-call-items.result.now (c.items-call-items.ensures ∙ c.in_ok-calls.ensures.calls) (ap length c.items-call-items.ensures ∙ c.in_ok-calls.ensures.each) c.loop-at.at c.call-item.result c.loop-at-test.true c.call-item.is in
+    let counted = c.loop-at.invariant.counted in
+    let small = c.requires.small in
+    counts_longer c.loop-at.number (2 ^ 60) c.loop-at.report (omega arith) c.loop-at.invariant.few
+
 pub returns-in_err-play_path-clause-writes : goal.returns-in_err-play_path-clause-writes
 returns-in_err-play_path-clause-writes g c =
-    λ source. underway_stops _ _ _ _ (c.loop-at.invariant.underway source) _ _ (items_left c.args.texts.policy.now c.loop-at.number (g.C.Calls.state c.loop-at.kernel) _ _ _ _ (first c.args.util.now c.requires.calls.2 c.items-call-items.result.now (c.items-call-items.ensures ∙ c.in_ok-calls.ensures.calls) (ap length c.items-call-items.ensures ∙ c.in_ok-calls.ensures.each) c.loop-at.at c.call-item.result c.loop-at-test.true c.call-item.is) refl)
+    λ source. underway_stops _ _ _ _ (c.loop-at.invariant.underway source) _ _ (items_left c.args.texts.policy.now c.loop-at.report _ c.loop-at.number (g.C.Calls.state c.loop-at.kernel) _ _ _ _ (first c.args.util.now c.requires.calls.2 c.items-call-items.result.now (c.items-call-items.ensures ∙ c.in_ok-calls.ensures.calls) (ap length c.items-call-items.ensures ∙ c.in_ok-calls.ensures.each) c.loop-at.at c.call-item.result c.loop-at-test.true c.call-item.is) refl refl)
     _ _ _ (c.in_err-play_path.ensures.writes source) c.from_residual-in_err-play_path.ensures.1
 
 pub loop-at-preserved : goal.loop-at-preserved
@@ -80,9 +93,12 @@ loop-at-preserved g c =
     let left = drop (c.loop-at.at + 1) (items_of c.args.util.now) in
     record {
       underway = λ source. underway_more _ _ _ _ (i.underway source) _ _
-          (items_left c.args.texts.policy.now c.loop-at.number s _ _ _ _ (first c.args.util.now c.requires.calls.2 c.items-call-items.result.now (c.items-call-items.ensures ∙ c.in_ok-calls.ensures.calls) (ap length c.items-call-items.ensures ∙ c.in_ok-calls.ensures.each) c.loop-at.at c.call-item.result c.loop-at-test.true c.call-item.is) state)
+          (items_left c.args.texts.policy.now c.loop-at.report _ c.loop-at.number s _ _ _ _ (first c.args.util.now c.requires.calls.2 c.items-call-items.result.now (c.items-call-items.ensures ∙ c.in_ok-calls.ensures.calls) (ap length c.items-call-items.ensures ∙ c.in_ok-calls.ensures.each) c.loop-at.at c.call-item.result c.loop-at-test.true c.call-item.is) c.in_ok-play_path.ensures.report state)
           _ (c.in_ok-play_path.ensures.writes source);
-      readable = λ h. i.readable (readable_call c.args.texts.policy.now c.loop-at.number s _ _ _ _ (first c.args.util.now c.requires.calls.2 c.items-call-items.result.now (c.items-call-items.ensures ∙ c.in_ok-calls.ensures.calls) (ap length c.items-call-items.ensures ∙ c.in_ok-calls.ensures.each) c.loop-at.at c.call-item.result c.loop-at-test.true c.call-item.is) state c.in_ok-play_path.ensures.readable h);
+      readable = λ all h. i.readable all (readable_call c.args.texts.policy.now c.loop-at.number s _ _ _ _ (first c.args.util.now c.requires.calls.2 c.items-call-items.result.now (c.items-call-items.ensures ∙ c.in_ok-calls.ensures.calls) (ap length c.items-call-items.ensures ∙ c.in_ok-calls.ensures.each) c.loop-at.at c.call-item.result c.loop-at-test.true c.call-item.is) state (c.in_ok-play_path.ensures.readable (i.all all)) h);
+      all = λ all. call_stays c.loop-at.report _ _ c.in_ok-play_path.ensures.report (i.all all);
+      kept = sym (after_first c.loop-at.report _ s _ _ _ _ (first c.args.util.now c.requires.calls.2 c.items-call-items.result.now (c.items-call-items.ensures ∙ c.in_ok-calls.ensures.calls) (ap length c.items-call-items.ensures ∙ c.in_ok-calls.ensures.each) c.loop-at.at c.call-item.result c.loop-at-test.true c.call-item.is) c.in_ok-play_path.ensures.report state) ∙ i.kept;
+      few = subst (CountsAtMost (c.loop-at.number + 1)) (sym c.in_ok-play_path.ensures.report) (counts_call c.loop-at.number c.loop-at.report _ i.few);
       counted = omega (arith, i.counted);
       after = ap (λ (x : State). state_after_run x left) state ∙ sym (ap (state_after_run s) (first c.args.util.now c.requires.calls.2 c.items-call-items.result.now (c.items-call-items.ensures ∙ c.in_ok-calls.ensures.calls) (ap length c.items-call-items.ensures ∙ c.in_ok-calls.ensures.each) c.loop-at.at c.call-item.result c.loop-at-test.true c.call-item.is)) ∙ i.after;
       top = ap (λ (x : State). x.top) state ∙ top_step s c.args.util.now.who c.call-item.result ∙ i.top;
@@ -92,12 +108,18 @@ loop-at-preserved g c =
 pub returns-clause-writes : goal.returns-clause-writes
 returns-clause-writes g c =
     let none = no_more c.args.util.now c.requires.calls.2 c.items-call-items.result.now (ap length c.items-call-items.ensures ∙ c.in_ok-calls.ensures.each) c.loop-at.at c.loop-at-test.false in
-    λ source. underway_ends _ _ _ _ (c.loop-at.invariant.underway source) (ap (items_order c.args.texts.policy.now c.loop-at.number (g.C.Calls.state c.loop-at.kernel)) none ∙ items_none c.args.texts.policy.now c.loop-at.number (g.C.Calls.state c.loop-at.kernel))
+    λ source. underway_ends _ _ _ _ (c.loop-at.invariant.underway source) (ap (items_reported c.loop-at.report c.args.texts.policy.now c.loop-at.number (g.C.Calls.state c.loop-at.kernel)) none ∙ items_none c.args.texts.policy.now c.loop-at.report c.loop-at.number (g.C.Calls.state c.loop-at.kernel))
 
 pub returns-clause-state : goal.returns-clause-state
 returns-clause-state g c =
     let none = no_more c.args.util.now c.requires.calls.2 c.items-call-items.result.now (ap length c.items-call-items.ensures ∙ c.in_ok-calls.ensures.each) c.loop-at.at c.loop-at-test.false in
     sym (ap (state_after_run (g.C.Calls.state c.loop-at.kernel)) none) ∙ c.loop-at.invariant.after
+
+pub returns-clause-report : goal.returns-clause-report
+returns-clause-report g c =
+    let none = no_more c.args.util.now c.requires.calls.2 c.items-call-items.result.now (ap length c.items-call-items.ensures ∙ c.in_ok-calls.ensures.each) c.loop-at.at c.loop-at-test.false in
+    let s = g.C.Calls.state c.loop-at.kernel in
+    sym (ap (λ (is : List ScriptItem). report_after c.loop-at.report (run s is)) none ∙ after_none c.loop-at.report s) ∙ c.loop-at.invariant.kept
 
 pub returns-clause-count : goal.returns-clause-count
 returns-clause-count g c =
@@ -108,4 +130,4 @@ returns-clause-count g c =
 pub returns-clause-readable : goal.returns-clause-readable
 returns-clause-readable g c =
     let none = no_more c.args.util.now c.requires.calls.2 c.items-call-items.result.now (ap length c.items-call-items.ensures ∙ c.in_ok-calls.ensures.each) c.loop-at.at c.loop-at-test.false in
-    c.loop-at.invariant.readable (readable_none c.args.texts.policy.now c.loop-at.number (g.C.Calls.state c.loop-at.kernel) _ none)
+    λ all. c.loop-at.invariant.readable all (readable_none c.args.texts.policy.now c.loop-at.number (g.C.Calls.state c.loop-at.kernel) _ none)

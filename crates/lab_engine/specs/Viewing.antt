@@ -1,0 +1,46 @@
+-- What a label sees of a run.
+use Rattle.std.specs.Prelude.{ℕ, List, [], ◌++◌, cond, length}
+use Rattle.std.specs.List.{flat_map}
+use Rattle.std.specs.FinMap as map
+use Rattle.lab_lattice.specs.Label.{Label}
+use Rattle.lab_text.specs.Policy.{PolicyNames}
+use Rattle.kern_model.specs.Boot.{boot, boot_recs}
+use Rattle.kern_model.specs.Isolation.{low, part, part_script, up_to}
+use Rattle.kern_model.specs.Run.{CallRecord, run, state_after_run}
+use Rattle.kern_model.specs.State.{State}
+use Rattle.lab_engine.specs.declared.ending.InputEnd.{InputEnd}
+use Rattle.lab_engine.specs.declared.ending.InputEnd.TheVariants.{Whole}
+use Rattle.lab_engine.specs.Input.{Accepted, Script}
+use Rattle.lab_engine.specs.Report.{crossed_line, low_calls, some_crosses}
+use Rattle.lab_engine.specs.Session.{Session}
+use Rattle.lab_engine.specs.Texts.{caps_in, end_text, label_in, last_text, reply_text}
+
+-- the calls that l sees: those before the first one that crosses it
+abbrev pub seen : Label → List CallRecord → List CallRecord
+seen l calls = low_calls l (up_to l calls)
+
+-- the end lines of the processes that live and whose number's label l dominates, in the order of their numbers
+abbrev pub ends_below : Label → PolicyNames → State → List ℕ
+ends_below l policy s = flat_map (λ who. cond (low l who.label) (end_text policy who (label_in s who) (caps_in s who)) []) (map.keys s.procs)
+
+-- the last line of an input that is not whole
+abbrev pub unless_whole : InputEnd → List ℕ
+unless_whole Whole = []
+unless_whole ending = last_text 0 ending
+
+-- what a view from l writes: the replies to the calls that it sees, and `crossed` where one crosses, or else the end lines that it sees and the number of these replies
+unfoldable pub view_text : Label → Session → List ℕ
+view_text l s =
+    flat_map (reply_text s.policy) (seen l s.calls)
+    ++ cond (some_crosses l s.calls) (crossed_line ++ unless_whole s.ending) (ends_below l s.policy s.last_state ++ last_text (length (seen l s.calls)) s.ending)
+
+-- what is played of the part below l of a world and of a script, with nothing else there
+abbrev pub session_alone : Label → Accepted → Script → Session
+session_alone l a script = record {
+  policy = a.policy;
+  bound = a.world.bound;
+  boot_recs = boot_recs a.world;
+  calls = run (part l (boot a.world)) (part_script l script.items);
+  last_state = state_after_run (part l (boot a.world)) (part_script l script.items);
+  ending = script.ending;
+}

@@ -1,0 +1,48 @@
+// A script that is read and not played.
+ghost use Rattle.std.specs.Prelude.{◌≡◌, ℕ, ◌≤◌, ◌^◌, true, length};
+ghost use Rattle.sec_utils.specs.declared.util.Util.{Util};
+ghost use Rattle.sec_utils.specs.Calls.{IsWhole};
+ghost use Rattle.script_text.specs.declared.line.Line.TheVariants as a_line;
+ghost use Rattle.lab_engine.specs.Input.{items_in};
+ghost use Rattle.lab_engine.specs.Counts.{CountsOnce, counts};
+ghost use Rattle.lab_engine.specs.Checking.{ChecksScript};
+
+use crate::Fault;
+use crate::playing::Played;
+use crate::reading::{NextLine, read_next};
+use crate::texts::Texts;
+use io_ends::{Lines, Source};
+use script_text::Line;
+
+// How many calls a line stands for.
+fn calls_in(line: Line) -> u64
+    requires { (util : Util) → line ≡ a_line.Tool util → IsWhole util }
+    ensures { result ≡ length (items_in line) }
+{
+    match line {
+        Line::Blank => 0,
+        Line::One { .. } => 1,
+        Line::Tool(util) => util.paths.items().len() as u64,
+    }
+}
+
+/// Reads a script to its end without playing it: how many calls it has up to the first refused line, and how the input
+/// ends after them.
+pub fn check_script<S: Source>(
+    texts: Texts<'_>,
+    lines: &mut Lines,
+    source: &mut S,
+) -> Result<Played, Fault>
+    requires more { lines.old.more ≡ true }
+    requires small { lines.old.room ≤ 2 ^ 24 }
+    ensures checks { ChecksScript result texts.entry.policy.now lines.old lines.new (S.left source.old) (S.left source.new) }
+    ensures counts { (o t : ℕ) → CountsOnce result (counts (S.faults source.old) o t) (counts (S.faults source.new) o t) }
+{
+    let mut count = 0u64;
+    loop {
+        match read_next(texts, lines, source)? {
+            NextLine::Line(line) => count += calls_in(line),
+            NextLine::Ended(ending) => return Ok(Played { count, ending }),
+        }
+    }
+}
