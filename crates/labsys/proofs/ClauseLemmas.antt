@@ -1,16 +1,16 @@
 -- The clauses of the top call, from what a run did.
 use Rattle.std.specs.Prelude.{Result, IfOk, IfSome, Ok, Err, None, Some}
-use Rattle.std.proofs.Common.{◌≡◌, ℕ, ◌+◌, List, ◌++◌, refl, sym, ◌∙◌, ap, subst}
+use Rattle.std.proofs.Common.{◌≡◌, ℕ, ◌+◌, true, List, ◌++◌, refl, sym, ◌∙◌, ap, subst}
 use Rattle.std.proofs.lemmas.List.{append_cancel_right}
 use Rattle.std.specs.declared.option.Option.{Option}
-use Rattle.std.specs.Io.KnownBytes.{Appends, Consumes}
+use Rattle.std.specs.Io.KnownBytes.{Appends, Consumes, IsAtEnd}
 use Rattle.lab_lattice.specs.Label.{Label}
 use Rattle.kern_model.specs.declared.limits.TheConstants.{MAX_INPUT}
 use Rattle.kern_model.specs.Prefixes.{IsPrefix}
 use Rattle.kern_model.specs.Lineage.{OnlyDrops, GrowsByExec}
 use Rattle.iso_laws.proofs.Laws.{drops_by_records, growth_by_records}
 use Rattle.labsys.specs.declared.command.Command.{Command}
-use Rattle.labsys.specs.declared.command.Command.TheVariants.{Play}
+use Rattle.labsys.specs.declared.command.Command.TheVariants.{Play, View}
 use Rattle.lab_engine.specs.declared.ending.InputEnd.{InputEnd}
 use Rattle.lab_engine.specs.declared.ending.InputEnd.TheVariants.{Whole, Refused as IsRefused, TooMuch}
 use Rattle.lab_engine.specs.declared.ending.Fault.{Fault}
@@ -19,17 +19,22 @@ use Rattle.labsys.specs.declared.status.Status.{Status}
 use Rattle.labsys.specs.declared.status.Status.TheVariants.{Done, Usage, Refused, ReadFault, WriteFault, TrailFault, NoMemory, TooLong}
 use Rattle.lab_engine.specs.Input.{Accepted, Script, input_of}
 use Rattle.lab_engine.specs.Session.{Session, session_of, bytes_of, replies_of, records_of, head_text, tail_text}
-use Rattle.lab_engine.specs.Order.{Sent, calls_by, out_of, trail_of, session_order, order_by, order_of, order_of_calls, IsInOrder}
-use Rattle.labsys.specs.Commands.{ends_with, due}
+use Rattle.lab_engine.specs.Order.{Sent, calls_by, out_of, trail_of, session_order, order_by, order_of, order_of_calls, to_out, IsInOrder}
+use Rattle.labsys.specs.Commands.{Due, ends_with, due, reads_source}
 use Rattle.lab_engine.specs.Counts.{counted_by}
 use Rattle.labsys.specs.Counts.{counts_after}
 use Rattle.lab_engine.specs.Playing.{Ends, Sends, Writes, faults_of}
-use Rattle.labsys.specs.Playing.{EndsAs, RunDid}
+use Rattle.labsys.specs.Playing.{CommandDid}
 use Rattle.lab_engine.specs.Reading.{left_of}
+use Rattle.lab_engine.specs.Viewing.{session_alone, view_text}
+use Rattle.lab_text.specs.Text.{parse_label}
+use Rattle.kern_model.specs.Isolation.{up_to}
+use Rattle.labsys.specs.Viewing.{text_of_view, viewed_text}
 use Rattle.labsys.specs.Lineage.{PrintedByAny}
 use Rattle.labsys.specs.Readable.{InputReadable}
-use Rattle.labsys.specs.Clauses.{status_of, HasAllCalls, OnWhole, PlayedTaken, Reports, reports, Moved, WhereReported, WhereAccepted, TakesAtMost, Covered, RepliesFirst, Printed, Dropped, Written, Isolated, IsolatedWhole, SameBelow, TwoInputs, TwoWhole}
-use Rattle.lab_engine.proofs.Sending.{out_of-append, trail_of-append, prefix_of}
+use Rattle.labsys.specs.Clauses.{status_of, HasAllCalls, OnWhole, PlayedTaken, Reports, reports, Moved, run_of, WhereReported, WhereAccepted, TakesAtMost, Covered, RepliesFirst, Printed, Dropped, Written, Isolated, IsolatedWhole, SameBelow, TwoInputs, TwoWhole}
+use Rattle.lab_engine.proofs.Sending.{out_of-append, out_of-to_out, trail_of-append, prefix_of}
+use Rattle.lab_engine.proofs.ViewLemmas.{view_alone}
 use Rattle.labsys.proofs.Coverage.{records_alone, replies_alone, session_out, session_trail, covered, replies_first, recorded}
 use Rattle.labsys.proofs.AcceptedLemmas.{accepted_input}
 use Rattle.labsys.proofs.InputLemmas.{left_taken, text_left}
@@ -86,10 +91,16 @@ on_whole (Err Write) P f = tt
 on_whole (Err Trail) P f = tt
 on_whole (Err Memory) P f = tt
 
--- there is one command: what holds of it holds of each
-on_command : (o : Option Command) (P : Command → Type 0) → P Play → IfSome o P
-on_command None P p = tt
-on_command (Some Play) P p = p
+-- what holds of the command that the words name
+pub of_command : (o : Option Command) (c : Command) (P : Command → Type 0) → o ≡ Some c → P c → IfSome o P
+of_command o c P is p = subst (λ (x : Option Command). IfSome x P) (sym is) p
+
+-- words that name a command and are those of `play` name that
+pub is_play : (o : Option Command) (c : Command) → o ≡ Some c → o ≡ Some Play → c ≡ Play
+is_play o c is play = let same : Some c ≡ Some Play = sym is ∙ play in cc
+
+pub as_play : (c : Command) (r : Result InputEnd Fault) (l l' : Option (List ℕ)) (entry exit : Ends) → c ≡ Play → CommandDid c r l l' entry exit → CommandDid Play r l l' entry exit
+as_play c r l l' entry exit is x = subst (λ (k : Command). CommandDid k r l l' entry exit) is x
 
 -- ---- counts
 
@@ -157,33 +168,90 @@ only_read (Err Write) is = absurd (cc)
 only_read (Err Trail) is = absurd (cc)
 only_read (Err Memory) is = absurd (cc)
 
--- ---- a run
+only_done : (r : Result InputEnd Fault) → status_of r ≡ Done → r ≡ Ok Whole
+only_done (Ok Whole) is = refl
+only_done (Ok (IsRefused n part why)) is = absurd (cc)
+only_done (Ok TooMuch) is = absurd (cc)
+only_done (Err Read) is = absurd (cc)
+only_done (Err Write) is = absurd (cc)
+only_done (Err Trail) is = absurd (cc)
+only_done (Err Memory) is = absurd (cc)
 
-module _ (r : Result InputEnd Fault) (l l' : Option (List ℕ)) (entry exit : Ends) (x : RunDid r l l' entry exit) where
+-- ---- a command
+
+module _ (c : Command) (r : Result InputEnd Fault) (l l' : Option (List ℕ)) (entry exit : Ends) (x : CommandDid c r l l' entry exit) where
   abbrev old : Reports
   old = reports l entry.out.held entry.trail.held
 
   abbrev now : Reports
   now = reports l' exit.out.held exit.trail.held
 
+  abbrev all : Due
+  all = due c (x.taken ++ left_of l')
+
+  -- what is due of the bytes that the source had
+  all_due : (text : List ℕ) → l ≡ Some text → due c text ≡ all
+  all_due text el = ap (λ (z : List ℕ). due c z) (text_left l l' x.taken text el x.took)
+
   -- what holds of each prefix of the order holds of what was sent, where the ends report
-  where_sent : (P : List ℕ → List ℕ → List ℕ → Type 0) → ((text : List ℕ) (sent rest : List Sent) → order_of (input_of text) ≡ sent ++ rest → P text (out_of sent) (trail_of sent)) → WhereReported old now P
+  where_sent : (P : List ℕ → List ℕ → List ℕ → Type 0) → ((text : List ℕ) (sent rest : List Sent) → (due c text).order ≡ sent ++ rest → P text (out_of sent) (trail_of sent)) → WhereReported old now P
   where_sent P f text before above el eo et =
-      let p = prefix_of r (order_of (input_of (x.taken ++ left_of l'))) entry exit x.writes in
+      let p = prefix_of r all.order entry exit x.writes in
       moved l l' entry exit x.taken x.took p.sent p.sends P text before above el eo et
-      (f text p.sent p.rest (ap (λ (z : List ℕ). order_of (input_of z)) (text_left l l' x.taken text el x.took) ∙ p.prefix))
+      (f text p.sent p.rest (ap (λ (d : Due). d.order) (all_due text el) ∙ p.prefix))
+
+  pub run_order : (o : Option Command) → o ≡ Some c → IfSome o (λ command. WhereReported old now (λ text out trail. IsInOrder (due command text).order out trail))
+  run_order o is = of_command o c (λ command. WhereReported old now (λ text out trail. IsInOrder (due command text).order out trail)) is
+      (where_sent _ (λ text sent rest e. record { sent = sent; rest = rest; order_is = e; out_is = refl; trail_is = refl }))
+
+  pub run_counts : (s : Status) → s ≡ status_of r → faults_of exit ≡ counts_after s (faults_of entry)
+  run_counts s is = subst (λ (z : Status). faults_of exit ≡ counts_after z (faults_of entry)) (sym is) (counts_by r all.order entry exit x.writes)
+
+  pub run_few : TakesAtMost (MAX_INPUT + 1) l l'
+  run_few = record { taken = x.taken; took = x.took; few = x.few }
+
+  run_all : (s : Status) → s ≡ status_of r → OnWhole s (WhereReported old now (λ text out trail. (out ≡ out_of (due c text).order) × (trail ≡ trail_of (due c text).order)))
+  run_all s is =
+      let P : Type 0 = WhereReported old now (λ text out trail. (out ≡ out_of (due c text).order) × (trail ≡ trail_of (due c text).order)) in
+      subst (λ z. OnWhole z P) (sym is) (on_whole r (λ _. P) (λ e ok text before above el eo et.
+      let w = subst (λ (q : Result InputEnd Fault). Writes q all.order entry exit) ok x.writes in
+      let same = ap (λ (d : Due). d.order) (sym (all_due text el)) in
+      moved l l' entry exit x.taken x.took all.order w.sends _ text before above el eo et (ap out_of same, ap trail_of same)))
+
+  pub run_whole : (s : Status) → s ≡ status_of r → (o : Option Command) → o ≡ Some c
+      → IfSome o (λ command. OnWhole s (WhereReported old now (λ text out trail. (out ≡ out_of (due command text).order) × (trail ≡ trail_of (due command text).order))))
+  run_whole s is o named = of_command o c (λ command. OnWhole s (WhereReported old now (λ text out trail. (out ≡ out_of (due command text).order) × (trail ≡ trail_of (due command text).order)))) named (run_all s is)
+
+  ends_by : (s : Status) → s ≡ status_of r → OnWhole s ((text : List ℕ) → l ≡ Some text → s ≡ (due c text).status)
+  ends_by s is =
+      let P : Status → Type 0 = λ z. (text : List ℕ) → l ≡ Some text → z ≡ (due c text).status in
+      subst (λ z. OnWhole z (P z)) (sym is) (on_whole r P (λ e ok text el.
+      subst (λ (q : Result InputEnd Fault). IfOk q (λ k. ends_with k ≡ all.status)) ok x.status ∙ ap (λ (d : Due). d.status) (sym (all_due text el))))
+
+  pub run_ending : (s : Status) → s ≡ status_of r → (o : Option Command) → o ≡ Some c → IfSome o (λ command. OnWhole s ((text : List ℕ) → l ≡ Some text → s ≡ (due command text).status))
+  run_ending s is o named = of_command o c (λ command. OnWhole s ((text : List ℕ) → l ≡ Some text → s ≡ (due command text).status)) named (ends_by s is)
+
+  pub run_to_the_end : (s : Status) → s ≡ status_of r → (o : Option Command) → o ≡ Some c → IfSome o (λ command. reads_source command ≡ true → s ≡ Done → IsAtEnd l')
+  run_to_the_end s is o named = of_command o c (λ command. reads_source command ≡ true → s ≡ Done → IsAtEnd l') named (λ reads done.
+      subst (λ (q : Result InputEnd Fault). IfOk q (λ e. e ≡ Whole → IsAtEnd l')) (only_done r (sym is ∙ done)) (x.to_the_end reads) refl)
+
+-- ---- what `play` did
+
+module _ (r : Result InputEnd Fault) (l l' : Option (List ℕ)) (entry exit : Ends) (x : CommandDid Play r l l' entry exit) where
+  abbrev before_play : Reports
+  before_play = reports l entry.out.held entry.trail.held
+
+  abbrev after_play : Reports
+  after_play = reports l' exit.out.held exit.trail.held
 
   -- the same for what was played on an accepted world
   where_played : (P : List ℕ → Accepted → Script → List ℕ → List ℕ → Type 0)
       → ((text : List ℕ) (a : Accepted) (sent rest : List Sent) → (input_of text).accepted ≡ Some a → session_order (session_of a (input_of text).script) ≡ sent ++ rest → P text a (input_of text).script (out_of sent) (trail_of sent))
-      → WhereReported old now (λ text out trail. WhereAccepted text (λ a m. P text a m out trail))
-  where_played P f = where_sent _ (λ text sent rest e a is. f text a sent rest is (by_session text a sent rest is e))
-
-  pub run_order : (c : Option Command) → IfSome c (λ command. WhereReported old now (λ text out trail. IsInOrder (due command text).order out trail))
-  run_order c = on_command c _ (where_sent _ (λ text sent rest e. record { sent = sent; rest = rest; order_is = e; out_is = refl; trail_is = refl }))
+      → WhereReported before_play after_play (λ text out trail. WhereAccepted text (λ a m. P text a m out trail))
+  where_played P f = where_sent Play r l l' entry exit x _ (λ text sent rest e a is. f text a sent rest is (by_session text a sent rest is e))
 
   -- the trail as anyone reads it, where what was played is readable
-  pub run_printed_by_any : ((text : List ℕ) → l ≡ Some text → InputReadable (input_of text) entry exit) → WhereReported old now (λ text out trail. WhereAccepted text (λ a m. PrintedByAny (session_of a m) out trail))
+  pub run_printed_by_any : ((text : List ℕ) → l ≡ Some text → InputReadable (input_of text) entry exit) → WhereReported before_play after_play (λ text out trail. WhereAccepted text (λ a m. PrintedByAny (session_of a m) out trail))
   run_printed_by_any readable text before above el eo et =
       let p = prefix_of r (order_of (input_of (x.taken ++ left_of l'))) entry exit x.writes in
       moved l l' entry exit x.taken x.took p.sent p.sends (λ text out trail. WhereAccepted text (λ a m. PrintedByAny (session_of a m) out trail)) text before above el eo et
@@ -193,72 +261,69 @@ module _ (r : Result InputEnd Fault) (l l' : Option (List ℕ)) (entry exit : En
       printed_by_any a m (accepted_input text a is) (out_of p.sent) (trail_of p.sent) (readable_by_then (session_of a m) entry exit p.sent before (readable text el a is) eo p.sends)
       (session_printed a m p.sent p.rest order) (session_dropped a m p.sent p.rest order))
 
-  pub run_covered : WhereReported old now (λ text out trail. WhereAccepted text (λ a m. Covered (session_of a m) out trail))
+  pub run_covered : WhereReported before_play after_play (λ text out trail. WhereAccepted text (λ a m. Covered (session_of a m) out trail))
   run_covered = where_played (λ text a m out trail. Covered (session_of a m) out trail) (λ text a sent rest is e. covered (session_of a (input_of text).script) sent rest e)
 
-  pub run_replies_first : WhereReported old now (λ text out trail. WhereAccepted text (λ a m. RepliesFirst (session_of a m) out trail))
+  pub run_replies_first : WhereReported before_play after_play (λ text out trail. WhereAccepted text (λ a m. RepliesFirst (session_of a m) out trail))
   run_replies_first = where_played (λ text a m out trail. RepliesFirst (session_of a m) out trail) (λ text a sent rest is e. replies_first (session_of a (input_of text).script) sent rest e)
 
-  pub run_printed : WhereReported old now (λ text out trail. WhereAccepted text (λ a m. Printed (session_of a m) out trail))
+  pub run_printed : WhereReported before_play after_play (λ text out trail. WhereAccepted text (λ a m. Printed (session_of a m) out trail))
   run_printed = where_played (λ text a m out trail. Printed (session_of a m) out trail) (λ text a sent rest is e. session_printed a (input_of text).script sent rest e)
 
-  pub run_dropped : WhereReported old now (λ text out trail. WhereAccepted text (λ a m. Dropped (session_of a m) trail))
+  pub run_dropped : WhereReported before_play after_play (λ text out trail. WhereAccepted text (λ a m. Dropped (session_of a m) trail))
   run_dropped = where_played (λ text a m out trail. Dropped (session_of a m) trail) (λ text a sent rest is e. session_dropped a (input_of text).script sent rest e)
 
-  pub run_isolated : (k : Label) → WhereReported old now (λ text out trail. WhereAccepted text (λ a m. Isolated k a m out))
+  pub run_isolated : (k : Label) → WhereReported before_play after_play (λ text out trail. WhereAccepted text (λ a m. Isolated k a m out))
   run_isolated k = where_played (λ text a m out trail. Isolated k a m out) (λ text a sent rest is e.
       is_isolated k a (input_of text).script (accepted_input text a is) (out_of sent) (session_written (session_of a (input_of text).script) sent rest e))
 
-  pub run_two_inputs : (k : Label) (other : List ℕ) → WhereReported old now
+  pub run_two_inputs : (k : Label) (other : List ℕ) → WhereReported before_play after_play
       (λ text out trail. WhereAccepted text (λ a m. WhereAccepted other (λ b m'. SameBelow k a m b m' → TwoInputs k a m b m' out)))
   run_two_inputs k other = where_played (λ text a m out trail. WhereAccepted other (λ b m'. SameBelow k a m b m' → TwoInputs k a m b m' out)) (λ text a sent rest is e b is' same.
       two_agree k a (input_of text).script (accepted_input text a is) b (input_of other).script (accepted_input other b is') same (out_of sent) (session_written (session_of a (input_of text).script) sent rest e))
 
   -- where a read failed, what was taken was played
-  pub run_line_by_line : (s : Status) → s ≡ status_of r → s ≡ ReadFault → WhereReported old now (λ text out trail. PlayedTaken text l' out trail)
+  pub run_line_by_line : (s : Status) → s ≡ status_of r → s ≡ ReadFault → WhereReported before_play after_play (λ text out trail. PlayedTaken text l' out trail)
   run_line_by_line s is read text before above el eo et =
-      let sends = x.by_line (only_read r (sym is ∙ read)) in
+      let sends = x.by_line refl (only_read r (sym is ∙ read)) in
       moved l l' entry exit x.taken x.took (order_of_calls (input_of x.taken)) sends (λ text out trail. PlayedTaken text l' out trail) text before above el eo et
       (λ taken rest text_is left_is.
       let same : taken ≡ x.taken = append_cancel_right taken x.taken rest (sym text_is ∙ text_left l l' x.taken text el x.took ∙ ap (λ (o : Option (List ℕ)). x.taken ++ left_of o) left_is) in
       subst (λ (t : List ℕ). HasAllCalls (input_of t).accepted (input_of t).script (out_of (order_of_calls (input_of x.taken))) (trail_of (order_of_calls (input_of x.taken)))) (sym same)
       (all_calls (input_of x.taken).accepted (input_of x.taken).script))
 
-  pub run_counts : (s : Status) → s ≡ status_of r → faults_of exit ≡ counts_after s (faults_of entry)
-  run_counts s is = subst (λ (z : Status). faults_of exit ≡ counts_after z (faults_of entry)) (sym is) (counts_by r (order_of (input_of (x.taken ++ left_of l'))) entry exit x.writes)
+  pub run_isolated_whole : (s : Status) → s ≡ status_of r → (k : Label) → OnWhole s (WhereReported before_play after_play (λ text out trail. WhereAccepted text (λ a m. IsolatedWhole k a m out)))
+  run_isolated_whole s is k = whole_gives s _ _ (reported_gives before_play after_play _ _ (λ text out trail w a acc.
+      is_isolated_whole k a (input_of text).script (accepted_input text a acc) out (all_written text a out acc w.0))) (run_all Play r l l' entry exit x s is)
 
-  pub run_few : TakesAtMost (MAX_INPUT + 1) l l'
-  run_few = record { taken = x.taken; took = x.took; few = x.few }
-
-  -- ---- a whole run
-
-  run_all : (s : Status) → s ≡ status_of r → OnWhole s (WhereReported old now (λ text out trail. (out ≡ out_of (order_of (input_of text))) × (trail ≡ trail_of (order_of (input_of text)))))
-  run_all s is =
-      let P : Type 0 = WhereReported old now (λ text out trail. (out ≡ out_of (order_of (input_of text))) × (trail ≡ trail_of (order_of (input_of text)))) in
-      subst (λ z. OnWhole z P) (sym is) (on_whole r (λ _. P) (λ e ok text before above el eo et.
-      let w = subst (λ (q : Result InputEnd Fault). Writes q (order_of (input_of (x.taken ++ left_of l'))) entry exit) ok x.writes in
-      let same = ap (λ (z : List ℕ). order_of (input_of z)) (sym (text_left l l' x.taken text el x.took)) in
-      moved l l' entry exit x.taken x.took (order_of (input_of (x.taken ++ left_of l'))) w.sends _ text before above el eo et (ap out_of same, ap trail_of same)))
-
-  pub run_whole : (s : Status) → s ≡ status_of r → (c : Option Command)
-      → IfSome c (λ command. OnWhole s (WhereReported old now (λ text out trail. (out ≡ out_of (due command text).order) × (trail ≡ trail_of (due command text).order))))
-  run_whole s is c = on_command c _ (run_all s is)
-
-  ends_by : (s : Status) → s ≡ status_of r → OnWhole s ((text : List ℕ) → l ≡ Some text → s ≡ ends_with (input_of text).script.ending)
-  ends_by s is =
-      let P : Status → Type 0 = λ z. (text : List ℕ) → l ≡ Some text → z ≡ ends_with (input_of text).script.ending in
-      subst (λ z. OnWhole z (P z)) (sym is) (on_whole r P (λ e ok text el.
-      let w = subst (λ (q : Result InputEnd Fault). IfOk q (λ k. EndsAs k (input_of (x.taken ++ left_of l')).script.ending l')) ok x.ending in
-      ap ends_with (w.same ∙ ap (λ (z : List ℕ). (input_of z).script.ending) (sym (text_left l l' x.taken text el x.took)))))
-
-  pub run_ending : (s : Status) → s ≡ status_of r → (c : Option Command) → IfSome c (λ command. OnWhole s ((text : List ℕ) → l ≡ Some text → s ≡ (due command text).status))
-  run_ending s is c = on_command c _ (ends_by s is)
-
-  pub run_isolated_whole : (s : Status) → s ≡ status_of r → (k : Label) → OnWhole s (WhereReported old now (λ text out trail. WhereAccepted text (λ a m. IsolatedWhole k a m out)))
-  run_isolated_whole s is k = whole_gives s _ _ (reported_gives old now _ _ (λ text out trail w a acc.
-      is_isolated_whole k a (input_of text).script (accepted_input text a acc) out (all_written text a out acc w.0))) (run_all s is)
-
-  pub run_two_whole : (s : Status) → s ≡ status_of r → (k : Label) (other : List ℕ) → OnWhole s (WhereReported old now
+  pub run_two_whole : (s : Status) → s ≡ status_of r → (k : Label) (other : List ℕ) → OnWhole s (WhereReported before_play after_play
       (λ text out trail. WhereAccepted text (λ a m. WhereAccepted other (λ b m'. SameBelow k a m b m' → TwoWhole k a m b m' out))))
-  run_two_whole s is k other = whole_gives s _ _ (reported_gives old now _ _ (λ text out trail w a acc b acc' same.
-      two_whole k a (input_of text).script (accepted_input text a acc) b (input_of other).script (accepted_input other b acc') same out (all_written text a out acc w.0))) (run_all s is)
+  run_two_whole s is k other = whole_gives s _ _ (reported_gives before_play after_play _ _ (λ text out trail w a acc b acc' same.
+      two_whole k a (input_of text).script (accepted_input text a acc) b (input_of other).script (accepted_input other b acc') same out (all_written text a out acc w.0))) (run_all Play r l l' entry exit x s is)
+
+-- ---- what `view` did
+
+-- words that name a command and are those of `view` name that
+pub as_view : (o : Option Command) (c : Command) (word : List ℕ) (r : Result InputEnd Fault) (l l' : Option (List ℕ)) (entry exit : Ends) → o ≡ Some c → o ≡ Some (View word) → CommandDid c r l l' entry exit → CommandDid (View word) r l l' entry exit
+as_view o c word r l l' entry exit is view x = let same : Some c ≡ Some (View word) = sym is ∙ view in subst (λ (k : Command). CommandDid k r l l' entry exit) (cc) x
+
+-- what a view wrote of an accepted world
+viewed : (word text : List ℕ) (k : Label) (a : Accepted) → (input_of text).accepted ≡ Some a → parse_label a.policy word ≡ Some k → out_of (due (View word) text).order ≡ view_text k (session_of a (input_of text).script)
+viewed word text k a is named =
+    let m : Script = (input_of text).script in
+    ap (λ (w : Option Accepted). out_of (to_out (text_of_view word w m))) is
+    ∙ ap (λ (x : Option Label). out_of (to_out (viewed_text x a m))) named
+    ∙ out_of-to_out (view_text k (session_of a m))
+
+-- where nothing crosses, it is a view of the part below the label alone
+pub run_view_alone : (word : List ℕ) (r : Result InputEnd Fault) (l l' : Option (List ℕ)) (entry exit : Ends) → CommandDid (View word) r l l' entry exit → (s : Status) → s ≡ status_of r → s ≡ Done → (k : Label)
+    → WhereReported (reports l entry.out.held entry.trail.held) (reports l' exit.out.held exit.trail.held)
+    (λ text out trail. WhereAccepted text (λ a m. parse_label a.policy word ≡ Some k → up_to k (run_of a m) ≡ run_of a m → out ≡ view_text k (session_alone k a m)))
+run_view_alone word r l l' entry exit x s is done k =
+    let old = reports l entry.out.held entry.trail.held in
+    let now = reports l' exit.out.held exit.trail.held in
+    let all : WhereReported old now (λ text out trail. (out ≡ out_of (due (View word) text).order) × (trail ≡ trail_of (due (View word) text).order)) =
+    subst (λ z. OnWhole z (WhereReported old now (λ text out trail. (out ≡ out_of (due (View word) text).order) × (trail ≡ trail_of (due (View word) text).order)))) done (run_all (View word) r l l' entry exit x s is) in
+    reported_gives old now _ _ (λ text out trail w a acc named none.
+    let fits = accepted_input text a acc in
+    w.0 ∙ viewed word text k a acc named ∙ view_alone k a (input_of text).script fits.world fits.script none) all

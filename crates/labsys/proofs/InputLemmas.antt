@@ -7,9 +7,12 @@ use Rattle.kern_model.specs.declared.limits.TheConstants.{MAX_INPUT}
 use Rattle.world_text.specs.declared.expecting.Expecting.TheVariants as at
 use Rattle.lab_engine.specs.declared.ending.InputEnd.{InputEnd}
 use Rattle.lab_engine.specs.Input.{Accepted, Input, input_of, no_world}
-use Rattle.lab_engine.specs.Order.{calls_by, order_by, order_of, order_of_calls, to_out}
+use Rattle.lab_engine.specs.Order.{Sent, calls_by, order_by, order_of, order_of_calls, to_out}
 use Rattle.lab_engine.specs.Reading.{input_at, left_of}
 use Rattle.lab_engine.specs.Texts.{last_text}
+use Rattle.labsys.specs.declared.command.Command.{Command}
+use Rattle.labsys.specs.declared.command.Command.TheVariants.{Play, Check, Gen, View}
+use Rattle.labsys.specs.Commands.{due, due_of_check, due_of_play, due_of_view, ends_with, reads_source}
 
 -- ---- what a source has left
 
@@ -34,9 +37,16 @@ unfolding input_of input_at
 input_starts s is text = sym (ap (λ (r : LinesState). input_at at.Format r text) is)
 
 -- without a world the order is the last line, and no call is played
-pub without_world : (e : InputEnd) → to_out (last_text 0 e) ≡ order_of (no_world e)
+without_world : (e : InputEnd) → to_out (last_text 0 e) ≡ order_of (no_world e)
 unfolding order_by
 without_world e = refl
+
+-- what is due of a command that reads the source is then the last line
+pub due_without_world : (c : Command) → reads_source c ≡ true → (text : List ℕ) (e : InputEnd) → input_of text ≡ no_world e → due c text ≡ record { order = to_out (last_text 0 e); status = ends_with e }
+due_without_world Play reads text e is = ap due_of_play is ∙ ap (λ (o : List Sent). record { order = o; status = ends_with e }) (sym (without_world e))
+due_without_world Check reads text e is = ap due_of_check is
+due_without_world (Gen n) reads text e is = absurd (cc)
+due_without_world (View word) reads text e is = ap (due_of_view word) is
 
 pub no_calls : (i : Input) → i.accepted ≡ None → order_of_calls i ≡ []
 unfolding calls_by

@@ -1,3 +1,5 @@
+pub mod CommandLemmas
+pub mod GeneratedLemmas
 pub mod InputLemmas
 pub mod Coverage
 pub mod AcceptedLemmas
@@ -6,4 +8,7 @@ pub mod Isolating
 pub mod LineageLemmas
 pub mod ReadableLemmas
 pub mod PlayLemmas
+pub mod CheckLemmas
+pub mod ViewedLemmas
+pub mod PerformLemmas
 pub mod ClauseLemmas

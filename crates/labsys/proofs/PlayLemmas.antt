@@ -4,6 +4,7 @@ use Rattle.std.proofs.KnownBytes.{Appends-nil, Consumes-nil}
 use Rattle.std.proofs.lemmas.Result.{IfOk-weaker}
 use Rattle.std.specs.Prelude.{Option, None, Some, Result, Ok, Err, IsErrAnd, IfOk}
 use Rattle.std.specs.List.{AllByRecursion, flat_map}
+use Rattle.std.specs.Io.KnownBytes.{IsAtEnd}
 use Rattle.io_ends.specs.LinesState.{LinesState, may_take}
 use Rattle.io_ends.specs.Sinks.{SinkView}
 use Rattle.aud_record.specs.Written.{header_text, rec_text}
@@ -18,26 +19,35 @@ use Rattle.iso_laws.proofs.AllLemmas.{all-append}
 use Rattle.lab_engine.specs.declared.ending.Fault.{Fault}
 use Rattle.lab_engine.specs.declared.ending.Fault.TheVariants.{Read, NoMemory}
 use Rattle.lab_engine.specs.declared.ending.InputEnd.{InputEnd}
-use Rattle.lab_engine.specs.declared.ending.InputEnd.TheVariants.{TooMuch}
+use Rattle.lab_engine.specs.declared.ending.InputEnd.TheVariants.{TooMuch, Whole as AllRead}
 use Rattle.lab_engine.specs.declared.reading.ReadWorld.{ReadWorld}
 use Rattle.lab_engine.specs.declared.reading.ReadWorld.TheVariants as world
 use Rattle.lab_engine.specs.declared.playing.Played.{Played}
+use Rattle.lab_engine.specs.declared.reporting.Report.{Report}
+use Rattle.lab_engine.specs.declared.reporting.Report.TheVariants.{All}
 use Rattle.world_text.specs.declared.expecting.Expecting.TheVariants as at
 use Rattle.lab_engine.specs.Counts.{Counts, counts, counted_by}
-use Rattle.lab_engine.specs.Input.{Accepted, Input, Script, input_of, no_world}
-use Rattle.lab_engine.specs.Order.{Sent, calls_by, call_order, order_before_end, order_by, order_of, order_of_calls, out_of, session_order, to_out, to_trail, trail_of}
+use Rattle.lab_engine.specs.Input.{Accepted, Input, Script, input_of}
+use Rattle.lab_engine.specs.Order.{Sent, calls_by, call_order, order_before_end, order_by, order_of_calls, out_of, session_order, to_out, to_trail, trail_of}
 use Rattle.lab_engine.specs.Playing.{Ends, ends, PlaysAll, Sends, SendsAll, SendsPrefix, StopsBy, StopsIn, Writes, items_order}
+use Rattle.lab_engine.specs.Report.{items_reported}
 use Rattle.lab_engine.specs.Readable.{AreReadable, IsReadable}
 use Rattle.lab_engine.specs.Reading.{Accepts, EndsWorld, HasNoWorld, ReadsWorld, Takes, left_of, script_at}
 use Rattle.lab_engine.specs.Session.{bytes_of, head_text, numbered_from, session_of, tail_text}
 use Rattle.lab_engine.specs.Texts.{ends_text, last_text}
-use Rattle.lab_engine.proofs.Progress.{not_a_read, takes_more, takes_nothing}
+use Rattle.lab_engine.proofs.Progress.{not_a_read}
+use Rattle.lab_engine.proofs.ReadSoFar.{takes_more, takes_nothing}
 use Rattle.lab_engine.proofs.ReadableLemmas.{with_numbers}
+use Rattle.lab_engine.proofs.ReportLemmas.{all_reported}
 use Rattle.lab_engine.proofs.Sending.{goes_on, in_order, out_of_memory, passes_on, prefix_after, prefix_longer, prefix_nothing, sends_more, stops_after, stops_longer}
-use Rattle.labsys.specs.Playing.{EndsAs, PlaysWorld, RunDid}
+use Rattle.labsys.specs.declared.command.Command.{Command}
+use Rattle.labsys.specs.declared.command.Command.TheVariants.{Play, Check, View}
+use Rattle.labsys.specs.Commands.{Due, due, due_of_check, due_of_play, due_of_view, ends_with, reads_source}
+use Rattle.labsys.specs.Playing.{ChecksWorld, CommandDid, EndsAs, PlaysWorld, ViewsWorld}
 use Rattle.labsys.specs.Readable.{InputReadable, SessionReadable}
+use Rattle.lab_text.specs.Text.{parse_label}
 use Rattle.labsys.proofs.AcceptedLemmas.{IsPlayable, accepted_input}
-use Rattle.labsys.proofs.InputLemmas.{input_starts, no_calls, text_left, without_world}
+use Rattle.labsys.proofs.InputLemmas.{due_without_world, input_starts, no_calls, text_left}
 use Rattle.labsys.proofs.ReadableLemmas.{input_played, input_without_world}
 
 -- ---- a run that failed
@@ -71,12 +81,13 @@ module _ (a : Accepted) (recs : List Rec) (recs_are : recs ≡ boot_recs a.world
   head = to_trail (header_text a.policy a.world.bound ++ flat_map (rec_text a.policy 0) recs)
 
   abbrev calls : Script → List Sent
-  calls m = items_order a.policy 0 s m.items
+  calls m = items_reported All a.policy 0 s m.items
 
   head_first : (m : Script) → head ++ calls m ≡ order_before_end (session_of a m)
   unfolding order_before_end head_text items_order
   head_first m =
-      ap (λ (rs : List Rec). to_trail (header_text a.policy a.world.bound ++ flat_map (rec_text a.policy 0) rs) ++ items_order a.policy 0 s m.items) recs_are
+      ap (λ (o : List Sent). head ++ o) (all_reported a.policy 0 s m.items)
+      ∙ ap (λ (rs : List Rec). to_trail (header_text a.policy a.world.bound ++ flat_map (rec_text a.policy 0) rs) ++ items_order a.policy 0 s m.items) recs_are
       ∙ ap (λ (x : State). to_trail (head_text (session_of a m)) ++ items_order a.policy 0 x m.items) s_is
 
   calls_are : (m : Script) → head ++ calls m ≡ calls_by (Some a) m
@@ -94,9 +105,9 @@ module _ (a : Accepted) (recs : List Rec) (recs_are : recs ≡ boot_recs a.world
       ∙ append_assoc (to_trail (head_text (session_of a m))) (flat_map call_order (bytes_of (session_of a m))) (tail m)
 
   -- the end of the output, after a script that was played
-  end_is : (m : Script) (s' : State) (left : Option (List ℕ)) (p : Played) (before after : Ends) → PlaysAll a.policy s s' m left p before after → to_out (ends_text a.policy s' ++ last_text p.count p.ending) ≡ tail m
+  end_is : (m : Script) (kept : Report) (s' : State) (left : Option (List ℕ)) (p : Played) (before after : Ends) → PlaysAll a.policy All kept s s' m left p before after → to_out (ends_text a.policy s' ++ last_text p.count p.ending) ≡ tail m
   unfolding tail_text
-  end_is m s' left p before after all =
+  end_is m kept s' left p before after all =
       let same : p.count ≡ length (run (boot a.world) m.items) = all.count ∙ sym (run_length (boot a.world) m.items) in
       ap (λ (x : State). to_out (ends_text a.policy x ++ last_text p.count p.ending)) (all.state ∙ ap (λ (x : State). state_after_run x m.items) s_is)
       ∙ ap (λ k. to_out (ends_text a.policy (state_after_run (boot a.world) m.items) ++ last_text k p.ending)) same
@@ -133,7 +144,7 @@ module _ (a : Accepted) (recs : List Rec) (recs_are : recs ≡ boot_recs a.world
       m = script_at a.policy lines (taken ++ left_of left')
 
       -- a fault stopped the script
-      pub script_fails : (fault : Fault) → StopsIn a.policy s m (script_at a.policy lines taken) fault now after → IsErrAnd r (λ q. q ≡ fault) → PlaysWorld r a lines lines' left left' before after
+      pub script_fails : (fault : Fault) → StopsIn a.policy All s m (script_at a.policy lines taken) fault now after → IsErrAnd r (λ q. q ≡ fault) → PlaysWorld r a lines lines' left left' before after
       script_fails fault stop is = record {
         taken = taken;
         takes = takes;
@@ -145,17 +156,17 @@ module _ (a : Accepted) (recs : List Rec) (recs_are : recs ≡ boot_recs a.world
       }
 
       -- the script was played
-      module _ (own : AreReadable a.policy 0 recs) (s' : State) (p : Played) (played : Ends) (all : PlaysAll a.policy s s' m left' p now played) where
+      module _ (own : AreReadable a.policy 0 recs) (kept : Report) (s' : State) (p : Played) (played : Ends) (all : PlaysAll a.policy All kept s s' m left' p now played) where
         all_readable : SessionReadable a m before after
         all_readable = inl (all-append (IsReadable a.policy) (map (λ (x : Rec). (0, x)) (boot_recs a.world)) _
             (with_numbers a.policy 0 (boot_recs a.world) (subst (AreReadable a.policy 0) recs_are own))
-            (subst (λ (x : State). AllByRecursion (IsReadable a.policy) (numbered_from 1 (run x m.items))) s_is all.readable))
+            (subst (λ (x : State). AllByRecursion (IsReadable a.policy) (numbered_from 1 (run x m.items))) s_is (all.readable refl)))
 
         written : Writes r (to_out (ends_text a.policy s' ++ last_text p.count p.ending)) played after → Writes r (order_by (Some a) m) before after
         written w = in_order r _ _ before after (order_is m)
             (goes_on r head (calls m ++ tail m) before now after headed
             (goes_on r (calls m) (tail m) now played after all.sends
-            (in_order r _ _ played after (end_is m s' left' p now played all) w)))
+            (in_order r _ _ played after (end_is m kept s' left' p now played all) w)))
 
         -- a fault cut the end of the output off
         pub end_fails : (fault : Fault) → StopsBy fault (to_out (ends_text a.policy s' ++ last_text p.count p.ending)) played after → (fault ≡ Read → ⊥) → IsErrAnd r (λ q. q ≡ fault) → PlaysWorld r a lines lines' left left' before after
@@ -188,32 +199,35 @@ module _ (lines0 : LinesState) (starts : lines0 ≡ record { line = []; held = [
       omega (arith, takes.within, most)
 
   -- memory ran out, or a read failed, before a world was read
-  pub run_fails : (lines : LinesState) (taken : List ℕ) → Takes lines0 lines left left' taken → (fault : Fault) (n n' : ℕ) (o t : SinkView) → counts n' o.faults t.faults ≡ counted_by fault (counts n o.faults t.faults)
-      → HasNoWorld at.Format lines0 taken fault → IsErrAnd r (λ q. q ≡ fault) → RunDid r left left' (ends n o t) (ends n' o t)
-  run_fails lines taken takes fault n n' o t once none is = record {
+  pub run_fails : (c : Command) (lines : LinesState) (taken : List ℕ) → Takes lines0 lines left left' taken → (fault : Fault) (n n' : ℕ) (o t : SinkView) → counts n' o.faults t.faults ≡ counted_by fault (counts n o.faults t.faults)
+      → HasNoWorld at.Format lines0 taken fault → IsErrAnd r (λ q. q ≡ fault) → CommandDid c r left left' (ends n o t) (ends n' o t)
+  run_fails c lines taken takes fault n n' o t once none is = record {
     taken = taken;
     took = takes.took;
     few = few_taken lines taken takes;
     writes = passes_on r fault _ (ends n o t) (ends n' o t) (record { sends = prefix_nothing _ n n' o t; one_fault = once }) is;
-    ending = failed_ending r fault is _;
-    by_line = λ read.
+    status = failed_ending r fault is _;
+    to_the_end = λ _. failed_ending r fault is _;
+    by_line = λ _ read.
         let no_world : (input_of taken).accepted ≡ None = ap (λ (i : Input). i.accepted) (input_starts lines0 starts taken) ∙ none (failed_read r fault is read) in
         subst (λ (o' : List Sent). Sends o' (ends n o t) (ends n' o t)) (sym (no_calls (input_of taken) no_world)) (nothing_sent n n' o t);
   }
 
   -- an input without a world ends
-  pub run_without_world : (lines : LinesState) (taken : List ℕ) → Takes lines0 lines left left' taken → (ending : InputEnd) → EndsWorld at.Format lines0 left' taken ending
-      → (n n' : ℕ) (o o' t : SinkView) → n' ≡ n → Writes r (to_out (last_text 0 ending)) (ends n' o t) (ends n' o' t) → IfOk r (λ e. e ≡ ending) → (r ≡ Err Read → ⊥) → RunDid r left left' (ends n o t) (ends n' o' t)
-  run_without_world lines taken takes ending last n n' o o' t still w is not_read =
-      let input : input_of (taken ++ left_of left') ≡ no_world ending = input_starts lines0 starts (taken ++ left_of left') ∙ last.says in
+  pub run_without_world : (c : Command) → reads_source c ≡ true → (lines : LinesState) (taken : List ℕ) → Takes lines0 lines left left' taken → (ending : InputEnd) → EndsWorld at.Format lines0 left' taken ending
+      → (n n' : ℕ) (o o' t : SinkView) → n' ≡ n → Writes r (to_out (last_text 0 ending)) (ends n' o t) (ends n' o' t) → IfOk r (λ e. e ≡ ending) → (r ≡ Err Read → ⊥) → CommandDid c r left left' (ends n o t) (ends n' o' t)
+  run_without_world c reads lines taken takes ending last n n' o o' t still w is not_read =
+      let is_due : due c (taken ++ left_of left') ≡ record { order = to_out (last_text 0 ending); status = ends_with ending } =
+      due_without_world c reads (taken ++ left_of left') ending (input_starts lines0 starts (taken ++ left_of left') ∙ last.says) in
       record {
         taken = taken;
         took = takes.took;
         few = few_taken lines taken takes;
-        writes = subst (λ k. Writes r (order_of (input_of (taken ++ left_of left'))) (ends k o t) (ends n' o' t)) still
-            (in_order r _ _ (ends n' o t) (ends n' o' t) (without_world ending ∙ sym (ap order_of input)) w);
-        ending = IfOk-weaker r _ _ (λ e same. record { same = same ∙ sym (ap (λ (i : Input). i.script.ending) input); to_the_end = λ whole. last.to_the_end (sym same ∙ whole) }) is;
-        by_line = λ read. absurd (not_read read);
+        writes = subst (λ k. Writes r (due c (taken ++ left_of left')).order (ends k o t) (ends n' o' t)) still
+            (in_order r _ _ (ends n' o t) (ends n' o' t) (sym (ap (λ (d : Due). d.order) is_due)) w);
+        status = IfOk-weaker r _ _ (λ e same. ap ends_with same ∙ sym (ap (λ (d : Due). d.status) is_due)) is;
+        to_the_end = λ _. IfOk-weaker r _ _ (λ e same whole. last.to_the_end (sym same ∙ whole)) is;
+        by_line = λ _ read. absurd (not_read read);
       }
 
   -- an accepted world was played
@@ -224,33 +238,58 @@ module _ (lines0 : LinesState) (starts : lines0 ≡ record { line = []; held = [
     pub world_playable : IsPlayable a (input_of (first ++ [])).script
     world_playable = accepted_input (first ++ []) a (ap (λ (i : Input). i.accepted) (input_is []))
 
-    module _ (n n' : ℕ) (still : n' ≡ n) (o t : SinkView) (after : Ends) (did : PlaysWorld r a lines lines' between left' (ends n' o t) after) where
-      text_is : (rest : List ℕ) → input_of ((first ++ did.taken) ++ rest) ≡ record { accepted = Some a; script = script_at a.policy lines (did.taken ++ rest) }
-      text_is rest = ap input_of (append_assoc first did.taken rest) ∙ input_is (did.taken ++ rest)
+    -- of which these bytes were taken further
+    module _ (n n' : ℕ) (still : n' ≡ n) (o t : SinkView) (after : Ends) (taken : List ℕ) (more : Takes lines lines' between left' taken) where
+      text_is : (rest : List ℕ) → input_of ((first ++ taken) ++ rest) ≡ record { accepted = Some a; script = script_at a.policy lines (taken ++ rest) }
+      text_is rest = ap input_of (append_assoc first taken rest) ∙ input_is (taken ++ rest)
 
-      from_start : (order : List Sent) → Writes r order (ends n' o t) after → Writes r order (ends n o t) after
-      from_start order w = subst (λ k. Writes r order (ends k o t) after) still w
+      all_taken : Takes lines0 lines' left left' (first ++ taken)
+      all_taken = takes_more lines0 lines lines' left between left' first taken takes more
 
-      pub run_plays : RunDid r left left' (ends n o t) after
-      run_plays =
-          let all = takes_more lines0 lines lines' left between left' first did.taken takes did.takes in
-          let input = text_is (left_of left') in
+      -- the input of the bytes that were taken and are left
+      abbrev whole : Input
+      whole = record { accepted = Some a; script = script_at a.policy lines (taken ++ left_of left') }
+
+      -- what a command did that wrote what this input means
+      pub run_goes_on : (c : Command) (meaning : Input → Due) → ((text : List ℕ) → due c text ≡ meaning (input_of text)) → Writes r (meaning whole).order (ends n' o t) after → IfOk r (λ e. ends_with e ≡ (meaning whole).status)
+          → IfOk r (λ e. e ≡ AllRead → IsAtEnd left') → (c ≡ Play → r ≡ Err Read → Sends (calls_by (Some a) (script_at a.policy lines taken)) (ends n' o t) after) → CommandDid c r left left' (ends n o t) after
+      run_goes_on c meaning means writes status to_the_end by_line =
+          let same : due c ((first ++ taken) ++ left_of left') ≡ meaning whole = means ((first ++ taken) ++ left_of left') ∙ ap meaning (text_is (left_of left')) in
           record {
-            taken = first ++ did.taken;
-            took = all.took;
-            few = few_taken lines' (first ++ did.taken) all;
-            writes = from_start (order_of (input_of ((first ++ did.taken) ++ left_of left'))) (in_order r _ _ (ends n' o t) after (sym (ap order_of input)) did.writes);
-            ending = IfOk-weaker r _ _ (λ e is. record { same = is.same ∙ sym (ap (λ (i : Input). i.script.ending) input); to_the_end = is.to_the_end }) did.ending;
-            by_line = λ read. subst (λ (order : List Sent). Sends order (ends n o t) after) (sym (ap order_of_calls (input_is did.taken)))
-                (subst (λ k. Sends (calls_by (Some a) (script_at a.policy lines did.taken)) (ends k o t) after) still (did.by_line read));
+            taken = first ++ taken;
+            took = all_taken.took;
+            few = few_taken lines' (first ++ taken) all_taken;
+            writes = subst (λ k. Writes r (due c ((first ++ taken) ++ left_of left')).order (ends k o t) after) still
+                (in_order r _ _ (ends n' o t) after (sym (ap (λ (d : Due). d.order) same)) writes);
+            status = IfOk-weaker r _ _ (λ e is. is ∙ sym (ap (λ (d : Due). d.status) same)) status;
+            to_the_end = λ _. to_the_end;
+            by_line = λ play read. subst (λ (order : List Sent). Sends order (ends n o t) after) (sym (ap order_of_calls (input_is taken)))
+                (subst (λ k. Sends (calls_by (Some a) (script_at a.policy lines taken)) (ends k o t) after) still (by_line play read));
           }
+
+    module _ (n n' : ℕ) (still : n' ≡ n) (o t : SinkView) (after : Ends) (did : PlaysWorld r a lines lines' between left' (ends n' o t) after) where
+      pub run_plays : CommandDid Play r left left' (ends n o t) after
+      run_plays = run_goes_on n n' still o t after did.taken did.takes Play due_of_play (λ text. refl) did.writes (IfOk-weaker r _ _ (λ e is. ap ends_with is.same) did.ending) (IfOk-weaker r _ _ (λ e is. is.to_the_end) did.ending)
+          (λ _ read. did.by_line read)
 
       pub run_readable : (text : List ℕ) → left ≡ Some text → InputReadable (input_of text) (ends n o t) after
       run_readable text is =
-          let all = takes_more lines0 lines lines' left between left' first did.taken takes did.takes in
+          let all = all_taken n n' still o t after did.taken did.takes in
           let same : text ≡ (first ++ did.taken) ++ left_of left' = text_left left left' (first ++ did.taken) text is all.took in
-          input_played (input_of text) (ends n o t) after a (script_at a.policy lines (did.taken ++ left_of left')) (ap input_of same ∙ text_is (left_of left'))
+          input_played (input_of text) (ends n o t) after a (script_at a.policy lines (did.taken ++ left_of left')) (ap input_of same ∙ text_is n n' still o t after did.taken did.takes (left_of left'))
           (subst (λ k. SessionReadable a (script_at a.policy lines (did.taken ++ left_of left')) (ends k o t) after) still did.readable)
+
+    -- an input was read, and what was found of it was written
+    module _ (n n' : ℕ) (still : n' ≡ n) (o t : SinkView) (after : Ends) (did : ChecksWorld r a lines lines' between left' (ends n' o t) after) where
+      pub run_checks : CommandDid Check r left left' (ends n o t) after
+      run_checks = run_goes_on n n' still o t after did.taken did.takes Check due_of_check (λ text. refl) did.writes (IfOk-weaker r _ _ (λ e is. ap ends_with is.same) did.ending) (IfOk-weaker r _ _ (λ e is. is.to_the_end) did.ending)
+          (λ play. absurd (cc))
+
+    -- what the label of a word sees was written
+    module _ (word : List ℕ) (n n' : ℕ) (still : n' ≡ n) (o t : SinkView) (after : Ends) (did : ViewsWorld (parse_label a.policy word) r a lines lines' between left' (ends n' o t) after) where
+      pub run_views : CommandDid (View word) r left left' (ends n o t) after
+      run_views = run_goes_on n n' still o t after did.taken did.takes (View word) (due_of_view word) (λ text. refl) did.writes (IfOk-weaker r _ _ (λ e is. ap ends_with is.same) did.ending) (IfOk-weaker r _ _ (λ e is. is.to_the_end) did.ending)
+          (λ play. absurd (cc))
 
   -- an input without a world has no records
   pub readable_without_world : (lines : LinesState) (taken : List ℕ) → Takes lines0 lines left left' taken → (ending : InputEnd) → EndsWorld at.Format lines0 left' taken ending → (before after : Ends)
@@ -260,14 +299,15 @@ module _ (lines0 : LinesState) (starts : lines0 ≡ record { line = []; held = [
       input_without_world (input_of text) before after ending (ap input_of same ∙ input_starts lines0 starts (taken ++ left_of left') ∙ last.says)
 
 -- there is no memory for a reader
-pub run_memory : (r : Result InputEnd Fault) (left : Option (List ℕ)) (e : Ends) → IsErrAnd r (λ q. q ≡ NoMemory) → RunDid r left left e e
-run_memory r left e is = record {
+pub run_memory : (c : Command) (r : Result InputEnd Fault) (left : Option (List ℕ)) (e : Ends) → IsErrAnd r (λ q. q ≡ NoMemory) → CommandDid c r left left e e
+run_memory c r left e is = record {
   taken = [];
   took = Consumes-nil left;
   few = omega arith;
   writes = out_of_memory r _ e is;
-  ending = failed_ending r NoMemory is _;
-  by_line = λ read. absurd (memory_not_read r is read);
+  status = failed_ending r NoMemory is _;
+  to_the_end = λ _. failed_ending r NoMemory is _;
+  by_line = λ _ read. absurd (memory_not_read r is read);
 }
 
 -- ---- a world that was read
@@ -286,21 +326,29 @@ module _ (lines0 : LinesState) (starts : lines0 ≡ record { line = []; held = [
     read_small = let most : lines0.room ≡ MAX_INPUT = ap (λ (s : LinesState). s.room) starts in omega (arith, accepted.shows.fewer, most)
 
     module _ (r : Result InputEnd Fault) (left' : Option (List ℕ)) (lines' : LinesState) (n n' : ℕ) (o t : SinkView) (still : (u v : ℕ) → counts n' u v ≡ counts n u v) (after : Ends) (did : PlaysWorld r a lines lines' between left' (ends n' o t) after) where
-      pub read_plays : RunDid r left left' (ends n o t) after
+      pub read_plays : CommandDid Play r left left' (ends n o t) after
       read_plays = run_plays lines0 starts r left left' between lines lines' accepted.taken accepted.takes a accepted.shows n n' (ap (λ (c : Counts). c.source) (still 0 0)) o t after did
 
       pub read_readable : (text : List ℕ) → left ≡ Some text → InputReadable (input_of text) (ends n o t) after
       read_readable = run_readable lines0 starts r left left' between lines lines' accepted.taken accepted.takes a accepted.shows n n' (ap (λ (c : Counts). c.source) (still 0 0)) o t after did
+
+    module _ (r : Result InputEnd Fault) (left' : Option (List ℕ)) (lines' : LinesState) (n n' : ℕ) (o t : SinkView) (still : (u v : ℕ) → counts n' u v ≡ counts n u v) (after : Ends) (did : ChecksWorld r a lines lines' between left' (ends n' o t) after) where
+      pub read_checks : CommandDid Check r left left' (ends n o t) after
+      read_checks = run_checks lines0 starts r left left' between lines lines' accepted.taken accepted.takes a accepted.shows n n' (ap (λ (c : Counts). c.source) (still 0 0)) o t after did
+
+    module _ (word : List ℕ) (r : Result InputEnd Fault) (left' : Option (List ℕ)) (lines' : LinesState) (n n' : ℕ) (o t : SinkView) (still : (u v : ℕ) → counts n' u v ≡ counts n u v) (after : Ends) (did : ViewsWorld (parse_label a.policy word) r a lines lines' between left' (ends n' o t) after) where
+      pub read_views : CommandDid (View word) r left left' (ends n o t) after
+      read_views = run_views lines0 starts r left left' between lines lines' accepted.taken accepted.takes a accepted.shows word n n' (ap (λ (c : Counts). c.source) (still 0 0)) o t after did
 
   -- the input ended before its world did
   module _ (ending : InputEnd) (is : x ≡ world.Ended ending) where
     abbrev ended : ReadsWorld (Ok (world.Ended ending)) lines0 lines left between
     ended = subst (λ k. ReadsWorld (Ok k) lines0 lines left between) is reads
 
-    pub read_ended : (r : Result InputEnd Fault) (n n' : ℕ) (o o' t : SinkView) → ((u v : ℕ) → counts n' u v ≡ counts n u v) → ((source : ℕ) (trail : SinkView) → Writes r (to_out (last_text 0 ending)) (ends source o trail) (ends source o' trail)) → IfOk r (λ e. e ≡ ending)
-        → RunDid r left between (ends n o t) (ends n' o' t)
-    read_ended r n n' o o' t still writes is =
-        run_without_world lines0 starts r left between lines ended.taken ended.takes ending ended.shows n n' o o' t (ap (λ (c : Counts). c.source) (still 0 0)) (writes n' t) is (no_read r (to_out (last_text 0 ending)) o o' (writes 0 t))
+    pub read_ended : (c : Command) → reads_source c ≡ true → (r : Result InputEnd Fault) (n n' : ℕ) (o o' t : SinkView) → ((u v : ℕ) → counts n' u v ≡ counts n u v) → ((source : ℕ) (trail : SinkView) → Writes r (to_out (last_text 0 ending)) (ends source o trail) (ends source o' trail)) → IfOk r (λ e. e ≡ ending)
+        → CommandDid c r left between (ends n o t) (ends n' o' t)
+    read_ended c reads_it r n n' o o' t still writes is =
+        run_without_world lines0 starts r left between c reads_it lines ended.taken ended.takes ending ended.shows n n' o o' t (ap (λ (c : Counts). c.source) (still 0 0)) (writes n' t) is (no_read r (to_out (last_text 0 ending)) o o' (writes 0 t))
       where
         no_read : (x : Result InputEnd Fault) (order : List Sent) (o o' : SinkView) → Writes x order (ends 0 o t) (ends 0 o' t) → x ≡ Err Read → ⊥
         no_read (Ok e) order o o' w read = absurd (cc)

@@ -1,26 +1,60 @@
 -- The commands: which words name one, and what each is to write of the bytes of a source.
-use Rattle.std.specs.Prelude.{ℕ, ◌==◌, ◌&&◌, Bool, false, cond, not, List, [], ◌∷◌, Option, Some, None, codes, string_bytes}
+use Rattle.std.specs.Prelude.{ℕ, ◌≤◌, ◌==◌, Bool, true, false, cond, not, List, [], ◌∷◌, Option, Some, None, codes, string_bytes}
+use Rattle.std.specs.Option.{option_map}
 use Rattle.std.specs.declared.string.String.{String}
 use Rattle.std.specs.declared.alloc.Global.{Global}
+use Rattle.fs_path.specs.Options.{keep_if}
+use Rattle.fs_path.specs.Values.{numeral}
+use Rattle.gen_world.specs.declared.generator.TheConstants.{MAX_LINES}
+use Rattle.gen_world.specs.Text.{gen_text}
 use Rattle.lab_text.specs.Names.{same_bytes}
 use Rattle.labsys.specs.declared.command.Command.{Command}
-use Rattle.labsys.specs.declared.command.Command.TheVariants.{Play}
+use Rattle.labsys.specs.declared.command.Command.TheVariants.{Play, Check, Gen, View}
 use Rattle.lab_engine.specs.declared.ending.InputEnd.{InputEnd}
 use Rattle.lab_engine.specs.declared.ending.InputEnd.TheVariants.{Whole, Refused as IsRefused, TooMuch}
+use Rattle.labsys.specs.Checking.{order_of_check}
+use Rattle.labsys.specs.Viewing.{ending_of_view, text_of_view}
 use Rattle.labsys.specs.declared.status.Status.{Status}
 use Rattle.labsys.specs.declared.status.Status.TheVariants.{Done, Refused, TooLong}
-use Rattle.lab_engine.specs.Input.{input_of}
-use Rattle.lab_engine.specs.Order.{Sent, order_of}
+use Rattle.lab_engine.specs.Input.{Input, input_of}
+use Rattle.lab_engine.specs.Order.{Sent, order_of, to_out}
 
--- a word that names a file: it is not empty, and does not begin with `-`
-abbrev pub is_file_word : List ℕ → Bool
-is_file_word [] = false
-is_file_word (b ∷ bytes) = not (b == 45)
+-- ---- words
 
--- the command that the words name, if they name one: `play FILE`
+-- a word that can be an argument: it is not empty, and does not begin with `-`
+abbrev pub is_argument : List ℕ → Bool
+is_argument [] = false
+is_argument (b ∷ bytes) = not (b == 45)
+
+-- how many lines a word asks for: 1 to 6 digits, of a value from 1 to 100,000
+abbrev pub lines_of : List ℕ → Option ℕ
+lines_of word = numeral 10 6 1 MAX_LINES word
+
+-- the command that a word names without an argument: `check`
+abbrev pub command_alone : List ℕ → Option Command
+command_alone word = keep_if (same_bytes word (codes "check")) Check
+
+-- the command that a word names with an argument: `play FILE`, `gen N` or `view LABEL`
+abbrev pub command_with : List ℕ → List ℕ → Option Command
+command_with word argument =
+    cond (same_bytes word (codes "play")) (keep_if (is_argument argument) Play)
+    (cond (same_bytes word (codes "gen")) (option_map Gen (lines_of argument))
+    (cond (same_bytes word (codes "view")) (keep_if (is_argument argument) (View argument)) None))
+
+-- the command that the words name, if they name one
 abbrev pub command_of : List (String Global) → Option Command
-command_of (word ∷ file ∷ []) = cond (same_bytes (string_bytes word) (codes "play") && is_file_word (string_bytes file)) (Some Play) None
+command_of (word ∷ []) = command_alone (string_bytes word)
+command_of (word ∷ argument ∷ []) = command_with (string_bytes word) (string_bytes argument)
 command_of words = None
+
+-- so many lines can be generated
+abbrev pub FitsCommand : Command → Type 0
+FitsCommand Play = Unit {0}
+FitsCommand Check = Unit {0}
+FitsCommand (Gen n) = (1 ≤ n) × (n ≤ MAX_LINES)
+FitsCommand (View word) = Unit {0}
+
+-- ---- what is due
 
 -- the status of an input that was played to its end
 abbrev pub ends_with : InputEnd → Status
@@ -33,11 +67,38 @@ pub record Due : Type 0 where
   pub order : List Sent
   pub status : Status
 
+-- what is due of an input that is played
+abbrev pub due_of_play : Input → Due
+due_of_play i = record { order = order_of i; status = ends_with i.script.ending }
+
+-- what is due of an input that is read and not played
+abbrev pub due_of_check : Input → Due
+due_of_check i = record { order = order_of_check i; status = ends_with i.script.ending }
+
+-- what is due of an input that is viewed from the label of a word
+abbrev pub due_of_view : List ℕ → Input → Due
+due_of_view word i = record { order = to_out (text_of_view word i.accepted i.script); status = ends_with (ending_of_view word i.accepted i.script.ending) }
+
 -- what is due of a command, by the bytes of the source
 abbrev pub due : Command → List ℕ → Due
-due Play text = record { order = order_of (input_of text); status = ends_with (input_of text).script.ending }
+due Play text = due_of_play (input_of text)
+due Check text = due_of_check (input_of text)
+due (Gen n) text = record { order = to_out (gen_text n); status = Done }
+due (View word) text = due_of_view word (input_of text)
+
+-- ---- the ends
+
+-- whether a command reads the source
+abbrev pub reads_source : Command → Bool
+reads_source Play = true
+reads_source Check = true
+reads_source (Gen n) = false
+reads_source (View word) = true
 
 -- which ends a command leaves as they were: without a command all of them
 abbrev pub LeavesAlone : Option Command → (source out trail : Type 0) → Type 0
 LeavesAlone None source out trail = source × out × trail
 LeavesAlone (Some Play) source out trail = Unit {0}
+LeavesAlone (Some Check) source out trail = trail
+LeavesAlone (Some (Gen n)) source out trail = source × trail
+LeavesAlone (Some (View word)) source out trail = trail

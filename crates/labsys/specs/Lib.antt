@@ -1,3 +1,5 @@
+pub mod Checking
+pub mod Viewing
 pub mod Commands
 pub mod Counts
 pub mod Readable

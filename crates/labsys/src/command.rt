@@ -1,29 +1,96 @@
 // The commands of the program.
-ghost use Rattle.std.specs.Prelude.{◌≡◌};
-ghost use Rattle.labsys.specs.Commands.{command_of, is_file_word};
+ghost use Rattle.std.specs.Prelude.{◌≡◌, IfSome};
+ghost use Rattle.labsys.specs.Commands.{FitsCommand, command_alone, command_of, command_with, is_argument, lines_of};
 
-/// A command.
-#[derive(Clone, Copy, Debug, PartialEq, Eq)]
-pub enum Command {
-    /// `play FILE` plays the world and the script that the source holds.
-    Play,
+use fs_path::numeral;
+use gen_world::MAX_LINES;
+use std::marker::Model;
+
+/// The word of a label among the arguments. A contract sees it as its bytes.
+#[derive(Drop)]
+pub struct LabelWord<'a> {
+    bytes: &'a [u8],
 }
 
-// Whether an argument can name a file: it is not empty, and does not begin with `-`.
-fn is_file_word(word: &[u8]) -> bool
-    ensures { result ≡ is_file_word word.now }
+impl<'a> Model for LabelWord<'a> {
+    ghost use Rattle.std.specs.Prelude.{ℕ, List};
+
+    ghost Value = { List ℕ };
+
+    ghost view = { λ w. w.bytes.now };
+}
+
+impl<'a> LabelWord<'a> {
+    // The word with these bytes.
+    fn new(bytes: &'a [u8]) -> LabelWord<'a>
+        ensures { result ≡ bytes.now }
+    {
+        LabelWord { bytes }
+    }
+
+    /// Its bytes.
+    pub fn bytes(&self) -> &[u8]
+        ensures { result.now ≡ self.now }
+    {
+        self.bytes
+    }
+}
+
+/// A command.
+#[derive(Drop)]
+pub enum Command<'a> {
+    /// `play FILE` plays the world and the script that the source holds.
+    Play,
+    /// `check` reads the world and the script that the source holds, and plays nothing.
+    Check,
+    /// `gen N` writes the generated input of N lines.
+    Gen(u32),
+    /// `view LABEL` plays the world and the script that the source holds, and writes what the label sees of it.
+    View(LabelWord<'a>),
+}
+
+// Whether a word can be an argument: it is not empty, and does not begin with `-`.
+fn is_argument(word: &[u8]) -> bool
+    ensures { result ≡ is_argument word.now }
 {
     word.first().is_some_and(|first| *first != b'-')
 }
 
+// How many lines a word asks for: 1 to 6 digits, of a value from 1 to 100,000.
+fn lines_of(word: &[u8]) -> Option<u32>
+    ensures { result ≡ lines_of word.now }
+{
+    let lines = numeral(word, 10, 6, 1, u64::from(MAX_LINES))?;
+    Some(lines as u32)
+}
+
+// The command that a word names without an argument.
+fn command_alone(word: &[u8]) -> Option<Command<'static>>
+    ensures { result ≡ command_alone word.now }
+{
+    (word == b"check".as_slice()).then_some(Command::Check)
+}
+
+// The command that a word names with an argument.
+fn command_with<'a>(word: &[u8], argument: &'a [u8]) -> Option<Command<'a>>
+    ensures { result ≡ command_with word.now argument.now }
+{
+    match word {
+        b"play" => is_argument(argument).then_some(Command::Play),
+        b"gen" => Some(Command::Gen(lines_of(argument)?)),
+        b"view" => is_argument(argument).then_some(Command::View(LabelWord::new(argument))),
+        _ => None,
+    }
+}
+
 /// The command that the arguments name. The file of `play` is not opened.
-pub fn command_of(words: &[String]) -> Option<Command>
-    ensures { result ≡ command_of words.now }
+pub fn command_of(words: &[String]) -> Option<Command<'_>>
+    ensures command { result ≡ command_of words.now }
+    ensures fits { IfSome result FitsCommand }
 {
     match words {
-        [word, file] if word.as_bytes() == b"play".as_slice() && is_file_word(file.as_bytes()) => {
-            Some(Command::Play)
-        }
+        [word] => command_alone(word.as_bytes()),
+        [word, argument] => command_with(word.as_bytes(), argument.as_bytes()),
         _ => None,
     }
 }

@@ -1,12 +1,16 @@
 //! A simulated kernel: plays a script of system calls on a described world, and writes the reply to each call.
 #![tactic(auto)]
 
+mod checking;
 mod command;
+mod generating;
+mod performing;
 mod playing;
 mod running;
 mod status;
+mod viewing;
 
-pub use command::Command;
+pub use command::{Command, LabelWord};
 use io_ends::{FileSink, FileSource};
 pub use running::run;
 pub use status::Status;
@@ -33,8 +37,31 @@ fn trail_name(alloc: Global, words: &[String]) -> Result<String, AllocError> {
     }
 }
 
+// The text that a sole word asks for: the help or the version.
+fn text_asked(alloc: Global, words: &[String]) -> Result<Option<String>, AllocError> {
+    let [word] = words else {
+        return Ok(None);
+    };
+    match word.as_str() {
+        "--help" => Ok(Some(lab_usage::help(alloc)?)),
+        "--version" => Ok(Some(lab_usage::version(alloc)?)),
+        _ => Ok(None),
+    }
+}
+
+// Prints a text to standard output.
+fn print_text(rt: &HostRuntime, text: &str) -> Status {
+    match print!(rt; "{text}") {
+        Ok(()) => Status::Done,
+        Err(_) => Status::WriteFault,
+    }
+}
+
 fn start(rt: &HostRuntime) -> io::Result<Status> {
     let words = words_of(rt)?;
+    if let Some(text) = text_asked(rt.alloc(), &words)? {
+        return Ok(print_text(rt, &text));
+    }
     let name = trail_name(rt.alloc(), &words)?;
     let mut source = FileSource::new(rt.reader());
     let mut out = FileSink::stdout(rt.clone()?);
@@ -54,6 +81,9 @@ fn main(rt: HostRuntime) -> ExitCode {
     let status = start(&rt).unwrap_or_else(|e| status_of_words(&e));
     if let Some(complaint) = status.complaint() {
         let _ = eprintln!(rt; "labsys: {complaint}");
+    }
+    if let (Status::Usage, Ok(line)) = (status, lab_usage::usage(rt.alloc())) {
+        let _ = eprintln!(rt; "{line}");
     }
     ExitCode::from(u8::from(status))
 }

@@ -7,22 +7,23 @@ ghost use Rattle.io_ends.specs.Sinks.{sink_view};
 ghost use Rattle.lab_engine.specs.Input.{input_of};
 ghost use Rattle.lab_engine.specs.Playing.{WritesOut, ends};
 ghost use Rattle.lab_engine.specs.Texts.{end_text, label_in, caps_in, ends_text, last_text};
-ghost use Rattle.labsys.specs.Playing.{PlaysWorld, RunDid};
+ghost use Rattle.labsys.specs.Playing.{CommandDid, PlaysWorld};
 ghost use Rattle.labsys.specs.Readable.{InputReadable};
 
+use crate::Command;
 use io_ends::{Lines, Sink, Source};
 use kern_core::Kernel;
 use kern_model::limits::MAX_INPUT;
 use kern_model::{NoMemory, Pid};
 use lab_engine::{
-    Fault, InputEnd, Played, ReadWorld, Texts, answer, begin, end_line, play_script, read_world,
-    report_last,
+    Fault, InputEnd, Played, ReadWorld, Report, Texts, answer, begin, end_line, play_script,
+    read_world, report_last,
 };
 use std::alloc::Global;
 use world_text::WorldText;
 
-// The end line of a process, or no byte where it does not live.
-fn end_of(texts: Texts<'_>, kernel: &Kernel, who: &Pid) -> Result<Vec<u8>, NoMemory>
+/// The end line of a process, or no byte where it does not live.
+pub fn end_of(texts: Texts<'_>, kernel: &Kernel, who: &Pid) -> Result<Vec<u8>, NoMemory>
     ensures { IfOk result (λ text. text.items ≡ end_text texts.entry.policy.now who.now (label_in (state_of kernel.now) who.now) (caps_in (state_of kernel.now) who.now)) }
 {
     match (kernel.label_of(who), kernel.caps_of(who)) {
@@ -81,13 +82,14 @@ fn play_world<S: Source, K: Sink, T: Sink>(
     };
     let (mut kernel, recs) = Kernel::boot_from(alloc, world)?;
     begin(texts, &bound, recs.items(), trail)?;
-    let played = play_script(texts, &mut kernel, lines, source, out, trail)?;
+    let mut report = Report::All;
+    let played = play_script(texts, &mut kernel, lines, source, &mut report, out, trail)?;
     finish(texts, &kernel, played, out)?;
     Ok(played.ending)
 }
 
-// Writes the last line of an input without a world, which is all that is written of it.
-fn end_without_world<K: Sink>(
+/// Writes the last line of an input without a world, which is all that is written of it.
+pub fn end_without_world<K: Sink>(
     alloc: Global,
     ending: InputEnd,
     out: &mut K,
@@ -106,7 +108,7 @@ pub fn play<S: Source, K: Sink, T: Sink>(
     out: &mut K,
     trail: &mut T,
 ) -> Result<InputEnd, Fault>
-    ensures did { RunDid result (S.left source.old) (S.left source.new)
+    ensures did { CommandDid Command.Play result (S.left source.old) (S.left source.new)
         (ends (S.faults source.old) (sink_view (K.held out.old) (K.faults out.old)) (sink_view (T.held trail.old) (T.faults trail.old)))
         (ends (S.faults source.new) (sink_view (K.held out.new) (K.faults out.new)) (sink_view (T.held trail.new) (T.faults trail.new))) }
     ensures readable { (text : List ℕ) → S.left source.old ≡ Some text → InputReadable (input_of text)

@@ -1,18 +1,21 @@
 // The top call.
-ghost use Rattle.std.specs.Prelude.{◌≡◌, ◌↔◌, ◌+◌, None, Some, List, ℕ, IfSome};
+ghost use Rattle.std.specs.Prelude.{◌≡◌, ◌↔◌, ◌+◌, true, None, Some, List, ℕ, IfSome};
 ghost use Rattle.std.specs.Io.KnownBytes.{IsAtEnd};
 ghost use Rattle.lab_lattice.specs.Label.{Label};
 ghost use Rattle.kern_model.specs.declared.limits.TheConstants.{MAX_INPUT};
+ghost use Rattle.kern_model.specs.Isolation.{up_to};
+ghost use Rattle.lab_text.specs.Text.{parse_label};
 ghost use Rattle.lab_engine.specs.Session.{session_of};
+ghost use Rattle.lab_engine.specs.Viewing.{session_alone, view_text};
 ghost use Rattle.lab_engine.specs.Order.{out_of, trail_of, IsInOrder};
-ghost use Rattle.labsys.specs.Commands.{LeavesAlone, command_of, due};
+ghost use Rattle.labsys.specs.Commands.{LeavesAlone, command_of, due, reads_source};
 ghost use Rattle.lab_engine.specs.Counts.{counts};
 ghost use Rattle.labsys.specs.Counts.{counts_after};
 ghost use Rattle.labsys.specs.Lineage.{PrintedByAny};
-ghost use Rattle.labsys.specs.Clauses.{status_of, OnWhole, PlayedTaken, TakesAtMost, WhereReported, reports, WhereAccepted, Covered, RepliesFirst, Printed, Dropped, Isolated, IsolatedWhole, SameBelow, TwoInputs, TwoWhole};
+ghost use Rattle.labsys.specs.Clauses.{status_of, OnWhole, PlayedTaken, TakesAtMost, WhereReported, reports, WhereAccepted, run_of, Covered, RepliesFirst, Printed, Dropped, Isolated, IsolatedWhole, SameBelow, TwoInputs, TwoWhole};
 
 use crate::command::command_of;
-use crate::playing::play;
+use crate::performing::perform;
 use crate::{Command, Status};
 use io_ends::{Sink, Source};
 use lab_engine::{Fault, InputEnd};
@@ -34,7 +37,9 @@ fn status_of(played: Result<InputEnd, Fault>) -> Status
 
 /// Runs the command that the words name. `play FILE` plays the world and the script that the source holds: it writes
 /// the records of each call to the trail, and then the reply to the output. The file is not opened: `trail` stands
-/// for it.
+/// for it. `view LABEL` plays the input too, and writes what the label sees of it to the output. `check` reads the same
+/// input and plays nothing: it writes how many objects, processes and calls there are, or the line that refuses the
+/// input. `gen N` writes the generated input of N lines to the output.
 pub fn run<S: Source, K: Sink, T: Sink>(
     alloc: Global,
     words: &[String],
@@ -44,7 +49,7 @@ pub fn run<S: Source, K: Sink, T: Sink>(
 ) -> Status
     // Status 1 comes exactly where the words name no command.
     ensures words { (result ≡ Status.Usage) ↔ (command_of words.now ≡ None) }
-    // Without a command nothing is read or written.
+    // Without a command nothing is read or written. `gen` reads nothing, and only `play` writes to the trail.
     ensures left_alone { LeavesAlone (command_of words.now) (source.new ≡ source.old) (out.new ≡ out.old) (trail.new ≡ trail.old) }
     // The first fault ends the run: one is counted with status 3, 4 or 5, by the end that it reports, and none with another.
     ensures counts { counts (S.faults source.new) (K.faults out.new) (T.faults trail.new) ≡ counts_after result (counts (S.faults source.old) (K.faults out.old) (T.faults trail.old)) }
@@ -92,13 +97,17 @@ pub fn run<S: Source, K: Sink, T: Sink>(
     ensures dropped { command_of words.now ≡ Some Command.Play → WhereReported (reports (S.left source.old) (K.held out.old) (T.held trail.old)) (reports (S.left source.new) (K.held out.new) (T.held trail.new))
         (λ text o t. WhereAccepted text (λ a script. Dropped (session_of a script) t)) }
 
-    // The input is read to its end where it was accepted whole.
-    ensures to_the_end { command_of words.now ≡ Some Command.Play → result ≡ Status.Done → IsAtEnd (S.left source.new) }
+    // Where no record of the whole run crosses the label, `view` writes what it writes of the part below the label alone.
+    ensures view_alone { (l : Label) (word : List ℕ) → command_of words.now ≡ Some (Command.View word) → result ≡ Status.Done → WhereReported (reports (S.left source.old) (K.held out.old) (T.held trail.old)) (reports (S.left source.new) (K.held out.new) (T.held trail.new))
+        (λ text o t. WhereAccepted text (λ a script. parse_label a.policy word ≡ Some l → up_to l (run_of a script) ≡ run_of a script → o ≡ view_text l (session_alone l a script))) }
+
+    // A command that reads the source reads it to its end where the input was accepted whole.
+    ensures to_the_end { IfSome (command_of words.now) (λ command. reads_source command ≡ true → result ≡ Status.Done → IsAtEnd (S.left source.new)) }
     // No more of it is read than the limit and one byte.
     ensures few { TakesAtMost (MAX_INPUT + 1) (S.left source.old) (S.left source.new) }
 {
     match command_of(words) {
-        Some(Command::Play) => status_of(play(alloc, source, out, trail)),
+        Some(command) => status_of(perform(alloc, command, source, out, trail)),
         None => Status::Usage,
     }
 }

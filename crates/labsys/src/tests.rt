@@ -373,13 +373,29 @@ fn one_byte_over_16_mib_is_too_long(rt: HostRuntime) -> Result<(), Fail> {
 #[test]
 fn words_that_are_no_command_touch_nothing(rt: HostRuntime) -> Result<(), Fail> {
     let alloc = rt.alloc();
-    let rows: [&[&str]; 6] = [
+    let rows: [&[&str]; 22] = [
         &[],
         &["frob", "trail.out"],
         &["play"],
         &["play", ""],
         &["play", "-x"],
         &["play", "a", "b"],
+        &["gen"],
+        &["gen", ""],
+        &["gen", "-1"],
+        &["gen", "0"],
+        &["gen", "1x"],
+        &["gen", "100001"],
+        &["gen", "0000001"],
+        &["gen", "1", "2"],
+        &["check", "trail.out"],
+        &["view"],
+        &["view", ""],
+        &["view", "-unc"],
+        &["view", "unc", "conf"],
+        &["-check"],
+        &["--help"],
+        &["--version"],
     ];
     let mut ends = Ends::new(alloc, &[INPUT], Fails::Nothing)?;
     let nothing = Left::new(alloc, Status::Usage, &[], &[])?;
@@ -389,6 +405,263 @@ fn words_that_are_no_command_touch_nothing(rt: HostRuntime) -> Result<(), Fail> 
     assert_eq!(rt;
         ends.run(alloc, &["play", "trail.out"])?,
         Left::new(alloc, Status::Done, ANSWERS, TRAIL)?
+    );
+    Ok(())
+}
+
+// The head of each generated input.
+const GENERATED: &[u8] = b"world 1\n\
+    levels l0 l1 l2 l3\n\
+    categories c0 c1\n\
+    bound all\n\
+    dir / 0777 0 0 l0\n\
+    dir /d0 0777 0 0 l0\n\
+    dir /d1 0777 0 0 l1\n\
+    dir /d2 0777 0 0 l2\n\
+    dir /d3 0777 0 0 l3\n\
+    proc l0 100 100 - \"=\"\n\
+    proc l1 101 101 - \"=\"\n\
+    proc l2 102 102 - \"=\"\n\
+    proc l3 103 103 - \"=\"\n\
+    script\n";
+
+// The call of the input of one line.
+const ONE_LINE: &[u8] = b"1@l2 read 3 8\n";
+
+// What a command leaves of an input, where this call fails.
+fn performed(alloc: Global, words: &[&str], input: &[&[u8]], fails: Fails) -> Result<Left, Fail> {
+    Ends::new(alloc, input, fails)?.run(alloc, words)
+}
+
+#[test]
+fn gen_writes_the_generated_input(rt: HostRuntime) -> Result<(), Fail> {
+    let alloc = rt.alloc();
+    let rows: [(&str, Pieces); 4] = [
+        ("1", &[GENERATED, ONE_LINE]),
+        ("000001", &[GENERATED, ONE_LINE]),
+        (
+            "2",
+            &[GENERATED, b"1@l0 mkdir /d3/f7 0755\n", b"1@l1 close 2\n"],
+        ),
+        (
+            "02",
+            &[GENERATED, b"1@l0 mkdir /d3/f7 0755\n", b"1@l1 close 2\n"],
+        ),
+    ];
+    for (lines, out) in rows {
+        assert_eq!(rt;
+            performed(alloc, &["gen", lines], &[b"not read"], Fails::Read(1))?,
+            Left::new(alloc, Status::Done, out, &[])?,
+            "{lines}"
+        );
+    }
+    Ok(())
+}
+
+// Each piece is one write: the head, and then each line.
+#[test]
+fn a_write_of_gen_fails_in_turn(rt: HostRuntime) -> Result<(), Fail> {
+    let alloc = rt.alloc();
+    let rows: [(u64, Status, Pieces); 3] = [
+        (1, Status::WriteFault, &[]),
+        (2, Status::WriteFault, &[GENERATED]),
+        (3, Status::Done, &[GENERATED, ONE_LINE]),
+    ];
+    for (write, status, out) in rows {
+        assert_eq!(rt;
+            performed(alloc, &["gen", "1"], &[], Fails::Write(write))?,
+            Left::new(alloc, status, out, &[])?,
+            "{write}"
+        );
+    }
+    Ok(())
+}
+
+// What `check` leaves of inputs: a whole one, one with a utility on two paths, and refused ones.
+const CHECKED: [(Pieces, Status, &[u8]); 6] = [
+    (&[INPUT], Status::Done, b"ok 2 1 1\n"),
+    (
+        &[INPUT, b"1@unc getfmac /a /b\n", b"# a comment\n", CALL],
+        Status::Done,
+        b"ok 2 1 4\n",
+    ),
+    (&[], Status::Refused, b"refused 1 world syntax\n"),
+    (
+        &[b"world 1\nlevels unc"],
+        Status::Refused,
+        b"refused 2 world syntax\n",
+    ),
+    (
+        &[INPUT, b"1@unc fork now\n", CALL],
+        Status::Refused,
+        b"refused 10 script syntax\n",
+    ),
+    (
+        &[INPUT, b"1@unc fork"],
+        Status::Refused,
+        b"refused 10 script syntax\n",
+    ),
+];
+
+#[test]
+fn check_writes_what_it_found(rt: HostRuntime) -> Result<(), Fail> {
+    let alloc = rt.alloc();
+    for (input, status, out) in CHECKED {
+        assert_eq!(rt;
+            performed(alloc, &["check"], input, Fails::Nothing)?,
+            Left::new(alloc, status, &[out], &[])?
+        );
+    }
+    Ok(())
+}
+
+#[test]
+fn a_fault_of_check_leaves_nothing(rt: HostRuntime) -> Result<(), Fail> {
+    let alloc = rt.alloc();
+    let rows = [
+        (Fails::Read(1), Status::ReadFault),
+        (Fails::Read(2), Status::ReadFault),
+        (Fails::Write(1), Status::WriteFault),
+    ];
+    for (fails, status) in rows {
+        assert_eq!(rt;
+            performed(alloc, &["check"], &[INPUT], fails)?,
+            Left::new(alloc, status, &[], &[])?,
+            "{fails:?}"
+        );
+    }
+    Ok(())
+}
+
+// The head of a world in which the process of `sec` may write to the file of `unc`.
+const OPEN_BELOW: &[u8] = b"world 1\n\
+    levels unc conf sec\n\
+    categories a b\n\
+    bound all\n\
+    dir / 0777 0 0 unc\n\
+    file /u 0666 10 10 unc \"\"\n\
+    proc unc 10 10 - \"=\"\n\
+    proc sec 10 10 - \"cap_mac_write=ep\"\n\
+    script\n";
+
+// The head of a world whose process may take other labels.
+const RELABELS: &[u8] = b"world 1\n\
+    levels unc conf sec\n\
+    categories a b\n\
+    bound all\n\
+    dir / 0777 0 0 unc\n\
+    proc unc 10 10 - \"cap_mac_relabel_subj=ep\"\n\
+    script\n";
+
+const ASKS: &[u8] = b"1@unc getpid\n";
+
+const ANSWERED: &[u8] = b"1@unc getpid ok 1@unc\n";
+
+// What `view` leaves of inputs: with a crossing, without one, of a world that lacks the label, and refused ones.
+const VIEWED: [(&str, Pieces, Status, Pieces); 9] = [
+    (
+        "unc",
+        &[OPEN_BELOW, ASKS, b"1@sec open /u w\n", ASKS],
+        Status::Done,
+        &[ANSWERED, b"crossed\n"],
+    ),
+    (
+        "unc",
+        &[OPEN_BELOW, ASKS, b"1@sec getpid\n", ASKS],
+        Status::Done,
+        &[ANSWERED, ANSWERED, b"end 1@unc unc \"=\"\n", b"done 2\n"],
+    ),
+    (
+        "conf",
+        &[
+            RELABELS,
+            b"1@unc mac_set_proc conf\n",
+            ASKS,
+            b"1@unc mac_set_proc sec\n",
+        ],
+        Status::Done,
+        &[b"1@unc mac_set_proc ok\n", ANSWERED, b"crossed\n"],
+    ),
+    (
+        "unc",
+        &[OPEN_BELOW, b"1@sec open /u w\n", ASKS, b"1@unc fork now\n"],
+        Status::Refused,
+        &[b"crossed\n", b"refused 12 script syntax\n"],
+    ),
+    (
+        "unc",
+        &[OPEN_BELOW, ASKS, b"1@unc fork now\n"],
+        Status::Refused,
+        &[
+            ANSWERED,
+            b"end 1@unc unc \"=\"\n",
+            b"refused 11 script syntax\n",
+        ],
+    ),
+    (
+        "zzz",
+        &[RELABELS, ASKS],
+        Status::Refused,
+        &[b"refused 0 view bad_label\n"],
+    ),
+    (
+        "unc:",
+        &[RELABELS, b"1@unc fork now\n"],
+        Status::Refused,
+        &[b"refused 0 view bad_label\n"],
+    ),
+    (
+        "zzz",
+        &[b"world 1\nlevels unc"],
+        Status::Refused,
+        &[b"refused 2 world syntax\n"],
+    ),
+    ("unc", &[], Status::Refused, &[b"refused 1 world syntax\n"]),
+];
+
+#[test]
+fn view_writes_what_the_label_sees(rt: HostRuntime) -> Result<(), Fail> {
+    let alloc = rt.alloc();
+    for (label, input, status, out) in VIEWED {
+        assert_eq!(rt;
+            performed(alloc, &["view", label], input, Fails::Nothing)?,
+            Left::new(alloc, status, out, &[])?,
+            "{label}"
+        );
+    }
+    Ok(())
+}
+
+#[test]
+fn a_fault_of_view_leaves_what_stands_before_it(rt: HostRuntime) -> Result<(), Fail> {
+    let alloc = rt.alloc();
+    let rows: [(Fails, Status, Pieces); 5] = [
+        (Fails::Read(1), Status::ReadFault, &[]),
+        (Fails::Read(2), Status::ReadFault, &[ANSWERED, b"crossed\n"]),
+        (Fails::Write(1), Status::WriteFault, &[]),
+        (Fails::Write(2), Status::WriteFault, &[ANSWERED]),
+        (Fails::Write(3), Status::Done, &[ANSWERED, b"crossed\n"]),
+    ];
+    let input: Pieces = &[OPEN_BELOW, ASKS, b"1@sec open /u w\n", ASKS];
+    for (fails, status, out) in rows {
+        assert_eq!(rt;
+            performed(alloc, &["view", "unc"], input, fails)?,
+            Left::new(alloc, status, out, &[])?,
+            "{fails:?}"
+        );
+    }
+    Ok(())
+}
+
+// Four replies stand before the first call that overrides the rules on labels.
+#[test]
+fn a_view_of_a_day_ends_at_the_crossing(rt: HostRuntime) -> Result<(), Fail> {
+    let alloc = rt.alloc();
+    let whole = played(alloc, &[DAY], Fails::Nothing)?;
+    let (out, _) = first_lines(&whole.out, 4);
+    assert_eq!(rt;
+        performed(alloc, &["view", "public"], &[DAY], Fails::Nothing)?,
+        Left::new(alloc, Status::Done, &[out, b"crossed\n"], &[])?
     );
     Ok(())
 }

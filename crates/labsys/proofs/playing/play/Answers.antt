@@ -1,10 +1,10 @@
-use Rattle.std.proofs.Common.{inr}
+use Rattle.std.proofs.Common.{inr, refl}
 use Rattle.lab_engine.proofs.Sending.{prefix_nothing}
 use Rattle.labsys.proofs.PlayLemmas.{ended_readable, read_ended, read_more, read_playable, read_plays, read_readable, read_small, run_fails, run_memory}
 use Rattle.labsys.proofs.playing.play.Goals as goal
 
 pub returns-in_err-lines-clause-did : goal.returns-in_err-lines-clause-did
-returns-in_err-lines-clause-did g c = run_memory _ _ _ c.from_residual.ensures.1
+returns-in_err-lines-clause-did g c = run_memory _ _ _ _ c.from_residual.ensures.1
 
 pub returns-in_err-lines-clause-readable : goal.returns-in_err-lines-clause-readable
 returns-in_err-lines-clause-readable g c = λ text is a accepted. inr (prefix_nothing _ _ _ _ _)
@@ -12,7 +12,7 @@ returns-in_err-lines-clause-readable g c = λ text is a accepted. inr (prefix_no
 pub returns-in_err-read-clause-did : goal.returns-in_err-read-clause-did
 returns-in_err-read-clause-did g c =
     let reads = c.in_err-read.ensures.reads in
-    run_fails _ c.in_ok-lines.ensures _ _ _ _ reads.taken reads.takes _ _ _ _ _ (c.in_err-read.ensures.counts _ _) reads.shows c.from_residual-in_err-read.ensures.1
+    run_fails _ c.in_ok-lines.ensures _ _ _ _ _ reads.taken reads.takes _ _ _ _ _ (c.in_err-read.ensures.counts _ _) reads.shows c.from_residual-in_err-read.ensures.1
 
 pub returns-in_err-read-clause-readable : goal.returns-in_err-read-clause-readable
 returns-in_err-read-clause-readable g c = λ text is a accepted. inr (prefix_nothing _ _ _ _ _)
@@ -36,7 +36,7 @@ pub returns-in-World-clause-readable : goal.returns-in-World-clause-readable
 returns-in-World-clause-readable g c = read_readable _ c.in_ok-lines.ensures _ _ _ _ c.in_ok-read.ensures.reads c.in-World.read c.in-World.is c.play_world.result _ _ _ _ _ _ c.in_ok-read.ensures.counts _ c.play_world.ensures
 
 pub returns-clause-did : goal.returns-clause-did
-returns-clause-did g c = read_ended _ c.in_ok-lines.ensures _ _ _ _ c.in_ok-read.ensures.reads c.in-Ended.ending c.in-Ended.is c.end_without_world.result _ _ _ _ _ c.in_ok-read.ensures.counts c.end_without_world.ensures.writes c.end_without_world.ensures.ending
+returns-clause-did g c = read_ended _ c.in_ok-lines.ensures _ _ _ _ c.in_ok-read.ensures.reads c.in-Ended.ending c.in-Ended.is _ refl c.end_without_world.result _ _ _ _ _ c.in_ok-read.ensures.counts c.end_without_world.ensures.writes c.end_without_world.ensures.ending
 
 pub returns-clause-readable : goal.returns-clause-readable
 returns-clause-readable g c = ended_readable _ c.in_ok-lines.ensures _ _ _ _ c.in_ok-read.ensures.reads c.in-Ended.ending c.in-Ended.is _ _

@@ -29,12 +29,12 @@ pub returns-in_err-finish : goal.returns-in_err-finish
 returns-in_err-finish g c =
     let did = c.in_ok-played.ensures in
     end_fails c.args.read c.items.result.now (c.items.ensures ∙ c.in_ok-kernel.ensures.recs) (state_of c.in_ok-kernel.kernel) c.in_ok-kernel.ensures.state _ _ _ _
-    _ (c.in_ok-begin.ensures.writes _ _) _ _ did.taken did.takes _ c.in_ok-begin.ensures.readable _ c.in_ok-played.played _ did.did
+    _ (c.in_ok-begin.ensures.writes _ _) _ _ did.taken did.takes _ c.in_ok-begin.ensures.readable _ _ c.in_ok-played.played _ did.did
     _ (c.in_err-finish.ensures _ _) (not_a_read _ _ _ _ _ _ (c.in_err-finish.ensures 0 (sink_view None 0))) c.from_residual-in_err-finish.ensures.1
 
 pub returns : goal.returns
 returns g c =
     let did = c.in_ok-played.ensures in
     world_played c.args.read c.items.result.now (c.items.ensures ∙ c.in_ok-kernel.ensures.recs) (state_of c.in_ok-kernel.kernel) c.in_ok-kernel.ensures.state _ _ _ _
-    _ (c.in_ok-begin.ensures.writes _ _) _ _ did.taken did.takes _ c.in_ok-begin.ensures.readable _ c.in_ok-played.played _ did.did
+    _ (c.in_ok-begin.ensures.writes _ _) _ _ did.taken did.takes _ c.in_ok-begin.ensures.readable _ _ c.in_ok-played.played _ did.did
     refl (c.in_ok-finish.ensures _ _)

@@ -1,47 +1,58 @@
-use Rattle.labsys.proofs.ClauseLemmas.{run_counts, run_line_by_line, run_order, run_whole, run_ending, run_covered, run_replies_first, run_printed, run_printed_by_any, run_dropped, run_isolated, run_isolated_whole, run_two_inputs, run_two_whole, run_few}
+use Rattle.std.proofs.Common.{◌∙◌, sym}
+use Rattle.labsys.proofs.ClauseLemmas.{as_play, as_view, is_play, run_counts, run_line_by_line, run_order, run_whole, run_ending, run_covered, run_replies_first, run_printed, run_printed_by_any, run_dropped, run_isolated, run_isolated_whole, run_two_inputs, run_two_whole, run_few, run_to_the_end, run_view_alone}
+use Rattle.labsys.proofs.PerformLemmas.{left_alone}
 use Rattle.labsys.proofs.running.run.Goals as goal
 
-pub returns-in-Some-Play-clause-counts : goal.returns-in-Some-Play-clause-counts
-returns-in-Some-Play-clause-counts g c = run_counts c.play.result _ _ _ _ c.play.ensures.did _ c.status_of.ensures
+pub returns-in-Some-clause-left_alone : goal.returns-in-Some-clause-left_alone
+returns-in-Some-clause-left_alone g c = left_alone _ _ _ _ _ (sym c.command_of.ensures.command ∙ c.in-Some.is) c.perform.ensures.alone
 
-pub returns-in-Some-Play-clause-order : goal.returns-in-Some-Play-clause-order
-returns-in-Some-Play-clause-order g c = run_order c.play.result _ _ _ _ c.play.ensures.did _
+pub returns-in-Some-clause-counts : goal.returns-in-Some-clause-counts
+returns-in-Some-clause-counts g c = run_counts _ c.perform.result _ _ _ _ c.perform.ensures.did _ c.status_of.ensures
 
-pub returns-in-Some-Play-clause-whole : goal.returns-in-Some-Play-clause-whole
-returns-in-Some-Play-clause-whole g c = run_whole c.play.result _ _ _ _ c.play.ensures.did _ c.status_of.ensures _
+pub returns-in-Some-clause-order : goal.returns-in-Some-clause-order
+returns-in-Some-clause-order g c = run_order _ c.perform.result _ _ _ _ c.perform.ensures.did _ (sym c.command_of.ensures.command ∙ c.in-Some.is)
 
-pub returns-in-Some-Play-clause-ending : goal.returns-in-Some-Play-clause-ending
-returns-in-Some-Play-clause-ending g c = run_ending c.play.result _ _ _ _ c.play.ensures.did _ c.status_of.ensures _
+pub returns-in-Some-clause-whole : goal.returns-in-Some-clause-whole
+returns-in-Some-clause-whole g c = run_whole _ c.perform.result _ _ _ _ c.perform.ensures.did _ c.status_of.ensures _ (sym c.command_of.ensures.command ∙ c.in-Some.is)
 
-pub returns-in-Some-Play-clause-covered : goal.returns-in-Some-Play-clause-covered
-returns-in-Some-Play-clause-covered g c = λ _. run_covered c.play.result _ _ _ _ c.play.ensures.did
+pub returns-in-Some-clause-ending : goal.returns-in-Some-clause-ending
+returns-in-Some-clause-ending g c = run_ending _ c.perform.result _ _ _ _ c.perform.ensures.did _ c.status_of.ensures _ (sym c.command_of.ensures.command ∙ c.in-Some.is)
 
-pub returns-in-Some-Play-clause-replies_first : goal.returns-in-Some-Play-clause-replies_first
-returns-in-Some-Play-clause-replies_first g c = λ _. run_replies_first c.play.result _ _ _ _ c.play.ensures.did
+pub returns-in-Some-clause-covered : goal.returns-in-Some-clause-covered
+returns-in-Some-clause-covered g c = λ play. run_covered c.perform.result _ _ _ _ (as_play _ _ _ _ _ _ (is_play _ _ (sym c.command_of.ensures.command ∙ c.in-Some.is) play) c.perform.ensures.did)
 
-pub returns-in-Some-Play-clause-isolated : goal.returns-in-Some-Play-clause-isolated
-returns-in-Some-Play-clause-isolated g c = λ l _. run_isolated c.play.result _ _ _ _ c.play.ensures.did l
+pub returns-in-Some-clause-replies_first : goal.returns-in-Some-clause-replies_first
+returns-in-Some-clause-replies_first g c = λ play. run_replies_first c.perform.result _ _ _ _ (as_play _ _ _ _ _ _ (is_play _ _ (sym c.command_of.ensures.command ∙ c.in-Some.is) play) c.perform.ensures.did)
 
-pub returns-in-Some-Play-clause-isolated_whole : goal.returns-in-Some-Play-clause-isolated_whole
-returns-in-Some-Play-clause-isolated_whole g c = λ l _. run_isolated_whole c.play.result _ _ _ _ c.play.ensures.did _ c.status_of.ensures l
+pub returns-in-Some-clause-isolated : goal.returns-in-Some-clause-isolated
+returns-in-Some-clause-isolated g c = λ l play. run_isolated c.perform.result _ _ _ _ (as_play _ _ _ _ _ _ (is_play _ _ (sym c.command_of.ensures.command ∙ c.in-Some.is) play) c.perform.ensures.did) l
 
-pub returns-in-Some-Play-clause-two_inputs : goal.returns-in-Some-Play-clause-two_inputs
-returns-in-Some-Play-clause-two_inputs g c = λ l other _. run_two_inputs c.play.result _ _ _ _ c.play.ensures.did l other
+pub returns-in-Some-clause-isolated_whole : goal.returns-in-Some-clause-isolated_whole
+returns-in-Some-clause-isolated_whole g c = λ l play. run_isolated_whole c.perform.result _ _ _ _ (as_play _ _ _ _ _ _ (is_play _ _ (sym c.command_of.ensures.command ∙ c.in-Some.is) play) c.perform.ensures.did) _ c.status_of.ensures l
 
-pub returns-in-Some-Play-clause-two_whole : goal.returns-in-Some-Play-clause-two_whole
-returns-in-Some-Play-clause-two_whole g c = λ l other _. run_two_whole c.play.result _ _ _ _ c.play.ensures.did _ c.status_of.ensures l other
+pub returns-in-Some-clause-two_inputs : goal.returns-in-Some-clause-two_inputs
+returns-in-Some-clause-two_inputs g c = λ l other play. run_two_inputs c.perform.result _ _ _ _ (as_play _ _ _ _ _ _ (is_play _ _ (sym c.command_of.ensures.command ∙ c.in-Some.is) play) c.perform.ensures.did) l other
 
-pub returns-in-Some-Play-clause-printed : goal.returns-in-Some-Play-clause-printed
-returns-in-Some-Play-clause-printed g c = λ _. run_printed c.play.result _ _ _ _ c.play.ensures.did
+pub returns-in-Some-clause-two_whole : goal.returns-in-Some-clause-two_whole
+returns-in-Some-clause-two_whole g c = λ l other play. run_two_whole c.perform.result _ _ _ _ (as_play _ _ _ _ _ _ (is_play _ _ (sym c.command_of.ensures.command ∙ c.in-Some.is) play) c.perform.ensures.did) _ c.status_of.ensures l other
 
-pub returns-in-Some-Play-clause-dropped : goal.returns-in-Some-Play-clause-dropped
-returns-in-Some-Play-clause-dropped g c = λ _. run_dropped c.play.result _ _ _ _ c.play.ensures.did
+pub returns-in-Some-clause-printed : goal.returns-in-Some-clause-printed
+returns-in-Some-clause-printed g c = λ play. run_printed c.perform.result _ _ _ _ (as_play _ _ _ _ _ _ (is_play _ _ (sym c.command_of.ensures.command ∙ c.in-Some.is) play) c.perform.ensures.did)
 
-pub returns-in-Some-Play-clause-few : goal.returns-in-Some-Play-clause-few
-returns-in-Some-Play-clause-few g c = run_few c.play.result _ _ _ _ c.play.ensures.did
+pub returns-in-Some-clause-dropped : goal.returns-in-Some-clause-dropped
+returns-in-Some-clause-dropped g c = λ play. run_dropped c.perform.result _ _ _ _ (as_play _ _ _ _ _ _ (is_play _ _ (sym c.command_of.ensures.command ∙ c.in-Some.is) play) c.perform.ensures.did)
 
-pub returns-in-Some-Play-clause-printed_by_any : goal.returns-in-Some-Play-clause-printed_by_any
-returns-in-Some-Play-clause-printed_by_any g c = λ _. run_printed_by_any c.play.result _ _ _ _ c.play.ensures.did c.play.ensures.readable
+pub returns-in-Some-clause-printed_by_any : goal.returns-in-Some-clause-printed_by_any
+returns-in-Some-clause-printed_by_any g c = λ play. run_printed_by_any c.perform.result _ _ _ _ (as_play _ _ _ _ _ _ (is_play _ _ (sym c.command_of.ensures.command ∙ c.in-Some.is) play) c.perform.ensures.did) (c.perform.ensures.readable (is_play _ _ (sym c.command_of.ensures.command ∙ c.in-Some.is) play))
 
-pub returns-in-Some-Play-clause-line_by_line : goal.returns-in-Some-Play-clause-line_by_line
-returns-in-Some-Play-clause-line_by_line g c = λ _ read. run_line_by_line c.play.result _ _ _ _ c.play.ensures.did _ c.status_of.ensures read
+pub returns-in-Some-clause-line_by_line : goal.returns-in-Some-clause-line_by_line
+returns-in-Some-clause-line_by_line g c = λ play read. run_line_by_line c.perform.result _ _ _ _ (as_play _ _ _ _ _ _ (is_play _ _ (sym c.command_of.ensures.command ∙ c.in-Some.is) play) c.perform.ensures.did) _ c.status_of.ensures read
+
+pub returns-in-Some-clause-few : goal.returns-in-Some-clause-few
+returns-in-Some-clause-few g c = run_few _ c.perform.result _ _ _ _ c.perform.ensures.did
+
+pub returns-in-Some-clause-to_the_end : goal.returns-in-Some-clause-to_the_end
+returns-in-Some-clause-to_the_end g c = run_to_the_end _ c.perform.result _ _ _ _ c.perform.ensures.did _ c.status_of.ensures _ (sym c.command_of.ensures.command ∙ c.in-Some.is)
+
+pub returns-in-Some-clause-view_alone : goal.returns-in-Some-clause-view_alone
+returns-in-Some-clause-view_alone g c = λ l word view done. run_view_alone word c.perform.result _ _ _ _ (as_view _ _ word _ _ _ _ _ (sym c.command_of.ensures.command ∙ c.in-Some.is) view c.perform.ensures.did) _ c.status_of.ensures done l

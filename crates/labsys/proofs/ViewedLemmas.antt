@@ -1,0 +1,202 @@
+-- What is written of an input that is viewed from a label.
+use Rattle.std.proofs.Common.{◌≡◌, ℕ, ◌+◌, Bool, true, false, cond, List, [], ◌∷◌, ◌++◌, length, refl, sym, ◌∙◌, ap, subst, append_assoc, arith}
+use Rattle.std.proofs.KnownBytes.{Appends-nil}
+use Rattle.std.proofs.lemmas.List.{append-nil}
+use Rattle.std.specs.Prelude.{Option, None, Some, Result, Ok, Err, IsErrAnd, IfOk}
+use Rattle.std.specs.List.{flat_map}
+use Rattle.std.specs.Io.KnownBytes.{Appends}
+use Rattle.io_ends.specs.Faults.{counted}
+use Rattle.io_ends.specs.LinesState.{LinesState}
+use Rattle.io_ends.specs.Sinks.{SinkView, sink_view}
+use Rattle.kern_model.specs.Boot.{boot}
+use Rattle.kern_model.specs.Run.{CallRecord, run, state_after_run}
+use Rattle.kern_model.specs.State.{State}
+use Rattle.lab_lattice.specs.Label.{Label}
+use Rattle.lab_text.specs.Policy.{PolicyNames}
+use Rattle.lab_text.specs.Text.{parse_label}
+use Rattle.lab_engine.specs.declared.ending.Fault.{Fault}
+use Rattle.lab_engine.specs.declared.ending.Fault.TheVariants.{Read, Write, Trail, NoMemory}
+use Rattle.lab_engine.specs.declared.ending.InputEnd.{InputEnd}
+use Rattle.lab_engine.specs.declared.ending.InputEnd.TheVariants.{Refused, Whole}
+use Rattle.lab_engine.specs.declared.ending.Part.TheVariants as part
+use Rattle.lab_engine.specs.declared.ending.Refusal.TheVariants as refusal
+use Rattle.lab_engine.specs.declared.playing.Played.{Played}
+use Rattle.lab_engine.specs.declared.reporting.Report.{Report}
+use Rattle.lab_engine.specs.declared.reporting.Report.TheVariants.{Below, Crossed}
+use Rattle.lab_engine.specs.Counts.{Counts, counts, counted_by}
+use Rattle.lab_engine.specs.Input.{Accepted, Script}
+use Rattle.lab_engine.specs.Order.{Sent, out_of, to_out, trail_of}
+use Rattle.lab_engine.specs.Playing.{Ends, ends, PlaysAll, SendsAll, StopsBy, StopsIn, Writes}
+use Rattle.lab_engine.specs.Reading.{Takes, left_of, script_at}
+use Rattle.lab_engine.specs.Report.{crossed_line, low_calls, report_after, reported, some_crosses}
+use Rattle.lab_engine.specs.Session.{session_of}
+use Rattle.lab_engine.specs.Texts.{last_text, reply_text}
+use Rattle.lab_engine.specs.Viewing.{ends_below, seen, unless_whole, view_text}
+use Rattle.lab_engine.proofs.ReadSoFar.{takes_nothing}
+use Rattle.lab_engine.proofs.RunReports.{below_after, below_reported, below_text, up_to_all}
+use Rattle.lab_engine.proofs.Sending.{goes_on, in_order, out_of_memory, passes_on, stops_longer, to_out-append, trail_of-append, trail_of-to_out}
+use Rattle.labsys.specs.Playing.{EndsAs, ViewsWorld}
+use Rattle.labsys.specs.Viewing.{after_replies, viewed_ending, viewed_text}
+use Rattle.labsys.proofs.PlayLemmas.{failed_ending}
+
+-- ---- a trail that is not used
+
+left_nil : (xs ys : List ℕ) → xs ++ ys ≡ [] → xs ≡ []
+left_nil [] ys e = refl
+left_nil (x ∷ xs) ys e = absurd (cc)
+
+no_first : (k : ℕ) → k ≡ 1 → 0 ≡ k → ⊥
+no_first k is e = omega (arith, is, e)
+
+-- the ends of a run without a trail
+abbrev no_trail : ℕ → SinkView → Ends
+no_trail n o = ends n o (sink_view None 0)
+
+module _ (bs : List ℕ) (n n' : ℕ) (o o' t : SinkView) where
+  -- what went to the output alone leaves each trail as it was
+  pub any_trail : SendsAll (to_out bs) (no_trail n o) (no_trail n' o') → SendsAll (to_out bs) (ends n o t) (ends n' o' t)
+  any_trail x = record {
+    sends = record { to_out = x.sends.to_out; to_trail = subst (λ r. Appends t.held t.held r) (sym (trail_of-to_out bs)) (Appends-nil t.held) };
+    no_fault = ap (λ (c : Counts). counts c.source c.out t.faults) x.no_fault;
+  }
+
+  one_fault : (fault : Fault) → counts n' o'.faults 0 ≡ counted_by fault (counts n o.faults 0) → counts n' o'.faults t.faults ≡ counted_by fault (counts n o.faults t.faults)
+  unfolding counted_by
+  one_fault Read e = ap (λ (c : Counts). counts c.source c.out t.faults) e
+  one_fault Write e = ap (λ (c : Counts). counts c.source c.out t.faults) e
+  one_fault Trail e = absurd (no_first (counted 0) refl (ap (λ (c : Counts). c.trail) e))
+  one_fault NoMemory e = ap (λ (c : Counts). counts c.source c.out t.faults) e
+
+  pub any_trail_stops : (fault : Fault) → StopsBy fault (to_out bs) (no_trail n o) (no_trail n' o') → StopsBy fault (to_out bs) (ends n o t) (ends n' o' t)
+  any_trail_stops fault x =
+      let none : trail_of x.sends.sent ≡ [] = left_nil (trail_of x.sends.sent) (trail_of x.sends.rest) (sym (trail_of-append x.sends.sent x.sends.rest) ∙ sym (ap trail_of x.sends.prefix) ∙ trail_of-to_out bs) in
+      record {
+        sends = record {
+          sent = x.sends.sent;
+          rest = x.sends.rest;
+          prefix = x.sends.prefix;
+          sends = record { to_out = x.sends.sends.to_out; to_trail = subst (λ r. Appends t.held t.held r) (sym none) (Appends-nil t.held) };
+        };
+        one_fault = one_fault fault x.one_fault;
+      }
+
+-- ---- the replies, and what follows them
+
+module _ (policy : PolicyNames) (l : Label) (calls : List CallRecord) (s : State) (e : InputEnd) where
+  abbrev replies : List ℕ
+  replies = flat_map (reply_text policy) (seen l calls)
+
+  abbrev whole_view : Bool → List ℕ
+  whole_view b = replies ++ cond b (crossed_line ++ unless_whole e) (ends_below l policy s ++ last_text (length (seen l calls)) e)
+
+  by_crossing : (b : Bool) → some_crosses l calls ≡ b → (replies ++ cond b crossed_line []) ++ after_replies (cond b Crossed (Below l (0 + length (low_calls l calls)))) policy s e ≡ whole_view b
+  by_crossing true is = append_assoc replies crossed_line (unless_whole e)
+  by_crossing false is =
+      let none : 0 + length (low_calls l calls) ≡ length (low_calls l calls) = omega arith in
+      ap (λ k. (replies ++ []) ++ (ends_below l policy s ++ last_text k e)) none
+      ∙ ap (λ (r : List ℕ). r ++ (ends_below l policy s ++ last_text (length (low_calls l calls)) e)) (append-nil replies)
+      ∙ ap (λ (cs : List CallRecord). replies ++ (ends_below l policy s ++ last_text (length (low_calls l cs)) e)) (sym (up_to_all l calls is))
+
+  by_parts : below_text policy l calls ++ after_replies (report_after (Below l 0) calls) policy s e ≡ whole_view (some_crosses l calls)
+  by_parts = ap (λ (r : Report). below_text policy l calls ++ after_replies r policy s e) (below_after l 0 calls) ∙ by_crossing (some_crosses l calls) refl
+
+-- without a crossing the end lines and the last line follow
+pub below_end : (r : Report) (l : Label) (k : ℕ) → r ≡ Below l k → (policy : PolicyNames) (s : State) (e : InputEnd) → to_out (ends_below l policy s) ++ to_out (last_text k e) ≡ to_out (after_replies r policy s e)
+below_end r l k is policy s e = sym (to_out-append (ends_below l policy s) (last_text k e)) ∙ ap (λ (q : Report). to_out (after_replies q policy s e)) (sym is)
+
+-- ---- an accepted world
+
+-- memory ran out before a call was played
+pub view_memory : (l : Label) (a : Accepted) (r : Result InputEnd Fault) (lines : LinesState) (left : Option (List ℕ)) (e : Ends) → IsErrAnd r (λ q. q ≡ NoMemory) → ViewsWorld (Some l) r a lines lines left left e e
+view_memory l a r lines left e is = record {
+  taken = [];
+  takes = takes_nothing lines left;
+  writes = out_of_memory r _ e is;
+  ending = failed_ending r NoMemory is _;
+}
+
+module _ (l : Label) (a : Accepted) (s : State) (s_is : s ≡ boot a.world) (r : Result InputEnd Fault) (lines lines' : LinesState) (left left' : Option (List ℕ)) (taken : List ℕ) (takes : Takes lines lines' left left' taken) (n n' : ℕ) (o o' t : SinkView) where
+  abbrev m : Script
+  m = script_at a.policy lines (taken ++ left_of left')
+
+  abbrev calls : List CallRecord
+  calls = run s m.items
+
+  abbrev written : List ℕ
+  written = below_text a.policy l calls
+
+  text_is : (kept : Report) (s' : State) (e : InputEnd) → kept ≡ report_after (Below l 0) calls → s' ≡ state_after_run s m.items → e ≡ m.ending → written ++ after_replies kept a.policy s' e ≡ view_text l (session_of a m)
+  unfolding view_text
+  text_is kept s' e kept_is state ending =
+      ap (λ (k : Report). written ++ after_replies k a.policy s' e) kept_is
+      ∙ ap (λ (x : State). written ++ after_replies (report_after (Below l 0) calls) a.policy x e) state
+      ∙ ap (λ k. written ++ after_replies (report_after (Below l 0) calls) a.policy (state_after_run s m.items) k) ending
+      ∙ by_parts a.policy l calls (state_after_run s m.items) m.ending
+      ∙ ap (λ (x : State). whole_view a.policy l (run x m.items) (state_after_run x m.items) m.ending (some_crosses l (run x m.items))) s_is
+
+  -- a fault stopped the script
+  pub view_stops : (fault : Fault) → StopsIn a.policy (Below l 0) s m (script_at a.policy lines taken) fault (no_trail n o) (no_trail n' o') → IsErrAnd r (λ q. q ≡ fault) → ViewsWorld (Some l) r a lines lines' left left' (ends n o t) (ends n' o' t)
+  view_stops fault stop is =
+      let rest = after_replies (report_after (Below l 0) calls) a.policy (state_after_run s m.items) m.ending in
+      let same : to_out written ++ to_out rest ≡ to_out (view_text l (session_of a m)) = sym (to_out-append written rest) ∙ ap to_out (text_is (report_after (Below l 0) calls) (state_after_run s m.items) m.ending refl refl refl) in
+      record {
+        taken = taken;
+        takes = takes;
+        writes = passes_on r fault _ (ends n o t) (ends n' o' t) (subst (λ (q : List Sent). StopsBy fault q (ends n o t) (ends n' o' t)) same
+            (stops_longer fault (to_out written) (to_out rest) (ends n o t) (ends n' o' t)
+            (any_trail_stops written n n' o o' t fault (subst (λ (q : List Sent). StopsBy fault q (no_trail n o) (no_trail n' o')) (below_reported a.policy l 0 1 calls) stop.stops)))) is;
+        ending = failed_ending r fault is _;
+      }
+
+  -- the script was played
+  module _ (now : SinkView) (kept : Report) (s' : State) (p : Played) (all : PlaysAll a.policy (Below l 0) kept s s' m left' p (no_trail n o) (no_trail n' now)) where
+    abbrev rest : List ℕ
+    rest = after_replies kept a.policy s' p.ending
+
+    all_written : Writes r (to_out rest) (ends n' now t) (ends n' o' t) → Writes r (to_out (view_text l (session_of a m))) (ends n o t) (ends n' o' t)
+    all_written w =
+        let same : to_out written ++ to_out rest ≡ to_out (view_text l (session_of a m)) = sym (to_out-append written rest) ∙ ap to_out (text_is kept s' p.ending all.report all.state all.ending) in
+        in_order r _ _ (ends n o t) (ends n' o' t) same
+        (goes_on r (to_out written) (to_out rest) (ends n o t) (ends n' now t) (ends n' o' t)
+        (any_trail written n n' o now t (subst (λ (q : List Sent). SendsAll q (no_trail n o) (no_trail n' now)) (below_reported a.policy l 0 1 calls) all.sends)) w)
+
+    -- a fault cut the end of the output off
+    pub view_cut : (fault : Fault) → StopsBy fault (to_out rest) (ends n' now t) (ends n' o' t) → IsErrAnd r (λ q. q ≡ fault) → ViewsWorld (Some l) r a lines lines' left left' (ends n o t) (ends n' o' t)
+    view_cut fault stop is = record {
+      taken = taken;
+      takes = takes;
+      writes = all_written (passes_on r fault _ (ends n' now t) (ends n' o' t) stop is);
+      ending = failed_ending r fault is _;
+    }
+
+    -- all is written
+    pub view_written : r ≡ Ok p.ending → SendsAll (to_out rest) (ends n' now t) (ends n' o' t) → ViewsWorld (Some l) r a lines lines' left left' (ends n o t) (ends n' o' t)
+    view_written is sends = record {
+      taken = taken;
+      takes = takes;
+      writes = all_written (subst (λ (x : Result InputEnd Fault). Writes x (to_out rest) (ends n' now t) (ends n' o' t)) (sym is) sends);
+      ending = subst (λ (x : Result InputEnd Fault). IfOk x (λ e. EndsAs e m.ending left')) (sym is) (record { same = all.ending; to_the_end = all.to_the_end });
+    }
+
+-- ---- the label of a word
+
+pub view_named : (found : Option Label) (l : Label) → found ≡ Some l → (parsed : Option Label) → found ≡ parsed → (r : Result InputEnd Fault) (a : Accepted) (lines lines' : LinesState) (left left' : Option (List ℕ)) (before after : Ends)
+    → ViewsWorld (Some l) r a lines lines' left left' before after → ViewsWorld parsed r a lines lines' left left' before after
+view_named found l is parsed same r a lines lines' left left' before after x = subst (λ (o : Option Label). ViewsWorld o r a lines lines' left left' before after) (sym is ∙ same) x
+
+-- the refusal of a word that is no label of the world
+abbrev no_label : InputEnd
+no_label = Refused 0 part.View refusal.BadLabel
+
+refused_ending : (r : Result InputEnd Fault) → IfOk r (λ e. e ≡ no_label) → (left : Option (List ℕ)) → IfOk r (λ e. EndsAs e no_label left)
+refused_ending (Ok e) is left = record { same = is; to_the_end = λ whole. let no : no_label ≡ Whole = sym is ∙ whole in absurd (cc) }
+refused_ending (Err fault) is left = tt
+
+pub view_refused : (found : Option Label) → found ≡ None → (parsed : Option Label) → found ≡ parsed → (r : Result InputEnd Fault) (a : Accepted) (lines : LinesState) (left : Option (List ℕ)) (before after : Ends)
+    → Writes r (to_out (last_text 0 no_label)) before after → IfOk r (λ e. e ≡ no_label) → ViewsWorld parsed r a lines lines left left before after
+view_refused found is parsed same r a lines left before after w ends = subst (λ (o : Option Label). ViewsWorld o r a lines lines left left before after) (sym is ∙ same) (record {
+  taken = [];
+  takes = takes_nothing lines left;
+  writes = w;
+  ending = refused_ending r ends left;
+})

@@ -1,0 +1,14 @@
+use Rattle.std.proofs.Common.{ℕ, [], cond, take}
+use Rattle.std.specs.List.{flat_map}
+use Rattle.io_ends.specs.Sinks.{SinkView, sink_view}
+use Rattle.kern_model.specs.declared.numbers.Pid.{Pid}
+use Rattle.kern_core.specs.Kernel.{state_of}
+use Rattle.kern_model.specs.Isolation.{low}
+use Rattle.lab_engine.specs.Texts.{end_text, label_in, caps_in}
+use Rattle.lab_engine.specs.Order.{to_out}
+use Rattle.lab_engine.specs.Playing.{SendsAll, ends}
+use Rattle.labsys.proofs.viewing.report_ends_below.Given as goal
+
+abbrev pub invariant-loop-who : goal.invariant-loop-who
+invariant-loop-who g l = (source : ℕ) (trail : SinkView) → SendsAll (to_out (flat_map (λ (who : Pid). cond (low l.label who.label) (end_text l.texts.policy.now who (label_in (state_of l.kernel) who) (caps_in (state_of l.kernel) who)) []) (take l.who-index l.who-items)))
+    (ends source (sink_view (g.K.Sink.held l.initial.out) (g.K.Sink.faults l.initial.out)) trail) (ends source (sink_view (g.K.Sink.held l.out) (g.K.Sink.faults l.out)) trail)

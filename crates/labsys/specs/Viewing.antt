@@ -1,0 +1,47 @@
+-- What is written of an input that is viewed from a label.
+use Rattle.std.specs.Prelude.{ℕ, List, ◌++◌, Option, Some, None}
+use Rattle.kern_model.specs.State.{State}
+use Rattle.lab_lattice.specs.Label.{Label}
+use Rattle.lab_text.specs.Policy.{PolicyNames}
+use Rattle.lab_text.specs.Text.{parse_label}
+use Rattle.lab_engine.specs.declared.ending.InputEnd.{InputEnd}
+use Rattle.lab_engine.specs.declared.ending.InputEnd.TheVariants.{Refused}
+use Rattle.lab_engine.specs.declared.ending.Part.TheVariants as part
+use Rattle.lab_engine.specs.declared.ending.Refusal.TheVariants as refusal
+use Rattle.lab_engine.specs.declared.reporting.Report.{Report}
+use Rattle.lab_engine.specs.declared.reporting.Report.TheVariants.{All, Below, Crossed, Counted}
+use Rattle.lab_engine.specs.Input.{Accepted, Script, Input}
+use Rattle.lab_engine.specs.Session.{session_of}
+use Rattle.lab_engine.specs.Texts.{last_text}
+use Rattle.lab_engine.specs.Viewing.{ends_below, unless_whole, view_text}
+
+-- ---- an accepted world
+
+-- how a view ends: the input is refused where the word of the label denotes none of the world, whatever the script has
+abbrev pub viewed_ending : Option Label → InputEnd → InputEnd
+viewed_ending None ending = Refused 0 part.View refusal.BadLabel
+viewed_ending (Some l) ending = ending
+
+-- what a view of an accepted world and its script writes, by the label that the word denotes; where it denotes none, that refusal alone
+abbrev pub viewed_text : Option Label → Accepted → Script → List ℕ
+viewed_text None a script = last_text 0 (Refused 0 part.View refusal.BadLabel)
+viewed_text (Some l) a script = view_text l (session_of a script)
+
+-- what a view writes after the replies, by what was kept of them: where a call has crossed the label, the last line of an input that is not whole, or else the end lines that the label sees and the last line
+abbrev pub after_replies : Report → PolicyNames → State → InputEnd → List ℕ
+after_replies (Below l k) policy s ending = ends_below l policy s ++ last_text k ending
+after_replies Crossed policy s ending = unless_whole ending
+after_replies All policy s ending = unless_whole ending
+after_replies (Counted t) policy s ending = unless_whole ending
+
+-- ---- an input
+
+-- what a view from the label of a word writes of an input; without a world it is the last line alone
+abbrev pub text_of_view : List ℕ → Option Accepted → Script → List ℕ
+text_of_view word None script = last_text 0 script.ending
+text_of_view word (Some a) script = viewed_text (parse_label a.policy word) a script
+
+-- how a view of an input ends
+abbrev pub ending_of_view : List ℕ → Option Accepted → InputEnd → InputEnd
+ending_of_view word None ending = ending
+ending_of_view word (Some a) ending = viewed_ending (parse_label a.policy word) ending

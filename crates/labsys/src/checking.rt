@@ -1,0 +1,93 @@
+// An input that is read and not played.
+ghost use Rattle.std.specs.Prelude.{◌≡◌, ◌≤◌, ◌^◌, true, IfOk, length};
+ghost use Rattle.io_ends.specs.Sinks.{SinkView, sink_view};
+ghost use Rattle.lab_engine.specs.Playing.{WritesOut, ends};
+ghost use Rattle.labsys.specs.Checking.{checked_text, ok_text};
+ghost use Rattle.labsys.specs.Playing.{ChecksWorld, CommandDid};
+
+use crate::Command;
+use crate::playing::end_without_world;
+use io_ends::{Lines, Sink, Source};
+use kern_model::limits::MAX_INPUT;
+use kern_model::{NoMemory, World};
+use lab_engine::{
+    Fault, InputEnd, Played, ReadWorld, Texts, answer, check_script, read_world, report_last,
+};
+use line_text::LineWriter;
+use std::alloc::Global;
+use world_text::WorldText;
+
+// The line of an input that was read whole.
+#[tactic(auto, unfolding(crate::specs::Checking::ok_text))]
+fn ok_line(alloc: Global, world: &World, calls: u64) -> Result<Vec<u8>, NoMemory>
+    ensures { IfOk result (λ text. text.items ≡ ok_text (length world.now.objects) (length world.now.procs) calls) }
+{
+    let line = LineWriter::new(alloc)?
+        .bytes(b"ok ")?
+        .digits(world.objects.items().len() as u64)?
+        .bytes(b" ")?
+        .digits(world.procs.items().len() as u64)?
+        .bytes(b" ")?
+        .digits(calls)?
+        .line_feed()?;
+    Ok(line.into_text())
+}
+
+// Writes what was found of an input with a world.
+fn report_check<K: Sink>(
+    alloc: Global,
+    world: &World,
+    checked: Played,
+    out: &mut K,
+) -> Result<(), Fault>
+    ensures { WritesOut result (checked_text world.now checked.count checked.ending) (sink_view (K.held out.old) (K.faults out.old)) (sink_view (K.held out.new) (K.faults out.new)) }
+{
+    match checked.ending {
+        InputEnd::Whole => {
+            let text = ok_line(alloc, world, checked.count)?;
+            answer(out, &text)
+        }
+        InputEnd::Refused(..) | InputEnd::TooMuch => report_last(alloc, 0, checked.ending, out),
+    }
+}
+
+// Reads the script after a world that was accepted, and writes what was found.
+fn check_world<S: Source, K: Sink>(
+    alloc: Global,
+    read: &WorldText,
+    lines: &mut Lines,
+    source: &mut S,
+    out: &mut K,
+) -> Result<InputEnd, Fault>
+    requires more { lines.old.more ≡ true }
+    requires small { lines.old.room ≤ 2 ^ 24 }
+    ensures { (trail : SinkView) → ChecksWorld result read.now lines.old lines.new (S.left source.old) (S.left source.new)
+        (ends (S.faults source.old) (sink_view (K.held out.old) (K.faults out.old)) trail)
+        (ends (S.faults source.new) (sink_view (K.held out.new) (K.faults out.new)) trail) }
+{
+    let texts = Texts {
+        alloc,
+        policy: &read.policy,
+    };
+    let checked = check_script(texts, lines, source)?;
+    report_check(alloc, &read.world, checked, out)?;
+    Ok(checked.ending)
+}
+
+/// Reads the input that a source holds, and writes what was found: how many objects, processes and calls it has, or the
+/// line that refuses it.
+pub fn check<S: Source, K: Sink>(
+    alloc: Global,
+    source: &mut S,
+    out: &mut K,
+) -> Result<InputEnd, Fault>
+    ensures { (trail : SinkView) → CommandDid Command.Check result (S.left source.old) (S.left source.new)
+        (ends (S.faults source.old) (sink_view (K.held out.old) (K.faults out.old)) trail)
+        (ends (S.faults source.new) (sink_view (K.held out.new) (K.faults out.new)) trail) }
+{
+    let mut lines = Lines::new(alloc, MAX_INPUT)?;
+    match read_world(alloc, &mut lines, source)? {
+        ReadWorld::World(read) => check_world(alloc, &read, &mut lines, source, out),
+        ReadWorld::Ended(ending) => end_without_world(alloc, ending, out),
+    }
+}
