@@ -6,7 +6,7 @@
 First scripts of doubling length on a world of one file and one process, up to the limit of an input, of one call and of
 three; then worlds of doubling size, up to the limits of a label, with one call for each file; then worlds that fill an input
 up to its limit, all files in one directory or 32 names deep; then scripts of short lines, and on directories, descriptors, processes
-and attributes.
+and attributes; then each command.
 It prints the rows of the tables in README.md: wall time, and the most memory that the run held at a time. Names of these parts
 as arguments, as in `bench/play.py directories descriptors`, print the rows of these parts alone.
 """
@@ -181,21 +181,24 @@ def write_input(path, make, args, counted):
         return int(count.read())
 
 
-def run(folder):
+PLAY = ("play", "trail.out")
+
+
+def run(folder, words=PLAY):
     """The status, the seconds and the MiB of one run on the input."""
     with open(pathlib.Path(folder) / "input", "rb") as source:
         begin = time.monotonic()
-        child = subprocess.Popen([TOP / "labsys", "play", "trail.out"], stdin=source, stdout=subprocess.DEVNULL, cwd=folder)
+        child = subprocess.Popen([TOP / "labsys", *words], stdin=source, stdout=subprocess.DEVNULL, cwd=folder)
         _, status, used = os.wait4(child.pid, 0)
         child.returncode = os.waitstatus_to_exitcode(status)
         return child.returncode, time.monotonic() - begin, used.ru_maxrss / 1024
 
 
-def show(folder, title, make, *args, counted=b"\n"):
+def show(folder, title, make, *args, counted=b"\n", words=PLAY):
     """Prints the row of one input. `{}` in its title is how often the input has the bytes that are counted."""
     path = pathlib.Path(folder) / "input"
     count = write_input(path, make, args, counted)
-    status, seconds, resident = run(folder)
+    status, seconds, resident = run(folder, words)
     ended = "" if status == 0 else f" status {status}"
     print(f"| {title.format(count)} | {path.stat().st_size:,} | {seconds:.2f} | {resident:,.0f} MiB |{ended}", flush=True)
 
@@ -257,7 +260,15 @@ def attributes(folder):
         show(folder, f"{files:,} files get a mode, an owner, capability sets and a label", attributed, files)
 
 
-PARTS = {"lines": lines, "directories": directories, "descriptors": descriptors, "processes": processes, "attributes": attributes}
+def commands(folder):
+    """The rows of each command, on the script of short lines and on the generated input."""
+    for words in (PLAY, ("view", "sec"), ("view", "unc"), ("check",)):
+        show(folder, f"`{' '.join(words)}` of {{:,}} calls", asking_script, LIMIT, counted=b"1@sec ", words=words)
+    for count in (12_500, 25_000, 50_000, 100_000):
+        show(folder, f"`gen {count}`", started, 0, words=("gen", str(count)))
+
+
+PARTS = {"lines": lines, "directories": directories, "descriptors": descriptors, "processes": processes, "attributes": attributes, "commands": commands}
 
 
 def main():
