@@ -42,8 +42,8 @@ pub trait Sink {
         ensures counts { CountsFault (faults self.old) (faults self.new) result };
 }
 
-// Counts a fault.
-pub(crate) fn count_fault(faults: &mut u64) -> Failed
+/// Counts a fault, up to `u64::MAX`.
+pub fn count_fault(faults: &mut u64) -> Failed
     ensures { faults.new ≡ counted faults.old }
 {
     *faults = faults.saturating_add(1);

@@ -14,11 +14,11 @@ mod memory;
 mod sure;
 mod whole;
 
-pub use ends::{Failed, Sink, Source};
+pub use ends::{Failed, Sink, Source, count_fault};
 pub use files::{FileSink, FileSource};
 pub use lines::{Lines, MAX_LINE, Next};
 pub use list::ByteList;
-pub use memory::{MemSink, MemSource};
+pub use memory::{MemSink, MemSource, copy_prefix};
 pub use std::alloc::AllocError as NoMemory;
 pub use sure::{SureSink, SureSource};
 pub use whole::{ReadError, Whole, read_whole, write_whole};

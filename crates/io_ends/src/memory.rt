@@ -10,8 +10,8 @@ use crate::{Failed, Sink, Source};
 use std::alloc::{AllocError, Global};
 use std::marker::Model;
 
-// Copies as many bytes as fit, and returns how many.
-pub(crate) fn copy_prefix(left: &[u8], buf: &mut [u8]) -> usize
+/// Copies the first bytes that are left to the beginning of a buffer, as many as fit, and returns how many.
+pub fn copy_prefix(left: &[u8], buf: &mut [u8]) -> usize
     ensures count { result ≡ min (length buf.new) (length left.now) }
     ensures given { take result buf.new ≡ take result left.now }
     ensures whole { left.now ≡ take result buf.new ++ drop result left.now }

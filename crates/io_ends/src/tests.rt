@@ -157,16 +157,22 @@ fn answers<S: Source>(lines: &mut Lines, source: &mut S, next: Next, line: &[u8]
     lines.more() && lines.next(source) == Ok(next) && lines.line() == line
 }
 
+// Whether these lines come next, and then this answer.
+fn gives<S: Source>(lines: &mut Lines, source: &mut S, wanted: &[&[u8]], last: Next) -> bool {
+    for line in wanted {
+        if !answers(lines, source, Next::Line, line) {
+            return false;
+        }
+    }
+    answers(lines, source, last, b"")
+}
+
 #[test]
 fn lines_are_read_one_after_another(rt: HostRuntime) -> Result<(), AllocError> {
     let mut source = SureSource::new(b"one\n\ntwo\n".to_vec(rt.alloc())?);
     let mut lines = Lines::new(rt.alloc(), 9)?;
-    assert!(rt; answers(&mut lines, &mut source, Next::Line, b"one"));
-    assert!(rt; answers(&mut lines, &mut source, Next::Line, b""));
-    assert!(rt; answers(&mut lines, &mut source, Next::Line, b"two"));
-    assert!(rt; lines.number() == 3);
-    assert!(rt; answers(&mut lines, &mut source, Next::End, b""));
-    assert!(rt; !lines.more());
+    let given = gives(&mut lines, &mut source, &[b"one", b"", b"two"], Next::End);
+    assert!(rt; given && !lines.more());
     Ok(())
 }
 
@@ -174,9 +180,8 @@ fn lines_are_read_one_after_another(rt: HostRuntime) -> Result<(), AllocError> {
 fn a_line_that_is_not_ended_is_no_line(rt: HostRuntime) -> Result<(), AllocError> {
     let mut source = SureSource::new(b"one\ntwo".to_vec(rt.alloc())?);
     let mut lines = Lines::new(rt.alloc(), 7)?;
-    assert!(rt; answers(&mut lines, &mut source, Next::Line, b"one"));
-    assert!(rt; answers(&mut lines, &mut source, Next::Unended, b""));
-    assert!(rt; lines.number() == 2);
+    let given = gives(&mut lines, &mut source, &[b"one"], Next::Unended);
+    assert!(rt; given && lines.number() == 2);
     Ok(())
 }
 
@@ -184,8 +189,7 @@ fn a_line_that_is_not_ended_is_no_line(rt: HostRuntime) -> Result<(), AllocError
 fn lines_past_the_limit_are_too_much(rt: HostRuntime) -> Result<(), AllocError> {
     let mut source = SureSource::new(b"one\ntwo\n".to_vec(rt.alloc())?);
     let mut lines = Lines::new(rt.alloc(), 7)?;
-    assert!(rt; answers(&mut lines, &mut source, Next::Line, b"one"));
-    assert!(rt; answers(&mut lines, &mut source, Next::TooMuch, b""));
+    assert!(rt; gives(&mut lines, &mut source, &[b"one"], Next::TooMuch));
     Ok(())
 }
 
@@ -195,9 +199,18 @@ fn a_line_has_at_most_2048_bytes(rt: HostRuntime) -> Result<(), AllocError> {
     bytes[2048] = b'\n';
     let mut source = SureSource::new(bytes);
     let mut lines = Lines::new(rt.alloc(), 4098)?;
-    assert!(rt; answers(&mut lines, &mut source, Next::Line, &[7u8; 2048]));
-    assert!(rt; answers(&mut lines, &mut source, Next::LongLine, b""));
+    assert!(rt; gives(&mut lines, &mut source, &[&[7u8; 2048]], Next::LongLine));
     Ok(())
+}
+
+// Whether so many empty lines come next, and then the read fails.
+fn gives_empty<S: Source>(lines: &mut Lines, source: &mut S, count: usize) -> bool {
+    for _ in 0..count {
+        if !answers(lines, source, Next::Line, b"") {
+            return false;
+        }
+    }
+    lines.more() && lines.next(source) == Err(ReadError::Failed)
 }
 
 #[test]
@@ -206,12 +219,8 @@ fn lines_are_given_before_a_read_fails(rt: HostRuntime) -> Result<(), AllocError
     bytes[4095] = 7;
     let mut source = MemSource::new(bytes, vec![in rt.alloc(); 2u64]?);
     let mut lines = Lines::new(rt.alloc(), 4098)?;
-    for _ in 0..4095 {
-        assert!(rt; answers(&mut lines, &mut source, Next::Line, b""));
-    }
-    assert!(rt; lines.more());
-    assert!(rt; lines.next(&mut source) == Err(ReadError::Failed));
-    assert!(rt; lines.number() == 4096);
+    let given = gives_empty(&mut lines, &mut source, 4095);
+    assert!(rt; given && lines.number() == 4096);
     Ok(())
 }
 
@@ -223,10 +232,8 @@ fn a_line_takes_several_reads(rt: HostRuntime) -> Result<(), AllocError> {
     bytes[5999] = b'\n';
     let mut source = SureSource::new(bytes);
     let mut lines = Lines::new(rt.alloc(), 6000)?;
-    assert!(rt; answers(&mut lines, &mut source, Next::Line, &[7u8; 2047]));
-    assert!(rt; answers(&mut lines, &mut source, Next::Line, &[7u8; 2047]));
-    assert!(rt; answers(&mut lines, &mut source, Next::Line, &[7u8; 1903]));
-    assert!(rt; answers(&mut lines, &mut source, Next::End, b""));
+    let wanted: [&[u8]; 3] = [&[7u8; 2047], &[7u8; 2047], &[7u8; 1903]];
+    assert!(rt; gives(&mut lines, &mut source, &wanted, Next::End));
     Ok(())
 }
 
@@ -255,8 +262,6 @@ fn a_line_comes_byte_by_byte(rt: HostRuntime) -> Result<(), AllocError> {
         bytes: b"one\ntwo\n",
     });
     let mut lines = Lines::new(rt.alloc(), 100)?;
-    assert!(rt; answers(&mut lines, &mut source, Next::Line, b"one"));
-    assert!(rt; answers(&mut lines, &mut source, Next::Line, b"two"));
-    assert!(rt; answers(&mut lines, &mut source, Next::End, b""));
+    assert!(rt; gives(&mut lines, &mut source, &[b"one", b"two"], Next::End));
     Ok(())
 }
