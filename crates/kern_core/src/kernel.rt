@@ -23,12 +23,22 @@ use sys_lookup::Shared;
 
 /// A kernel. When memory runs out in a call it has failed, and it plays no further call. The state of a kernel that has not
 /// failed is valid.
-#[derive(Drop)]
 pub struct Kernel {
     alloc: Global,
     shared: Shared,
     failed: bool,
     ghost valid: { failed ≡ false → ∥ IsValid (held.state_of shared) ∥₁ },
+}
+
+// Written out, so that a drop is one call.
+impl Drop for Kernel {
+    fn drop(self) {
+        let Kernel {
+            alloc: _,
+            shared: _,
+            failed: _,
+        } = self;
+    }
 }
 
 impl Kernel {
