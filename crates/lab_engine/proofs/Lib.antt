@@ -3,6 +3,7 @@ pub mod Sending
 pub mod ScriptLemmas
 pub mod ReportLemmas
 pub mod RunReports
+pub mod TallyLemmas
 pub mod ReadSoFar
 pub mod CheckLemmas
 pub mod Progress

@@ -10,7 +10,8 @@ use Rattle.lab_text.specs.Policy.{PolicyNames}
 use Rattle.lab_engine.specs.declared.reporting.Report.TheVariants.{Below, Crossed, Counted}
 use Rattle.lab_engine.specs.declared.reporting.Tally.{Tally}
 use Rattle.lab_engine.specs.Order.{Sent, to_out}
-use Rattle.lab_engine.specs.Report.{call_sends, crossed_line, exercises, is_denied, is_done, is_refused, low_calls, report_after, reported, some_crosses, tally_after, tally_of}
+use Rattle.lab_engine.specs.Report.{call_sends, crossed_line, exercises, is_denied, is_done, is_refused, report_after, reported, tally_after, tally_of}
+use Rattle.lab_engine.specs.Viewing.{low_calls, some_crosses}
 use Rattle.lab_engine.specs.Texts.{reply_text}
 use Rattle.lab_engine.proofs.Sending.{to_out-append}
 

@@ -12,7 +12,7 @@ use Rattle.kern_model.specs.declared.numbers.Pid.{Pid}
 use Rattle.kern_model.specs.declared.world.ScriptItem.{ScriptItem}
 use Rattle.kern_model.specs.Arguments.{is_script}
 use Rattle.kern_model.specs.Boot.{boot}
-use Rattle.kern_model.specs.Isolation.{Answered, Kept, answered, answers, all_answers, alone, crossing, low, part, part_script, up_to}
+use Rattle.kern_model.specs.Isolation.{Answered, Kept, answered, answers, all_answers, crossing, low, part, part_script, up_to}
 use Rattle.kern_model.specs.Keys.{pid_cmp}
 use Rattle.kern_model.specs.Maps.{select}
 use Rattle.kern_model.specs.Run.{CallRecord, played, run, state_after_run}
@@ -26,8 +26,8 @@ use Rattle.iso_laws.proofs.Laws.{isolated_whole, isolated_end, isolated_inside}
 use Rattle.lab_engine.specs.Input.{Accepted, Script}
 use Rattle.lab_engine.specs.Session.{session_of}
 use Rattle.lab_engine.specs.Texts.{caps_in, end_text, label_in, last_text, reply_text}
-use Rattle.lab_engine.specs.Report.{crossed_line, low_calls, some_crosses}
-use Rattle.lab_engine.specs.Viewing.{ends_below, seen, session_alone, unless_whole, view_text}
+use Rattle.lab_engine.specs.Report.{crossed_line}
+use Rattle.lab_engine.specs.Viewing.{ends_below, low_calls, seen, session_alone, some_crosses, unless_whole, view_text}
 
 -- the reply line of what was answered
 abbrev shown : PolicyNames → Answered → List ℕ

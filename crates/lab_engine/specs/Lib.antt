@@ -8,5 +8,6 @@ pub mod Readable
 pub mod Reading
 pub mod Playing
 pub mod Checking
+pub mod Counting
 pub mod Viewing
 pub mod Generated

@@ -1,6 +1,6 @@
 -- What a run reports of its calls: what is written of each, and what is kept of them.
 use Rattle.std.specs.Prelude.{ℕ, ◌+◌, ◌≤◌, Bool, true, false, cond, List, [], ◌∷◌, ◌++◌, codes}
-use Rattle.std.specs.List.{count_by, filter, flat_map, list_any, sum_by}
+use Rattle.std.specs.List.{count_by, flat_map, sum_by}
 use Rattle.kern_model.specs.declared.calls.Reply.{Reply}
 use Rattle.kern_model.specs.declared.calls.Reply.TheVariants as reply
 use Rattle.kern_model.specs.declared.numbers.Pid.{Pid}
@@ -11,7 +11,6 @@ use Rattle.kern_model.specs.declared.world.ScriptItem.{ScriptItem}
 use Rattle.kern_model.specs.Isolation.{crossing, low}
 use Rattle.kern_model.specs.Run.{CallRecord, run}
 use Rattle.kern_model.specs.State.{State}
-use Rattle.lab_lattice.specs.Label.{Label}
 use Rattle.lab_text.specs.Policy.{PolicyNames}
 use Rattle.aud_record.specs.Written.{rec_text}
 use Rattle.lab_engine.specs.declared.reporting.Report.{Report}
@@ -128,13 +127,9 @@ has_reply shown.Nothing = false
 
 -- ---- whole runs
 
--- the calls of processes whose number's label this label dominates
-abbrev pub low_calls : Label → List CallRecord → List CallRecord
-low_calls l calls = filter (λ (p : CallRecord). low l p.who.label) calls
-
--- whether a call crosses a label
-abbrev pub some_crosses : Label → List CallRecord → Bool
-some_crosses l calls = list_any (λ (p : CallRecord). crossing l p.recs) calls
+-- the tally of no call
+abbrev pub empty_tally : Tally
+empty_tally = record { ok = 0; denied = 0; refused = 0; exercised = 0 }
 
 -- a tally after calls
 abbrev pub tally_of : Tally → List CallRecord → Tally

@@ -1,19 +1,27 @@
 -- What a label sees of a run.
-use Rattle.std.specs.Prelude.{ℕ, List, [], ◌++◌, cond, length}
-use Rattle.std.specs.List.{flat_map}
+use Rattle.std.specs.Prelude.{ℕ, Bool, List, [], ◌++◌, cond, length}
+use Rattle.std.specs.List.{filter, flat_map, list_any}
 use Rattle.std.specs.FinMap as map
 use Rattle.lab_lattice.specs.Label.{Label}
 use Rattle.lab_text.specs.Policy.{PolicyNames}
 use Rattle.kern_model.specs.Boot.{boot, boot_recs}
-use Rattle.kern_model.specs.Isolation.{low, part, part_script, up_to}
+use Rattle.kern_model.specs.Isolation.{crossing, low, part, part_script, up_to}
 use Rattle.kern_model.specs.Run.{CallRecord, run, state_after_run}
 use Rattle.kern_model.specs.State.{State}
 use Rattle.lab_engine.specs.declared.ending.InputEnd.{InputEnd}
 use Rattle.lab_engine.specs.declared.ending.InputEnd.TheVariants.{Whole}
 use Rattle.lab_engine.specs.Input.{Accepted, Script}
-use Rattle.lab_engine.specs.Report.{crossed_line, low_calls, some_crosses}
+use Rattle.lab_engine.specs.Report.{crossed_line}
 use Rattle.lab_engine.specs.Session.{Session}
 use Rattle.lab_engine.specs.Texts.{caps_in, end_text, label_in, last_text, reply_text}
+
+-- the calls of processes whose number's label l dominates
+abbrev pub low_calls : Label → List CallRecord → List CallRecord
+low_calls l calls = filter (λ (p : CallRecord). low l p.who.label) calls
+
+-- whether a call crosses l
+abbrev pub some_crosses : Label → List CallRecord → Bool
+some_crosses l calls = list_any (λ (p : CallRecord). crossing l p.recs) calls
 
 -- the calls that l sees: those before the first one that crosses it
 abbrev pub seen : Label → List CallRecord → List CallRecord

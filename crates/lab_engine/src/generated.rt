@@ -1,5 +1,5 @@
 // The generated input as a source.
-ghost use Rattle.std.specs.Prelude.{◌≡◌, ◌++◌, ◌≤◌, [], Some, drop, length, min, take, IfOk, OnErr, OnOk};
+ghost use Rattle.std.specs.Prelude.{◌≡◌, ◌≤◌, [], Some, drop, take, OnErr, OnOk};
 ghost use Rattle.std.specs.List.{concat};
 ghost use Rattle.std.specs.Io.{ReadsAtMost};
 ghost use Rattle.std.specs.Io.KnownBytes.{ReadConsumes};
@@ -8,7 +8,7 @@ ghost use Rattle.gen_world.specs.declared.generator.TheConstants.{MAX_LINES};
 ghost use Rattle.io_ends.specs.Faults.{CountsFault};
 
 use gen_world::Generator;
-use io_ends::{Failed, Source};
+use io_ends::{Failed, Source, copy_prefix, count_fault};
 use kern_model::NoMemory;
 use std::alloc::Global;
 use std::marker::Model;
@@ -69,17 +69,6 @@ fn refill(generator: &mut Generator, piece: &mut Vec<u8>) -> Result<(), NoMemory
     }
 }
 
-// Copies as many bytes as fit, and returns how many.
-fn copy_prefix(left: &[u8], buf: &mut [u8]) -> usize
-    ensures count { result ≡ min (length buf.new) (length left.now) }
-    ensures given { take result buf.new ≡ take result left.now }
-    ensures whole { left.now ≡ take result buf.new ++ drop result left.now }
-{
-    let count = buf.len().min(left.len());
-    buf[..count].copy_from_slice(&left[..count]);
-    count
-}
-
 impl Source for Generated {
     ghost left = { λ s. Some s.left };
 
@@ -93,8 +82,7 @@ impl Source for Generated {
         if self.at == self.piece.len() {
             self.at = 0;
             if refill(&mut self.generator, &mut self.piece).is_err() {
-                self.faults = self.faults.saturating_add(1);
-                return Err(Failed);
+                return Err(count_fault(&mut self.faults));
             }
         }
         let count = copy_prefix(&self.piece[self.at..], buf);

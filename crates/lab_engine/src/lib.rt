@@ -3,6 +3,7 @@
 #![tactic(auto)]
 
 mod checking;
+mod counting;
 mod ending;
 mod generated;
 mod playing;
@@ -11,6 +12,7 @@ mod reporting;
 mod texts;
 
 pub use checking::check_script;
+pub use counting::count_script;
 pub use ending::{Fault, InputEnd, Part, Refusal};
 pub use generated::Generated;
 pub use playing::{Played, answer, begin, play_script, report_last};

@@ -2,7 +2,7 @@
 ghost use Rattle.std.specs.Prelude.{◌≡◌, ◌^◌, ℕ, List, cond, IfOk, OnOk};
 ghost use Rattle.kern_model.specs.Isolation.{crosses, crossing as crossing_of, differ, is_mac as is_mac_cap, low};
 ghost use Rattle.lab_engine.specs.declared.reporting.Report.TheVariants as a_report;
-ghost use Rattle.lab_engine.specs.Report.{CountsAtMost, call_record, exercises as exercises_among, is_exercise, report_after_call, shown_of, tally_after};
+ghost use Rattle.lab_engine.specs.Report.{CountsAtMost, call_record, empty_tally, exercises as exercises_among, is_exercise, report_after_call, shown_of, tally_after};
 
 use cap_bits::Cap;
 use kern_model::{NoMemory, Outcome, Pid, Rec, Reply};
@@ -111,7 +111,7 @@ fn exercises(recs: &[Rec]) -> usize
 impl Tally {
     /// A tally of no call.
     pub fn new() -> Self
-        ensures { result ≡ record { ok = 0; denied = 0; refused = 0; exercised = 0 } }
+        ensures { result ≡ empty_tally }
     {
         Tally {
             ok: 0,

@@ -15,6 +15,11 @@ Commands:
               processes and calls they have
   gen N       writes a generated world with a script of N lines to standard output, N from 1 to
               100000
+  drill N     plays that world and script, and writes to standard output how many calls were done,
+              denied and refused, how many exercises of capabilities were recorded, and how many
+              processes live at the end
+
+As the only word, --help prints this text, and --version the version.
 
 Exit status:
   0  done
@@ -36,6 +41,8 @@ fn command_line(alloc: Global) -> Result<Command<'static>, AllocError> {
         Command::new(alloc, "labsys")
             .version("1.0.0")
             .about(ABOUT)
+            .disable_help_flag(true)
+            .disable_version_flag(true)
             .arg(command)?
             .arg(argument)?
             .after_help(DETAILS),

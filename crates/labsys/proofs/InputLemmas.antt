@@ -11,7 +11,7 @@ use Rattle.lab_engine.specs.Order.{Sent, calls_by, order_by, order_of, order_of_
 use Rattle.lab_engine.specs.Reading.{input_at, left_of}
 use Rattle.lab_engine.specs.Texts.{last_text}
 use Rattle.labsys.specs.declared.command.Command.{Command}
-use Rattle.labsys.specs.declared.command.Command.TheVariants.{Play, Check, Gen, View}
+use Rattle.labsys.specs.declared.command.Command.TheVariants.{Play, Check, Gen, Drill, View}
 use Rattle.labsys.specs.Commands.{due, due_of_check, due_of_play, due_of_view, ends_with, reads_source}
 
 -- ---- what a source has left
@@ -46,6 +46,7 @@ pub due_without_world : (c : Command) → reads_source c ≡ true → (text : Li
 due_without_world Play reads text e is = ap due_of_play is ∙ ap (λ (o : List Sent). record { order = o; status = ends_with e }) (sym (without_world e))
 due_without_world Check reads text e is = ap due_of_check is
 due_without_world (Gen n) reads text e is = absurd (cc)
+due_without_world (Drill n) reads text e is = absurd (cc)
 due_without_world (View word) reads text e is = ap (due_of_view word) is
 
 pub no_calls : (i : Input) → i.accepted ≡ None → order_of_calls i ≡ []

@@ -10,5 +10,6 @@ pub mod ReadableLemmas
 pub mod PlayLemmas
 pub mod CheckLemmas
 pub mod ViewedLemmas
+pub mod DrillLemmas
 pub mod PerformLemmas
 pub mod ClauseLemmas

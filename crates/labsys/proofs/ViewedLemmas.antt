@@ -13,7 +13,6 @@ use Rattle.kern_model.specs.Run.{CallRecord, run, state_after_run}
 use Rattle.kern_model.specs.State.{State}
 use Rattle.lab_lattice.specs.Label.{Label}
 use Rattle.lab_text.specs.Policy.{PolicyNames}
-use Rattle.lab_text.specs.Text.{parse_label}
 use Rattle.lab_engine.specs.declared.ending.Fault.{Fault}
 use Rattle.lab_engine.specs.declared.ending.Fault.TheVariants.{Read, Write, Trail, NoMemory}
 use Rattle.lab_engine.specs.declared.ending.InputEnd.{InputEnd}
@@ -25,18 +24,18 @@ use Rattle.lab_engine.specs.declared.reporting.Report.{Report}
 use Rattle.lab_engine.specs.declared.reporting.Report.TheVariants.{Below, Crossed}
 use Rattle.lab_engine.specs.Counts.{Counts, counts, counted_by}
 use Rattle.lab_engine.specs.Input.{Accepted, Script}
-use Rattle.lab_engine.specs.Order.{Sent, out_of, to_out, trail_of}
+use Rattle.lab_engine.specs.Order.{Sent, to_out, trail_of}
 use Rattle.lab_engine.specs.Playing.{Ends, ends, PlaysAll, SendsAll, StopsBy, StopsIn, Writes}
 use Rattle.lab_engine.specs.Reading.{Takes, left_of, script_at}
-use Rattle.lab_engine.specs.Report.{crossed_line, low_calls, report_after, reported, some_crosses}
+use Rattle.lab_engine.specs.Report.{crossed_line, report_after}
 use Rattle.lab_engine.specs.Session.{session_of}
 use Rattle.lab_engine.specs.Texts.{last_text, reply_text}
-use Rattle.lab_engine.specs.Viewing.{ends_below, seen, unless_whole, view_text}
+use Rattle.lab_engine.specs.Viewing.{ends_below, low_calls, seen, some_crosses, unless_whole, view_text}
 use Rattle.lab_engine.proofs.ReadSoFar.{takes_nothing}
 use Rattle.lab_engine.proofs.RunReports.{below_after, below_reported, below_text, up_to_all}
 use Rattle.lab_engine.proofs.Sending.{goes_on, in_order, out_of_memory, passes_on, stops_longer, to_out-append, trail_of-append, trail_of-to_out}
 use Rattle.labsys.specs.Playing.{EndsAs, ViewsWorld}
-use Rattle.labsys.specs.Viewing.{after_replies, viewed_ending, viewed_text}
+use Rattle.labsys.specs.Viewing.{after_replies}
 use Rattle.labsys.proofs.PlayLemmas.{failed_ending}
 
 -- ---- a trail that is not used

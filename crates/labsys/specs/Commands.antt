@@ -9,10 +9,11 @@ use Rattle.gen_world.specs.declared.generator.TheConstants.{MAX_LINES}
 use Rattle.gen_world.specs.Text.{gen_text}
 use Rattle.lab_text.specs.Names.{same_bytes}
 use Rattle.labsys.specs.declared.command.Command.{Command}
-use Rattle.labsys.specs.declared.command.Command.TheVariants.{Play, Check, Gen, View}
+use Rattle.labsys.specs.declared.command.Command.TheVariants.{Play, Check, Gen, Drill, View}
 use Rattle.lab_engine.specs.declared.ending.InputEnd.{InputEnd}
 use Rattle.lab_engine.specs.declared.ending.InputEnd.TheVariants.{Whole, Refused as IsRefused, TooMuch}
 use Rattle.labsys.specs.Checking.{order_of_check}
+use Rattle.labsys.specs.Drilling.{drilled_text}
 use Rattle.labsys.specs.Viewing.{ending_of_view, text_of_view}
 use Rattle.labsys.specs.declared.status.Status.{Status}
 use Rattle.labsys.specs.declared.status.Status.TheVariants.{Done, Refused, TooLong}
@@ -34,12 +35,17 @@ lines_of word = numeral 10 6 1 MAX_LINES word
 abbrev pub command_alone : List ℕ → Option Command
 command_alone word = keep_if (same_bytes word (codes "check")) Check
 
--- the command that a word names with an argument: `play FILE`, `gen N` or `view LABEL`
+-- the command that a word names with how many lines are asked for: `gen N` or `drill N`
+abbrev pub command_of_lines : List ℕ → List ℕ → Option Command
+command_of_lines word argument =
+    cond (same_bytes word (codes "gen")) (option_map Gen (lines_of argument))
+    (cond (same_bytes word (codes "drill")) (option_map Drill (lines_of argument)) None)
+
+-- the command that a word names with an argument: `play FILE`, `view LABEL`, or one with how many lines are asked for
 abbrev pub command_with : List ℕ → List ℕ → Option Command
 command_with word argument =
     cond (same_bytes word (codes "play")) (keep_if (is_argument argument) Play)
-    (cond (same_bytes word (codes "gen")) (option_map Gen (lines_of argument))
-    (cond (same_bytes word (codes "view")) (keep_if (is_argument argument) (View argument)) None))
+    (cond (same_bytes word (codes "view")) (keep_if (is_argument argument) (View argument)) (command_of_lines word argument))
 
 -- the command that the words name, if they name one
 abbrev pub command_of : List (String Global) → Option Command
@@ -52,6 +58,7 @@ abbrev pub FitsCommand : Command → Type 0
 FitsCommand Play = Unit {0}
 FitsCommand Check = Unit {0}
 FitsCommand (Gen n) = (1 ≤ n) × (n ≤ MAX_LINES)
+FitsCommand (Drill n) = (1 ≤ n) × (n ≤ MAX_LINES)
 FitsCommand (View word) = Unit {0}
 
 -- ---- what is due
@@ -84,6 +91,7 @@ abbrev pub due : Command → List ℕ → Due
 due Play text = due_of_play (input_of text)
 due Check text = due_of_check (input_of text)
 due (Gen n) text = record { order = to_out (gen_text n); status = Done }
+due (Drill n) text = record { order = to_out (drilled_text n); status = Done }
 due (View word) text = due_of_view word (input_of text)
 
 -- ---- the ends
@@ -93,6 +101,7 @@ abbrev pub reads_source : Command → Bool
 reads_source Play = true
 reads_source Check = true
 reads_source (Gen n) = false
+reads_source (Drill n) = false
 reads_source (View word) = true
 
 -- which ends a command leaves as they were: without a command all of them
@@ -101,4 +110,5 @@ LeavesAlone None source out trail = source × out × trail
 LeavesAlone (Some Play) source out trail = Unit {0}
 LeavesAlone (Some Check) source out trail = trail
 LeavesAlone (Some (Gen n)) source out trail = source × trail
+LeavesAlone (Some (Drill n)) source out trail = source × trail
 LeavesAlone (Some (View word)) source out trail = trail

@@ -15,6 +15,8 @@ use Rattle.lab_engine.specs.Reading.{Takes, left_of, script_at}
 use Rattle.labsys.specs.declared.command.Command.{Command}
 use Rattle.labsys.specs.declared.command.Command.TheVariants.{Play}
 use Rattle.labsys.specs.Checking.{check_text}
+use Rattle.lab_engine.specs.Session.{session_of}
+use Rattle.labsys.specs.Drilling.{drill_text}
 use Rattle.labsys.specs.Commands.{due, ends_with, reads_source}
 use Rattle.labsys.specs.Readable.{SessionReadable}
 use Rattle.labsys.specs.Viewing.{viewed_ending, viewed_text}
@@ -57,3 +59,9 @@ pub record ViewsWorld (o : Option Label) (result : Result InputEnd Fault) (a : A
   pub takes : Takes lines lines' left left' taken
   pub writes : Writes result (to_out (viewed_text o a (script_at a.policy lines (taken ++ left_of left')))) before after
   pub ending : IfOk result (λ e. EndsAs e (viewed_ending o (script_at a.policy lines (taken ++ left_of left')).ending) left')
+
+-- this is the line of what was played of an accepted world and its script, by the bytes that were taken and are left
+pub record DrillsWorld (text : List ℕ) (n : ℕ) (a : Accepted) (lines lines' : LinesState) (left left' : Option (List ℕ)) : Type 0 where
+  pub taken : List ℕ
+  pub takes : Takes lines lines' left left' taken
+  pub is_line : text ≡ drill_text n (session_of a (script_at a.policy lines (taken ++ left_of left')))

@@ -10,7 +10,7 @@ use Rattle.lab_engine.specs.declared.ending.Part.TheVariants as part
 use Rattle.lab_engine.specs.declared.ending.Refusal.TheVariants as refusal
 use Rattle.lab_engine.specs.declared.reporting.Report.{Report}
 use Rattle.lab_engine.specs.declared.reporting.Report.TheVariants.{All, Below, Crossed, Counted}
-use Rattle.lab_engine.specs.Input.{Accepted, Script, Input}
+use Rattle.lab_engine.specs.Input.{Accepted, Script}
 use Rattle.lab_engine.specs.Session.{session_of}
 use Rattle.lab_engine.specs.Texts.{last_text}
 use Rattle.lab_engine.specs.Viewing.{ends_below, unless_whole, view_text}

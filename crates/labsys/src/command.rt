@@ -1,6 +1,6 @@
 // The commands of the program.
 ghost use Rattle.std.specs.Prelude.{◌≡◌, IfSome};
-ghost use Rattle.labsys.specs.Commands.{FitsCommand, command_alone, command_of, command_with, is_argument, lines_of};
+ghost use Rattle.labsys.specs.Commands.{FitsCommand, command_alone, command_of, command_of_lines, command_with, is_argument, lines_of};
 
 use fs_path::numeral;
 use gen_world::MAX_LINES;
@@ -45,6 +45,8 @@ pub enum Command<'a> {
     Check,
     /// `gen N` writes the generated input of N lines.
     Gen(u32),
+    /// `drill N` plays the generated input of N lines, and writes how its calls were answered.
+    Drill(u32),
     /// `view LABEL` plays the world and the script that the source holds, and writes what the label sees of it.
     View(LabelWord<'a>),
 }
@@ -71,15 +73,25 @@ fn command_alone(word: &[u8]) -> Option<Command<'static>>
     (word == b"check".as_slice()).then_some(Command::Check)
 }
 
+// The command that a word names with how many lines are asked for.
+fn command_of_lines(word: &[u8], argument: &[u8]) -> Option<Command<'static>>
+    ensures { result ≡ command_of_lines word.now argument.now }
+{
+    match word {
+        b"gen" => Some(Command::Gen(lines_of(argument)?)),
+        b"drill" => Some(Command::Drill(lines_of(argument)?)),
+        _ => None,
+    }
+}
+
 // The command that a word names with an argument.
 fn command_with<'a>(word: &[u8], argument: &'a [u8]) -> Option<Command<'a>>
     ensures { result ≡ command_with word.now argument.now }
 {
     match word {
         b"play" => is_argument(argument).then_some(Command::Play),
-        b"gen" => Some(Command::Gen(lines_of(argument)?)),
         b"view" => is_argument(argument).then_some(Command::View(LabelWord::new(argument))),
-        _ => None,
+        _ => command_of_lines(word, argument),
     }
 }
 

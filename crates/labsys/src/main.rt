@@ -3,6 +3,7 @@
 
 mod checking;
 mod command;
+mod drilling;
 mod generating;
 mod performing;
 mod playing;

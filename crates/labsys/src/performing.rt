@@ -9,6 +9,7 @@ ghost use Rattle.labsys.specs.Readable.{InputReadable};
 
 use crate::Command;
 use crate::checking::check;
+use crate::drilling::drill;
 use crate::generating::generate;
 use crate::playing::play;
 use crate::viewing::view;
@@ -38,6 +39,10 @@ pub fn perform<S: Source, K: Sink, T: Sink>(
         Command::Check => check(alloc, source, out),
         Command::Gen(lines) => {
             generate(alloc, lines, out)?;
+            Ok(InputEnd::Whole)
+        }
+        Command::Drill(lines) => {
+            drill(alloc, lines, out)?;
             Ok(InputEnd::Whole)
         }
         Command::View(word) => view(alloc, word, source, out),

@@ -373,7 +373,7 @@ fn one_byte_over_16_mib_is_too_long(rt: HostRuntime) -> Result<(), Fail> {
 #[test]
 fn words_that_are_no_command_touch_nothing(rt: HostRuntime) -> Result<(), Fail> {
     let alloc = rt.alloc();
-    let rows: [&[&str]; 22] = [
+    let rows: [&[&str]; 25] = [
         &[],
         &["frob", "trail.out"],
         &["play"],
@@ -388,6 +388,9 @@ fn words_that_are_no_command_touch_nothing(rt: HostRuntime) -> Result<(), Fail> 
         &["gen", "100001"],
         &["gen", "0000001"],
         &["gen", "1", "2"],
+        &["drill"],
+        &["drill", "0"],
+        &["drill", "100001"],
         &["check", "trail.out"],
         &["view"],
         &["view", ""],
@@ -474,6 +477,20 @@ fn a_write_of_gen_fails_in_turn(rt: HostRuntime) -> Result<(), Fail> {
             "{write}"
         );
     }
+    Ok(())
+}
+
+// Whether two drills write the same line. A read of the source would fail, but it is not read.
+fn drills_are_equal(alloc: Global, lines: &str) -> Result<bool, Fail> {
+    let words = ["drill", lines];
+    let first = performed(alloc, &words, &[b"not read"], Fails::Read(1))?;
+    let second = performed(alloc, &words, &[b"not read"], Fails::Read(1))?;
+    Ok(first == second && matches!(first.status, Status::Done))
+}
+
+#[test]
+fn drills_of_one_number_are_equal(rt: HostRuntime) -> Result<(), Fail> {
+    assert!(rt; drills_are_equal(rt.alloc(), "100000")?);
     Ok(())
 }
 

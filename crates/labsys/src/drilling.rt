@@ -1,0 +1,98 @@
+// The generated input, played and counted.
+ghost use Rattle.std.specs.Prelude.{◌≡◌, ◌≤◌, ◌^◌, ◌++◌, true, IfOk};
+ghost use Rattle.kern_model.specs.World.{IsWorld};
+ghost use Rattle.lab_text.specs.Policy.{top_of};
+ghost use Rattle.io_ends.specs.Sinks.{sink_view};
+ghost use Rattle.gen_world.specs.declared.generator.TheConstants.{MAX_LINES};
+ghost use Rattle.lab_engine.specs.Playing.{WritesOut};
+ghost use Rattle.labsys.specs.Drilling.{count_text, counts_text, drilled_text, tally_text};
+ghost use Rattle.labsys.specs.Playing.{DrillsWorld};
+
+use io_ends::{Lines, Sink, Source};
+use kern_core::Kernel;
+use kern_model::NoMemory;
+use kern_model::limits::MAX_INPUT;
+use lab_engine::{Fault, Generated, ReadWorld, Tally, Texts, answer, count_script, read_world};
+use line_text::LineWriter;
+use std::alloc::Global;
+use world_text::WorldText;
+
+// Appends a number after its word.
+fn put_count(line: LineWriter, word: &[u8], count: u64) -> Result<LineWriter, NoMemory>
+    ensures { IfOk result (λ after. after ≡ line ++ count_text word.now count) }
+{
+    line.word(word)?.bytes(b" ")?.digits(count)
+}
+
+// Appends what was counted of calls.
+fn put_counts(line: LineWriter, tally: &Tally) -> Result<LineWriter, NoMemory>
+    ensures { IfOk result (λ after. after ≡ line ++ counts_text tally.now) }
+{
+    let line = put_count(line, b"ok", tally.ok)?;
+    let line = put_count(line, b"denied", tally.denied)?;
+    let line = put_count(line, b"refused", tally.refused)?;
+    put_count(line, b"exercised", tally.exercised)
+}
+
+// The line of a generated input of so many lines.
+#[tactic(auto, unfolding(crate::specs::Drilling::tally_text))]
+fn tally_line(alloc: Global, lines: u32, tally: &Tally, living: u64) -> Result<Vec<u8>, NoMemory>
+    ensures { IfOk result (λ text. text.items ≡ tally_text lines tally.now living) }
+{
+    let line = LineWriter::new(alloc)?.bytes(b"drill")?.number(lines)?;
+    let line = put_counts(line, tally)?;
+    let line = put_count(line, b"live", living)?.line_feed()?;
+    Ok(line.into_text())
+}
+
+// Plays the script of an accepted world, and returns the line of what was counted.
+fn drill_world<S: Source>(
+    alloc: Global,
+    number: u32,
+    read: WorldText,
+    lines: &mut Lines,
+    source: &mut S,
+) -> Result<Vec<u8>, Fault>
+    requires world { IsWorld read.world }
+    requires top { read.world.top ≡ top_of read.policy }
+    requires more { lines.old.more ≡ true }
+    requires small { lines.old.room ≤ 2 ^ 24 }
+    ensures { IfOk result (λ text. DrillsWorld text.items number read lines.old lines.new (S.left source.old) (S.left source.new)) }
+{
+    let WorldText { policy, world } = read;
+    let texts = Texts {
+        alloc,
+        policy: &policy,
+    };
+    let (mut kernel, _) = Kernel::boot_from(alloc, world)?;
+    let tally = count_script(texts, &mut kernel, lines, source)?;
+    let living = kernel.live()?;
+    let text = tally_line(alloc, number, &tally, living.items().len() as u64)?;
+    Ok(text)
+}
+
+// Plays the generated input, and returns the line of what was counted.
+fn drill_generated(alloc: Global, number: u32) -> Result<Vec<u8>, Fault>
+    requires { (1 ≤ number) × (number ≤ MAX_LINES) }
+    ensures { IfOk result (λ text. text.items ≡ drilled_text number) }
+{
+    let mut source = Generated::new(alloc, number);
+    let mut lines = Lines::new(alloc, MAX_INPUT)?;
+    match read_world(alloc, &mut lines, &mut source)? {
+        ReadWorld::World(read) => drill_world(alloc, number, read, &mut lines, &mut source),
+        ReadWorld::Ended(_) => unreachable!(),
+    }
+}
+
+/// Plays the generated input of so many lines, and writes one line: how its calls were answered, how many exercises of
+/// capabilities were recorded, and how many processes live at its end. Out of memory is the only cause for which it
+/// writes nothing.
+pub fn drill<K: Sink>(alloc: Global, lines: u32, out: &mut K) -> Result<(), Fault>
+    requires { (1 ≤ lines) × (lines ≤ MAX_LINES) }
+    ensures { WritesOut result (drilled_text lines) (sink_view (K.held out.old) (K.faults out.old)) (sink_view (K.held out.new) (K.faults out.new)) }
+{
+    match drill_generated(alloc, lines) {
+        Ok(text) => answer(out, &text),
+        Err(_) => Err(Fault::NoMemory),
+    }
+}
