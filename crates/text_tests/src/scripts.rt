@@ -1,8 +1,6 @@
-// What no clause says: what each call's line and each kind of reply looks like, and a table of faults.
+// What no clause says: what each call's line looks like, and a table of faults. The cases have the replies.
 mod calls;
 mod faults;
-mod replies;
-mod tools;
 
 use lab_text::{Policy, PolicyError, Word};
 use script_text::NoMemory;
