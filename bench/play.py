@@ -266,6 +266,7 @@ def commands(folder):
         show(folder, f"`{' '.join(words)}` of {{:,}} calls", asking_script, LIMIT, counted=b"1@sec ", words=words)
     for count in (12_500, 25_000, 50_000, 100_000):
         show(folder, f"`gen {count}`", started, 0, words=("gen", str(count)))
+        show(folder, f"`drill {count}`", started, 0, words=("drill", str(count)))
 
 
 PARTS = {"lines": lines, "directories": directories, "descriptors": descriptors, "processes": processes, "attributes": attributes, "commands": commands}
