@@ -74,6 +74,19 @@ impl Left {
             trail: trail.concat(alloc)?,
         })
     }
+
+    // Whether a run left these. Tests assert this, and no `assert_eq!` of two values, since a test is proved again at each of its
+    // ways out.
+    fn is(
+        self,
+        alloc: Global,
+        status: Status,
+        out: &[&[u8]],
+        trail: &[&[u8]],
+    ) -> Result<bool, Fail> {
+        let wanted = Left::new(alloc, status, out, trail)?;
+        Ok(self == wanted)
+    }
 }
 
 #[derive(Drop)]
@@ -144,9 +157,8 @@ const FAULTS: [(Fails, Status, Pieces, Pieces); 12] = [
 fn a_fault_leaves_the_pieces_before_it(rt: HostRuntime) -> Result<(), Fail> {
     let alloc = rt.alloc();
     for (fails, status, out, trail) in FAULTS {
-        assert_eq!(rt;
-            played(alloc, &[INPUT], fails)?,
-            Left::new(alloc, status, out, trail)?,
+        assert!(rt;
+            played(alloc, &[INPUT], fails)?.is(alloc, status, out, trail)?,
             "{fails:?}"
         );
     }
@@ -166,9 +178,8 @@ fn a_reply_stands_before_the_next_records(rt: HostRuntime) -> Result<(), Fail> {
         ),
     ];
     for (fails, status, trail) in rows {
-        assert_eq!(rt;
-            played(alloc, &input, fails)?,
-            Left::new(alloc, status, &[REPLY], trail)?,
+        assert!(rt;
+            played(alloc, &input, fails)?.is(alloc, status, &[REPLY], trail)?,
             "{fails:?}"
         );
     }
@@ -272,14 +283,18 @@ fn each_answer_of_a_day_fails_in_turn(rt: HostRuntime) -> Result<(), Fail> {
     for count in 1..=DAY_ANSWERS {
         let (out, _) = first_lines(&whole.out, count - 1);
         let trail = records_up_to(&whole.trail, count);
-        assert_eq!(rt;
-            played(alloc, &[DAY], Fails::Write(count as u64))?,
-            Left::new(alloc, Status::WriteFault, &[out], &[trail])?,
+        assert!(rt;
+            played(alloc, &[DAY], Fails::Write(count as u64))?.is(
+                alloc,
+                Status::WriteFault,
+                &[out],
+                &[trail]
+            )?,
             "{count}"
         );
     }
     let fails = Fails::Write(DAY_ANSWERS as u64 + 1);
-    assert_eq!(rt; played(alloc, &[DAY], fails)?, whole);
+    assert!(rt; played(alloc, &[DAY], fails)? == whole);
     Ok(())
 }
 
@@ -292,14 +307,18 @@ fn each_record_of_a_day_fails_in_turn(rt: HostRuntime) -> Result<(), Fail> {
         let lines = if count == 1 { 0 } else { count + 2 };
         let (trail, rest) = first_lines(&whole.trail, lines);
         let (out, _) = first_lines(&whole.out, first_call(rest).saturating_sub(1));
-        assert_eq!(rt;
-            played(alloc, &[DAY], Fails::Note(count as u64))?,
-            Left::new(alloc, Status::TrailFault, &[out], &[trail])?,
+        assert!(rt;
+            played(alloc, &[DAY], Fails::Note(count as u64))?.is(
+                alloc,
+                Status::TrailFault,
+                &[out],
+                &[trail]
+            )?,
             "{count}"
         );
     }
     let fails = Fails::Note(DAY_NOTES as u64 + 1);
-    assert_eq!(rt; played(alloc, &[DAY], fails)?, whole);
+    assert!(rt; played(alloc, &[DAY], fails)? == whole);
     Ok(())
 }
 
@@ -322,10 +341,7 @@ const REFUSED: [(Pieces, Pieces, Pieces); 3] = [
 fn a_refused_line_leaves_what_stands_before_it(rt: HostRuntime) -> Result<(), Fail> {
     let alloc = rt.alloc();
     for (input, out, trail) in REFUSED {
-        assert_eq!(rt;
-            played(alloc, input, Fails::Nothing)?,
-            Left::new(alloc, Status::Refused, out, trail)?
-        );
+        assert!(rt; played(alloc, input, Fails::Nothing)?.is(alloc, Status::Refused, out, trail)?);
     }
     Ok(())
 }
@@ -357,16 +373,10 @@ fn one_byte_over_16_mib_is_too_long(rt: HostRuntime) -> Result<(), Fail> {
     let mut input = longest_input(alloc)?;
     let replies = longest_replies(alloc)?;
     let out = [&replies, END, b"done 199728\n"];
-    assert_eq!(rt;
-        played(alloc, &[&input], Fails::Nothing)?,
-        Left::new(alloc, Status::Done, &out, TRAIL)?
-    );
+    assert!(rt; played(alloc, &[&input], Fails::Nothing)?.is(alloc, Status::Done, &out, TRAIL)?);
     input.push(b'\n')?;
     let out = [&replies, END, b"too long\n"];
-    assert_eq!(rt;
-        played(alloc, &[&input], Fails::Nothing)?,
-        Left::new(alloc, Status::TooLong, &out, TRAIL)?
-    );
+    assert!(rt; played(alloc, &[&input], Fails::Nothing)?.is(alloc, Status::TooLong, &out, TRAIL)?);
     Ok(())
 }
 
@@ -403,11 +413,11 @@ fn words_that_are_no_command_touch_nothing(rt: HostRuntime) -> Result<(), Fail> 
     let mut ends = Ends::new(alloc, &[INPUT], Fails::Nothing)?;
     let nothing = Left::new(alloc, Status::Usage, &[], &[])?;
     for words in rows {
-        assert_eq!(rt; ends.run(alloc, words)?, nothing);
+        assert!(rt; ends.run(alloc, words)? == nothing);
     }
-    assert_eq!(rt;
-        ends.run(alloc, &["play", "trail.out"])?,
-        Left::new(alloc, Status::Done, ANSWERS, TRAIL)?
+    assert!(rt;
+        ends.run(alloc, &["play", "trail.out"])?
+            .is(alloc, Status::Done, ANSWERS, TRAIL)?
     );
     Ok(())
 }
@@ -452,9 +462,13 @@ fn gen_writes_the_generated_input(rt: HostRuntime) -> Result<(), Fail> {
         ),
     ];
     for (lines, out) in rows {
-        assert_eq!(rt;
-            performed(alloc, &["gen", lines], &[b"not read"], Fails::Read(1))?,
-            Left::new(alloc, Status::Done, out, &[])?,
+        assert!(rt;
+            performed(alloc, &["gen", lines], &[b"not read"], Fails::Read(1))?.is(
+                alloc,
+                Status::Done,
+                out,
+                &[]
+            )?,
             "{lines}"
         );
     }
@@ -471,9 +485,8 @@ fn a_write_of_gen_fails_in_turn(rt: HostRuntime) -> Result<(), Fail> {
         (3, Status::Done, &[GENERATED, ONE_LINE]),
     ];
     for (write, status, out) in rows {
-        assert_eq!(rt;
-            performed(alloc, &["gen", "1"], &[], Fails::Write(write))?,
-            Left::new(alloc, status, out, &[])?,
+        assert!(rt;
+            performed(alloc, &["gen", "1"], &[], Fails::Write(write))?.is(alloc, status, out, &[])?,
             "{write}"
         );
     }
@@ -524,9 +537,8 @@ const CHECKED: [(Pieces, Status, &[u8]); 6] = [
 fn check_writes_what_it_found(rt: HostRuntime) -> Result<(), Fail> {
     let alloc = rt.alloc();
     for (input, status, out) in CHECKED {
-        assert_eq!(rt;
-            performed(alloc, &["check"], input, Fails::Nothing)?,
-            Left::new(alloc, status, &[out], &[])?
+        assert!(rt;
+            performed(alloc, &["check"], input, Fails::Nothing)?.is(alloc, status, &[out], &[])?
         );
     }
     Ok(())
@@ -541,9 +553,8 @@ fn a_fault_of_check_leaves_nothing(rt: HostRuntime) -> Result<(), Fail> {
         (Fails::Write(1), Status::WriteFault),
     ];
     for (fails, status) in rows {
-        assert_eq!(rt;
-            performed(alloc, &["check"], &[INPUT], fails)?,
-            Left::new(alloc, status, &[], &[])?,
+        assert!(rt;
+            performed(alloc, &["check"], &[INPUT], fails)?.is(alloc, status, &[], &[])?,
             "{fails:?}"
         );
     }
@@ -640,9 +651,8 @@ const VIEWED: [(&str, Pieces, Status, Pieces); 9] = [
 fn view_writes_what_the_label_sees(rt: HostRuntime) -> Result<(), Fail> {
     let alloc = rt.alloc();
     for (label, input, status, out) in VIEWED {
-        assert_eq!(rt;
-            performed(alloc, &["view", label], input, Fails::Nothing)?,
-            Left::new(alloc, status, out, &[])?,
+        assert!(rt;
+            performed(alloc, &["view", label], input, Fails::Nothing)?.is(alloc, status, out, &[])?,
             "{label}"
         );
     }
@@ -661,9 +671,8 @@ fn a_fault_of_view_leaves_what_stands_before_it(rt: HostRuntime) -> Result<(), F
     ];
     let input: Pieces = &[OPEN_BELOW, ASKS, b"1@sec open /u w\n", ASKS];
     for (fails, status, out) in rows {
-        assert_eq!(rt;
-            performed(alloc, &["view", "unc"], input, fails)?,
-            Left::new(alloc, status, out, &[])?,
+        assert!(rt;
+            performed(alloc, &["view", "unc"], input, fails)?.is(alloc, status, out, &[])?,
             "{fails:?}"
         );
     }
@@ -676,9 +685,13 @@ fn a_view_of_a_day_ends_at_the_crossing(rt: HostRuntime) -> Result<(), Fail> {
     let alloc = rt.alloc();
     let whole = played(alloc, &[DAY], Fails::Nothing)?;
     let (out, _) = first_lines(&whole.out, 4);
-    assert_eq!(rt;
-        performed(alloc, &["view", "public"], &[DAY], Fails::Nothing)?,
-        Left::new(alloc, Status::Done, &[out, b"crossed\n"], &[])?
+    assert!(rt;
+        performed(alloc, &["view", "public"], &[DAY], Fails::Nothing)?.is(
+            alloc,
+            Status::Done,
+            &[out, b"crossed\n"],
+            &[]
+        )?
     );
     Ok(())
 }
