@@ -16,13 +16,23 @@ use lab_text::Policy;
 use std::alloc::Global;
 
 /// A record that was read.
-#[derive(Debug, Drop)]
+#[derive(Debug)]
 pub struct ReadRec {
     /// The number of its call.
     pub call: u64,
     pub rec: Rec,
     /// How many bytes its line has, with the line feed.
     pub used: usize,
+}
+
+impl Drop for ReadRec {
+    fn drop(self) {
+        let ReadRec {
+            call: _,
+            rec: _,
+            used: _,
+        } = self;
+    }
 }
 
 /// Why no record is read. Places are bytes, counted from 0: where the word at fault begins, or where a word is due.

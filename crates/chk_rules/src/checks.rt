@@ -12,12 +12,22 @@ use std::alloc::Global;
 use std::marker::Model;
 
 /// The checks of one call: whose call it is, with which effective capabilities, and the exercises so far.
-#[derive(Drop)]
 pub struct Checks {
     who: Pid,
     label: Label,
     effective: CapSet,
     used: RecList,
+}
+
+impl Drop for Checks {
+    fn drop(self) {
+        let Checks {
+            who: _,
+            label: _,
+            effective: _,
+            used: _,
+        } = self;
+    }
 }
 
 impl Model for Checks {

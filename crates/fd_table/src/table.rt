@@ -51,11 +51,20 @@ impl From<NoMemory> for FdError {
 
 /// The descriptors of processes, the open descriptions to which they refer, and the last number of a description drawn of each
 /// label.
-#[derive(Drop)]
 pub struct FdTable {
     rows: Rows,
     descriptions: Descriptions,
     numbers: Numbers,
+}
+
+impl Drop for FdTable {
+    fn drop(self) {
+        let FdTable {
+            rows: _,
+            descriptions: _,
+            numbers: _,
+        } = self;
+    }
 }
 
 impl Model for FdTable {

@@ -13,10 +13,18 @@ use lab_lattice::Label;
 use std::alloc::Global;
 
 /// The key in the slab of each object, and the last number drawn of each label.
-#[derive(Drop)]
 pub struct Index {
     pub keys: Keys,
     pub numbers: Numbers,
+}
+
+impl Drop for Index {
+    fn drop(self) {
+        let Index {
+            keys: _,
+            numbers: _,
+        } = self;
+    }
 }
 
 impl Index {

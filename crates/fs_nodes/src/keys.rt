@@ -66,11 +66,16 @@ impl Row {
 }
 
 /// The key in the slab of each object.
-#[derive(Drop)]
 pub struct Keys {
     alloc: Global,
     // The numbers of a label are drawn in turn, so that each list has few places without a key.
     kept: BTreeMap<Label, Row>,
+}
+
+impl Drop for Keys {
+    fn drop(self) {
+        let Keys { alloc: _, kept: _ } = self;
+    }
 }
 
 impl Model for Keys {

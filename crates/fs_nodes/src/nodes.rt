@@ -66,11 +66,20 @@ impl From<NoMemory> for NodeError {
 }
 
 /// The objects by their numbers, and the last number drawn of each label. No object is ever removed.
-#[derive(Drop)]
 pub struct Nodes {
     alloc: Global,
     slots: Slab<Object>,
     index: Index,
+}
+
+impl Drop for Nodes {
+    fn drop(self) {
+        let Nodes {
+            alloc: _,
+            slots: _,
+            index: _,
+        } = self;
+    }
 }
 
 impl Model for Nodes {

@@ -13,9 +13,15 @@ use std::marker::Model;
 pub type ByteList = List<u8>;
 
 /// A list that grows at its end, seen as its items in order.
-#[derive(Debug, Drop)]
+#[derive(Debug)]
 pub struct List<T> {
     kept: Vec<T>,
+}
+
+impl<T: Drop> Drop for List<T> {
+    fn drop(self) {
+        let List { kept: _ } = self;
+    }
 }
 
 impl<T> Model for List<T> {
@@ -64,7 +70,8 @@ impl<T: Drop> List<T> {
     pub fn into_vec(self) -> Vec<T>
         ensures { result.items ≡ self }
     {
-        self.kept
+        let List { kept } = self;
+        kept
     }
 
     /// Gives back the memory that its items do not need.

@@ -20,12 +20,21 @@ pub type NameList = List<Name>;
 
 /// A path: where it starts, and the names from there on. It has at most 32 names. Written with one `/` between names, and
 /// one before them where it is absolute, it has at most 1,023 bytes.
-#[derive(Debug, Drop)]
+#[derive(Debug)]
 pub struct Path {
     /// Whether it starts at the root, and not at the current directory.
     pub absolute: bool,
     /// Its names, from the first on.
     pub names: NameList,
+}
+
+impl Drop for Path {
+    fn drop(self) {
+        let Path {
+            absolute: _,
+            names: _,
+        } = self;
+    }
 }
 
 impl Model for Path {

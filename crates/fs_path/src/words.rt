@@ -77,12 +77,21 @@ impl WordBytes {
 }
 
 /// A word of a line, without its quotes and escapes.
-#[derive(Debug, Drop)]
+#[derive(Debug)]
 pub struct LineWord {
     /// Whether it is written between quotes.
     pub quoted: bool,
     /// Its bytes.
     pub bytes: WordBytes,
+}
+
+impl Drop for LineWord {
+    fn drop(self) {
+        let LineWord {
+            quoted: _,
+            bytes: _,
+        } = self;
+    }
 }
 
 // Whether a byte stands for itself between quotes.

@@ -103,7 +103,7 @@ fn seek<S: Source>(buffer: &mut Buffer, source: &mut S, room: usize) -> Result<L
 
 /// A reader of the lines of a source, each ended by a line feed. Over its life it takes at most `limit` bytes and one
 /// more. It reads 4,096 bytes at a time, or fewer at its limit, and only while it holds no whole line.
-#[derive(Debug, Drop)]
+#[derive(Debug)]
 pub struct Lines {
     buffer: Buffer,
     // How many bytes of the buffer are the last line and its line feed.
@@ -112,6 +112,18 @@ pub struct Lines {
     room: usize,
     number: u32,
     more: bool,
+}
+
+impl Drop for Lines {
+    fn drop(self) {
+        let Lines {
+            buffer: _,
+            given: _,
+            room: _,
+            number: _,
+            more: _,
+        } = self;
+    }
 }
 
 impl Model for Lines {

@@ -9,10 +9,16 @@ use crate::{Failed, Sink, Source};
 use std::marker::Model;
 
 /// A source of bytes in memory, which never fails.
-#[derive(Debug, Drop)]
+#[derive(Debug)]
 pub struct SureSource {
     bytes: Vec<u8>,
     at: usize,
+}
+
+impl Drop for SureSource {
+    fn drop(self) {
+        let SureSource { bytes: _, at: _ } = self;
+    }
 }
 
 impl Model for SureSource {

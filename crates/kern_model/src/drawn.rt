@@ -10,9 +10,14 @@ use std::collections::BTreeMap;
 use std::marker::Model;
 
 /// The last number drawn of each label.
-#[derive(Drop)]
 pub struct Numbers {
     kept: BTreeMap<Label, u16>,
+}
+
+impl Drop for Numbers {
+    fn drop(self) {
+        let Numbers { kept: _ } = self;
+    }
 }
 
 impl Model for Numbers {

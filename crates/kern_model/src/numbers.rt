@@ -52,7 +52,7 @@ pub type GroupList = List<Gid>;
 pub type Mode = u16;
 
 /// Real, effective and saved user and group, and the supplementary groups.
-#[derive(Debug, Drop)]
+#[derive(Debug)]
 pub struct Ids {
     pub ruid: Uid,
     pub euid: Uid,
@@ -61,4 +61,18 @@ pub struct Ids {
     pub egid: Gid,
     pub sgid: Gid,
     pub groups: GroupList,
+}
+
+impl Drop for Ids {
+    fn drop(self) {
+        let Ids {
+            ruid: _,
+            euid: _,
+            suid: _,
+            rgid: _,
+            egid: _,
+            sgid: _,
+            groups: _,
+        } = self;
+    }
 }

@@ -33,12 +33,23 @@ pub enum Body {
 
 /// An object with its present label. The bytes are the content of a file, or those that wait in a pipe or FIFO;
 /// entries of a directory stand in the state.
-#[derive(Debug, Drop)]
+#[derive(Debug)]
 pub struct Object {
     pub kind: Kind,
     pub label: Label,
     pub attr: Attr,
     pub bytes: ByteList,
+}
+
+impl Drop for Object {
+    fn drop(self) {
+        let Object {
+            kind: _,
+            label: _,
+            attr: _,
+            bytes: _,
+        } = self;
+    }
 }
 
 /// What `stat` and `fstat` report of an object.

@@ -14,11 +14,21 @@ pub struct WorldObject {
 }
 
 /// A process of a world.
-#[derive(Debug, Drop)]
+#[derive(Debug)]
 pub struct WorldProc {
     pub label: Label,
     pub ids: Ids,
     pub caps: CapState,
+}
+
+impl Drop for WorldProc {
+    fn drop(self) {
+        let WorldProc {
+            label: _,
+            ids: _,
+            caps: _,
+        } = self;
+    }
 }
 
 /// Objects of a world.
@@ -44,9 +54,19 @@ pub struct World {
 }
 
 /// One call of a script: who calls, the word or words that the reply shows, and what is called.
-#[derive(Debug, Drop)]
+#[derive(Debug)]
 pub struct ScriptItem {
     pub who: Pid,
     pub head: ByteList,
     pub call: Call,
+}
+
+impl Drop for ScriptItem {
+    fn drop(self) {
+        let ScriptItem {
+            who: _,
+            head: _,
+            call: _,
+        } = self;
+    }
 }

@@ -15,7 +15,6 @@ use std::marker::Model;
 
 /// The generated input as a source. A read fails only where memory runs out. Its value is the bytes that are left, and how
 /// many faults there were.
-#[derive(Drop)]
 pub struct Generated {
     // The pieces after this one.
     generator: Generator,
@@ -23,6 +22,17 @@ pub struct Generated {
     // Where in the piece the next byte is.
     at: usize,
     faults: u64,
+}
+
+impl Drop for Generated {
+    fn drop(self) {
+        let Generated {
+            generator: _,
+            piece: _,
+            at: _,
+            faults: _,
+        } = self;
+    }
 }
 
 impl Model for Generated {

@@ -34,10 +34,16 @@ pub enum PolicyError {
 }
 
 /// The names of a world's levels, lowest first, and of its categories. The number of each is its place in its list, from 0.
-#[derive(Debug, Drop)]
+#[derive(Debug)]
 pub struct Policy {
     levels: Vec<Word>,
     cats: Vec<Word>,
+}
+
+impl Drop for Policy {
+    fn drop(self) {
+        let Policy { levels: _, cats: _ } = self;
+    }
 }
 
 impl Model for Policy {

@@ -6,9 +6,15 @@ use std::alloc::Global;
 use std::marker::Model;
 
 /// Any bytes, seen as the list of them.
-#[derive(Debug, Drop)]
+#[derive(Debug)]
 pub struct Word {
     kept: Vec<u8>,
+}
+
+impl Drop for Word {
+    fn drop(self) {
+        let Word { kept: _ } = self;
+    }
 }
 
 impl Model for Word {

@@ -43,10 +43,15 @@ impl<T: Drop> Boxed<T> {
 }
 
 /// The values at the numbers of one label, by the counts of their draws.
-#[derive(Drop)]
 pub struct Row<T> {
     alloc: Global,
     kept: Vec<Option<Boxed<T>>>,
+}
+
+impl<T: Drop> Drop for Row<T> {
+    fn drop(self) {
+        let Row { alloc: _, kept: _ } = self;
+    }
 }
 
 impl<T> Model for Row<T> {

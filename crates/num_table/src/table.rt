@@ -12,10 +12,15 @@ use std::marker::Model;
 
 /// Values by numbers that are drawn in turn at each label, seen as a finite map. A list never shrinks: where a value is removed,
 /// its place stays.
-#[derive(Drop)]
 pub struct Table<T> {
     alloc: Global,
     kept: BTreeMap<Label, Row<T>>,
+}
+
+impl<T: Drop> Drop for Table<T> {
+    fn drop(self) {
+        let Table { alloc: _, kept: _ } = self;
+    }
 }
 
 impl<T> Model for Table<T> {

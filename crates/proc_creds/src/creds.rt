@@ -11,7 +11,7 @@ use lab_lattice::Label;
 use std::marker::Model;
 
 /// What a process is and may do. What is effective is permitted.
-#[derive(Debug, Drop)]
+#[derive(Debug)]
 pub struct Creds {
     pub ids: Ids,
     /// The present label.
@@ -19,6 +19,17 @@ pub struct Creds {
     pub caps: CapState,
     /// The permission bits that a new object does not get, within octal 0777.
     pub umask: Mode,
+}
+
+impl Drop for Creds {
+    fn drop(self) {
+        let Creds {
+            ids: _,
+            label: _,
+            caps: _,
+            umask: _,
+        } = self;
+    }
 }
 
 impl Model for Creds {

@@ -19,13 +19,23 @@ use std::alloc::Global;
 pub const MAX_MADE: usize = isize::MAX as usize;
 
 /// The living processes, and the last number drawn of each label.
-#[derive(Drop)]
 pub struct Table {
     pub living: Living,
     pub numbers: Numbers,
     pub children: Children,
     /// How many processes were made.
     pub made: usize,
+}
+
+impl Drop for Table {
+    fn drop(self) {
+        let Table {
+            living: _,
+            numbers: _,
+            children: _,
+            made: _,
+        } = self;
+    }
 }
 
 impl Table {

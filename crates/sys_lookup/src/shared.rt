@@ -12,7 +12,6 @@ use proc_table::Procs;
 
 /// The tree, the open files and the processes, the bound of capabilities over exec, and the highest label. Each process that has
 /// descriptors is living.
-#[derive(Drop)]
 pub struct Shared {
     pub tree: Tree,
     pub fds: FdTable,
@@ -20,6 +19,18 @@ pub struct Shared {
     pub bound: CapSet,
     pub top: Label,
     ghost owners: { ∥ HasOwners procs.procs fds.rows ∥₁ },
+}
+
+impl Drop for Shared {
+    fn drop(self) {
+        let Shared {
+            tree: _,
+            fds: _,
+            procs: _,
+            bound: _,
+            top: _,
+        } = self;
+    }
 }
 
 /// An object as checks read it: all but its content.
