@@ -4,6 +4,7 @@ pub mod KindLemmas
 pub mod MapLemmas
 pub mod NamedLaws
 pub mod RowLemmas
+pub mod SearchLemmas
 pub mod Selections
 pub mod StateLemmas
 pub mod TableLemmas

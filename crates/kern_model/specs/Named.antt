@@ -16,9 +16,10 @@ named word_of values word = find (λ x. pointwise ◌==◌ word (word_of x)) val
 
 -- ---- calls
 
+-- in the order of their words
 abbrev pub all_calls : List CallName
 all_calls =
-    name.OpenPath ∷ name.Close ∷ name.Read ∷ name.Write ∷ name.Lseek ∷ name.Dup ∷ name.Pipe ∷ name.Mkfifo ∷ name.Fstat ∷ name.Mkdir ∷ name.Rmdir ∷ name.Link ∷ name.Unlink ∷ name.Rename ∷ name.Readdir ∷ name.Stat ∷ name.Chdir ∷ name.Chmod ∷ name.Chown ∷ name.Umask ∷ name.CapGetFile ∷ name.CapSetFile ∷ name.CapGetFd ∷ name.CapSetFd ∷ name.MacGetFile ∷ name.MacSetFile ∷ name.MacGetFd ∷ name.MacSetFd ∷ name.Fork ∷ name.Exec ∷ name.Exit ∷ name.Wait ∷ name.Kill ∷ name.Getpid ∷ name.Getppid ∷ name.Getids ∷ name.Setuid ∷ name.Setgid ∷ name.CapGetProc ∷ name.CapSetProc ∷ name.MacGetProc ∷ name.MacSetProc ∷ name.AudWrite ∷ name.AudSwitch ∷ []
+    name.AudSwitch ∷ name.AudWrite ∷ name.CapGetFd ∷ name.CapGetFile ∷ name.CapGetProc ∷ name.CapSetFd ∷ name.CapSetFile ∷ name.CapSetProc ∷ name.Chdir ∷ name.Chmod ∷ name.Chown ∷ name.Close ∷ name.Dup ∷ name.Exec ∷ name.Exit ∷ name.Fork ∷ name.Fstat ∷ name.Getids ∷ name.Getpid ∷ name.Getppid ∷ name.Kill ∷ name.Link ∷ name.Lseek ∷ name.MacGetFd ∷ name.MacGetFile ∷ name.MacGetProc ∷ name.MacSetFd ∷ name.MacSetFile ∷ name.MacSetProc ∷ name.Mkdir ∷ name.Mkfifo ∷ name.OpenPath ∷ name.Pipe ∷ name.Read ∷ name.Readdir ∷ name.Rename ∷ name.Rmdir ∷ name.Setgid ∷ name.Setuid ∷ name.Stat ∷ name.Umask ∷ name.Unlink ∷ name.Wait ∷ name.Write ∷ []
 
 -- the call with a word
 abbrev pub call_named : List ℕ → Option CallName

@@ -4,51 +4,52 @@ ghost use Rattle.kern_model.specs.Named.{call_named, check_named, errno_named};
 
 use crate::{CallName, CheckName, Errno};
 
+// In the order of their words.
 const CALLS: [CallName; 44] = [
-    CallName::OpenPath,
-    CallName::Close,
-    CallName::Read,
-    CallName::Write,
-    CallName::Lseek,
-    CallName::Dup,
-    CallName::Pipe,
-    CallName::Mkfifo,
-    CallName::Fstat,
-    CallName::Mkdir,
-    CallName::Rmdir,
-    CallName::Link,
-    CallName::Unlink,
-    CallName::Rename,
-    CallName::Readdir,
-    CallName::Stat,
+    CallName::AudSwitch,
+    CallName::AudWrite,
+    CallName::CapGetFd,
+    CallName::CapGetFile,
+    CallName::CapGetProc,
+    CallName::CapSetFd,
+    CallName::CapSetFile,
+    CallName::CapSetProc,
     CallName::Chdir,
     CallName::Chmod,
     CallName::Chown,
-    CallName::Umask,
-    CallName::CapGetFile,
-    CallName::CapSetFile,
-    CallName::CapGetFd,
-    CallName::CapSetFd,
-    CallName::MacGetFile,
-    CallName::MacSetFile,
-    CallName::MacGetFd,
-    CallName::MacSetFd,
-    CallName::Fork,
+    CallName::Close,
+    CallName::Dup,
     CallName::Exec,
     CallName::Exit,
-    CallName::Wait,
-    CallName::Kill,
+    CallName::Fork,
+    CallName::Fstat,
+    CallName::Getids,
     CallName::Getpid,
     CallName::Getppid,
-    CallName::Getids,
-    CallName::Setuid,
-    CallName::Setgid,
-    CallName::CapGetProc,
-    CallName::CapSetProc,
+    CallName::Kill,
+    CallName::Link,
+    CallName::Lseek,
+    CallName::MacGetFd,
+    CallName::MacGetFile,
     CallName::MacGetProc,
+    CallName::MacSetFd,
+    CallName::MacSetFile,
     CallName::MacSetProc,
-    CallName::AudWrite,
-    CallName::AudSwitch,
+    CallName::Mkdir,
+    CallName::Mkfifo,
+    CallName::OpenPath,
+    CallName::Pipe,
+    CallName::Read,
+    CallName::Readdir,
+    CallName::Rename,
+    CallName::Rmdir,
+    CallName::Setgid,
+    CallName::Setuid,
+    CallName::Stat,
+    CallName::Umask,
+    CallName::Unlink,
+    CallName::Wait,
+    CallName::Write,
 ];
 
 const CHECKS: [CheckName; 26] = [
@@ -105,11 +106,13 @@ const ERRNOS: [Errno; 20] = [
 
 impl CallName {
     /// The call with this word.
-    #[tactic(auto, unfolding(crate::specs::Named::named))]
     pub fn from_word(word: &[u8]) -> Option<CallName>
         ensures { result ≡ call_named word.now }
     {
-        CALLS.iter().copied().find(|call| word == call.word())
+        match CALLS.binary_search_by(|call| call.word().cmp(word)) {
+            Ok(place) => Some(CALLS[place]),
+            Err(_) => None,
+        }
     }
 }
 
