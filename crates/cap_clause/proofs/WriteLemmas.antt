@@ -1,11 +1,10 @@
 -- Texts that are written piece by piece.
-use Rattle.std.proofs.Common.{◌≡◌, ℕ, ◌+◌, ◌<◌, Bool, true, false, cond, List, [], ◌∷◌, ◌++◌, length, take, drop, map, refl, sym, ◌∙◌, ap, arith}
-use Rattle.std.specs.Prelude.{not, ◌&&◌, ◌||◌, ◌==◌, nat_lt}
+use Rattle.std.proofs.Common.{◌≡◌, ◌≢◌, ℕ, ◌+◌, ◌<◌, Bool, true, false, cond, List, [], ◌∷◌, ◌++◌, length, take, drop, map, refl, sym, ◌∙◌, ap, arith}
+use Rattle.std.specs.Prelude.{not, ◌&&◌, ◌||◌, nat_lt}
 use Rattle.std.specs.Bool.{beq}
 use Rattle.std.specs.List.{filter, join_with_byte, list_any}
 use Rattle.std.proofs.Math.Bool.{and-true}
-use Rattle.std.proofs.lemmas.Bool.{eq-eqb, eqb-true}
-use Rattle.std.proofs.lemmas.List.{append-nil, append_assoc, drop_more, drop_all, nil_from_length}
+use Rattle.std.proofs.lemmas.List.{append-nil, append_assoc, drop_more, drop_all, length-append, nil_from_length}
 use Rattle.std.proofs.lemmas.List.Folds.{list_any_more}
 use Rattle.cap_bits.specs.Cap.{cap_number, cap_name, all_caps, cap_at, cap_at-number}
 use Rattle.cap_bits.proofs.Caps.{few_caps}
@@ -234,22 +233,24 @@ some_joined c [] xs some none = cc
 some_joined c (b ∷ bs) [] some none = cc
 some_joined c (b ∷ bs) (y ∷ ys) some none = cc
 
--- a state without flags is written as `=`
-pub none_written : (s : CapState) (text : List ℕ) → text ≡ join_with_byte 32 (map (group_text s) (firsts_of s)) → (length text == 0) ≡ true → text ++ 61 ∷ [] ≡ caps_text s
-unfolding caps_text
-none_written s text is none = by_firsts (firsts_of s) (sym is ∙ empty)
-  where
-    empty : text ≡ []
-    empty = nil_from_length text (eqb-true (length text) 0 none)
+-- a list that makes no other list longer is empty
+nothing_more : (old more : List ℕ) → length (old ++ more) ≡ length old → more ≡ []
+nothing_more old more same = let len = length-append old more in nil_from_length more (omega arith)
 
-    by_firsts : (firsts : List Cap) → join_with_byte 32 (map (group_text s) firsts) ≡ [] → text ++ 61 ∷ [] ≡ clauses_text (map (group_text s) firsts)
-    by_firsts [] e = ap (λ (t : List ℕ). t ++ 61 ∷ []) empty
-    by_firsts (cap ∷ caps) e = absurd (some_joined 32 (group_text s cap) (map (group_text s) caps) (clause_some s cap) e)
-
-pub some_written : (s : CapState) (text : List ℕ) → text ≡ join_with_byte 32 (map (group_text s) (firsts_of s)) → (length text == 0) ≡ false → text ≡ caps_text s
+-- where no clause was written, `=` makes the text
+pub none_written : (s : CapState) (old text : List ℕ) → text ≡ old ++ join_with_byte 32 (map (group_text s) (firsts_of s)) → length text ≡ length old → text ++ 61 ∷ [] ≡ old ++ caps_text s
 unfolding caps_text
-some_written s text is some = is ∙ by_firsts (firsts_of s) is
+none_written s old text is same = by_firsts (firsts_of s) is
   where
-    by_firsts : (firsts : List Cap) → text ≡ join_with_byte 32 (map (group_text s) firsts) → join_with_byte 32 (map (group_text s) firsts) ≡ clauses_text (map (group_text s) firsts)
-    by_firsts [] e = let no : false ≡ true = sym some ∙ eq-eqb (length text) 0 (ap (λ (t : List ℕ). length t) e) in absurd (cc)
+    by_firsts : (firsts : List Cap) → text ≡ old ++ join_with_byte 32 (map (group_text s) firsts) → text ++ 61 ∷ [] ≡ old ++ clauses_text (map (group_text s) firsts)
+    by_firsts [] e = ap (λ (t : List ℕ). t ++ 61 ∷ []) (e ∙ append-nil old)
+    by_firsts (cap ∷ caps) e = absurd (some_joined 32 (group_text s cap) (map (group_text s) caps) (clause_some s cap) (nothing_more old _ (sym (ap (λ (t : List ℕ). length t) e) ∙ same)))
+
+-- where clauses were written, they are the text
+pub some_written : (s : CapState) (old text : List ℕ) → text ≡ old ++ join_with_byte 32 (map (group_text s) (firsts_of s)) → length text ≢ length old → text ≡ old ++ caps_text s
+unfolding caps_text
+some_written s old text is more = is ∙ by_firsts (firsts_of s) is
+  where
+    by_firsts : (firsts : List Cap) → text ≡ old ++ join_with_byte 32 (map (group_text s) firsts) → old ++ join_with_byte 32 (map (group_text s) firsts) ≡ old ++ clauses_text (map (group_text s) firsts)
+    by_firsts [] e = absurd (more (ap (λ (t : List ℕ). length t) (e ∙ append-nil old)))
     by_firsts (cap ∷ caps) e = refl

@@ -11,4 +11,4 @@ pub use clause::cap_from_text;
 pub use error::CapTextError;
 pub use list::set_from_text;
 pub use std::alloc::AllocError as NoMemory;
-pub use written::{cap_to_text, set_to_text};
+pub use written::{cap_to_text, put_caps, set_to_text};

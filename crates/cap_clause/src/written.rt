@@ -137,15 +137,25 @@ fn put_groups(text: &mut Vec<u8>, state: &CapState) -> Result<(), NoMemory>
     Ok(())
 }
 
+/// Appends the canonical text of a state.
+#[tactic(auto, using(crate::proofs::WriteLemmas::none_written, crate::proofs::WriteLemmas::some_written))]
+pub fn put_caps(text: &mut Vec<u8>, state: &CapState) -> Result<(), NoMemory>
+    ensures { OnOk result (text.new.items ≡ text.old.items ++ caps_text state.now) }
+{
+    let start = text.len();
+    put_groups(text, state)?;
+    if text.len() == start {
+        text.push(b'=')?;
+    }
+    Ok(())
+}
+
 /// The canonical text of a state.
 pub fn cap_to_text(alloc: Global, state: &CapState) -> Result<Vec<u8>, NoMemory>
     ensures text { IfOk result (λ text. text.items ≡ caps_text state.now) }
     ensures round_trip { IfOk result (λ text. parse_caps text.items ≡ Ok state.now) }
 {
     let mut text = Vec::with_capacity(alloc, USUAL_TEXT)?;
-    put_groups(&mut text, state)?;
-    if text.is_empty() {
-        text.push(b'=')?;
-    }
+    put_caps(&mut text, state)?;
     Ok(text)
 }

@@ -11,7 +11,7 @@ ghost use Rattle.line_text.specs.Words.{pid_text, oid_text, caps_word, thing_tex
 
 use crate::NoMemory;
 use cap_bits::CapState;
-use cap_clause::cap_to_text;
+use cap_clause::put_caps;
 use fs_path::{put_groups, put_mode, put_number, put_quoted, put_word};
 use kern_model::{Ending, Oid, Pid, Place, Thing, put_ending, put_place};
 use lab_lattice::Label;
@@ -24,10 +24,14 @@ const USUAL_LINE: usize = 96;
 
 /// Lines under construction. Its value is the bytes written so far. Each method appends and returns the writer; at an
 /// error, which is always out of memory, the writer is dropped.
-#[derive(Drop)]
 pub struct LineWriter {
-    alloc: Global,
     text: Vec<u8>,
+}
+
+impl Drop for LineWriter {
+    fn drop(self) {
+        let LineWriter { text: _ } = self;
+    }
 }
 
 impl Model for LineWriter {
@@ -44,7 +48,7 @@ impl LineWriter {
         ensures { IfOk result (λ line. line ≡ []) }
     {
         let text = Vec::with_capacity(alloc, USUAL_LINE)?;
-        Ok(LineWriter { alloc, text })
+        Ok(LineWriter { text })
     }
 
     /// Appends bytes as they are.
@@ -202,11 +206,13 @@ impl LineWriter {
     }
 
     /// Appends a space and a capability state, between quotes.
+    #[tactic(auto, using(crate::proofs::CapWords::caps_written))]
     pub fn caps(self, caps: &CapState) -> Result<LineWriter, NoMemory>
         ensures { IfOk result (λ line. line ≡ self ++ 32 ∷ caps_word caps.now) }
     {
-        let caps = cap_to_text(self.alloc, caps)?;
-        self.quoted(caps.as_slice())
+        let mut line = self.bytes(b" \"")?;
+        put_caps(&mut line.text, caps)?;
+        line.bytes(b"\"")
     }
 
     /// Appends a space and a place of a check.
@@ -233,6 +239,7 @@ impl LineWriter {
     pub fn into_text(self) -> Vec<u8>
         ensures { result.items ≡ self }
     {
-        self.text
+        let LineWriter { text } = self;
+        text
     }
 }
