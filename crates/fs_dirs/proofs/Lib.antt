@@ -3,6 +3,7 @@ pub mod BelowLemmas
 pub mod CountLemmas
 pub mod DirLemmas
 pub mod Halving
+pub mod HeadLemmas
 pub mod LinkLemmas
 pub mod LoadLemmas
 pub mod MoveLemmas
@@ -10,4 +11,5 @@ pub mod Names
 pub mod SameEntries
 pub mod Sorted
 pub mod SpotLemmas
+pub mod TierLemmas
 pub mod TreeLemmas

@@ -1,7 +1,5 @@
 -- One directory: its names in order, and where each of them leads.
 use Rattle.std.specs.Prelude.{◌≡◌, ℕ, ◌+◌, ◌*◌, ◌^◌, ◌<◌, ◌≤◌, List, T, length, map}
-use Rattle.std.specs.declared.alloc.Global.{Global}
-use Rattle.std.specs.declared.boxed.Box.{Box}
 use Rattle.std.specs.declared.cmp.Ordering.{Ordering}
 use Rattle.std.specs.declared.cmp.Ordering.TheVariants.{Less, Equal, Greater}
 use Rattle.std.specs.Ordering.{nat_cmp}
@@ -10,38 +8,34 @@ use Rattle.std.specs.List.{AllWithin, HoldsAt}
 use Rattle.std.specs.FinMap.{FinMap, from_sorted, is_sorted}
 use Rattle.fs_path.specs.Name.{Name}
 use Rattle.kern_model.specs.declared.numbers.Oid.{Oid}
-use Rattle.fs_dirs.specs.declared.directory.Entry.{Entry}
-
--- an entry on the heap
-abbrev pub Boxed : Type 0
-Boxed = Box Entry Global
+use Rattle.fs_dirs.specs.declared.slot.Slot.{Slot}
 
 -- names, by their bytes
 abbrev pub name_cmp : Name → Name → Ordering
 name_cmp = slice_cmp nat_cmp
 
 -- each name with the object to which it leads
-abbrev pub pairs_of : List Boxed → List (Name × Oid)
-pairs_of entries = map (λ (e : Boxed). (e.value.name, e.value.id)) entries
+abbrev pub pairs_of : List Slot → List (Name × Oid)
+pairs_of entries = map (λ (e : Slot). (e.entry.value.name, e.entry.value.id)) entries
 
 -- the names rise strictly
-abbrev pub AreSorted : List Boxed → Type 0
+abbrev pub AreSorted : List Slot → Type 0
 AreSorted entries = T (is_sorted name_cmp (pairs_of entries))
 
 -- the map that sorted entries make
-abbrev pub directory_of : List Boxed → FinMap name_cmp Oid
+abbrev pub directory_of : List Slot → FinMap name_cmp Oid
 directory_of entries = from_sorted (pairs_of entries)
 
 -- the entry at a place has the name
-pub record IsAt (entries : List Boxed) (name : Name) (place : ℕ) : Type 0 where
+pub record IsAt (entries : List Slot) (name : Name) (place : ℕ) : Type 0 where
   pub within : place < length entries
-  pub same : HoldsAt (λ (e : Boxed). name_cmp e.value.name name ≡ Equal) entries place
+  pub same : HoldsAt (λ (e : Slot). name_cmp e.entry.value.name name ≡ Equal) entries place
 
 -- the name belongs at a place: lesser names stand before it, and greater ones from it on
-pub record IsGap (entries : List Boxed) (name : Name) (place : ℕ) : Type 0 where
+pub record IsGap (entries : List Slot) (name : Name) (place : ℕ) : Type 0 where
   pub within : place ≤ length entries
-  pub less : AllWithin (λ (e : Boxed). name_cmp e.value.name name ≡ Less) entries 0 place
-  pub greater : AllWithin (λ (e : Boxed). name_cmp e.value.name name ≡ Greater) entries place (length entries)
+  pub less : AllWithin (λ (e : Slot). name_cmp e.entry.value.name name ≡ Less) entries 0 place
+  pub greater : AllWithin (λ (e : Slot). name_cmp e.entry.value.name name ≡ Greater) entries place (length entries)
 
 -- a look-up among n names makes few comparisons: 2 to the power of their number is at most 4 n + 2
 pub record TakesFewSteps (n before after : ℕ) : Type 0 where

@@ -3,6 +3,9 @@ ghost use Rattle.std.specs.Prelude.{◌≡◌, ◌<◌, IfErr, IfOk, IsOk, IsSom
 ghost use Rattle.std.specs.FinMap as map;
 ghost use Rattle.fs_dirs.specs.Directory.{AreSorted, IsAt, IsGap, TakesFewSteps};
 
+use crate::head::head_of;
+use crate::slot::Slot;
+use crate::tiers::Tiers;
 use fs_path::{Name, NameList, NoMemory, Steps};
 use kern_model::Oid;
 use std::alloc::Global;
@@ -10,19 +13,12 @@ use std::cmp::Ordering;
 use std::marker::{Brand, Model};
 use std::sync::ledger::{Blank, Ledger};
 
-// A name in a directory, and the object to which it leads.
-#[derive(Drop)]
-struct Entry {
-    name: Name,
-    id: Oid,
-}
-
 /// One directory: the names in it, sorted by their bytes, and the object to which each leads.
 #[derive(Drop)]
 pub struct Directory {
     alloc: Global,
-    // An entry that comes or goes moves the pointers behind it, and not the entries.
-    entries: Vec<Box<Entry>>,
+    // An entry that comes or goes moves pointers, and not entries.
+    entries: Tiers<Slot>,
 }
 
 impl Model for Directory {
@@ -36,9 +32,9 @@ impl Model for Directory {
 
     ghost coded = { map.code (Prim.hlevel codes) (Prim.hlevel (codes, label_code)) };
 
-    ghost view = { λ d. directory_of d.entries.items };
+    ghost view = { λ d. directory_of d.entries };
 
-    ghost invariant = { λ d. AreSorted d.entries.items };
+    ghost invariant = { λ d. AreSorted d.entries };
 }
 
 impl Directory {
@@ -48,7 +44,7 @@ impl Directory {
     {
         Directory {
             alloc,
-            entries: Vec::new(alloc),
+            entries: Tiers::new(alloc),
         }
     }
 
@@ -65,7 +61,7 @@ impl Directory {
         ensures counted { TakesFewSteps (map.len self.now) steps.old steps.new }
     {
         match search(&self.entries, name, steps) {
-            Ok(place) => Some(self.entries[place].id),
+            Ok(place) => Some(self.entries.item(place).entry.id),
             Err(_) => None,
         }
     }
@@ -77,10 +73,14 @@ impl Directory {
         ensures replaced { IsSome (map.get self.old name) → IsOk result }
     {
         match place_of(&self.entries, &name) {
-            Ok(place) => self.entries[place].id = id,
+            Ok(place) => {
+                if let Some(slot) = self.entries.get_mut(place) {
+                    slot.lead_to(id);
+                }
+            }
             Err(place) => {
-                let entry = Box::new(self.alloc, Entry { name, id })?;
-                self.entries.insert(place, entry)?;
+                let slot = Slot::new(self.alloc, name, id)?;
+                self.entries.insert(place, slot)?;
             }
         }
         Ok(())
@@ -92,7 +92,7 @@ impl Directory {
         ensures removed { self.new ≡ map.remove self.old name.now }
     {
         match place_of(&self.entries, name) {
-            Ok(place) => Some(self.entries.remove(place).id),
+            Ok(place) => Some(self.entries.remove(place).entry.id),
             Err(_) => None,
         }
     }
@@ -102,7 +102,7 @@ impl Directory {
         ensures { result ≡ slice_get (map.values self.now) place }
     {
         match self.entries.get(place) {
-            Some(entry) => Some(entry.id),
+            Some(slot) => Some(slot.entry.id),
             None => None,
         }
     }
@@ -112,16 +112,17 @@ impl Directory {
         ensures { IfOk result (λ names. names ≡ map.keys self.now) }
     {
         let mut names = NameList::new(alloc);
-        for entry in &self.entries {
-            names.push(entry.name.copy()?)?;
+        let entries = &self.entries;
+        for place in 0..entries.len() {
+            names.push(entries.item(place).entry.name.copy()?)?;
         }
         Ok(names)
     }
 }
 
-// Where a name is among sorted entries, or else where it belongs. Each comparison of names is counted.
+// Where a name is among sorted entries, or else where it belongs. Each comparison of names is counted, but not those of heads.
 fn search<L: Ledger>(
-    entries: &[Box<Entry>],
+    entries: &Tiers<Slot>,
     name: &Name,
     steps: &mut Steps<L>,
 ) -> Result<usize, usize>
@@ -130,11 +131,12 @@ fn search<L: Ledger>(
     ensures absent { IfErr result (IsGap entries.now name.now) }
     ensures counted { TakesFewSteps (length entries.now) steps.old steps.new }
 {
+    let head = head_of(name);
     let mut low = 0;
     let mut high = entries.len();
     while low < high {
         let middle = low + (high - low) / 2;
-        match entries[middle].name.compare(name, steps) {
+        match entries.item(middle).compare(name, head, steps) {
             Ordering::Less => low = middle + 1,
             Ordering::Equal => return Ok(middle),
             Ordering::Greater => high = middle,
@@ -144,7 +146,7 @@ fn search<L: Ledger>(
 }
 
 // The same search, with a count of its own.
-fn search_from<L: Ledger>(entries: &[Box<Entry>], name: &Name, blank: Blank) -> Result<usize, usize>
+fn search_from<L: Ledger>(entries: &Tiers<Slot>, name: &Name, blank: Blank) -> Result<usize, usize>
     requires sorted { AreSorted entries.now }
     requires name { blank.name ≡ L.name }
     requires parts { blank.parts ≡ L.parts }
@@ -157,7 +159,7 @@ fn search_from<L: Ledger>(entries: &[Box<Entry>], name: &Name, blank: Blank) -> 
 }
 
 // Where a name is among sorted entries, or else where it belongs.
-fn place_of(entries: &[Box<Entry>], name: &Name) -> Result<usize, usize>
+fn place_of(entries: &Tiers<Slot>, name: &Name) -> Result<usize, usize>
     requires { AreSorted entries.now }
     ensures found { IfOk result (IsAt entries.now name.now) }
     ensures absent { IfErr result (IsGap entries.now name.now) }

@@ -5,9 +5,12 @@ mod below;
 mod directory;
 mod dirs;
 mod entries;
+mod head;
 mod links;
 mod numbers;
+mod slot;
 mod spots;
+mod tiers;
 mod tree;
 
 pub use fs_path::NoMemory;

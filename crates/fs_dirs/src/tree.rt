@@ -80,11 +80,20 @@ impl From<NoMemory> for MoveError {
 pub struct Absent;
 
 /// The objects, and the entries of the directories among them.
-#[derive(Drop)]
 pub struct Tree {
     alloc: Global,
     nodes: Nodes,
     entries: Entries,
+}
+
+impl Drop for Tree {
+    fn drop(self) {
+        let Tree {
+            alloc: _,
+            nodes: _,
+            entries: _,
+        } = self;
+    }
 }
 
 impl Model for Tree {

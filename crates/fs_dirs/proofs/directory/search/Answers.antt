@@ -1,8 +1,8 @@
 use Rattle.std.proofs.Common.{ap, sym, ◌∙◌, ◌≡◌, ◌+◌, ◌-◌, ◌/◌, arith}
 use Rattle.std.specs.declared.cmp.Ordering.TheVariants.{Less, Greater}
 use Rattle.std.proofs.lemmas.Cmp.{nat_list_cmp_total}
-use Rattle.fs_dirs.specs.Directory.{Boxed, name_cmp}
-use Rattle.fs_dirs.specs.declared.directory.Entry.{Entry}
+use Rattle.fs_dirs.specs.Directory.{name_cmp}
+use Rattle.fs_dirs.specs.declared.slot.Slot.{Slot}
 use Rattle.fs_dirs.proofs.Sorted.{holds_at, less_upto, greater_from}
 use Rattle.fs_dirs.proofs.Halving.{halved, few}
 use Rattle.fs_dirs.proofs.directory.search.Goals as goal
@@ -19,11 +19,11 @@ loop-low-preserved-in-Less g c =
     record {
       ordered = omega arith;
       within = inv.within;
-      less = less_upto (λ (e : Boxed). (e.value.name, e.value.id)) nat_list_cmp_total es name middle c.requires (omega arith) (holds_at (λ (e : Boxed). name_cmp e.value.name name ≡ Less) es middle c.index-entries-middle.result (omega arith) (ap (λ (e : Boxed). name_cmp e.value.name name) (sym c.index-entries-middle.is) ∙ ap (λ (e : Entry). name_cmp e.name name) (sym c.deref.ensures) ∙ sym c.in-Less.ensures.order));
+      less = less_upto (λ (e : Slot). (e.entry.value.name, e.entry.value.id)) nat_list_cmp_total es name middle c.requires (omega arith) (holds_at (λ (e : Slot). name_cmp e.entry.value.name name ≡ Less) es middle c.item.result.now (omega arith) (ap (λ (e : Slot). name_cmp e.entry.value.name name) (sym c.item.ensures) ∙ sym c.in-Less.ensures.order));
       greater = inv.greater;
       counted = omega arith;
-      halved = halved c.args.steps.now c.loop-low.steps c.compare.new.steps (high - low) _ inv.counted c.in-Less.ensures.counted inv.halved (high - (middle + 1)) (omega arith);
-      few = few c.args.steps.now c.loop-low.steps c.compare.new.steps (high - low) _ inv.counted c.in-Less.ensures.counted inv.halved (omega arith);
+      halved = halved c.args.steps.now c.loop-low.steps c.compare.new.steps (high - low) _ inv.counted c.in-Less.ensures.least c.in-Less.ensures.most inv.halved (high - (middle + 1)) (omega arith);
+      few = few c.args.steps.now c.loop-low.steps c.compare.new.steps (high - low) _ inv.counted c.in-Less.ensures.least c.in-Less.ensures.most inv.halved (omega arith);
     }
 
 -- it is in the middle
@@ -35,7 +35,7 @@ returns-in-Equal-clause-counted g c =
     record {
       steps = c.compare.new.steps - c.args.steps.now;
       counted = omega arith;
-      few = few c.args.steps.now c.loop-low.steps c.compare.new.steps (high - low) _ inv.counted c.in-Equal.ensures.counted inv.halved (omega arith);
+      few = few c.args.steps.now c.loop-low.steps c.compare.new.steps (high - low) _ inv.counted c.in-Equal.ensures.least c.in-Equal.ensures.most inv.halved (omega arith);
     }
 
 -- it belongs before the middle
@@ -51,8 +51,8 @@ loop-low-preserved g c =
       ordered = omega arith;
       within = omega arith;
       less = inv.less;
-      greater = greater_from (λ (e : Boxed). (e.value.name, e.value.id)) nat_list_cmp_total es name middle c.requires (holds_at (λ (e : Boxed). name_cmp e.value.name name ≡ Greater) es middle c.index-entries-middle.result (omega arith) (ap (λ (e : Boxed). name_cmp e.value.name name) (sym c.index-entries-middle.is) ∙ ap (λ (e : Entry). name_cmp e.name name) (sym c.deref.ensures) ∙ sym c.in-Greater.ensures.order));
+      greater = greater_from (λ (e : Slot). (e.entry.value.name, e.entry.value.id)) nat_list_cmp_total es name middle c.requires (holds_at (λ (e : Slot). name_cmp e.entry.value.name name ≡ Greater) es middle c.item.result.now (omega arith) (ap (λ (e : Slot). name_cmp e.entry.value.name name) (sym c.item.ensures) ∙ sym c.in-Greater.ensures.order));
       counted = omega arith;
-      halved = halved c.args.steps.now c.loop-low.steps c.compare.new.steps (high - low) _ inv.counted c.in-Greater.ensures.counted inv.halved (middle - low) (omega arith);
-      few = few c.args.steps.now c.loop-low.steps c.compare.new.steps (high - low) _ inv.counted c.in-Greater.ensures.counted inv.halved (omega arith);
+      halved = halved c.args.steps.now c.loop-low.steps c.compare.new.steps (high - low) _ inv.counted c.in-Greater.ensures.least c.in-Greater.ensures.most inv.halved (middle - low) (omega arith);
+      few = few c.args.steps.now c.loop-low.steps c.compare.new.steps (high - low) _ inv.counted c.in-Greater.ensures.least c.in-Greater.ensures.most inv.halved (omega arith);
     }

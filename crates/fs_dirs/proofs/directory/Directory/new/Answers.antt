@@ -4,4 +4,4 @@ use Rattle.fs_dirs.proofs.Names.{none}
 use Rattle.fs_dirs.proofs.directory.Directory.new.Goals as goal
 
 pub returns : goal.returns
-returns c = ap directory_of c.new.ensures.items ∙ none
+returns c = ap directory_of c.new.ensures ∙ none
