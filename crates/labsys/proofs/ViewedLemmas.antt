@@ -100,8 +100,8 @@ module _ (policy : PolicyNames) (l : Label) (calls : List CallRecord) (s : State
   by_parts = ap (λ (r : Report). below_text policy l calls ++ after_replies r policy s e) (below_after l 0 calls) ∙ by_crossing (some_crosses l calls) refl
 
 -- without a crossing the end lines and the last line follow
-pub below_end : (r : Report) (l : Label) (k : ℕ) → r ≡ Below l k → (policy : PolicyNames) (s : State) (e : InputEnd) → to_out (ends_below l policy s) ++ to_out (last_text k e) ≡ to_out (after_replies r policy s e)
-below_end r l k is policy s e = sym (to_out-append (ends_below l policy s) (last_text k e)) ∙ ap (λ (q : Report). to_out (after_replies q policy s e)) (sym is)
+pub below_end : (r : Report) (l : Label) (k : ℕ) → r ≡ Below l k → (policy : PolicyNames) (s : State) (e : InputEnd) → to_out (ends_below l policy s ++ last_text k e) ≡ to_out (after_replies r policy s e)
+below_end r l k is policy s e = ap (λ (q : Report). to_out (after_replies q policy s e)) (sym is)
 
 -- ---- an accepted world
 

@@ -84,9 +84,8 @@ fn drill_generated(alloc: Global, number: u32) -> Result<Vec<u8>, Fault>
     }
 }
 
-/// Plays the generated input of so many lines, and writes one line: how its calls were answered, how many exercises of
-/// capabilities were recorded, and how many processes live at its end. Out of memory is the only cause for which it
-/// writes nothing.
+/// Plays the generated input of so many lines, and then writes one line: how its calls were answered, how many exercises
+/// of capabilities were recorded, and how many processes live at its end.
 pub fn drill<K: Sink>(alloc: Global, lines: u32, out: &mut K) -> Result<(), Fault>
     requires { (1 ≤ lines) × (lines ≤ MAX_LINES) }
     ensures { WritesOut result (drilled_text lines) (sink_view (K.held out.old) (K.faults out.old)) (sink_view (K.held out.new) (K.faults out.new)) }

@@ -1,14 +1,15 @@
 // An input that is played, from its first byte to the last line.
-ghost use Rattle.std.specs.Prelude.{◌≡◌, ℕ, ◌≤◌, ◌^◌, ◌++◌, true, IfOk, List, Some};
+ghost use Rattle.std.specs.Prelude.{◌≡◌, ℕ, ◌≤◌, ◌^◌, ◌++◌, [], true, cond, IfOk, List, Some};
 ghost use Rattle.kern_model.specs.World.{IsWorld};
 ghost use Rattle.kern_core.specs.Kernel.{state_of};
 ghost use Rattle.lab_text.specs.Policy.{top_of};
 ghost use Rattle.io_ends.specs.Sinks.{sink_view};
 ghost use Rattle.lab_engine.specs.Input.{input_of};
 ghost use Rattle.lab_engine.specs.Playing.{WritesOut, ends};
-ghost use Rattle.lab_engine.specs.Texts.{end_text, label_in, caps_in, ends_text, last_text};
+ghost use Rattle.lab_engine.specs.Texts.{end_text, label_in, caps_in, last_text};
 ghost use Rattle.labsys.specs.Playing.{CommandDid, PlaysWorld};
 ghost use Rattle.labsys.specs.Readable.{InputReadable};
+ghost use Rattle.labsys.specs.Viewing.{ends_viewed, is_viewed};
 
 use crate::Command;
 use io_ends::{Lines, Sink, Source};
@@ -19,11 +20,22 @@ use lab_engine::{
     Fault, InputEnd, Played, ReadWorld, Report, Texts, answer, begin, end_line, play_script,
     read_world, report_last,
 };
+use lab_lattice::{Label, Lattice};
 use std::alloc::Global;
 use world_text::WorldText;
 
-/// The end line of a process, or no byte where it does not live.
-pub fn end_of(texts: Texts<'_>, kernel: &Kernel, who: &Pid) -> Result<Vec<u8>, NoMemory>
+// Whether the end line of a process is written, by the label that views the run, if one does.
+fn is_viewed(viewer: &Option<Label>, who: &Pid) -> bool
+    ensures { result ≡ is_viewed viewer.now who.now }
+{
+    match viewer {
+        Some(label) => label.dominates(&who.label),
+        None => true,
+    }
+}
+
+// The end line of a process, or no byte where it does not live.
+fn end_of(texts: Texts<'_>, kernel: &Kernel, who: &Pid) -> Result<Vec<u8>, NoMemory>
     ensures { IfOk result (λ text. text.items ≡ end_text texts.entry.policy.now who.now (label_in (state_of kernel.now) who.now) (caps_in (state_of kernel.now) who.now)) }
 {
     match (kernel.label_of(who), kernel.caps_of(who)) {
@@ -32,28 +44,51 @@ pub fn end_of(texts: Texts<'_>, kernel: &Kernel, who: &Pid) -> Result<Vec<u8>, N
     }
 }
 
-// Writes the end lines of all that live.
-fn report_ends<K: Sink>(texts: Texts<'_>, kernel: &Kernel, out: &mut K) -> Result<(), Fault>
-    ensures { WritesOut result (ends_text texts.entry.policy.now (state_of kernel.now)) (sink_view (K.held out.old) (K.faults out.old)) (sink_view (K.held out.new) (K.faults out.new)) }
+// What is written of a process at the end.
+fn end_viewed(
+    texts: Texts<'_>,
+    kernel: &Kernel,
+    viewer: &Option<Label>,
+    who: &Pid,
+) -> Result<Vec<u8>, NoMemory>
+    ensures { IfOk result (λ text. text.items ≡ cond (is_viewed viewer.now who.now) (end_text texts.entry.policy.now who.now (label_in (state_of kernel.now) who.now) (caps_in (state_of kernel.now) who.now)) []) }
+{
+    if is_viewed(viewer, who) {
+        end_of(texts, kernel, who)
+    } else {
+        Ok(Vec::new(texts.alloc))
+    }
+}
+
+// Writes the end lines.
+fn report_ends<K: Sink>(
+    texts: Texts<'_>,
+    kernel: &Kernel,
+    viewer: &Option<Label>,
+    out: &mut K,
+) -> Result<(), Fault>
+    ensures { WritesOut result (ends_viewed viewer.now texts.entry.policy.now (state_of kernel.now)) (sink_view (K.held out.old) (K.faults out.old)) (sink_view (K.held out.new) (K.faults out.new)) }
 {
     let numbers = kernel.live()?;
     for who in numbers.items() {
-        let text = end_of(texts, kernel, who)?;
+        let text = end_viewed(texts, kernel, viewer, who)?;
         answer(out, &text)?;
     }
     Ok(())
 }
 
-// Writes the end lines and the last line.
-fn finish<K: Sink>(
+/// Writes the end lines and the last line: those of all that live, or, where a label views the run, of those whose
+/// number's label it dominates.
+pub fn finish<K: Sink>(
     texts: Texts<'_>,
     kernel: &Kernel,
+    viewer: &Option<Label>,
     played: Played,
     out: &mut K,
 ) -> Result<(), Fault>
-    ensures { WritesOut result (ends_text texts.entry.policy.now (state_of kernel.now) ++ last_text played.count played.ending) (sink_view (K.held out.old) (K.faults out.old)) (sink_view (K.held out.new) (K.faults out.new)) }
+    ensures { WritesOut result (ends_viewed viewer.now texts.entry.policy.now (state_of kernel.now) ++ last_text played.count played.ending) (sink_view (K.held out.old) (K.faults out.old)) (sink_view (K.held out.new) (K.faults out.new)) }
 {
-    report_ends(texts, kernel, out)?;
+    report_ends(texts, kernel, viewer, out)?;
     report_last(texts.alloc, played.count, played.ending, out)
 }
 
@@ -84,7 +119,7 @@ fn play_world<S: Source, K: Sink, T: Sink>(
     begin(texts, &bound, recs.items(), trail)?;
     let mut report = Report::All;
     let played = play_script(texts, &mut kernel, lines, source, &mut report, out, trail)?;
-    finish(texts, &kernel, played, out)?;
+    finish(texts, &kernel, &None, played, out)?;
     Ok(played.ending)
 }
 

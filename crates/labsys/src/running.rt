@@ -39,7 +39,8 @@ fn status_of(played: Result<InputEnd, Fault>) -> Status
 /// the records of each call to the trail, and then the reply to the output. The file is not opened: `trail` stands
 /// for it. `view LABEL` plays the input too, and writes what the label sees of it to the output. `check` reads the same
 /// input and plays nothing: it writes how many objects, processes and calls there are, or the line that refuses the
-/// input. `gen N` writes the generated input of N lines to the output.
+/// input. `gen N` writes the generated input of N lines to the output, and `drill N` plays that input and writes one line
+/// with how its calls were answered.
 pub fn run<S: Source, K: Sink, T: Sink>(
     alloc: Global,
     words: &[String],
@@ -49,7 +50,7 @@ pub fn run<S: Source, K: Sink, T: Sink>(
 ) -> Status
     // Status 1 comes exactly where the words name no command.
     ensures words { (result ≡ Status.Usage) ↔ (command_of words.now ≡ None) }
-    // Without a command nothing is read or written. `gen` reads nothing, and only `play` writes to the trail.
+    // Without a command nothing is read or written. `gen` and `drill` read nothing, and only `play` writes to the trail.
     ensures left_alone { LeavesAlone (command_of words.now) (source.new ≡ source.old) (out.new ≡ out.old) (trail.new ≡ trail.old) }
     // The first fault ends the run: one is counted with status 3, 4 or 5, by the end that it reports, and none with another.
     ensures counts { counts (S.faults source.new) (K.faults out.new) (T.faults trail.new) ≡ counts_after result (counts (S.faults source.old) (K.faults out.old) (T.faults trail.old)) }

@@ -1,64 +1,28 @@
 // An input that is viewed from a label.
-ghost use Rattle.std.specs.Prelude.{◌≡◌, ◌≤◌, ◌^◌, true, cond, [], Some, IfOk};
-ghost use Rattle.kern_model.specs.Isolation.{low};
+ghost use Rattle.std.specs.Prelude.{◌≡◌, ◌≤◌, ◌^◌, true, Some};
 ghost use Rattle.kern_model.specs.World.{IsWorld};
 ghost use Rattle.kern_core.specs.Kernel.{state_of};
 ghost use Rattle.lab_text.specs.Policy.{top_of};
 ghost use Rattle.lab_text.specs.Text.{parse_label};
 ghost use Rattle.io_ends.specs.Sinks.{SinkView, sink_view};
 ghost use Rattle.lab_engine.specs.Playing.{WritesOut, ends};
-ghost use Rattle.lab_engine.specs.Texts.{end_text, label_in, caps_in};
-ghost use Rattle.lab_engine.specs.Viewing.{ends_below, unless_whole};
+ghost use Rattle.lab_engine.specs.Viewing.{unless_whole};
 ghost use Rattle.labsys.specs.Playing.{CommandDid, ViewsWorld};
 ghost use Rattle.labsys.specs.Viewing.{after_replies};
 
-use crate::playing::{end_of, end_without_world};
+use crate::playing::{end_without_world, finish};
 use crate::{Command, LabelWord};
 use io_ends::{Lines, Sink, Source, SureSink};
 use kern_core::Kernel;
 use kern_model::limits::MAX_INPUT;
-use kern_model::{NoMemory, Pid};
 use lab_engine::{
-    Fault, InputEnd, Part, ReadWorld, Refusal, Report, Texts, answer, play_script, read_world,
+    Fault, InputEnd, Part, Played, ReadWorld, Refusal, Report, Texts, play_script, read_world,
     report_last,
 };
-use lab_lattice::{Label, Lattice};
+use lab_lattice::Label;
 use lab_text::{Policy, mac_from_text};
 use std::alloc::Global;
 use world_text::WorldText;
-
-// The end line of a process, or no byte where it does not live or where the label does not dominate that of its number.
-fn end_below(
-    texts: Texts<'_>,
-    kernel: &Kernel,
-    label: &Label,
-    who: &Pid,
-) -> Result<Vec<u8>, NoMemory>
-    ensures { IfOk result (λ text. text.items ≡ cond (low label.now who.now.label) (end_text texts.entry.policy.now who.now (label_in (state_of kernel.now) who.now) (caps_in (state_of kernel.now) who.now)) []) }
-{
-    if label.dominates(&who.label) {
-        end_of(texts, kernel, who)
-    } else {
-        Ok(Vec::new(texts.alloc))
-    }
-}
-
-// Writes the end lines of all that live and whose number's label the label dominates.
-fn report_ends_below<K: Sink>(
-    texts: Texts<'_>,
-    kernel: &Kernel,
-    label: &Label,
-    out: &mut K,
-) -> Result<(), Fault>
-    ensures { WritesOut result (ends_below label.now texts.entry.policy.now (state_of kernel.now)) (sink_view (K.held out.old) (K.faults out.old)) (sink_view (K.held out.new) (K.faults out.new)) }
-{
-    let numbers = kernel.live()?;
-    for who in numbers.items() {
-        let text = end_below(texts, kernel, label, who)?;
-        answer(out, &text)?;
-    }
-    Ok(())
-}
 
 // Writes the last line of an input that is not whole.
 fn report_unless_whole<K: Sink>(alloc: Global, ending: InputEnd, out: &mut K) -> Result<(), Fault>
@@ -82,8 +46,11 @@ fn finish_view<K: Sink>(
 {
     match report {
         Report::Below(label, written) => {
-            report_ends_below(texts, kernel, &label, out)?;
-            report_last(texts.alloc, written, ending, out)
+            let seen = Played {
+                count: written,
+                ending,
+            };
+            finish(texts, kernel, &Some(label), seen, out)
         }
         Report::All | Report::Crossed | Report::Counted(_) => {
             report_unless_whole(texts.alloc, ending, out)

@@ -1,17 +1,19 @@
-use Rattle.std.proofs.Common.{◌∙◌, ap, ℕ, List}
+use Rattle.std.proofs.Common.{◌∙◌, ap, ℕ, List, [], cond, Option}
 use Rattle.std.specs.List.{flat_map}
 use Rattle.kern_model.specs.declared.numbers.Pid.{Pid}
 use Rattle.kern_model.specs.State.{State}
 use Rattle.kern_core.specs.Kernel.{state_of}
+use Rattle.lab_lattice.specs.Label.{Label}
 use Rattle.lab_text.specs.Policy.{PolicyNames}
-use Rattle.lab_engine.specs.Texts.{end_text, label_in, caps_in, ends_text}
+use Rattle.lab_engine.specs.Texts.{end_text, label_in, caps_in}
 use Rattle.lab_engine.specs.Order.{to_out}
 use Rattle.lab_engine.proofs.Sending.{all_nothing, all_pieces, in_order, one_more, out_of_memory, piece_stops, piece_has_no_memory, to_out-append}
+use Rattle.labsys.specs.Viewing.{is_viewed}
 use Rattle.labsys.proofs.playing.report_ends.Goals as goal
 
--- the end line of a process in a state
-abbrev line_in : PolicyNames → State → Pid → List ℕ
-line_in policy s who = end_text policy who (label_in s who) (caps_in s who)
+-- what is written of a process in a state
+abbrev line_in : Option Label → PolicyNames → State → Pid → List ℕ
+line_in viewer policy s who = cond (is_viewed viewer who) (end_text policy who (label_in s who) (caps_in s who)) []
 
 pub returns-in_err-numbers : goal.returns-in_err-numbers
 returns-in_err-numbers g c = λ source trail. out_of_memory _ _ _ c.from_residual.ensures.1
@@ -21,28 +23,25 @@ unfolding to_out
 loop-who-init g c = λ source trail. all_nothing _
 
 pub returns-in_err-text : goal.returns-in_err-text
-unfolding ends_text
 returns-in_err-text g c = λ source trail.
-    let line = line_in c.args.texts.policy.now (state_of c.args.kernel.now) in
+    let line = line_in c.args.viewer.now c.args.texts.policy.now (state_of c.args.kernel.now) in
     in_order _ _ _ _ _ (ap (λ (xs : List Pid). to_out (flat_map line xs)) (c.items-who-items.ensures ∙ c.in_ok-numbers.ensures))
     (piece_has_no_memory to_out to_out-append line c.items-who-items.result.now c.loop-who.who-index c.who-item.result c.loop-who-test.true _ _ _ (c.loop-who.invariant source trail) c.from_residual-in_err-text.ensures.1)
 
 pub returns-in_err-answer : goal.returns-in_err-answer
-unfolding ends_text
 returns-in_err-answer g c = λ source trail.
-    let line = line_in c.args.texts.policy.now (state_of c.args.kernel.now) in
+    let line = line_in c.args.viewer.now c.args.texts.policy.now (state_of c.args.kernel.now) in
     in_order _ _ _ _ _ (ap (λ (xs : List Pid). to_out (flat_map line xs)) (c.items-who-items.ensures ∙ c.in_ok-numbers.ensures))
     (piece_stops to_out to_out-append line c.items-who-items.result.now c.loop-who.who-index c.who-item.result c.loop-who-test.true _ _ c.deref.result.now _ _ _
     (c.deref.ensures.value ∙ c.in_ok-text.ensures ∙ ap line c.who-item.is) (c.loop-who.invariant source trail) (c.in_err-answer.ensures source trail) c.from_residual-in_err-answer.ensures.1)
 
 pub loop-who-preserved : goal.loop-who-preserved
 loop-who-preserved g c = λ source trail.
-    let line = line_in c.args.texts.policy.now (state_of c.args.kernel.now) in
+    let line = line_in c.args.viewer.now c.args.texts.policy.now (state_of c.args.kernel.now) in
     one_more to_out to_out-append line c.items-who-items.result.now c.loop-who.who-index c.who-item.result c.loop-who-test.true c.deref.result.now _ _ _
     (c.deref.ensures.value ∙ c.in_ok-text.ensures ∙ ap line c.who-item.is) (c.loop-who.invariant source trail) (c.in_ok-answer.ensures source trail)
 
 pub returns : goal.returns
-unfolding ends_text
 returns g c = λ source trail.
-    let line = line_in c.args.texts.policy.now (state_of c.args.kernel.now) in
+    let line = line_in c.args.viewer.now c.args.texts.policy.now (state_of c.args.kernel.now) in
     all_pieces to_out line c.items-who-items.result.now c.loop-who.who-index c.loop-who-test.false _ (ap (λ (xs : List Pid). to_out (flat_map line xs)) (c.items-who-items.ensures ∙ c.in_ok-numbers.ensures)) _ _ (c.loop-who.invariant source trail)
