@@ -1,12 +1,12 @@
-// What no clause says: that with ample memory a world starts and calls succeed. What calls answer is tried by the cases.
+// What no clause says: that with ample memory a world starts. What calls answer is tried by the cases.
 ghost use Rattle.std.specs.Prelude.{IfSome};
 ghost use Rattle.kern_model.specs.World.{IsWorld};
 
 use cap_bits::{Cap, CapSet, CapState};
 use kern_core::Kernel;
 use kern_model::{
-    Attr, Body, ByteList, Call, Errno, GroupList, Ids, Mode, Name, ObjectList, Outcome, Path, Pid,
-    ProcList, Rec, RecList, Reply, World, WorldObject, WorldProc, world_valid,
+    Attr, Body, ByteList, GroupList, Ids, Mode, Name, ObjectList, Path, Pid, ProcList, Rec,
+    RecList, World, WorldObject, WorldProc, world_valid,
 };
 use lab_lattice::{Cats, Label, Level, Pair, bottom};
 use std::alloc::Global;
@@ -168,52 +168,4 @@ fn start(alloc: Global) -> Option<bool> {
 #[test]
 fn a_small_world_starts(rt: HostRuntime) {
     assert!(rt; start(rt.alloc()) == Some(true));
-}
-
-// Whether a call was done.
-fn is_done(outcome: &Outcome) -> bool {
-    matches!(&outcome.reply, Reply::Done(_))
-}
-
-// Whether a call was refused, and left no record.
-fn is_refused(outcome: &Outcome, why: Errno) -> bool {
-    match &outcome.reply {
-        Reply::Refused(errno) => *errno == why && outcome.recs.items().is_empty(),
-        _ => false,
-    }
-}
-
-// What comes of it where a process gives the file of the lowest label a further name in the root directory.
-#[tactic(auto, unfolding(kern_model::specs::Arguments::is_call))]
-fn link(alloc: Global, kernel: &mut Kernel, n: u32) -> Option<Outcome> {
-    let name = format!(in alloc; "n{n}").ok()?;
-    let call = Call::Link(path_of(alloc, b"low")?, path_of(alloc, name.as_bytes())?);
-    kernel.call(&low(1), &call).ok()
-}
-
-// Whether the file gets names until it has so many.
-fn link_until(alloc: Global, kernel: &mut Kernel, names: u32) -> Option<bool> {
-    for n in 1..names {
-        if !is_done(&link(alloc, kernel, n)?) {
-            return Some(false);
-        }
-    }
-    Some(true)
-}
-
-// Whether the file has 1,024 names, and no more.
-fn names_end(alloc: Global, kernel: &mut Kernel) -> Option<bool> {
-    Some(
-        link_until(alloc, kernel, 1_024)?
-            && is_refused(&link(alloc, kernel, 1_024)?, Errno::EMLINK),
-    )
-}
-
-fn links(alloc: Global) -> Option<bool> {
-    names_end(alloc, &mut booted(alloc)?.0)
-}
-
-#[test]
-fn file_has_1024_names(rt: HostRuntime) {
-    assert!(rt; links(rt.alloc()) == Some(true));
 }

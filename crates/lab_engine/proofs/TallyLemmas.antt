@@ -20,15 +20,17 @@ use Rattle.lab_engine.specs.Report.{empty_tally, tally_of}
 use Rattle.lab_engine.proofs.RunReports.{counted_after}
 use Rattle.lab_engine.proofs.WorldProgress.{counts_once}
 
+-- the tally that is kept
 abbrev tally_in : Report → Tally
 tally_in (Counted t) = t
 tally_in _ = empty_tally
 
--- a tally is no other report
+-- whether a tally is kept
 abbrev has_tally : Report → Bool
 has_tally (Counted t) = true
 has_tally _ = false
 
+-- where a tally is kept, nothing else is
 pub not_other : (kept : Report) (t : Tally) → kept ≡ Counted t → (other : Report) → kept ≡ other → has_tally other ≡ false → ⊥
 not_other kept t is other same none = let no : true ≡ false = ap has_tally (sym is ∙ same) ∙ none in absurd (cc)
 
