@@ -19,4 +19,4 @@ pub use values::{
     MAX_MODE, STICKY, groups_of, is_mode, mode_of, number_of, numeral, put_groups, put_mode,
     put_number,
 };
-pub use words::{LineWord, WordBytes, is_blank, put_quoted, put_word, words_of};
+pub use words::{LineWord, MAX_LINE, WordBytes, is_blank, put_quoted, put_word, words_of};

@@ -8,6 +8,9 @@ use smallvec::SmallVec;
 use std::alloc::Global;
 use std::marker::Model;
 
+/// The most bytes that a line of an input has, without its line feed.
+pub const MAX_LINE: usize = 2_048;
+
 // The most bytes of a word that take no memory of their own.
 const SHORT_WORD: usize = 24;
 

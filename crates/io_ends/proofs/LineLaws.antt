@@ -4,6 +4,7 @@ use Rattle.std.proofs.lemmas.Bool.{lt-ltb}
 use Rattle.std.proofs.lemmas.List.{append-nil, take_all}
 use Rattle.std.specs.List.{onto_first, position_or_len, slice_split}
 use Rattle.std.proofs.lemmas.Bool.Decides.{nat_tests}
+use Rattle.fs_path.specs.declared.words.TheConstants.{MAX_LINE}
 use Rattle.io_ends.specs.Lines.{first_line, GivesLine, has_line_feed, HoldsLongLine, HoldsPart}
 use Rattle.io_ends.specs.LinesState.{LinesState}
 use Rattle.io_ends.proofs.LineLemmas.{length_first_line, take_on}
@@ -97,11 +98,11 @@ over_past text room past more = lt-ltb room (length (text ++ more)) (omega (arit
 
 -- the first piece stays too long
 pub pieces_long : (text : List ℕ) (room : ℕ) → HoldsLongLine text room → (more : List ℕ)
-    → (line : List ℕ) × (ps : List (List ℕ)) × (slice_split (λ b. b == 10) (take room (text ++ more)) ≡ line ∷ ps) × (2048 < length line)
+    → (line : List ℕ) × (ps : List (List ℕ)) × (slice_split (λ b. b == 10) (take room (text ++ more)) ≡ line ∷ ps) × (MAX_LINE < length line)
 pieces_long text room long more =
     let all = take room (text ++ more) in
     let on = first_line_on (take room text) (take (room - length text) more) in
     let more : position_or_len (λ b. b == 10) (take room text) ≤ position_or_len (λ b. b == 10) all = subst (λ (r : List ℕ). position_or_len (λ b. b == 10) (take room text) ≤ position_or_len (λ b. b == 10) r) (sym (take_on room text more)) on in
     let first = first_piece all in
-    let before : 2048 < length (first_line (take room text)) = long in
+    let before : MAX_LINE < length (first_line (take room text)) = long in
     (first_line all, first.0, first.1, omega (arith, length_first_line all, length_first_line (take room text)))

@@ -7,6 +7,7 @@ use Rattle.std.proofs.lemmas.Bool.Decides.{nat_tests}
 use Rattle.std.proofs.lemmas.List.{drop_more, get_or-take, length-drop, length-take, length-take-le, take_min, take_rest, take-append-drop, take-take}
 use Rattle.std.proofs.Math.Nat.{min_comm}
 use Rattle.std.proofs.lemmas.List.Sums.{passes_at_first, prefix_len-le-length}
+use Rattle.fs_path.specs.declared.words.TheConstants.{MAX_LINE}
 use Rattle.io_ends.specs.Lines.{first_line, has_line_feed, HoldsLine, HoldsPart}
 
 -- ---- the first place that passes a test
@@ -88,15 +89,15 @@ none_before_end text past = any_before_end _ text ∙ not_below (position_or_len
     not_below a b le = grind (arith, nat_tests)
 
 -- where the first line is all of the bytes within the limit, none of them is a line feed
-pub unfinished_at : (text : List ℕ) (room counted n : ℕ) → counted ≡ min (length text) room → n ≡ length (first_line (take counted text)) → length (take counted text) ≤ n → n ≤ 2048
+pub unfinished_at : (text : List ℕ) (room counted n : ℕ) → counted ≡ min (length text) room → n ≡ length (first_line (take counted text)) → length (take counted text) ≤ n → n ≤ MAX_LINE
     → HoldsPart text room
 unfinished_at text room counted n e len all short =
     let same : take counted text ≡ take room text = ap (λ k. take k text) (e ∙ min_comm (length text) room) ∙ take_min room text in
     let within : length (take counted text) ≤ position_or_len (λ b. b == 10) (take counted text) = omega (arith, length_first_line (take counted text)) in
-    let short : length (take counted text) ≤ 2048 = omega arith in
+    let short : length (take counted text) ≤ MAX_LINE = omega arith in
     record {
       no_line = subst (λ (first : List ℕ). has_line_feed first ≡ false) same (none_before_end (take counted text) within);
-      short = subst (λ (first : List ℕ). length first ≤ 2048) same short;
+      short = subst (λ (first : List ℕ). length first ≤ MAX_LINE) same short;
     }
 
 none_before_first : {X : Type 0} (p : X → Bool) (xs : List X) → list_any p (before_first p xs) ≡ false

@@ -7,6 +7,7 @@ use Rattle.io_ends.specs.declared.lines.Look.{Look}
 use Rattle.io_ends.specs.declared.lines.Look.TheVariants as look
 use Rattle.io_ends.specs.declared.lines.Next.{Next}
 use Rattle.io_ends.specs.declared.lines.Next.TheVariants.{Line, End, Unended, LongLine, TooMuch}
+use Rattle.fs_path.specs.declared.words.TheConstants.{MAX_LINE}
 use Rattle.io_ends.specs.Lines.{Advances, Answers, GivesNone, has_line_feed, InReads}
 use Rattle.io_ends.specs.LinesState.{LinesState}
 use Rattle.io_ends.specs.Seeking.{Looks, Seeks}
@@ -45,7 +46,7 @@ module _ (line held : List ℕ) (room number : ℕ) (more : Bool) (before : Line
       let after_size = length-drop (n + 1) buffer in
       let line_size = length-take (n + 1 - 1) buffer in
       let inside : n < length (take room buffer) = looks.1 in
-      let short : n ≤ 2048 = looks.2 in
+      let short : n ≤ MAX_LINE = looks.2 in
       let most : length buffer ≤ room + 1 = s.few in
       advances Line _ refl (omega arith) (omega arith) (record {
         text_is = ends.0 ∙ ap (λ k. take k buffer ++ 10 ∷ drop (n + 1) buffer) (sym same);

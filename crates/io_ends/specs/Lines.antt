@@ -4,7 +4,7 @@ use Rattle.std.specs.List.{before_first, list_any}
 use Rattle.std.specs.Io.KnownBytes.{Consumes, IsAtEnd}
 use Rattle.io_ends.specs.declared.lines.Next.{Next}
 use Rattle.io_ends.specs.declared.lines.Next.TheVariants.{Line, End, Unended, LongLine, TooMuch}
-use Rattle.io_ends.specs.declared.lines.TheConstants.{MAX_LINE}
+use Rattle.fs_path.specs.declared.words.TheConstants.{MAX_LINE}
 use Rattle.io_ends.specs.declared.whole.ReadError.{ReadError}
 use Rattle.io_ends.specs.declared.whole.ReadError.TheVariants.{Failed, NoMemory}
 use Rattle.io_ends.specs.declared.whole.TheConstants.{CHUNK}

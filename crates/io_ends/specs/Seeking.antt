@@ -4,7 +4,7 @@ use Rattle.std.specs.Io.KnownBytes.{Consumes, IsAtEnd}
 use Rattle.io_ends.specs.declared.ends.Failed.{Failed}
 use Rattle.io_ends.specs.declared.lines.Look.{Look}
 use Rattle.io_ends.specs.declared.lines.Look.TheVariants.{Line, LongLine, TooMuch, Part}
-use Rattle.io_ends.specs.declared.lines.TheConstants.{MAX_LINE}
+use Rattle.fs_path.specs.declared.words.TheConstants.{MAX_LINE}
 use Rattle.io_ends.specs.Lines.{first_line, HoldsLongLine, HoldsPart, InReads}
 
 -- what the text of the bytes that are held says of its first line

@@ -4,9 +4,9 @@ ghost use Rattle.std.specs.Io.KnownBytes.{Keeps};
 ghost use Rattle.io_ends.specs.Faults.{CountsFault};
 ghost use Rattle.io_ends.specs.Whole.{Fills};
 
-use crate::lines::MAX_LINE;
 use crate::whole::CHUNK;
 use crate::{Failed, Source};
+use fs_path::MAX_LINE;
 use std::alloc::{AllocError, Global};
 use std::marker::Model;
 

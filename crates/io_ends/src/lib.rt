@@ -16,7 +16,7 @@ mod whole;
 
 pub use ends::{Failed, Sink, Source, count_fault};
 pub use files::{FileSink, FileSource};
-pub use lines::{Lines, MAX_LINE, Next};
+pub use lines::{Lines, Next};
 pub use list::ByteList;
 pub use memory::{MemSink, MemSource, copy_prefix};
 pub use std::alloc::AllocError as NoMemory;

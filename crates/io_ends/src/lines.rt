@@ -8,11 +8,9 @@ ghost use Rattle.io_ends.specs.Whole.{CountsRead};
 use crate::buffer::Buffer;
 use crate::whole::CHUNK;
 use crate::{Failed, ReadError, Source};
+use fs_path::MAX_LINE;
 use std::alloc::{AllocError, Global};
 use std::marker::Model;
-
-/// The most bytes that a line may have, without its line feed.
-pub const MAX_LINE: usize = 2048;
 
 /// What a reader of lines answers.
 #[derive(Clone, Copy, Debug, PartialEq, Eq)]

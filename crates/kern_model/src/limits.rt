@@ -1,4 +1,6 @@
-//! The limits of the profile: what each limits, and in which unit.
+//! The limits of the profile: what each limits, and in which unit. That of a line is the one of the crate that reads words.
+
+pub use fs_path::MAX_LINE;
 
 /// Objects whose numbers are drawn at one label.
 pub const MAX_OBJECTS: usize = 65_535;
@@ -35,9 +37,6 @@ pub const MAX_STATUS: u8 = 255;
 
 /// All permission bits of a mode.
 pub const MAX_PERMISSIONS: u16 = 0o777;
-
-/// Bytes of a line of an input, without its line feed.
-pub const MAX_LINE: usize = 2_048;
 
 /// Bytes of an input.
 pub const MAX_INPUT: u64 = 16_777_216;

@@ -6,7 +6,7 @@ use Rattle.std.proofs.lemmas.List.{length-map}
 use Rattle.fs_path.specs.declared.words.LineWord.{LineWord}
 use Rattle.fs_path.specs.Words.{first_word, is_blank, trim_spaces, words_by, words_of, words_within}
 use Rattle.kern_model.specs.declared.calls.CallName.{CallName}
-use Rattle.kern_model.specs.declared.limits.TheConstants.{MAX_LINE}
+use Rattle.fs_path.specs.declared.words.TheConstants.{MAX_LINE}
 use Rattle.kern_model.specs.Named.{call_named}
 use Rattle.lab_text.specs.Policy.{PolicyNames, top_of}
 use Rattle.sec_utils.specs.declared.util.Tool.{Tool}

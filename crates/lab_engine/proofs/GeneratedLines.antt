@@ -22,7 +22,8 @@ use Rattle.kern_model.specs.declared.calls.Call.{Call}
 use Rattle.kern_model.specs.declared.calls.Call.TheVariants as call
 use Rattle.kern_model.specs.declared.calls.CallName.{CallName}
 use Rattle.kern_model.specs.declared.calls.CallName.TheVariants as name
-use Rattle.kern_model.specs.declared.limits.TheConstants.{MAX_FILE_BYTES, MAX_LINE}
+use Rattle.fs_path.specs.declared.words.TheConstants.{MAX_LINE}
+use Rattle.kern_model.specs.declared.limits.TheConstants.{MAX_FILE_BYTES}
 use Rattle.kern_model.specs.declared.numbers.Pid.{Pid}
 use Rattle.kern_model.specs.Named.{call_named}
 use Rattle.kern_model.specs.Names.{word_of}

@@ -15,7 +15,7 @@ use Rattle.io_ends.specs.Lines.{Advances, Answers, GivesLine, has_line_feed, Hol
 use Rattle.io_ends.specs.Whole.{CountsRead}
 use Rattle.io_ends.specs.LinesState.{LinesState}
 use Rattle.io_ends.proofs.LineLaws.{over_line, over_past, pieces_line, pieces_long, pieces_part, pieces_past}
-use Rattle.kern_model.specs.declared.limits.TheConstants.{MAX_LINE}
+use Rattle.fs_path.specs.declared.words.TheConstants.{MAX_LINE}
 use Rattle.lab_text.specs.Policy.{PolicyNames, top_of}
 use Rattle.script_text.specs.declared.line.Line.{Line}
 use Rattle.script_text.specs.Reading.{IsCause}
@@ -90,11 +90,11 @@ script_more over policy n line ps p qs is =
     ap (λ (r : List (List ℕ)). script_from over policy n (line ∷ r)) is ∙ sym (ap (λ (r : List (List ℕ)). after_line (script_lines.parse_line policy line) n (script_from over policy (n + 1) r)) is)
 
 -- a line that is too long is refused
-world_long : (e : Expecting) (line : List ℕ) → 2048 < length line → parse_line e line ≡ Refuses fault.Syntax
+world_long : (e : Expecting) (line : List ℕ) → MAX_LINE < length line → parse_line e line ≡ Refuses fault.Syntax
 unfolding parse_line
 world_long e line long = ap (λ b. unless b fault.Syntax (cond (is_blank line) (More e) (with_form (words_of line) (parse_words e)))) (lt-ltb MAX_LINE (length line) long)
 
-script_long : (policy : PolicyNames) (line : List ℕ) → 2048 < length line → script_lines.parse_line policy line ≡ Err error.TooLong
+script_long : (policy : PolicyNames) (line : List ℕ) → MAX_LINE < length line → script_lines.parse_line policy line ≡ Err error.TooLong
 unfolding script_lines.parse_line
 script_long policy line long = ap (λ b. cond b (Err error.TooLong) (cond (is_blank line) (Ok line_is.Blank) (script_lines.parse_words policy (words_of line)))) (lt-ltb MAX_LINE (length line) long)
 
@@ -225,10 +225,10 @@ module _ (before now : LinesState) (got : List ℕ) (number : now.number ≡ bef
 
     pub script_unended : (policy : PolicyNames) → 0 < length text → EndsScript policy before left got (Refused now.number part.Script refusal.Syntax)
     script_unended policy some =
-        let short : length text ≤ 2048 = subst (λ (t : List ℕ). length t ≤ 2048) (take_all before.room text le) holds.short in
+        let short : length text ≤ MAX_LINE = subst (λ (t : List ℕ). length t ≤ MAX_LINE) (take_all before.room text le) holds.short in
         record { says = script_ended policy ∙ ap (script []) (unended_piece text some short); to_the_end = λ h. absurd (cc) }
       where
-        unended_piece : (t : List ℕ) → 0 < length t → length t ≤ 2048 → last_piece false now.number t ≡ Refused now.number part.Script refusal.Syntax
+        unended_piece : (t : List ℕ) → 0 < length t → length t ≤ MAX_LINE → last_piece false now.number t ≡ Refused now.number part.Script refusal.Syntax
         unended_piece [] some short = absurd (omega (arith, some))
         unended_piece (x ∷ t) some short = ap (λ b. Refused now.number part.Script (cond b refusal.TooLong refusal.Syntax)) (within_limit MAX_LINE (length (x ∷ t)) short)
 
@@ -247,7 +247,7 @@ module _ (before now : LinesState) (got : List ℕ) (number : now.number ≡ bef
     script_ends policy = record { says = script_ended (empty_part none) le left end policy ∙ ap (λ (t : List ℕ). script [] (last_piece false now.number t)) none; to_the_end = λ h. end }
 
   module _ (holds : HoldsPart text before.room) (past : before.room < length text) (left : Option (List ℕ)) where
-    cut : (n : ℕ) (last : List ℕ) → length last ≤ 2048 → nat_lt MAX_LINE (length last) ≡ false
+    cut : (n : ℕ) (last : List ℕ) → length last ≤ MAX_LINE → nat_lt MAX_LINE (length last) ≡ false
     cut n last short = within_limit MAX_LINE (length last) short
 
     pub world_too_much : (e : Expecting) → EndsWorld e before left got TooMuch
@@ -270,13 +270,13 @@ module _ (before now : LinesState) (got : List ℕ) (number : now.number ≡ bef
 
   -- a line that is too long is refused, wherever it ends
   module _ (long : HoldsLongLine text before.room) (left : Option (List ℕ)) where
-    world_by_pieces : (over : Bool) (e : Expecting) (line : List ℕ) (ps : List (List ℕ)) → 2048 < length line → input_by over (reading now.number e (line ∷ ps)) ≡ no_world (Refused now.number part.World refusal.Syntax)
+    world_by_pieces : (over : Bool) (e : Expecting) (line : List ℕ) (ps : List (List ℕ)) → MAX_LINE < length line → input_by over (reading now.number e (line ∷ ps)) ≡ no_world (Refused now.number part.World refusal.Syntax)
     world_by_pieces false e line [] long = reading_last now.number e line (line ∷ []) refl false
     world_by_pieces true e line [] long = reading_last now.number e line (line ∷ []) refl true ∙ ap (λ b. no_world (cond b (Refused now.number part.World refusal.Syntax) TooMuch)) (lt-ltb MAX_LINE (length line) long)
     world_by_pieces over e line (p ∷ ps) long = ap (input_by over) (reading_more now.number e line (p ∷ ps) p ps refl)
         ∙ ap (λ (r : Parsed). input_by over (after r now.number (p ∷ ps) (λ next. reading (now.number + 1) next (p ∷ ps)))) (world_long e line long)
 
-    script_by_pieces : (over : Bool) (policy : PolicyNames) (line : List ℕ) (ps : List (List ℕ)) → 2048 < length line → script_from over policy now.number (line ∷ ps) ≡ script [] (Refused now.number part.Script refusal.TooLong)
+    script_by_pieces : (over : Bool) (policy : PolicyNames) (line : List ℕ) (ps : List (List ℕ)) → MAX_LINE < length line → script_from over policy now.number (line ∷ ps) ≡ script [] (Refused now.number part.Script refusal.TooLong)
     script_by_pieces over policy [] ps long = absurd (omega (arith, long))
     script_by_pieces false policy (x ∷ line) [] long = script_last false policy now.number (x ∷ line) ((x ∷ line) ∷ []) refl
         ∙ ap (λ b. script [] (Refused now.number part.Script (cond b refusal.TooLong refusal.Syntax))) (lt-ltb MAX_LINE (length (x ∷ line)) long)

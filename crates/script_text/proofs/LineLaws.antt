@@ -17,7 +17,8 @@ use Rattle.fs_path.specs.Words.{is_blank, words_of}
 use Rattle.fs_path.specs.declared.words.LineWord.{LineWord}
 use Rattle.kern_model.specs.Arguments.{are_flags, are_names, has_names, is_call, is_number}
 use Rattle.kern_model.specs.Kinds.{is_mode, is_permission}
-use Rattle.kern_model.specs.declared.limits.TheConstants.{MAX_FILE_BYTES, MAX_LINE, MAX_NUMBER, MAX_OFFSET, MAX_PERMISSIONS, MAX_PROCS}
+use Rattle.fs_path.specs.declared.words.TheConstants.{MAX_LINE}
+use Rattle.kern_model.specs.declared.limits.TheConstants.{MAX_FILE_BYTES, MAX_NUMBER, MAX_OFFSET, MAX_PERMISSIONS, MAX_PROCS}
 use Rattle.kern_model.specs.declared.calls.Call.{Call}
 use Rattle.kern_model.specs.declared.calls.Call.TheVariants as call
 use Rattle.kern_model.specs.declared.calls.CallName.{CallName}

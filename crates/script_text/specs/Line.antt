@@ -3,7 +3,7 @@ use Rattle.std.specs.Prelude.{◌≡◌, ℕ, true, ◌||◌, nat_lt, cond, List
 use Rattle.std.specs.List.{list_all}
 use Rattle.fs_path.specs.declared.words.LineWord.{LineWord}
 use Rattle.fs_path.specs.Words.{is_blank, words_of}
-use Rattle.kern_model.specs.declared.limits.TheConstants.{MAX_LINE}
+use Rattle.fs_path.specs.declared.words.TheConstants.{MAX_LINE}
 use Rattle.kern_model.specs.Arguments.{has_names, is_call, is_number}
 use Rattle.kern_model.specs.Named.{call_named}
 use Rattle.kern_model.specs.declared.calls.CallName.{CallName}

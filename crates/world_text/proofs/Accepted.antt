@@ -24,7 +24,8 @@ use Rattle.lab_text.specs.Names.{Names, same_bytes, is_label_name, are_distinct}
 use Rattle.lab_text.specs.Policy.{PolicyNames, names_fault, MakePolicy, top_of}
 use Rattle.lab_text.specs.Text.{is_label_text, parse_label}
 use Rattle.lab_text.proofs.Parsed.{parsed_valid}
-use Rattle.kern_model.specs.declared.limits.TheConstants.{MAX_FILE_BYTES, MAX_GROUPS, MAX_LINE, MAX_OBJECTS, MAX_PROCS}
+use Rattle.fs_path.specs.declared.words.TheConstants.{MAX_LINE}
+use Rattle.kern_model.specs.declared.limits.TheConstants.{MAX_FILE_BYTES, MAX_GROUPS, MAX_OBJECTS, MAX_PROCS}
 use Rattle.kern_model.specs.declared.objects.Body.{Body}
 use Rattle.kern_model.specs.declared.objects.Body.TheVariants as body
 use Rattle.kern_model.specs.declared.world.WorldObject.{WorldObject}

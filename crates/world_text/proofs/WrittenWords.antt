@@ -9,7 +9,7 @@ use Rattle.fs_path.specs.declared.words.LineWord.{LineWord}
 use Rattle.fs_path.proofs.RoundTrip.{line_round_trip}
 use Rattle.fs_path.specs.Split.{pieces}
 use Rattle.fs_path.specs.Words.{is_space, is_plain, is_bare, is_bare_text, is_blank, hex_digit, item_text, quoted_text, has_spelling, spelling, after_spaces, line_text, is_empty_or_comment}
-use Rattle.kern_model.specs.declared.limits.TheConstants.{MAX_LINE}
+use Rattle.fs_path.specs.declared.words.TheConstants.{MAX_LINE}
 use Rattle.world_text.specs.declared.expecting.Expecting.{Expecting}
 use Rattle.world_text.specs.Expecting.{with_form, parse_words, parse_line}
 use Rattle.world_text.specs.Written.{bare, line_of}

@@ -9,7 +9,7 @@ use Rattle.kern_model.specs.declared.objects.Body.{Body}
 use Rattle.kern_model.specs.declared.objects.Body.TheVariants as body
 use Rattle.kern_model.specs.declared.world.WorldObject.{WorldObject}
 use Rattle.kern_model.specs.declared.world.WorldProc.{WorldProc}
-use Rattle.kern_model.specs.declared.limits.TheConstants.{MAX_LINE}
+use Rattle.fs_path.specs.declared.words.TheConstants.{MAX_LINE}
 use Rattle.kern_model.specs.World.{IsWorld}
 use Rattle.line_text.specs.Ranges.{are_bytes, are_numbers, IsNumber}
 use Rattle.world_text.specs.declared.world.WorldText.{WorldText}

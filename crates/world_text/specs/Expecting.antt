@@ -17,7 +17,7 @@ use Rattle.lab_lattice.specs.Label.{Label}
 use Rattle.lab_text.specs.Names.{Names, same_bytes, is_label_name, are_distinct}
 use Rattle.lab_text.specs.Policy.{PolicyNames, top_of}
 use Rattle.lab_text.specs.Text.{is_label_text, parse_label}
-use Rattle.kern_model.specs.declared.limits.TheConstants.{MAX_LINE}
+use Rattle.fs_path.specs.declared.words.TheConstants.{MAX_LINE}
 use Rattle.kern_model.specs.declared.numbers.Ids.{Ids}
 use Rattle.kern_model.specs.declared.objects.Body.{Body}
 use Rattle.kern_model.specs.declared.objects.Body.TheVariants as body
