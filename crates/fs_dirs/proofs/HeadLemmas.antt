@@ -1,7 +1,10 @@
 -- The head of a name: how it is made, and that heads that differ are ordered as their names.
-use Rattle.std.proofs.Common.{◌≡◌, ℕ, zero, suc, ◌+◌, ◌-◌, ◌*◌, ◌^◌, ◌<◌, ◌≤◌, true, false, List, [], ◌∷◌, length, get_or, drop, refl, ap, sym, ◌∙◌, subst, arith, inl, inr, add-mul, mul_assoc, mul-le-mul_left}
+use Rattle.std.proofs.Common.{◌≡◌, ◌≢◌, ℕ, zero, suc, ◌+◌, ◌-◌, ◌*◌, ◌^◌, ◌<◌, ◌≤◌, true, false, List, [], ◌∷◌, length, get_or, drop, refl, ap, sym, ◌∙◌, subst, arith, inl, inr, add-mul, mul_assoc, mul-le-mul_left}
 use Rattle.std.proofs.Math.Nat.{pow-succ'}
+use Rattle.std.proofs.lemmas.Nat.{pow-add}
+use Rattle.std.proofs.lemmas.List.{drop_all}
 use Rattle.std.specs.Prelude.{◌&&◌, nat_lt}
+use Rattle.std.specs.declared.cmp.Ordering.{Ordering}
 use Rattle.std.specs.declared.cmp.Ordering.TheVariants.{Less, Equal, Greater}
 use Rattle.std.specs.Ordering.{nat_cmp, ordering_reverse, ordering_then}
 use Rattle.std.specs.Cmp.{nat_cmp_is}
@@ -10,7 +13,9 @@ use Rattle.std.specs.List.{list_all}
 use Rattle.std.proofs.lemmas.Bool.{cases_lt}
 use Rattle.std.proofs.lemmas.Bool.Decides.{nat_tests}
 use Rattle.std.proofs.lemmas.Cmp.{nat_list_cmp_total}
+use Rattle.std.proofs.lemmas.Map.Lookups.{exact_unsigned}
 use Rattle.fs_dirs.specs.Head.{head, head_of, are_bytes}
+use Rattle.fs_dirs.specs.declared.head.Head.{Head}
 
 -- a power is 256 times the one before
 power : (n : ℕ) → 256 ^ suc n ≡ 256 * 256 ^ n
@@ -52,10 +57,10 @@ read_on acc k bytes h =
     (read_more acc (8 - (k + 1)) k bytes))
 
 -- all are read
-pub read_all : (acc k : ℕ) (bytes : List ℕ) → k ≡ 8 → acc * 256 ^ (8 - k) + head (8 - k) (drop k bytes) ≡ head_of bytes → acc ≡ head_of bytes
+pub read_all : (acc k : ℕ) (bytes : List ℕ) → k ≡ 8 → acc * 256 ^ (8 - k) + head (8 - k) (drop k bytes) ≡ head 8 bytes → acc ≡ head 8 bytes
 unfolding head
 read_all acc k bytes h so_far =
-    let all : acc * 1 + 0 ≡ head_of bytes = subst (λ j. acc * 256 ^ (8 - j) + head (8 - j) (drop j bytes) ≡ head_of bytes) {x = k} {y = 8} h so_far in
+    let all : acc * 1 + 0 ≡ head 8 bytes = subst (λ j. acc * 256 ^ (8 - j) + head (8 - j) (drop j bytes) ≡ head 8 bytes) {x = k} {y = 8} h so_far in
     omega (arith, all)
 
 -- of a list of bytes the first is one, and so is each other
@@ -95,9 +100,9 @@ head_below (suc n) [] h = some (suc n)
 head_below (suc n) (x ∷ bytes) h = rw (power n) (digit x (256 ^ n) (head n bytes) (first_is x bytes h) (head_below n bytes (rest_are x bytes h)))
 
 -- what is read with one byte more fits
-pub fits_on : (acc k : ℕ) (bytes : List ℕ) → are_bytes bytes ≡ true → k < 8 → acc * 256 ^ (8 - k) + head (8 - k) (drop k bytes) ≡ head_of bytes → acc * 256 + get_or bytes k 0 < 2 ^ 64
+pub fits_on : (acc k : ℕ) (bytes : List ℕ) → are_bytes bytes ≡ true → k < 8 → acc * 256 ^ (8 - k) + head (8 - k) (drop k bytes) ≡ head 8 bytes → acc * 256 + get_or bytes k 0 < 2 ^ 64
 fits_on acc k bytes h within so_far =
-    let below : head_of bytes < 2 ^ 64 = head_below 8 bytes h in
+    let below : head 8 bytes < 2 ^ 64 = head_below 8 bytes h in
     let on = read_on acc k bytes within in
     let least : (acc * 256 + get_or bytes k 0) * 1 ≤ (acc * 256 + get_or bytes k 0) * 256 ^ (8 - (k + 1)) = mul-le-mul_left (acc * 256 + get_or bytes k 0) (some (8 - (k + 1))) in
     omega (arith, below, on, least, so_far)
@@ -129,3 +134,59 @@ head_less (suc n) (x ∷ a) (y ∷ b) h low = elim (cases_lt x y) [
 -- and the one with the greater head the greater one
 pub head_greater : (n : ℕ) (a b : List ℕ) → are_bytes a ≡ true → head n b < head n a → slice_cmp nat_cmp a b ≡ Greater
 head_greater n a b h low = nat_list_cmp_total.antisymm a b ∙ ap ordering_reverse (head_less n b a h low)
+
+-- the number of n and m bytes, by that of the first n and that of the m after them
+head_split : (n m : ℕ) (bytes : List ℕ) → head (n + m) bytes ≡ head n bytes * 256 ^ m + head m (drop n bytes)
+unfolding head
+head_split zero m bytes = subst (λ n. head n bytes ≡ 0 * 256 ^ m + head m bytes) {x = m} {y = 0 + m} (omega arith) (omega arith)
+head_split (suc n) m [] =
+    let all : head (suc n + m) [] ≡ 0 = no_head (suc n + m) in
+    let none : head m (drop (suc n) []) ≡ 0 = no_head m in
+    omega (arith, all, none)
+head_split (suc n) m (x ∷ bytes) =
+    let rest = head_split n m bytes in
+    let power_of : 256 ^ (n + m) ≡ 256 ^ n * 256 ^ m = pow-add 256 n m in
+    let times : x * 256 ^ n * 256 ^ m ≡ x * (256 ^ n * 256 ^ m) = mul_assoc x (256 ^ n) (256 ^ m) in
+    let both : (x * 256 ^ n + head n bytes) * 256 ^ m ≡ x * 256 ^ n * 256 ^ m + head n bytes * 256 ^ m = add-mul (x * 256 ^ n) (head n bytes) (256 ^ m) in
+    let shown : x * 256 ^ (n + m) + head (n + m) bytes ≡ (x * 256 ^ n + head n bytes) * 256 ^ m + head m (drop n bytes) = rw power_of (omega (arith, rest, times, both)) in
+    subst (λ k. head k (x ∷ bytes) ≡ (x * 256 ^ n + head n bytes) * 256 ^ m + head m (drop n bytes)) {x = suc (n + m)} {y = suc n + m} (omega arith) shown
+
+-- where the first eight bytes are the same, the eight after them tell
+second_less : (a b : List ℕ) → head 8 a ≡ head 8 b → head 8 (drop 8 a) < head 8 (drop 8 b) → head 16 a < head 16 b
+second_less a b same low =
+    let of_a : head 16 a ≡ head 8 a * 256 ^ 8 + head 8 (drop 8 a) = head_split 8 8 a in
+    let of_b : head 16 b ≡ head 8 b * 256 ^ 8 + head 8 (drop 8 b) = head_split 8 8 b in
+    omega (arith, of_a, of_b, same, low)
+
+-- an order that is told where one of two numbers is less is theirs, if they differ
+tells : (x y : ℕ) (order : Ordering) → (x < y → order ≡ Less) → (y < x → order ≡ Greater) → nat_cmp x y ≢ Equal → nat_cmp x y ≡ order
+tells x y order lesser larger differ = elim (cases_lt x y) [
+  | inl less ↦ sym (nat_cmp_is x y Less less) ∙ sym (lesser less)
+  | inr most ↦ elim (cases_lt y x) [
+    | inl more ↦ sym (nat_cmp_is x y Greater more) ∙ sym (larger more)
+    | inr least ↦ absurd (differ (sym (nat_cmp_is x y Equal (omega arith))))
+  ]
+]
+
+-- where the first numbers of the heads differ, their order is that of the lists
+pub first_tells : (x y : Head) (a b : List ℕ) → x ≡ head_of a → y ≡ head_of b → are_bytes a ≡ true → are_bytes b ≡ true → nat_cmp x.first y.first ≢ Equal → nat_cmp x.first y.first ≡ slice_cmp nat_cmp a b
+first_tells x y a b x_is y_is of_a of_b =
+    let of_x : x.first ≡ head 8 a = ap (λ (h : Head). h.first) x_is in
+    let of_y : y.first ≡ head 8 b = ap (λ (h : Head). h.first) y_is in
+    tells x.first y.first (slice_cmp nat_cmp a b)
+    (λ low. head_less 8 a b of_b (omega (arith, of_x, of_y, low)))
+    (λ low. head_greater 8 a b of_a (omega (arith, of_x, of_y, low)))
+
+-- and where only the second numbers differ, it is theirs
+pub second_tells : (x y : Head) (a b : List ℕ) → x ≡ head_of a → y ≡ head_of b → are_bytes a ≡ true → are_bytes b ≡ true → nat_cmp x.first y.first ≡ Equal → nat_cmp x.second y.second ≢ Equal → nat_cmp x.second y.second ≡ slice_cmp nat_cmp a b
+second_tells x y a b x_is y_is of_a of_b equal =
+    let same : head 8 a ≡ head 8 b = sym (ap (λ (h : Head). h.first) x_is) ∙ exact_unsigned x.first y.first equal ∙ ap (λ (h : Head). h.first) y_is in
+    let of_x : x.second ≡ head 8 (drop 8 a) = ap (λ (h : Head). h.second) x_is in
+    let of_y : y.second ≡ head 8 (drop 8 b) = ap (λ (h : Head). h.second) y_is in
+    tells x.second y.second (slice_cmp nat_cmp a b)
+    (λ low. head_less 16 a b of_b (second_less a b same (omega (arith, of_x, of_y, low))))
+    (λ low. head_greater 16 a b of_a (second_less b a (sym same) (omega (arith, of_x, of_y, low))))
+
+-- a list of at most eight bytes has none after them
+pub no_second : (bytes : List ℕ) → length bytes ≤ 8 → head 8 (drop 8 bytes) ≡ 0
+no_second bytes short = ap (head 8) (drop_all 8 bytes short) ∙ no_head 8

@@ -3,7 +3,7 @@ ghost use Rattle.std.specs.Prelude.{◌≡◌, ◌<◌, IfErr, IfOk, IsOk, IsSom
 ghost use Rattle.std.specs.FinMap as map;
 ghost use Rattle.fs_dirs.specs.Directory.{AreSorted, IsAt, IsGap, TakesFewSteps};
 
-use crate::head::head_of;
+use crate::head::Head;
 use crate::slot::Slot;
 use crate::tiers::Tiers;
 use fs_path::{Name, NameList, NoMemory, Steps};
@@ -131,7 +131,7 @@ fn search<L: Ledger>(
     ensures absent { IfErr result (IsGap entries.now name.now) }
     ensures counted { TakesFewSteps (length entries.now) steps.old steps.new }
 {
-    let head = head_of(name);
+    let head = Head::of(name);
     let mut low = 0;
     let mut high = entries.len();
     while low < high {

@@ -1,20 +1,47 @@
 // The head of a name, by which most names can be told apart.
 ghost use Rattle.std.specs.Prelude.{◌≡◌, slice_index_or, true};
-ghost use Rattle.fs_dirs.specs.Head.{are_bytes, head_of};
+ghost use Rattle.fs_dirs.specs.Head.{are_bytes, head};
 
 use fs_path::Name;
 
-/// The head of a name: the number of its first eight bytes, with zeros after its end.
-pub(crate) fn head_of(name: &Name) -> u64
-    ensures head { result ≡ head_of name.now }
-    ensures bytes { are_bytes name.now ≡ true }
-{
-    let bytes = name.bytes();
-    let mut head: u64 = 0;
-    for place in 0..8 {
-        head = head * 256 + byte_at(bytes, place) as u64;
+/// The head of a name: the number of its first eight bytes and that of the eight after them, with zeros after its end.
+#[derive(Clone, Copy)]
+pub struct Head {
+    pub first: u64,
+    pub second: u64,
+}
+
+impl Head {
+    ghost use Rattle.fs_dirs.specs.Head.{head_of};
+
+    /// The head of a name. For a short name, the second number is 0 at once.
+    pub fn of(name: &Name) -> Head
+        ensures head { result ≡ head_of name.now }
+        ensures bytes { are_bytes name.now ≡ true }
+    {
+        let bytes = name.bytes();
+        let second = if bytes.len() <= 8 {
+            0
+        } else {
+            number_of_eight(&bytes[8..])
+        };
+        Head {
+            first: number_of_eight(bytes),
+            second,
+        }
     }
-    head
+}
+
+// The number of the first eight bytes, with zeros after their end.
+fn number_of_eight(bytes: &[u8]) -> u64
+    ensures number { result ≡ head 8 bytes.now }
+    ensures bytes { are_bytes bytes.now ≡ true }
+{
+    let mut number: u64 = 0;
+    for place in 0..8 {
+        number = number * 256 + u64::from(byte_at(bytes, place));
+    }
+    number
 }
 
 // The byte at a place, and 0 after the end.

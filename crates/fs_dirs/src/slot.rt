@@ -2,7 +2,7 @@
 ghost use Rattle.std.specs.Prelude.{◌≡◌, true};
 ghost use Rattle.fs_dirs.specs.Head.{are_bytes, head_of};
 
-use crate::head::head_of;
+use crate::head::Head;
 use fs_path::{Name, NoMemory, Steps};
 use kern_model::Oid;
 use std::alloc::Global;
@@ -19,7 +19,7 @@ pub struct Entry {
 /// An entry on the heap, and beside it the head of its name, which mostly tells it from others without a look at the heap.
 #[derive(Drop)]
 pub struct Slot {
-    pub head: u64,
+    pub head: Head,
     pub entry: Box<Entry>,
     ghost head_is: { head ≡ head_of entry.value.name },
     ghost bytes: { are_bytes entry.value.name ≡ true },
@@ -34,7 +34,7 @@ impl Slot {
     pub fn new(alloc: Global, name: Name, id: Oid) -> Result<Slot, NoMemory>
         ensures { IfOk result (λ slot. slot.entry.value ≡ record { name = name; id = id }) }
     {
-        let head = head_of(&name);
+        let head = Head::of(&name);
         let entry = Box::new(alloc, Entry { name, id })?;
         Ok(Slot { head, entry })
     }
@@ -48,19 +48,19 @@ impl Slot {
 
     /// The order of its name and another one, whose head is given. Where the heads differ, it is theirs. Else the names are compared,
     /// which is counted.
-    pub fn compare<L: Ledger>(&self, name: &Name, head: u64, steps: &mut Steps<L>) -> Ordering
+    pub fn compare<L: Ledger>(&self, name: &Name, head: Head, steps: &mut Steps<L>) -> Ordering
         requires head { head ≡ head_of name.now }
         requires bytes { are_bytes name.now ≡ true }
         ensures order { result ≡ slice_cmp nat_cmp self.now.entry.value.name name.now }
         ensures least { steps.old ≤ steps.new }
         ensures most { steps.new ≤ steps.old + 1 }
     {
-        if self.head < head {
-            return Ordering::Less;
+        match self.head.first.cmp(&head.first) {
+            Ordering::Equal => match self.head.second.cmp(&head.second) {
+                Ordering::Equal => self.entry.name.compare(name, steps),
+                order => order,
+            },
+            order => order,
         }
-        if head < self.head {
-            return Ordering::Greater;
-        }
-        self.entry.name.compare(name, steps)
     }
 }

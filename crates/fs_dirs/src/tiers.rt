@@ -137,6 +137,8 @@ fn grow<T: Drop>(tiers: &mut Vec<VecDeque<T>>, alloc: Global) -> Result<(), NoMe
     }
     let mut tier = VecDeque::new(alloc);
     tier.reserve(1)?;
+    // Most directories need one tier.
+    tiers.reserve_exact(1)?;
     tiers.push(tier)?;
     Ok(())
 }

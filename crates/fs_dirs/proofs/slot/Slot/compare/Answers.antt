@@ -1,18 +1,25 @@
-use Rattle.std.proofs.Common.{◌<◌, arith, sym}
-use Rattle.fs_dirs.specs.Head.{head_of}
-use Rattle.fs_dirs.proofs.HeadLemmas.{head_greater, head_less}
+use Rattle.std.proofs.Common.{arith, sym, ◌∙◌}
+use Rattle.fs_dirs.proofs.HeadLemmas.{first_tells, second_tells}
 use Rattle.fs_dirs.proofs.slot.Slot.compare.Goals as goal
 
-pub returns-then-self-head-clause-order : goal.returns-then-self-head-clause-order
-returns-then-self-head-clause-order g c =
-    let own = c.args.self.now.head_is in
-    let given = c.requires.head in
-    let low : head_of c.args.self.now.entry.value.name < head_of c.args.name.now = omega (arith, own, given) in
-    sym (head_less 8 c.args.self.now.entry.value.name c.args.name.now c.requires.bytes low)
+-- the first numbers of the heads differ
+pub returns-in_default : goal.returns-in_default
+returns-in_default g c =
+    let own = c.args.self.now in
+    let first = first_tells own.head c.args.head own.entry.value.name c.args.name.now own.head_is c.requires.head own.bytes c.requires.bytes in
+    record {
+      order = c.cmp.ensures ∙ first (λ same. c.in_default.not-Equal (c.cmp.ensures ∙ same));
+      least = omega arith;
+      most = omega arith;
+    }
 
-pub returns-then-head-self-clause-order : goal.returns-then-head-self-clause-order
-returns-then-head-self-clause-order g c =
-    let own = c.args.self.now.head_is in
-    let given = c.requires.head in
-    let low : head_of c.args.name.now < head_of c.args.self.now.entry.value.name = omega (arith, own, given) in
-    sym (head_greater 8 c.args.self.now.entry.value.name c.args.name.now c.args.self.now.bytes low)
+-- only the second ones do
+pub returns-in_default-cmp : goal.returns-in_default-cmp
+returns-in_default-cmp g c =
+    let own = c.args.self.now in
+    let second = second_tells own.head c.args.head own.entry.value.name c.args.name.now own.head_is c.requires.head own.bytes c.requires.bytes (sym c.cmp.ensures ∙ c.in-Equal.is) in
+    record {
+      order = c.cmp-in-Equal.ensures ∙ second (λ same. c.in_default-cmp.not-Equal (c.cmp-in-Equal.ensures ∙ same));
+      least = omega arith;
+      most = omega arith;
+    }
