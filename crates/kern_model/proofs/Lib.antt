@@ -4,7 +4,6 @@ pub mod KindLemmas
 pub mod MapLemmas
 pub mod NamedLaws
 pub mod RowLemmas
-pub mod SearchLemmas
 pub mod Selections
 pub mod StateLemmas
 pub mod TableLemmas

@@ -1,10 +1,11 @@
 // Calls, checks and error numbers by their words.
 ghost use Rattle.std.specs.Prelude.{◌≡◌};
-ghost use Rattle.kern_model.specs.Named.{call_named, check_named, errno_named};
+ghost use Rattle.kern_model.specs.Names.{word_of};
+ghost use Rattle.kern_model.specs.Named.{call_named, check_named, errno_named, named};
 
 use crate::{CallName, CheckName, Errno};
 
-// In the order of their words.
+// In the order of their words, so that those which begin alike stand together.
 const CALLS: [CallName; 44] = [
     CallName::AudSwitch,
     CallName::AudWrite,
@@ -104,15 +105,45 @@ const ERRNOS: [Errno; 20] = [
     Errno::ESRCH,
 ];
 
+// The calls whose words begin as this one does, and all calls where none does.
+#[tactic(auto, unfolding(crate::specs::Named::named))]
+fn alike(word: &[u8]) -> &'static [CallName]
+    ensures { named word_of result.now word.now ≡ call_named word.now }
+{
+    match word {
+        [b'a', ..] => &CALLS[..2],
+        [b'c', ..] => &CALLS[2..12],
+        [b'd', ..] => &CALLS[12..13],
+        [b'e', ..] => &CALLS[13..15],
+        [b'f', ..] => &CALLS[15..17],
+        [b'g', ..] => &CALLS[17..20],
+        [b'k', ..] => &CALLS[20..21],
+        [b'l', ..] => &CALLS[21..23],
+        [b'm', ..] => &CALLS[23..31],
+        [b'o', ..] => &CALLS[31..32],
+        [b'p', ..] => &CALLS[32..33],
+        [b'r', ..] => &CALLS[33..37],
+        [b's', ..] => &CALLS[37..40],
+        [b'u', ..] => &CALLS[40..42],
+        [b'w', ..] => &CALLS[42..],
+        _ => &CALLS,
+    }
+}
+
+// The first of some calls with a word.
+#[tactic(auto, unfolding(crate::specs::Named::named))]
+fn first_named(calls: &[CallName], word: &[u8]) -> Option<CallName>
+    ensures { result ≡ named word_of calls.now word.now }
+{
+    calls.iter().copied().find(|call| word == call.word())
+}
+
 impl CallName {
     /// The call with this word.
     pub fn from_word(word: &[u8]) -> Option<CallName>
         ensures { result ≡ call_named word.now }
     {
-        match CALLS.binary_search_by(|call| call.word().cmp(word)) {
-            Ok(place) => Some(CALLS[place]),
-            Err(_) => None,
-        }
+        first_named(alike(word), word)
     }
 }
 
