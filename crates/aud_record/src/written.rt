@@ -58,11 +58,11 @@ fn put_rest(line: LineWriter, policy: &Policy, rec: &Rec) -> Result<LineWriter, 
 
 // The line of a record.
 #[tactic(auto, unfolding(crate::specs::Written::line_of, crate::specs::Written::rec_text))]
-fn line_of(alloc: Global, policy: &Policy, call: u64, rec: &Rec) -> Result<Vec<u8>, NoMemory>
+fn line_of(room: Vec<u8>, policy: &Policy, call: u64, rec: &Rec) -> Result<Vec<u8>, NoMemory>
     ensures text { IfOk result (λ text. text.items ≡ rec_text policy.now call rec.now) }
     ensures in_range { OnOk result (IsInRange call rec.now) }
 {
-    let line = LineWriter::new(alloc)?
+    let line = LineWriter::over(room)
         .digits(call)?
         .word(Event::of(rec).word())?
         .pid(policy, &who(rec))?;
@@ -70,15 +70,15 @@ fn line_of(alloc: Global, policy: &Policy, call: u64, rec: &Rec) -> Result<Vec<u
 }
 
 /// The line of a record, after the number of its call, which is 0 for the records of the start. Of a label that is not
-/// valid in the policy only the names that the policy has are written.
-pub fn rec_text(alloc: Global, policy: &Policy, call: u64, rec: &Rec) -> Result<Vec<u8>, NoMemory>
+/// valid in the policy only the names that the policy has are written. `room` is an earlier text, whose memory is used.
+pub fn rec_text(room: Vec<u8>, policy: &Policy, call: u64, rec: &Rec) -> Result<Vec<u8>, NoMemory>
     ensures text { IfOk result (λ text. text.items ≡ rec_text policy.now call rec.now) }
     // Where its labels are valid the line is read as this record, whatever follows it.
     ensures round_trip { IfOk result (λ text. has_valid_labels policy.now rec.now ≡ true → (rest : List ℕ) → parse_rec policy.now (text.items ++ rest) ≡ Ok (record { call = call; rec = rec.now; used = length text.items })) }
 {
     // Its names make a policy, which the clause `round_trip` needs.
     let _names = policy.levels();
-    line_of(alloc, policy, call, rec)
+    line_of(room, policy, call, rec)
 }
 
 /// The lines before the records: the format, the names of the world's levels and categories, and its bound.

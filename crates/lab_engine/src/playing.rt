@@ -30,6 +30,14 @@ use kern_model::{Call, Calls, Pid, Rec, Reply};
 use script_text::{Line, reply_text};
 use sec_utils::{Util, expand, util_text};
 use std::alloc::Global;
+use std::mem::replace;
+
+// Takes a text, and leaves an empty one in its place.
+fn take(room: &mut Vec<u8>, alloc: Global) -> Vec<u8>
+    ensures { result.items ≡ room.old.items }
+{
+    replace(room, Vec::new(alloc))
+}
 
 // Writes a piece to the trail.
 fn note<T: Sink>(trail: &mut T, piece: &[u8]) -> Result<(), Fault>
@@ -52,23 +60,31 @@ pub fn answer<K: Sink>(out: &mut K, piece: &[u8]) -> Result<(), Fault>
 }
 
 // Writes the records of a call to the trail, each as one piece.
-fn note_all<T: Sink>(texts: Texts<'_>, call: u64, recs: &[Rec], trail: &mut T) -> Result<(), Fault>
+fn note_all<T: Sink>(
+    texts: Texts<'_>,
+    call: u64,
+    recs: &[Rec],
+    room: &mut Vec<u8>,
+    trail: &mut T,
+) -> Result<(), Fault>
     ensures writes { WritesTrail result (flat_map (rec_line texts.entry.policy.now call) recs.now) (sink_view (T.held trail.old) (T.faults trail.old)) (sink_view (T.held trail.new) (T.faults trail.new)) }
     ensures readable { OnOk result (AreReadable texts.entry.policy.now call recs.now) }
 {
     for rec in recs {
-        let text = rec_text(texts.alloc, texts.policy, call, rec)?;
-        note(trail, &text)?;
+        *room = rec_text(take(room, texts.alloc), texts.policy, call, rec)?;
+        note(trail, room)?;
     }
     Ok(())
 }
 
 // Writes what of a call comes before its reply, and returns whether the reply is to be written.
+#[inline(always)]
 fn show<K: Sink, T: Sink>(
     texts: Texts<'_>,
     shown: Shown,
     number: u64,
     recs: &[Rec],
+    room: &mut Vec<u8>,
     out: &mut K,
     trail: &mut T,
 ) -> Result<bool, Fault>
@@ -79,7 +95,7 @@ fn show<K: Sink, T: Sink>(
 {
     match shown {
         Shown::Call => {
-            note_all(texts, number, recs, trail)?;
+            note_all(texts, number, recs, room, trail)?;
             Ok(true)
         }
         Shown::Reply => Ok(true),
@@ -92,6 +108,7 @@ fn show<K: Sink, T: Sink>(
 }
 
 // Plays one call, and writes what of it comes before its reply. Returns the reply where it is to be written.
+#[inline(always)]
 fn play_call<C: Calls, K: Sink, T: Sink>(
     texts: Texts<'_>,
     kernel: &mut C,
@@ -99,6 +116,7 @@ fn play_call<C: Calls, K: Sink, T: Sink>(
     report: &mut Report,
     who: &Pid,
     call: &Call,
+    room: &mut Vec<u8>,
     out: &mut K,
     trail: &mut T,
 ) -> Result<Option<Reply>, Fault>
@@ -114,11 +132,12 @@ fn play_call<C: Calls, K: Sink, T: Sink>(
 {
     let outcome = kernel.call(who, call)?;
     let shown = report.take_in(who, &outcome)?;
-    let replies = show(texts, shown, number, outcome.recs.items(), out, trail)?;
+    let replies = show(texts, shown, number, outcome.recs.items(), room, out, trail)?;
     Ok(replies.then_some(outcome.reply))
 }
 
 // Plays a line that is one call, and writes what is reported of it.
+#[inline(always)]
 fn play_one<C: Calls, K: Sink, T: Sink>(
     texts: Texts<'_>,
     kernel: &mut C,
@@ -126,6 +145,7 @@ fn play_one<C: Calls, K: Sink, T: Sink>(
     report: &mut Report,
     who: &Pid,
     call: &Call,
+    room: &mut Vec<u8>,
     out: &mut K,
     trail: &mut T,
 ) -> Result<(), Fault>
@@ -137,10 +157,11 @@ fn play_one<C: Calls, K: Sink, T: Sink>(
     ensures report { OnOk result (report.new ≡ report_after_call report.old (played (C.state kernel.old) (item_of who.now call.now))) }
     ensures readable { OnOk result (report.old ≡ a_report.All → AreReadable texts.entry.policy.now number (step (C.state kernel.old) who.now call.now).recs) }
 {
-    match play_call(texts, kernel, number, report, who, call, out, trail)? {
+    match play_call(texts, kernel, number, report, who, call, room, out, trail)? {
         Some(reply) => {
-            let text = reply_text(texts.alloc, texts.policy, who, call.name().word(), &reply)?;
-            answer(out, &text)
+            let word = call.name().word();
+            *room = reply_text(take(room, texts.alloc), texts.policy, who, word, &reply)?;
+            answer(out, room)
         }
         None => Ok(()),
     }
@@ -155,6 +176,7 @@ fn play_path<C: Calls, K: Sink, T: Sink>(
     util: &Util,
     at: usize,
     call: &Call,
+    room: &mut Vec<u8>,
     out: &mut K,
     trail: &mut T,
 ) -> Result<(), Fault>
@@ -168,10 +190,12 @@ fn play_path<C: Calls, K: Sink, T: Sink>(
     ensures report { OnOk result (report.new ≡ report_after_call report.old (played (C.state kernel.old) (record { who = util.now.who; head = head_at util.now at; call = call.now }))) }
     ensures readable { OnOk result (report.old ≡ a_report.All → AreReadable texts.entry.policy.now number (step (C.state kernel.old) util.now.who call.now).recs) }
 {
-    match play_call(texts, kernel, number, report, &util.who, call, out, trail)? {
+    match play_call(
+        texts, kernel, number, report, &util.who, call, room, out, trail,
+    )? {
         Some(reply) => {
-            let text = util_text(texts.alloc, texts.policy, util, at, &reply)?;
-            answer(out, &text)
+            *room = util_text(take(room, texts.alloc), texts.policy, util, at, &reply)?;
+            answer(out, room)
         }
         None => Ok(()),
     }
@@ -184,6 +208,7 @@ fn play_tool<C: Calls, K: Sink, T: Sink>(
     count: u64,
     report: &mut Report,
     util: &Util,
+    room: &mut Vec<u8>,
     out: &mut K,
     trail: &mut T,
 ) -> Result<u64, Fault>
@@ -201,7 +226,9 @@ fn play_tool<C: Calls, K: Sink, T: Sink>(
     let mut number = count;
     for (at, call) in calls.items().iter().enumerate() {
         number += 1;
-        play_path(texts, kernel, number, report, util, at, call, out, trail)?;
+        play_path(
+            texts, kernel, number, report, util, at, call, room, out, trail,
+        )?;
     }
     Ok(number)
 }
@@ -213,6 +240,7 @@ fn play_line<C: Calls, K: Sink, T: Sink>(
     count: u64,
     report: &mut Report,
     line: Line,
+    room: &mut Vec<u8>,
     out: &mut K,
     trail: &mut T,
 ) -> Result<u64, Fault>
@@ -229,10 +257,20 @@ fn play_line<C: Calls, K: Sink, T: Sink>(
     match line {
         Line::Blank => Ok(count),
         Line::One { who, call } => {
-            play_one(texts, kernel, count + 1, report, &who, &call, out, trail)?;
+            play_one(
+                texts,
+                kernel,
+                count + 1,
+                report,
+                &who,
+                &call,
+                room,
+                out,
+                trail,
+            )?;
             Ok(count + 1)
         }
-        Line::Tool(util) => play_tool(texts, kernel, count, report, &util, out, trail),
+        Line::Tool(util) => play_tool(texts, kernel, count, report, &util, room, out, trail),
     }
 }
 
@@ -274,11 +312,12 @@ pub fn play_script<C: Calls, S: Source, K: Sink, T: Sink>(
         (ends (S.faults source.old) (sink_view (K.held out.old) (K.faults out.old)) (sink_view (T.held trail.old) (T.faults trail.old)))
         (ends (S.faults source.new) (sink_view (K.held out.new) (K.faults out.new)) (sink_view (T.held trail.new) (T.faults trail.new))) }
 {
+    let mut room = Vec::new(texts.alloc);
     let mut count = 0u64;
     loop {
         match read_next(texts, lines, source)? {
             NextLine::Line(line) => {
-                count = play_line(texts, kernel, count, report, line, out, trail)?;
+                count = play_line(texts, kernel, count, report, line, &mut room, out, trail)?;
             }
             NextLine::Ended(ending) => return Ok(Played { count, ending }),
         }
@@ -297,5 +336,5 @@ pub fn begin<T: Sink>(
 {
     let text = header_text(texts.alloc, texts.policy, bound)?;
     note(trail, &text)?;
-    note_all(texts, 0, recs, trail)
+    note_all(texts, 0, recs, &mut Vec::new(texts.alloc), trail)
 }

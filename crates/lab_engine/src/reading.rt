@@ -111,6 +111,7 @@ fn refusal_of(fault: LineError) -> Result<Refusal, NoMemory>
 }
 
 /// Reads the next line of a script.
+#[inline(always)]
 pub fn read_next<S: Source>(
     texts: Texts<'_>,
     lines: &mut Lines,

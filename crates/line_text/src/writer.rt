@@ -51,7 +51,16 @@ impl LineWriter {
         Ok(LineWriter { text })
     }
 
+    /// An empty writer over the memory of a text, whose bytes are gone.
+    pub fn over(mut text: Vec<u8>) -> LineWriter
+        ensures { result ≡ [] }
+    {
+        text.clear();
+        LineWriter { text }
+    }
+
     /// Appends bytes as they are.
+    #[inline(always)]
     pub fn bytes(mut self, bytes: &[u8]) -> Result<LineWriter, NoMemory>
         ensures { IfOk result (λ line. line ≡ self ++ bytes.now) }
     {
@@ -60,6 +69,7 @@ impl LineWriter {
     }
 
     /// Appends the decimal digits of a number, with no space before them.
+    #[inline(always)]
     pub fn digits(mut self, n: u64) -> Result<LineWriter, NoMemory>
         ensures { IfOk result (λ line. line ≡ self ++ decimal n) }
     {
@@ -81,6 +91,7 @@ impl LineWriter {
     }
 
     /// Ends the line.
+    #[inline(always)]
     pub fn line_feed(self) -> Result<LineWriter, NoMemory>
         ensures { IfOk result (λ line. line ≡ self ++ 10 ∷ []) }
     {
@@ -88,6 +99,7 @@ impl LineWriter {
     }
 
     /// Appends a space and a word.
+    #[inline(always)]
     pub fn word(self, word: &[u8]) -> Result<LineWriter, NoMemory>
         ensures { IfOk result (λ line. line ≡ self ++ 32 ∷ word.now) }
     {

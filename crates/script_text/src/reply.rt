@@ -6,12 +6,11 @@ use crate::NoMemory;
 use kern_model::{Pid, Reply};
 use lab_text::Policy;
 use line_text::LineWriter;
-use std::alloc::Global;
 
-/// The reply line of a call, with its line feed. `word` names the call.
+/// The reply line of a call, with its line feed. `word` names the call, and `room` is an earlier text, whose memory is used.
 #[tactic(auto, using(line_text::proofs::ReplyLemmas::line_written), unfolding(line_text::specs::Reply::reply_line))]
 pub fn reply_text(
-    alloc: Global,
+    room: Vec<u8>,
     policy: &Policy,
     who: &Pid,
     word: &[u8],
@@ -19,7 +18,7 @@ pub fn reply_text(
 ) -> Result<Vec<u8>, NoMemory>
     ensures { IfOk result (λ text. text.items ≡ reply_line policy.now who.now word.now reply.now) }
 {
-    let line = LineWriter::new(alloc)?
+    let line = LineWriter::over(room)
         .numbered(policy, who.n, &who.label)?
         .word(word)?
         .outcome(policy, reply)?;

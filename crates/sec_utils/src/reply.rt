@@ -7,13 +7,12 @@ use crate::{NoMemory, Util};
 use kern_model::Reply;
 use lab_text::Policy;
 use line_text::LineWriter;
-use std::alloc::Global;
 
 /// The reply line of a utility's call for the path at this index, with its line feed. It shows the path as the script
-/// spells it.
+/// spells it. `room` is an earlier text, whose memory is used.
 #[tactic(auto, using(crate::proofs::LineLemmas::line_written), unfolding(line_text::specs::Reply::reply_line))]
 pub fn util_text(
-    alloc: Global,
+    room: Vec<u8>,
     policy: &Policy,
     util: &Util,
     at: usize,
@@ -23,7 +22,7 @@ pub fn util_text(
     requires texts { length util.now.texts ≡ length util.now.paths }
     ensures { IfOk result (λ text. text.items ≡ reply_line policy.now util.now.who (head_at util.now at) reply.now) }
 {
-    let line = LineWriter::new(alloc)?
+    let line = LineWriter::over(room)
         .numbered(policy, util.who.n, &util.who.label)?
         .word(util.tool.word())?
         .quoted(util.texts.items()[at].items())?
