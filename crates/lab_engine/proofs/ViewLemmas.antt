@@ -25,9 +25,9 @@ use Rattle.kern_model.proofs.Selections.{flat_map-select, list_after}
 use Rattle.iso_laws.proofs.Laws.{isolated_whole, isolated_end, isolated_inside}
 use Rattle.lab_engine.specs.Input.{Accepted, Script}
 use Rattle.lab_engine.specs.Session.{session_of}
-use Rattle.lab_engine.specs.Texts.{caps_in, end_text, label_in, last_text, reply_text}
+use Rattle.lab_engine.specs.Texts.{caps_in, end_text, ends_text, label_in, last_text, reply_text}
 use Rattle.lab_engine.specs.Report.{crossed_line}
-use Rattle.lab_engine.specs.Viewing.{ends_below, low_calls, seen, session_alone, some_crosses, unless_whole, view_text}
+use Rattle.lab_engine.specs.Viewing.{low_calls, seen, session_alone, some_crosses, unless_whole, view_text}
 
 -- the reply line of what was answered
 abbrev shown : PolicyNames → Answered → List ℕ
@@ -107,7 +107,7 @@ module _ (l : Label) where
       ap (λ (o : Option Process). cond (low l who.label) (end_text policy who (option_map (λ (q : Process). q.label) o) (option_map (λ (q : Process). q.caps) o)) []) same
 
   -- the same end lines are seen in the part
-  ends_in_part : (policy : PolicyNames) (s : State) → Kept l s → ends_below l policy (part l s) ≡ ends_below l policy s
+  ends_in_part : (policy : PolicyNames) (s : State) → Kept l s → ends_text (Some l) policy (part l s) ≡ ends_text (Some l) policy s
   ends_in_part policy s kept =
       over_keys (line_of policy (part l s)) (map.entries (part l s).procs)
       ∙ ap (λ (m : map.FinMap pid_cmp Process). flat_map (λ (e : Pid × Process). line_of policy (part l s) e.0) (map.entries m)) (procs_in_part s)
@@ -137,7 +137,7 @@ view_alone l a m is args none =
     ap (λ (ps : List CallRecord). length (low_calls l ps)) none
     ∙ count_by_answers l calls ∙ ap (λ (xs : List Answered). length xs) same ∙ sym (count_by_answers l calls')
     ∙ sym (ap (λ (ps : List CallRecord). length (low_calls l ps)) none') in
-    let ends : ends_below l a.policy last ≡ ends_below l a.policy (state_after_run (part l (boot a.world)) (part_script l m.items)) =
-    sym (ends_in_part l a.policy last end.0) ∙ ap (ends_below l a.policy) end.1 in
+    let ends : ends_text (Some l) a.policy last ≡ ends_text (Some l) a.policy (state_after_run (part l (boot a.world)) (part_script l m.items)) =
+    sym (ends_in_part l a.policy last end.0) ∙ ap (ends_text (Some l) a.policy) end.1 in
     let tail : (b : Bool) → List ℕ → ℕ → List ℕ = λ b lines n. cond b (crossed_line ++ unless_whole m.ending) (lines ++ last_text n m.ending) in
     λ i. replies i ++ tail ((none_crosses l calls none ∙ sym (none_crosses l calls' none')) i) (ends i) (count i)

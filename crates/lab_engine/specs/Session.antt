@@ -1,5 +1,5 @@
 -- What was played, and its bytes.
-use Rattle.std.specs.Prelude.{ℕ, ◌+◌, List, [], ◌∷◌, ◌++◌, length, map}
+use Rattle.std.specs.Prelude.{ℕ, ◌+◌, List, [], ◌∷◌, ◌++◌, length, map, None}
 use Rattle.std.specs.List.{flat_map}
 use Rattle.cap_bits.specs.CapSet.{CapSet}
 use Rattle.kern_model.specs.declared.records.Rec.{Rec}
@@ -64,7 +64,7 @@ head_text s = header_text s.policy s.bound ++ flat_map (rec_text s.policy 0) s.b
 
 -- the end of the output: the end lines, and the last line
 unfoldable pub tail_text : Session → List ℕ
-tail_text s = ends_text s.policy s.last_state ++ last_text (length s.calls) s.ending
+tail_text s = ends_text None s.policy s.last_state ++ last_text (length s.calls) s.ending
 
 -- the records of calls from the n-th on, each with the number of its call
 abbrev pub numbered_from : ℕ → List CallRecord → List (ℕ × Rec)

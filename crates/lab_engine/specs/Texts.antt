@@ -1,5 +1,5 @@
 -- The lines of the output.
-use Rattle.std.specs.Prelude.{ℕ, List, [], ◌∷◌, ◌++◌, Option, Some, None, codes}
+use Rattle.std.specs.Prelude.{ℕ, Bool, true, cond, List, [], ◌∷◌, ◌++◌, Option, Some, None, codes}
 use Rattle.std.specs.List.{flat_map}
 use Rattle.std.specs.Option.{option_map}
 use Rattle.std.specs.Fmt.{decimal}
@@ -11,6 +11,7 @@ use Rattle.lab_text.specs.Policy.{PolicyNames}
 use Rattle.lab_text.specs.Text.{label_text}
 use Rattle.line_text.specs.Words.{pid_text, caps_word}
 use Rattle.kern_model.specs.declared.numbers.Pid.{Pid}
+use Rattle.kern_model.specs.Isolation.{low}
 use Rattle.kern_model.specs.State.{State, Process}
 use Rattle.kern_model.specs.Run.{CallRecord}
 use Rattle.line_text.specs.Reply.{reply_line}
@@ -43,9 +44,14 @@ label_in s who = option_map (λ (p : Process). p.label) (map.get s.procs who)
 abbrev pub caps_in : State → Pid → Option CapState
 caps_in s who = option_map (λ (p : Process). p.caps) (map.get s.procs who)
 
--- the end lines of all that live, in the order of their numbers
-unfoldable pub ends_text : PolicyNames → State → List ℕ
-ends_text policy s = flat_map (λ who. end_text policy who (label_in s who) (caps_in s who)) (map.keys s.procs)
+-- whether the end line of a process is written: where a label views the run, it has to dominate that of the process's number
+abbrev pub is_viewed : Option Label → Pid → Bool
+is_viewed None who = true
+is_viewed (Some l) who = low l who.label
+
+-- the end lines of all that live and are viewed, in the order of their numbers
+abbrev pub ends_text : Option Label → PolicyNames → State → List ℕ
+ends_text viewer policy s = flat_map (λ who. cond (is_viewed viewer who) (end_text policy who (label_in s who) (caps_in s who)) []) (map.keys s.procs)
 
 unfoldable pub part_text : Part → List ℕ
 part_text part.World = codes "world"

@@ -1,19 +1,16 @@
 -- What a label sees of a run.
-use Rattle.std.specs.Prelude.{ℕ, Bool, List, [], ◌++◌, cond, length}
+use Rattle.std.specs.Prelude.{ℕ, Bool, List, [], ◌++◌, cond, length, Some}
 use Rattle.std.specs.List.{filter, flat_map, list_any}
-use Rattle.std.specs.FinMap as map
 use Rattle.lab_lattice.specs.Label.{Label}
-use Rattle.lab_text.specs.Policy.{PolicyNames}
 use Rattle.kern_model.specs.Boot.{boot, boot_recs}
 use Rattle.kern_model.specs.Isolation.{crossing, low, part, part_script, up_to}
 use Rattle.kern_model.specs.Run.{CallRecord, run, state_after_run}
-use Rattle.kern_model.specs.State.{State}
 use Rattle.lab_engine.specs.declared.ending.InputEnd.{InputEnd}
 use Rattle.lab_engine.specs.declared.ending.InputEnd.TheVariants.{Whole}
 use Rattle.lab_engine.specs.Input.{Accepted, Script}
 use Rattle.lab_engine.specs.Report.{crossed_line}
 use Rattle.lab_engine.specs.Session.{Session}
-use Rattle.lab_engine.specs.Texts.{caps_in, end_text, label_in, last_text, reply_text}
+use Rattle.lab_engine.specs.Texts.{ends_text, last_text, reply_text}
 
 -- the calls of processes whose number's label l dominates
 abbrev pub low_calls : Label → List CallRecord → List CallRecord
@@ -27,10 +24,6 @@ some_crosses l calls = list_any (λ (p : CallRecord). crossing l p.recs) calls
 abbrev pub seen : Label → List CallRecord → List CallRecord
 seen l calls = low_calls l (up_to l calls)
 
--- the end lines of the processes that live and whose number's label l dominates, in the order of their numbers
-abbrev pub ends_below : Label → PolicyNames → State → List ℕ
-ends_below l policy s = flat_map (λ who. cond (low l who.label) (end_text policy who (label_in s who) (caps_in s who)) []) (map.keys s.procs)
-
 -- the last line of an input that is not whole
 abbrev pub unless_whole : InputEnd → List ℕ
 unless_whole Whole = []
@@ -40,7 +33,7 @@ unless_whole ending = last_text 0 ending
 unfoldable pub view_text : Label → Session → List ℕ
 view_text l s =
     flat_map (reply_text s.policy) (seen l s.calls)
-    ++ cond (some_crosses l s.calls) (crossed_line ++ unless_whole s.ending) (ends_below l s.policy s.last_state ++ last_text (length (seen l s.calls)) s.ending)
+    ++ cond (some_crosses l s.calls) (crossed_line ++ unless_whole s.ending) (ends_text (Some l) s.policy s.last_state ++ last_text (length (seen l s.calls)) s.ending)
 
 -- what is played of the part below l of a world and of a script, with nothing else there
 abbrev pub session_alone : Label → Accepted → Script → Session

@@ -105,13 +105,13 @@ module _ (a : Accepted) (recs : List Rec) (recs_are : recs ≡ boot_recs a.world
       ∙ append_assoc (to_trail (head_text (session_of a m))) (flat_map call_order (bytes_of (session_of a m))) (tail m)
 
   -- the end of the output, after a script that was played
-  end_is : (m : Script) (kept : Report) (s' : State) (left : Option (List ℕ)) (p : Played) (before after : Ends) → PlaysAll a.policy All kept s s' m left p before after → to_out (ends_text a.policy s' ++ last_text p.count p.ending) ≡ tail m
+  end_is : (m : Script) (kept : Report) (s' : State) (left : Option (List ℕ)) (p : Played) (before after : Ends) → PlaysAll a.policy All kept s s' m left p before after → to_out (ends_text None a.policy s' ++ last_text p.count p.ending) ≡ tail m
   unfolding tail_text
   end_is m kept s' left p before after all =
       let same : p.count ≡ length (run (boot a.world) m.items) = all.count ∙ sym (run_length (boot a.world) m.items) in
-      ap (λ (x : State). to_out (ends_text a.policy x ++ last_text p.count p.ending)) (all.state ∙ ap (λ (x : State). state_after_run x m.items) s_is)
-      ∙ ap (λ k. to_out (ends_text a.policy (state_after_run (boot a.world) m.items) ++ last_text k p.ending)) same
-      ∙ ap (λ e. to_out (ends_text a.policy (state_after_run (boot a.world) m.items) ++ last_text (length (run (boot a.world) m.items)) e)) all.ending
+      ap (λ (x : State). to_out (ends_text None a.policy x ++ last_text p.count p.ending)) (all.state ∙ ap (λ (x : State). state_after_run x m.items) s_is)
+      ∙ ap (λ k. to_out (ends_text None a.policy (state_after_run (boot a.world) m.items) ++ last_text k p.ending)) same
+      ∙ ap (λ e. to_out (ends_text None a.policy (state_after_run (boot a.world) m.items) ++ last_text (length (run (boot a.world) m.items)) e)) all.ending
 
   module _ (r : Result InputEnd Fault) (lines : LinesState) (left : Option (List ℕ)) (before : Ends) where
     -- there is no memory for the first state
@@ -162,14 +162,14 @@ module _ (a : Accepted) (recs : List Rec) (recs_are : recs ≡ boot_recs a.world
             (with_numbers a.policy 0 (boot_recs a.world) (subst (AreReadable a.policy 0) recs_are own))
             (subst (λ (x : State). AllByRecursion (IsReadable a.policy) (numbered_from 1 (run x m.items))) s_is (all.readable refl)))
 
-        written : Writes r (to_out (ends_text a.policy s' ++ last_text p.count p.ending)) played after → Writes r (order_by (Some a) m) before after
+        written : Writes r (to_out (ends_text None a.policy s' ++ last_text p.count p.ending)) played after → Writes r (order_by (Some a) m) before after
         written w = in_order r _ _ before after (order_is m)
             (goes_on r head (calls m ++ tail m) before now after headed
             (goes_on r (calls m) (tail m) now played after all.sends
             (in_order r _ _ played after (end_is m kept s' left' p now played all) w)))
 
         -- a fault cut the end of the output off
-        pub end_fails : (fault : Fault) → StopsBy fault (to_out (ends_text a.policy s' ++ last_text p.count p.ending)) played after → (fault ≡ Read → ⊥) → IsErrAnd r (λ q. q ≡ fault) → PlaysWorld r a lines lines' left left' before after
+        pub end_fails : (fault : Fault) → StopsBy fault (to_out (ends_text None a.policy s' ++ last_text p.count p.ending)) played after → (fault ≡ Read → ⊥) → IsErrAnd r (λ q. q ≡ fault) → PlaysWorld r a lines lines' left left' before after
         end_fails fault stop not_read is = record {
           taken = taken;
           takes = takes;
@@ -180,11 +180,11 @@ module _ (a : Accepted) (recs : List Rec) (recs_are : recs ≡ boot_recs a.world
         }
 
         -- all is written
-        pub world_played : r ≡ Ok p.ending → SendsAll (to_out (ends_text a.policy s' ++ last_text p.count p.ending)) played after → PlaysWorld r a lines lines' left left' before after
+        pub world_played : r ≡ Ok p.ending → SendsAll (to_out (ends_text None a.policy s' ++ last_text p.count p.ending)) played after → PlaysWorld r a lines lines' left left' before after
         world_played is sends = record {
           taken = taken;
           takes = takes;
-          writes = written (subst (λ (x : Result InputEnd Fault). Writes x (to_out (ends_text a.policy s' ++ last_text p.count p.ending)) played after) (sym is) sends);
+          writes = written (subst (λ (x : Result InputEnd Fault). Writes x (to_out (ends_text None a.policy s' ++ last_text p.count p.ending)) played after) (sym is) sends);
           ending = subst (λ (x : Result InputEnd Fault). IfOk x (λ e. EndsAs e m.ending left')) (sym is) (record { same = all.ending; to_the_end = all.to_the_end });
           by_line = λ read. let no : Ok p.ending ≡ Err Read = sym is ∙ read in absurd (cc);
           readable = all_readable;

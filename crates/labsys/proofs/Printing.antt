@@ -90,7 +90,7 @@ module _ (a : Accepted) (script : Script) where
 
   -- the output is the one in which the records give the capability sets
   pub out_reported : replies_of (bytes_of s) ++ tail_text s ≡ out_with s (recs_in (numbered_recs s))
-  unfolding tail_text ends_text
+  unfolding tail_text
   out_reported =
       (λ i. replies_of (bytes_of s) ++ (flat_map (λ who. same_line who i) (finite.keys s.last_state.procs) ++ last_text (length s.calls) script.ending))
       ∙ ap (out_with s) (sym all_numbered)

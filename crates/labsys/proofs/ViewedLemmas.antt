@@ -29,8 +29,8 @@ use Rattle.lab_engine.specs.Playing.{Ends, ends, PlaysAll, SendsAll, StopsBy, St
 use Rattle.lab_engine.specs.Reading.{Takes, left_of, script_at}
 use Rattle.lab_engine.specs.Report.{crossed_line, report_after}
 use Rattle.lab_engine.specs.Session.{session_of}
-use Rattle.lab_engine.specs.Texts.{last_text, reply_text}
-use Rattle.lab_engine.specs.Viewing.{ends_below, low_calls, seen, some_crosses, unless_whole, view_text}
+use Rattle.lab_engine.specs.Texts.{ends_text, last_text, reply_text}
+use Rattle.lab_engine.specs.Viewing.{low_calls, seen, some_crosses, unless_whole, view_text}
 use Rattle.lab_engine.proofs.ReadSoFar.{takes_nothing}
 use Rattle.lab_engine.proofs.RunReports.{below_after, below_reported, below_text, up_to_all}
 use Rattle.lab_engine.proofs.Sending.{goes_on, in_order, out_of_memory, passes_on, stops_longer, to_out-append, trail_of-append, trail_of-to_out}
@@ -86,21 +86,21 @@ module _ (policy : PolicyNames) (l : Label) (calls : List CallRecord) (s : State
   replies = flat_map (reply_text policy) (seen l calls)
 
   abbrev whole_view : Bool → List ℕ
-  whole_view b = replies ++ cond b (crossed_line ++ unless_whole e) (ends_below l policy s ++ last_text (length (seen l calls)) e)
+  whole_view b = replies ++ cond b (crossed_line ++ unless_whole e) (ends_text (Some l) policy s ++ last_text (length (seen l calls)) e)
 
   by_crossing : (b : Bool) → some_crosses l calls ≡ b → (replies ++ cond b crossed_line []) ++ after_replies (cond b Crossed (Below l (0 + length (low_calls l calls)))) policy s e ≡ whole_view b
   by_crossing true is = append_assoc replies crossed_line (unless_whole e)
   by_crossing false is =
       let none : 0 + length (low_calls l calls) ≡ length (low_calls l calls) = omega arith in
-      ap (λ k. (replies ++ []) ++ (ends_below l policy s ++ last_text k e)) none
-      ∙ ap (λ (r : List ℕ). r ++ (ends_below l policy s ++ last_text (length (low_calls l calls)) e)) (append-nil replies)
-      ∙ ap (λ (cs : List CallRecord). replies ++ (ends_below l policy s ++ last_text (length (low_calls l cs)) e)) (sym (up_to_all l calls is))
+      ap (λ k. (replies ++ []) ++ (ends_text (Some l) policy s ++ last_text k e)) none
+      ∙ ap (λ (r : List ℕ). r ++ (ends_text (Some l) policy s ++ last_text (length (low_calls l calls)) e)) (append-nil replies)
+      ∙ ap (λ (cs : List CallRecord). replies ++ (ends_text (Some l) policy s ++ last_text (length (low_calls l cs)) e)) (sym (up_to_all l calls is))
 
   by_parts : below_text policy l calls ++ after_replies (report_after (Below l 0) calls) policy s e ≡ whole_view (some_crosses l calls)
   by_parts = ap (λ (r : Report). below_text policy l calls ++ after_replies r policy s e) (below_after l 0 calls) ∙ by_crossing (some_crosses l calls) refl
 
 -- without a crossing the end lines and the last line follow
-pub below_end : (r : Report) (l : Label) (k : ℕ) → r ≡ Below l k → (policy : PolicyNames) (s : State) (e : InputEnd) → to_out (ends_below l policy s ++ last_text k e) ≡ to_out (after_replies r policy s e)
+pub below_end : (r : Report) (l : Label) (k : ℕ) → r ≡ Below l k → (policy : PolicyNames) (s : State) (e : InputEnd) → to_out (ends_text (Some l) policy s ++ last_text k e) ≡ to_out (after_replies r policy s e)
 below_end r l k is policy s e = ap (λ (q : Report). to_out (after_replies q policy s e)) (sym is)
 
 -- ---- an accepted world

@@ -1,9 +1,5 @@
 -- What is written of an input that is viewed from a label.
-use Rattle.std.specs.Prelude.{ℕ, Bool, true, cond, List, [], ◌++◌, Option, Some, None}
-use Rattle.std.specs.List.{flat_map}
-use Rattle.std.specs.FinMap as map
-use Rattle.kern_model.specs.declared.numbers.Pid.{Pid}
-use Rattle.kern_model.specs.Isolation.{low}
+use Rattle.std.specs.Prelude.{ℕ, List, ◌++◌, Option, Some, None}
 use Rattle.kern_model.specs.State.{State}
 use Rattle.lab_lattice.specs.Label.{Label}
 use Rattle.lab_text.specs.Policy.{PolicyNames}
@@ -16,19 +12,8 @@ use Rattle.lab_engine.specs.declared.reporting.Report.{Report}
 use Rattle.lab_engine.specs.declared.reporting.Report.TheVariants.{All, Below, Crossed, Counted}
 use Rattle.lab_engine.specs.Input.{Accepted, Script}
 use Rattle.lab_engine.specs.Session.{session_of}
-use Rattle.lab_engine.specs.Texts.{caps_in, end_text, label_in, last_text}
-use Rattle.lab_engine.specs.Viewing.{ends_below, unless_whole, view_text}
-
--- ---- the end lines
-
--- whether the end line of a process is written: where a label views the run, it has to dominate that of the process's number
-abbrev pub is_viewed : Option Label → Pid → Bool
-is_viewed None who = true
-is_viewed (Some l) who = low l who.label
-
--- the end lines that are written of all that live, in the order of their numbers
-abbrev pub ends_viewed : Option Label → PolicyNames → State → List ℕ
-ends_viewed viewer policy s = flat_map (λ who. cond (is_viewed viewer who) (end_text policy who (label_in s who) (caps_in s who)) []) (map.keys s.procs)
+use Rattle.lab_engine.specs.Texts.{ends_text, last_text}
+use Rattle.lab_engine.specs.Viewing.{unless_whole, view_text}
 
 -- ---- an accepted world
 
@@ -44,7 +29,7 @@ viewed_text (Some l) a script = view_text l (session_of a script)
 
 -- what a view writes after the replies, by what was kept of them: where a call has crossed the label, the last line of an input that is not whole, or else the end lines that the label sees and the last line
 abbrev pub after_replies : Report → PolicyNames → State → InputEnd → List ℕ
-after_replies (Below l k) policy s ending = ends_below l policy s ++ last_text k ending
+after_replies (Below l k) policy s ending = ends_text (Some l) policy s ++ last_text k ending
 after_replies Crossed policy s ending = unless_whole ending
 after_replies All policy s ending = unless_whole ending
 after_replies (Counted t) policy s ending = unless_whole ending

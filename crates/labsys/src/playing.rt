@@ -6,10 +6,9 @@ ghost use Rattle.lab_text.specs.Policy.{top_of};
 ghost use Rattle.io_ends.specs.Sinks.{sink_view};
 ghost use Rattle.lab_engine.specs.Input.{input_of};
 ghost use Rattle.lab_engine.specs.Playing.{WritesOut, ends};
-ghost use Rattle.lab_engine.specs.Texts.{end_text, label_in, caps_in, last_text};
+ghost use Rattle.lab_engine.specs.Texts.{caps_in, end_text, ends_text, is_viewed, label_in, last_text};
 ghost use Rattle.labsys.specs.Playing.{CommandDid, PlaysWorld};
 ghost use Rattle.labsys.specs.Readable.{InputReadable};
-ghost use Rattle.labsys.specs.Viewing.{ends_viewed, is_viewed};
 
 use crate::Command;
 use io_ends::{Lines, Sink, Source};
@@ -67,7 +66,7 @@ fn report_ends<K: Sink>(
     viewer: &Option<Label>,
     out: &mut K,
 ) -> Result<(), Fault>
-    ensures { WritesOut result (ends_viewed viewer.now texts.entry.policy.now (state_of kernel.now)) (sink_view (K.held out.old) (K.faults out.old)) (sink_view (K.held out.new) (K.faults out.new)) }
+    ensures { WritesOut result (ends_text viewer.now texts.entry.policy.now (state_of kernel.now)) (sink_view (K.held out.old) (K.faults out.old)) (sink_view (K.held out.new) (K.faults out.new)) }
 {
     let numbers = kernel.live()?;
     for who in numbers.items() {
@@ -86,7 +85,7 @@ pub fn finish<K: Sink>(
     played: Played,
     out: &mut K,
 ) -> Result<(), Fault>
-    ensures { WritesOut result (ends_viewed viewer.now texts.entry.policy.now (state_of kernel.now) ++ last_text played.count played.ending) (sink_view (K.held out.old) (K.faults out.old)) (sink_view (K.held out.new) (K.faults out.new)) }
+    ensures { WritesOut result (ends_text viewer.now texts.entry.policy.now (state_of kernel.now) ++ last_text played.count played.ending) (sink_view (K.held out.old) (K.faults out.old)) (sink_view (K.held out.new) (K.faults out.new)) }
 {
     report_ends(texts, kernel, viewer, out)?;
     report_last(texts.alloc, played.count, played.ending, out)

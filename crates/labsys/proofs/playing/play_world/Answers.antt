@@ -5,7 +5,6 @@ use Rattle.std.specs.Prelude.{None}
 use Rattle.io_ends.specs.Sinks.{sink_view}
 use Rattle.iso_laws.proofs.Laws.{top_boot}
 use Rattle.lab_engine.proofs.Progress.{not_a_read}
-use Rattle.lab_engine.specs.Texts.{ends_text}
 use Rattle.labsys.proofs.PlayLemmas.{boot_fails, head_fails, script_fails, end_fails, world_played}
 use Rattle.labsys.proofs.playing.play_world.Goals as goal
 
@@ -27,7 +26,6 @@ returns-in_err-played g c =
     _ (c.in_ok-begin.ensures.writes _ _) _ _ did.taken did.takes _ _ did.did c.from_residual-in_err-played.ensures.1
 
 pub returns-in_err-finish : goal.returns-in_err-finish
-unfolding ends_text
 returns-in_err-finish g c =
     let did = c.in_ok-played.ensures in
     end_fails c.args.read c.items.result.now (c.items.ensures ∙ c.in_ok-kernel.ensures.recs) (state_of c.in_ok-kernel.kernel) c.in_ok-kernel.ensures.state _ _ _ _
@@ -35,7 +33,6 @@ returns-in_err-finish g c =
     _ (c.in_err-finish.ensures _ _) (not_a_read _ _ _ _ _ _ (c.in_err-finish.ensures 0 (sink_view None 0))) c.from_residual-in_err-finish.ensures.1
 
 pub returns : goal.returns
-unfolding ends_text
 returns g c =
     let did = c.in_ok-played.ensures in
     world_played c.args.read c.items.result.now (c.items.ensures ∙ c.in_ok-kernel.ensures.recs) (state_of c.in_ok-kernel.kernel) c.in_ok-kernel.ensures.state _ _ _ _

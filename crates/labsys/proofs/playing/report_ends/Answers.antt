@@ -5,10 +5,9 @@ use Rattle.kern_model.specs.State.{State}
 use Rattle.kern_core.specs.Kernel.{state_of}
 use Rattle.lab_lattice.specs.Label.{Label}
 use Rattle.lab_text.specs.Policy.{PolicyNames}
-use Rattle.lab_engine.specs.Texts.{end_text, label_in, caps_in}
+use Rattle.lab_engine.specs.Texts.{end_text, is_viewed, label_in, caps_in}
 use Rattle.lab_engine.specs.Order.{to_out}
 use Rattle.lab_engine.proofs.Sending.{all_nothing, all_pieces, in_order, one_more, out_of_memory, piece_stops, piece_has_no_memory, to_out-append}
-use Rattle.labsys.specs.Viewing.{is_viewed}
 use Rattle.labsys.proofs.playing.report_ends.Goals as goal
 
 -- what is written of a process in a state

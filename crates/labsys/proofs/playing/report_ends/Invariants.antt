@@ -3,10 +3,9 @@ use Rattle.std.specs.List.{flat_map}
 use Rattle.io_ends.specs.Sinks.{SinkView, sink_view}
 use Rattle.kern_model.specs.declared.numbers.Pid.{Pid}
 use Rattle.kern_core.specs.Kernel.{state_of}
-use Rattle.lab_engine.specs.Texts.{end_text, label_in, caps_in}
+use Rattle.lab_engine.specs.Texts.{end_text, is_viewed, label_in, caps_in}
 use Rattle.lab_engine.specs.Order.{to_out}
 use Rattle.lab_engine.specs.Playing.{SendsAll, ends}
-use Rattle.labsys.specs.Viewing.{is_viewed}
 use Rattle.labsys.proofs.playing.report_ends.Given as goal
 
 abbrev pub invariant-loop-who : goal.invariant-loop-who
