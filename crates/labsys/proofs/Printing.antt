@@ -16,7 +16,7 @@ use Rattle.kern_model.specs.Lineage.{caps_of, all_recs}
 use Rattle.kern_model.specs.State.{Process}
 use Rattle.iso_laws.proofs.Laws.{caps_by_records}
 use Rattle.lab_engine.specs.Input.{Accepted, Script}
-use Rattle.lab_engine.specs.Texts.{end_text, ends_text, last_text}
+use Rattle.lab_engine.specs.Texts.{end_text, last_text}
 use Rattle.lab_engine.specs.Session.{Session, session_of, bytes_from, bytes_of, replies_of, records_of, head_text, tail_text}
 use Rattle.labsys.specs.Clauses.{recs_in, trail_with, out_with}
 use Rattle.lab_engine.specs.Session.{numbered_from, numbered_recs}
