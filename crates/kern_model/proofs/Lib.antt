@@ -1,6 +1,7 @@
 pub mod ItemLaws
 pub mod KeyLaws
 pub mod KindLemmas
+pub mod LabelMaps
 pub mod MapLemmas
 pub mod NamedLaws
 pub mod RowLemmas

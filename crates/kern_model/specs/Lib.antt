@@ -1,4 +1,6 @@
 pub mod Maps
+pub mod LabelMap
+pub mod Lending
 pub mod Keys
 pub mod Names
 pub mod Named

@@ -3,15 +3,14 @@ ghost use Rattle.std.specs.Prelude.{◌≡◌, ◌+◌, ◌<◌, ◌≤◌, Matc
 ghost use Rattle.std.specs.FinMap as map;
 ghost use Rattle.kern_model.specs.State.{drawn};
 
-use crate::NoMemory;
+use crate::{LabelMap, NoMemory};
 use lab_lattice::Label;
 use std::alloc::Global;
-use std::collections::BTreeMap;
 use std::marker::Model;
 
 /// The last number drawn of each label.
 pub struct Numbers {
-    kept: BTreeMap<Label, u16>,
+    kept: LabelMap<u16>,
 }
 
 impl Drop for Numbers {
@@ -30,7 +29,7 @@ impl Model for Numbers {
 
     ghost coded = { map.code (Prim.hlevel (codes, label_code)) (Prim.hlevel (codes, label_code)) };
 
-    ghost view = { λ a. map.from_entries a.kept.entries };
+    ghost view = { λ a. a.kept };
 }
 
 impl Numbers {
@@ -39,7 +38,7 @@ impl Numbers {
         ensures { result ≡ map.empty }
     {
         Numbers {
-            kept: BTreeMap::new(alloc),
+            kept: LabelMap::new(alloc),
         }
     }
 
@@ -74,7 +73,6 @@ impl Numbers {
         ensures ok { OnOk result (self.new ≡ map.insert self.old label value) }
         ensures err { OnErr result (self.new ≡ self.old) }
     {
-        self.kept.insert(label, value)?;
-        Ok(())
+        self.kept.insert(label, value)
     }
 }

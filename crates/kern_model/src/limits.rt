@@ -1,4 +1,4 @@
-//! The limits of the profile: what each limits, and in which unit. That of a line is the one of the crate that reads words.
+//! The limits of the profile: what each limits, and in which unit. `fs_path`, which reads lines, has the limit of a line.
 
 pub use fs_path::MAX_LINE;
 
