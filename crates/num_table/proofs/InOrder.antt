@@ -1,22 +1,24 @@
 -- The numbers of a table in order.
-use Rattle.std.specs.Prelude.{◌≡◌, ℕ, ◌+◌, ◌<◌, List, [], ◌∷◌, ◌++◌, Option, None, Some}
+use Rattle.std.specs.Prelude.{◌≡◌, ℕ, ◌+◌, ◌<◌, ◌≤◌, List, [], ◌∷◌, ◌++◌, Option, None, Some, drop, get_or, length, refl}
 use Rattle.std.specs.declared.cmp.Ordering.{Ordering}
 use Rattle.std.specs.declared.cmp.Ordering.TheVariants.{Less, Equal, Greater}
 use Rattle.std.specs.Ordering.{is_lt, nat_cmp, ordering_then}
 use Rattle.std.specs.Cmp.{nat_cmp_is}
-use Rattle.std.specs.List.{flat_map}
+use Rattle.std.specs.List.{AllByRecursion, flat_map}
 use Rattle.std.specs.Map.{keys_of}
 use Rattle.std.specs.FinMap as map
 use Rattle.std.specs.FinMap.{entries_sorted, is_sorted}
 use Rattle.std.specs.FinMap.Entries.{below_all}
-use Rattle.std.proofs.Common.{ap, arith, sym, subst, T}
+use Rattle.std.proofs.Common.{ap, append_assoc, arith, sym, subst, ◌∙◌, T}
+use Rattle.std.proofs.lemmas.List.{append-nil, at_drop_all, at_drop_more, map-append}
 use Rattle.std.proofs.lemmas.Cmp.{tied_itself}
 use Rattle.lab_lattice.specs.Label.{Label, label_cmp}
-use Rattle.lab_lattice.proofs.Labels.{label_cmp_total}
-use Rattle.kern_model.proofs.MapLemmas.{head_T, tail_T}
+use Rattle.lab_lattice.proofs.Labels.{label_cmp_total, label_cmp_exact}
+use Rattle.kern_model.proofs.MapLemmas.{each-entries, get_or-found, head_T, tail_T}
 use Rattle.kern_model.proofs.TableLemmas.{both_T}
 use Rattle.num_table.specs.Numbers.{Num, num_cmp}
-use Rattle.num_table.specs.Rows.{Rows, items_in, numbered}
+use Rattle.num_table.specs.Rows.{Rows, items_in, numbered, row_at}
+use Rattle.num_table.proofs.Lists.{row_kept, row_or_none}
 use Rattle.num_table.proofs.NumberLaws.{num_cmp_total, num_cmp_exact}
 use Rattle.num_table.proofs.Sorted.{entries_sorted_list}
 
@@ -36,7 +38,7 @@ unfolding num_cmp
 lower l k m n = lower_by (label_cmp l k) (nat_cmp m n)
 
 module _ {X : Type 0} where
-  abbrev pub placed : Label × List (Option X) → List (Num × X)
+  abbrev placed : Label × List (Option X) → List (Num × X)
   placed row = numbered row.0 0 row.1
 
   -- a number is below a list that goes on with greater numbers of its label
@@ -64,7 +66,42 @@ module _ {X : Type 0} where
   sorted_rows [] h = tt
   sorted_rows (r ∷ rows) h = sorted_row r.0 0 r.1 (flat_map placed rows) (λ m. below_rows r.0 m rows (head_T _ _ h)) (sorted_rows rows (tail_T _ _ h))
 
-  -- the numbers of all lists, one list after another
-  pub keys-items_in : (rows : Rows X) → map.keys (items_in rows) ≡ keys_of (flat_map placed (map.entries rows))
+  -- the numbers of a label
+  abbrev pub placed_at : Rows X → Label → List (Num × X)
+  placed_at rows label = numbered label 0 (row_at rows label)
+
+  by_label : (rows : Rows X) (es : List (Label × List (Option X))) → AllByRecursion (λ (e : Label × List (Option X)). row_at rows e.0 ≡ e.1) es → flat_map placed es ≡ flat_map (placed_at rows) (keys_of es)
+  by_label rows [] all = refl
+  by_label rows (e ∷ es) all = ap (λ r. numbered e.0 0 r ++ flat_map placed es) (sym all.0) ∙ ap (λ ns. placed_at rows e.0 ++ ns) (by_label rows es all.1)
+
+  -- the numbers of all labels, one label after another
+  pub keys-items_in : (rows : Rows X) → map.keys (items_in rows) ≡ keys_of (flat_map (placed_at rows) (map.keys rows))
   unfolding items_in
-  keys-items_in rows = ap keys_of (entries_sorted_list num_cmp_total num_cmp_exact (flat_map placed (map.entries rows)) (sorted_rows (map.entries rows) (entries_sorted rows)))
+  keys-items_in rows =
+      ap keys_of (entries_sorted_list num_cmp_total num_cmp_exact (flat_map placed (map.entries rows)) (sorted_rows (map.entries rows) (entries_sorted rows)))
+      ∙ ap keys_of (by_label rows (map.entries rows)
+      (each-entries label_cmp_total label_cmp_exact (λ (label : Label) (row : List (Option X)). row_at rows label ≡ row) rows (λ label row is. get_or-found rows label [] row is)))
+
+  -- the numbers of labels from a place on
+  abbrev pub left : Rows X → List Label → ℕ → List Num
+  left rows labels i = keys_of (flat_map (placed_at rows) (drop i labels))
+
+  -- those of the next label, and of the labels after it
+  next_label : (rows : Rows X) (labels : List Label) (i : ℕ) (label : Label) → i < length labels → label ≡ get_or labels i label → left rows labels i ≡ keys_of (placed_at rows label) ++ left rows labels (i + 1)
+  next_label rows labels i label low is =
+      at_drop_more (λ (ls : List Label). keys_of (flat_map (placed_at rows) ls)) labels i label low
+      ∙ ap (λ (l : Label). keys_of (placed_at rows l ++ flat_map (placed_at rows) (drop (i + 1) labels))) (sym is)
+      ∙ map-append _ (placed_at rows label) (flat_map (placed_at rows) (drop (i + 1) labels))
+
+  module _ (rows : Rows X) (labels : List Label) (i : ℕ) (before all : List Num) (is : before ++ left rows labels i ≡ all) where
+    -- one label on
+    pub one_more : (label : Label) → i < length labels → label ≡ get_or labels i label → (o : Option (List (Option X))) → o ≡ map.get rows label
+        → (new : List Num) → new ≡ before ++ keys_of (numbered label 0 (row_or_none o)) → new ++ left rows labels (i + 1) ≡ all
+    one_more label low at o kept new more =
+        ap (λ ns. ns ++ left rows labels (i + 1)) more ∙ append_assoc before (keys_of (numbered label 0 (row_or_none o))) (left rows labels (i + 1))
+        ∙ ap (λ (r : List (Option X)). before ++ (keys_of (numbered label 0 r) ++ left rows labels (i + 1))) (sym (row_kept rows label o kept))
+        ∙ ap (λ ns. before ++ ns) (sym (next_label rows labels i label low at)) ∙ is
+
+    -- after the last label
+    pub no_more : length labels ≤ i → before ≡ all
+    no_more high = sym (append-nil before) ∙ ap (λ ns. before ++ ns) (sym (at_drop_all (λ (ls : List Label). keys_of (flat_map (placed_at rows) ls)) labels i high)) ∙ is

@@ -1,15 +1,11 @@
 -- What follows from an outcome.
-use Rattle.std.specs.Prelude.{◌≡◌, Option, None, Some, OnSome, Result, Ok, Err, OnErr, OnOk}
-use Rattle.std.proofs.Common.{subst}
+pub use Rattle.kern_model.proofs.LabelMaps.{at_some}
+use Rattle.std.specs.Prelude.{Option, None, Some, OnSome, Result, Ok, Err, OnErr, OnOk}
 
 -- where a value is lent
 pub lent_then : {B P Q : Type 0} (r : Option B) → OnSome r P → (P → Q) → OnSome r Q
 lent_then None h then = tt
 lent_then (Some b) h then = then h
-
--- at the value that is lent
-pub at_some : {B P : Type 0} {r : Option B} {b : B} → r ≡ Some b → OnSome r P → P
-at_some {P = P} is h = subst (λ o. OnSome o P) is h
 
 -- from success
 pub on_ok : {X E P Q : Type 0} (r : Result X E) → (P → Q) → OnOk r P → OnOk r Q

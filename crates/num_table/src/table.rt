@@ -4,17 +4,16 @@ ghost use Rattle.std.specs.Borrow.{sem};
 ghost use Rattle.std.specs.FinMap as map;
 
 use crate::row::Row;
-use kern_model::NoMemory;
+use kern_model::{LabelMap, NoMemory};
 use lab_lattice::Label;
 use std::alloc::Global;
-use std::collections::BTreeMap;
 use std::marker::Model;
 
 /// Values by numbers that are drawn in turn at each label, seen as a finite map. A list never shrinks: where a value is removed,
 /// its place stays.
 pub struct Table<T> {
     alloc: Global,
-    kept: BTreeMap<Label, Row<T>>,
+    kept: LabelMap<Row<T>>,
 }
 
 impl<T: Drop> Drop for Table<T> {
@@ -34,7 +33,7 @@ impl<T> Model for Table<T> {
 
     ghost coded = { map.code (coded× label_code coded_ℕ) T.code };
 
-    ghost view = { λ t. items_in (map.from_entries t.kept.entries) };
+    ghost view = { λ t. items_in t.kept };
 }
 
 impl<T: Drop> Table<T> {
@@ -47,7 +46,7 @@ impl<T: Drop> Table<T> {
     {
         Table {
             alloc,
-            kept: BTreeMap::new(alloc),
+            kept: LabelMap::new(alloc),
         }
     }
 
@@ -103,13 +102,17 @@ impl<T: Drop> Table<T> {
     {
         self.kept.get_mut(label)?.remove(n)
     }
+
     /// The numbers at which there is a value, in order.
     pub fn numbers(&self, alloc: Global) -> Result<Vec<(Label, u16)>, NoMemory>
         ensures { IfOk result (λ numbers. numbers.items ≡ map.keys self.now) }
     {
         let mut numbers = Vec::new(alloc);
-        for (label, row) in self.kept.iter() {
-            row.add_numbers(label, &mut numbers)?;
+        let labels = self.kept.labels(alloc)?;
+        for label in labels.iter() {
+            if let Some(row) = self.kept.get(label) {
+                row.add_numbers(label, &mut numbers)?;
+            }
         }
         Ok(numbers)
     }

@@ -1,13 +1,10 @@
-use Rattle.std.specs.Prelude.{List, None, Option, Some, IsSome, refl}
+use Rattle.std.specs.Prelude.{List, None, Option, Some}
 use Rattle.std.specs.Option.{option_copied_mut}
-use Rattle.std.specs.BTreeMap.{BTreeMap, is_at}
-use Rattle.std.specs.Map.{lookup}
 use Rattle.std.specs.FinMap as map
 use Rattle.std.proofs.Common.{ap, sym, ◌∙◌, subst}
-use Rattle.lab_lattice.specs.Label.{Label, label_cmp}
-use Rattle.num_table.specs.Rows.{IsSet, items_in}
+use Rattle.num_table.specs.Rows.{IsSet, Rows, items_in}
 use Rattle.num_table.proofs.Lists.{same_in, set_in}
-use Rattle.num_table.proofs.Outcomes.{on_err, on_ok}
+use Rattle.num_table.proofs.Outcomes.{at_some, on_err, on_ok}
 use Rattle.num_table.proofs.table.Table.add.Goals as goal
 
 pub returns-in-Some-clause-ok : goal.returns-in-Some-clause-ok
@@ -15,8 +12,8 @@ returns-in-Some-clause-ok g c =
     let is = sym (ap option_copied_mut c.in-Some.is) ∙ c.get_mut.ensures.value in
     let row = c.set.new.self in
     on_ok c.set.result
-    (set_in c.self.inside.kept.entries c.args.label.now (Some c.in-Some.row.now) is c.args.self.now c.self.view_is c.args.n
-    (c.get_mut.follows.lender row).entries row ((c.get_mut.follows.holds row).3 (subst IsSome is refl)).0 c.args.item)
+    (set_in c.self.inside.kept c.args.label.now (Some c.in-Some.row.now) is c.args.self.now c.self.view_is c.args.n
+    (c.get_mut.follows.lender row) row (at_some c.in-Some.is (c.get_mut.follows.holds row)) c.args.item)
     c.set.ensures.ok
 
 pub returns-in-Some-clause-err : goal.returns-in-Some-clause-err
@@ -24,18 +21,16 @@ returns-in-Some-clause-err g c =
     let is = sym (ap option_copied_mut c.in-Some.is) ∙ c.get_mut.ensures.value in
     let row = c.set.new.self in
     on_err c.set.result
-    (same_in c.self.inside.kept.entries c.args.label.now (Some c.in-Some.row.now) is c.args.self.now c.self.view_is c.args.n
-    (c.get_mut.follows.lender row).entries row ((c.get_mut.follows.holds row).3 (subst IsSome is refl)).0)
+    (same_in c.self.inside.kept c.args.label.now (Some c.in-Some.row.now) is c.args.self.now c.self.view_is c.args.n
+    (c.get_mut.follows.lender row) row (at_some c.in-Some.is (c.get_mut.follows.holds row)))
     c.set.ensures.err
 
 pub returns-clause-ok : goal.returns-clause-ok
 returns-clause-ok g c =
     let is = sym (ap option_copied_mut c.in_default.is) ∙ c.get_mut.ensures.value in
     let same = c.get_mut.follows.holds-at-none in
-    let kept = c.get_mut.follows.lender-at-none.entries in
     let label = c.args.label.now in
-    let gone = is ∙ sym (ap (λ (t : BTreeMap Label (List (Option g.row.T.Denot))). lookup (is_at (label_cmp label)) t.entries) same) in
-    let view = ap (λ (t : BTreeMap Label (List (Option g.row.T.Denot))). items_in (map.from_entries {R = label_cmp} t.entries)) same ∙ c.self.view_is in
+    let gone = is ∙ sym (ap (λ (rows : Rows g.row.T.Denot). map.get rows label) same) in
     let row = c.set-2.new.self in
-    set_in kept label None gone c.args.self.now view c.args.n c.insert.new.self.entries row c.in_ok-insert.ensures.updates.0 c.args.item
+    set_in c.get_mut.follows.lender-at-none label None gone c.args.self.now (ap items_in same ∙ c.self.view_is) c.args.n c.insert.new.self row c.in_ok-insert.ensures.ok c.args.item
     (subst (λ (r : List (Option g.row.T.Denot)). IsSet r c.args.n (Some c.args.item) row) c.new-row.ensures c.in_ok-set.ensures.ok)
