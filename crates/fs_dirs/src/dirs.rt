@@ -7,10 +7,8 @@ ghost use Rattle.fs_dirs.specs.Entries.{contents_of, entries_of};
 
 use crate::directory::Directory;
 use fs_path::{Name, NameList, NoMemory, Steps};
-use kern_model::Oid;
-use lab_lattice::Label;
+use kern_model::{LabelMap, Oid};
 use std::alloc::Global;
-use std::collections::BTreeMap;
 use std::marker::Model;
 use std::sync::ledger::Ledger;
 
@@ -89,7 +87,7 @@ impl Row {
 pub struct Dirs {
     alloc: Global,
     // The numbers of a label are drawn in turn, so that each list is not much longer than there are objects.
-    kept: BTreeMap<Label, Row>,
+    kept: LabelMap<Row>,
 }
 
 impl Model for Dirs {
@@ -105,7 +103,7 @@ impl Model for Dirs {
 
     ghost coded = { map.code (Prim.hlevel (codes, label_code)) (map.code (Prim.hlevel codes) (Prim.hlevel (codes, label_code))) };
 
-    ghost view = { λ a. dirs_in (map.from_entries {R = label_cmp} a.kept.entries) };
+    ghost view = { λ a. dirs_in a.kept };
 }
 
 impl Dirs {
@@ -115,7 +113,7 @@ impl Dirs {
     {
         Dirs {
             alloc,
-            kept: BTreeMap::new(alloc),
+            kept: LabelMap::new(alloc),
         }
     }
 

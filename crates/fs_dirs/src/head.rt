@@ -4,6 +4,9 @@ ghost use Rattle.fs_dirs.specs.Head.{are_bytes, head};
 
 use fs_path::Name;
 
+// How many bytes make a number.
+const NUMBER_BYTES: usize = 8;
+
 /// The head of a name: the number of its first eight bytes and that of the eight after them, with zeros after its end.
 #[derive(Clone, Copy)]
 pub struct Head {
@@ -20,10 +23,10 @@ impl Head {
         ensures bytes { are_bytes name.now ≡ true }
     {
         let bytes = name.bytes();
-        let second = if bytes.len() <= 8 {
+        let second = if bytes.len() <= NUMBER_BYTES {
             0
         } else {
-            number_of_eight(&bytes[8..])
+            number_of_eight(&bytes[NUMBER_BYTES..])
         };
         Head {
             first: number_of_eight(bytes),
@@ -38,7 +41,7 @@ fn number_of_eight(bytes: &[u8]) -> u64
     ensures bytes { are_bytes bytes.now ≡ true }
 {
     let mut number: u64 = 0;
-    for place in 0..8 {
+    for place in 0..NUMBER_BYTES {
         number = number * 256 + u64::from(byte_at(bytes, place));
     }
     number

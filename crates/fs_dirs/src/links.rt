@@ -7,10 +7,8 @@ ghost use Rattle.fs_dirs.specs.Entries.{HasLess, HasMore, HasMoved, IsIn, IsInPl
 
 use crate::numbers::same;
 use fs_path::NoMemory;
-use kern_model::Oid;
-use lab_lattice::Label;
+use kern_model::{LabelMap, Oid};
 use std::alloc::Global;
-use std::collections::BTreeMap;
 use std::marker::Model;
 use std::slice;
 
@@ -226,7 +224,7 @@ impl Row {
 pub struct LinkTable {
     alloc: Global,
     // The numbers of a label are drawn in turn, so that each list has few places without a name.
-    kept: BTreeMap<Label, Row>,
+    kept: LabelMap<Row>,
 }
 
 impl Model for LinkTable {
@@ -239,7 +237,7 @@ impl Model for LinkTable {
 
     ghost coded = { map.code label_code (coded_list (coded_list (Prim.hlevel (codes, label_code)))) };
 
-    ghost view = { λ a. map.from_entries {R = label_cmp} a.kept.entries };
+    ghost view = { λ a. a.kept };
 }
 
 impl LinkTable {
@@ -249,7 +247,7 @@ impl LinkTable {
     {
         LinkTable {
             alloc,
-            kept: BTreeMap::new(alloc),
+            kept: LabelMap::new(alloc),
         }
     }
 

@@ -5,8 +5,6 @@ use Rattle.std.specs.declared.cmp.Ordering.TheVariants.{Less, Equal, Greater}
 use Rattle.std.specs.Ordering.{nat_cmp, is_eq, is_lt, eq_by_cmp, ordering_then}
 use Rattle.std.specs.Option.{option_or}
 use Rattle.std.specs.List.{flat_map}
-use Rattle.std.specs.Map.{lookup}
-use Rattle.std.specs.BTreeMap.{is_at}
 use Rattle.std.specs.FinMap as map
 use Rattle.std.specs.FinMap.{find, is_sorted, entries_sorted, get-entries, get-empty, get-from_entries, get-insert, get-remove, same_map}
 use Rattle.std.specs.FinMap.Entries.{below_all}
@@ -19,7 +17,6 @@ use Rattle.kern_model.specs.Keys.{oid_cmp, same_oid}
 use Rattle.kern_model.specs.Maps.{with_entry}
 use Rattle.kern_model.proofs.KeyLaws.{oid_cmp_total, oid_cmp_exact}
 use Rattle.kern_model.proofs.MapLemmas.{get_or-absent, get_or-found, get_or-same, head_T, same_key, tail_T}
-use Rattle.kern_model.proofs.TableLemmas.{get_at, one_set}
 use Rattle.fs_nodes.specs.Rows.{IsSet, Rows, item_at, items_in, numbered, row_at}
 
 -- ---- numbers
@@ -176,17 +173,10 @@ module _ {X : Type 0} where
         get-items_in (map.insert rows id.label row) q ∙ item_set None rows id row None set q
         ∙ ap (cond (same_oid q id) None) (sym (get-items_in rows q)) ∙ sym (get-remove oid_cmp_total (items_in rows) id q))
 
--- ---- the lists, and the map that they make
-module _ {X : Type 0} (kept : List (Label × List X)) (rows : Rows X) (view : map.from_entries {R = label_cmp} kept ≡ rows) (label : Label) where
-  pub row_is : (w : Option (List X)) → w ≡ lookup (is_at (label_cmp label)) kept → map.get rows label ≡ w
-  row_is w is = ap (λ (m : Rows X). map.get m label) (sym view) ∙ get_at label_cmp_total kept label ∙ sym is
+-- ---- the list of a label, as it is looked up
+module _ {X : Type 0} (rows : Rows X) (label : Label) where
+  pub row_found : (row : List X) → Some row ≡ map.get rows label → row_at rows label ≡ row
+  row_found row is = get_or-found rows label [] row (sym is)
 
-  pub row_found : (row : List X) → Some row ≡ lookup (is_at (label_cmp label)) kept → row_at rows label ≡ row
-  row_found row is = get_or-found rows label [] row (row_is (Some row) is)
-
-  pub row_absent : None ≡ lookup (is_at (label_cmp label)) kept → row_at rows label ≡ []
-  row_absent is = get_or-absent rows label [] (row_is None is)
-
-  -- lists that differ at one label alone make the map with that list
-  pub rows_set : (kept' : List (Label × List X)) (row : List X) → ((q : Label) → lookup (is_at (label_cmp q)) kept' ≡ cond (is_at (label_cmp label) q) (Some row) (lookup (is_at (label_cmp q)) kept)) → map.from_entries {R = label_cmp} kept' ≡ map.insert rows label row
-  rows_set kept' row h = one_set label_cmp_total label_cmp_exact kept kept' label row h ∙ ap (λ (m : Rows X). map.insert m label row) view
+  pub row_absent : None ≡ map.get rows label → row_at rows label ≡ []
+  row_absent is = get_or-absent rows label [] (sym is)

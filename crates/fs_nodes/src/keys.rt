@@ -4,10 +4,8 @@ ghost use Rattle.std.specs.FinMap as map;
 ghost use Rattle.fs_nodes.specs.Rows.{IsSet};
 
 use fs_path::NoMemory;
-use kern_model::Oid;
-use lab_lattice::Label;
+use kern_model::{LabelMap, Oid};
 use std::alloc::Global;
-use std::collections::BTreeMap;
 use std::marker::Model;
 
 /// The keys of the objects of one label, by the counts of their draws.
@@ -69,7 +67,7 @@ impl Row {
 pub struct Keys {
     alloc: Global,
     // The numbers of a label are drawn in turn, so that each list has few places without a key.
-    kept: BTreeMap<Label, Row>,
+    kept: LabelMap<Row>,
 }
 
 impl Drop for Keys {
@@ -90,7 +88,7 @@ impl Model for Keys {
 
     ghost coded = { map.code (Prim.hlevel (codes, label_code)) (Prim.hlevel (codes, label_code)) };
 
-    ghost view = { λ a. items_in (map.from_entries a.kept.entries) };
+    ghost view = { λ a. items_in a.kept };
 }
 
 impl Keys {
@@ -100,7 +98,7 @@ impl Keys {
     {
         Keys {
             alloc,
-            kept: BTreeMap::new(alloc),
+            kept: LabelMap::new(alloc),
         }
     }
 

@@ -3,19 +3,19 @@ use Rattle.std.proofs.lemmas.List.{length-drop, take_all}
 use Rattle.fs_dirs.specs.Head.{are_bytes, head}
 use Rattle.fs_dirs.proofs.HeadLemmas.{no_second}
 use Rattle.fs_dirs.proofs.head.Head.of.Goals as goal
-use Rattle.fs_dirs.proofs.head.Head.of.Goals.{then-bytes-le8, else-bytes-le8}
+use Rattle.fs_dirs.proofs.head.Head.of.Goals.{then-bytes-le-NUMBER_BYTES, else-bytes-le-NUMBER_BYTES}
 
 pub returns-clause-head : goal.returns-clause-head
 returns-clause-head c =
     let bytes = c.bytes-bytes.result.now in
     let first : c.number_of_eight.result ≡ head 8 c.args.name.now = c.number_of_eight.ensures.number ∙ ap (head 8) c.bytes-bytes.ensures.bytes in
-    let second : c.if-bytes-le8.second ≡ head 8 (drop 8 bytes) = elim c.if-bytes-le8.branch [
-      | then-bytes-le8 w ↦ w.second-is ∙ sym (no_second bytes w.if-bytes-le8.true)
-      | else-bytes-le8 w ↦
+    let second : c.if-bytes-le-NUMBER_BYTES.second ≡ head 8 (drop 8 bytes) = elim c.if-bytes-le-NUMBER_BYTES.branch [
+      | then-bytes-le-NUMBER_BYTES w ↦ w.second-is ∙ sym (no_second bytes w.if-bytes-le-NUMBER_BYTES.true)
+      | else-bytes-le-NUMBER_BYTES w ↦
           let after : length (drop 8 bytes) ≡ length bytes - 8 = length-drop 8 bytes in
           w.second-is ∙ w.number_of_eight-second.ensures.number ∙ ap (head 8) (take_all (length bytes - 8) (drop 8 bytes) (omega (arith, after)))
     ] in
-    ap (λ n. record { first = n; second = c.if-bytes-le8.second }) first
+    ap (λ n. record { first = n; second = c.if-bytes-le-NUMBER_BYTES.second }) first
     ∙ ap (λ n. record { first = head 8 c.args.name.now; second = n }) (second ∙ ap (λ b. head 8 (drop 8 b)) c.bytes-bytes.ensures.bytes)
 
 pub returns-clause-bytes : goal.returns-clause-bytes

@@ -1,8 +1,7 @@
-use Rattle.std.specs.Prelude.{◌≡◌, ℕ, List, [], Option, None, get_or, refl}
+use Rattle.std.specs.Prelude.{◌≡◌, ℕ, List, [], Option, None, get_or}
 use Rattle.std.proofs.Common.{ap, sym, ◌∙◌}
 use Rattle.std.specs.FinMap as map
 use Rattle.std.specs.FinMap.{FinMap}
-use Rattle.lab_lattice.specs.Label.{label_cmp}
 use Rattle.kern_model.specs.declared.numbers.Oid.{Oid}
 use Rattle.kern_model.specs.Keys.{oid_cmp}
 use Rattle.fs_nodes.specs.Rows.{Rows, items_in, row_at}
@@ -15,13 +14,11 @@ says rows keys view id row is = ap (λ (m : FinMap oid_cmp ℕ). map.get m id) (
 
 pub returns-in_err-get : goal.returns-in_err-get
 returns-in_err-get c =
-    let rows = map.from_entries {R = label_cmp} c.self.inside.kept.entries in
-    c.from_residual.ensures
-    ∙ sym (says rows c.args.self.now c.self.view_is c.args.id.now [] (row_absent c.self.inside.kept.entries rows refl c.args.id.now.label c.in_err-get.ensures.value))
+    let rows = c.self.inside.kept in
+    c.from_residual.ensures ∙ sym (says rows c.args.self.now c.self.view_is c.args.id.now [] (row_absent rows c.args.id.now.label c.in_err-get.ensures))
 
 pub returns : goal.returns
 returns c =
-    let rows = map.from_entries {R = label_cmp} c.self.inside.kept.entries in
+    let rows = c.self.inside.kept in
     let row = c.in_ok-get.field-0.now in
-    c.get-2.ensures
-    ∙ sym (says rows c.args.self.now c.self.view_is c.args.id.now row (row_found c.self.inside.kept.entries rows refl c.args.id.now.label row c.in_ok-get.ensures.value))
+    c.get-2.ensures ∙ sym (says rows c.args.self.now c.self.view_is c.args.id.now row (row_found rows c.args.id.now.label row c.in_ok-get.ensures))
