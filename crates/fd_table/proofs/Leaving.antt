@@ -88,19 +88,19 @@ pub open-count : (shared : SharedTable) (id : Oid) → is_open (descriptions_of 
 open-count shared id = open_alike shared id ∙ some-number (on_object id) shared
 
 -- ---- the descriptions that are left
-pub left_held : (rows : AllFds) (shared new : SharedTable) (numbers : FinMap label_cmp ℕ) → AreHeld rows new numbers → ((q : Did) (s : Shared) → map.get new q ≡ Some s → map.get (descriptions_of shared) q ≡ Some (description_of s))
-    → descriptions_of new ≡ select (where_key (is_held rows) (λ d. d)) (descriptions_of shared)
-left_held rows shared new numbers are same = same_map did_cmp_total did_cmp_exact _ _ (λ q.
+pub left_held : (rows : AllFds) (old : FinMap did_cmp Description) (new : SharedTable) (numbers : FinMap label_cmp ℕ) → AreHeld rows new numbers
+    → ((q : Did) (s : Shared) → map.get new q ≡ Some s → map.get old q ≡ Some (description_of s)) → descriptions_of new ≡ select (where_key (is_held rows) (λ d. d)) old
+left_held rows old new numbers are same = same_map did_cmp_total did_cmp_exact _ _ (λ q.
     get-descriptions new q
-    ∙ elim (map.get new q) as (λ w. map.get new q ≡ w → option_map description_of w ≡ map.get (select (where_key (is_held rows) (λ d. d)) (descriptions_of shared)) q) [
+    ∙ elim (map.get new q) as (λ w. map.get new q ≡ w → option_map description_of w ≡ map.get (select (where_key (is_held rows) (λ d. d)) old) q) [
       | None ↦ λ none.
           let nothing : 0 ≡ holders rows q = ap holders_kept (sym none) ∙ are.counted q in
-          sym (get-select_dropped did_cmp_total did_cmp_exact (is_held rows) (λ d. d) (descriptions_of shared) q (held-count rows q ∙ ap (λ n. not (n == 0)) (sym nothing)))
+          sym (get-select_dropped did_cmp_total did_cmp_exact (is_held rows) (λ d. d) old q (held-count rows q ∙ ap (λ n. not (n == 0)) (sym nothing)))
       | Some s ↦ λ is.
           let all : s.holders ≡ holders rows q = ap holders_kept (sym is) ∙ are.counted q in
           let one = are.held q s is in
           let more : (holders rows q == 0) ≡ false = grind (arith, nat_tests) in
-          sym (get-select_kept did_cmp_total did_cmp_exact (is_held rows) (λ d. d) (descriptions_of shared) q (held-count rows q ∙ ap not more) ∙ ap (option_map (λ d. d)) (same q s is))
+          sym (get-select_kept did_cmp_total did_cmp_exact (is_held rows) (λ d. d) old q (held-count rows q ∙ ap not more) ∙ ap (option_map (λ d. d)) (same q s is))
     ] refl)
 
 -- what one descriptor less leaves of each description
@@ -201,3 +201,11 @@ module _ (shared : SharedTable) (did : Did) (s : Shared) (is : map.get shared di
       never : (b : Bool) → (not b && not (not b)) ≡ false
       never true = refl
       never false = refl
+
+  -- what the objects are where that was the last one of its object
+  pub drained_less : (new : SharedTable) → new ≡ with_one_less shared did s → (w : Option Oid) → w ≡ cond (uses_of new s.object == 0) (Some s.object) None → (objects : FinMap oid_cmp Object)
+      → without_bytes objects w ≡ drained (descriptions_of shared) (descriptions_of new) objects
+  drained_less new less w unused objects =
+      ap (without_bytes objects) (unused ∙ ap (λ (m : SharedTable). cond (uses_of m s.object == 0) (Some s.object) None) less)
+      ∙ sym (drained_one (descriptions_of shared) (descriptions_of (with_one_less shared did s)) objects s.object (uses_of (with_one_less shared did s) s.object == 0) unused_one)
+      ∙ ap (λ (m : SharedTable). drained (descriptions_of shared) (descriptions_of m) objects) (sym less)

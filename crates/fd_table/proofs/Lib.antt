@@ -1,4 +1,5 @@
 pub mod Closing
+pub mod Copying
 pub mod Counting
 pub mod Dropping
 pub mod Holding

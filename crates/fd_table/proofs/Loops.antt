@@ -11,8 +11,7 @@ use Rattle.kern_model.specs.declared.limits.TheConstants.{MAX_DESCRIPTORS}
 use Rattle.kern_model.specs.declared.numbers.Did.{Did}
 use Rattle.kern_model.proofs.MapLemmas.{get-insert_same, get_or-found, same_key, remove-absent}
 use Rattle.kern_model.specs.declared.numbers.Pid.{Pid}
-use Rattle.kern_model.proofs.KeyLaws.{pid_cmp_total, pid_cmp_exact}
-use Rattle.fd_table.specs.Files.{OpenFiles, with_row}
+use Rattle.kern_model.proofs.KeyLaws.{pid_cmp_total}
 use Rattle.fd_table.specs.Rows.{AllFds, Fds, row_of}
 
 -- the descriptors below n
@@ -130,11 +129,3 @@ set_twice {R = R} o exact m k x y = same_map o exact _ _ (λ q.
 module _ (rows : AllFds) (who : Pid) (fds : Fds) where
   pub row_set : row_of (map.insert rows who fds) who ≡ fds
   row_set = get_or-found (map.insert rows who fds) who map.empty fds (get-insert_same pid_cmp_total rows who fds)
-
--- one descriptor more is copied
-pub copied : (t0 t : OpenFiles) (to : Pid) (fds : Fds) (n : ℕ) (did : Did) → t ≡ with_row t0 to (below n fds) → map.get fds n ≡ Some did → with_row t to (map.insert (row_of t.rows to) n did) ≡ with_row t0 to (below (n + 1) fds)
-copied t0 t to fds n did is at =
-    ap (λ (t : OpenFiles). with_row t to (map.insert (row_of t.rows to) n did)) is
-    ∙ ap (λ (fs : Fds). with_row (with_row t0 to (below n fds)) to (map.insert fs n did)) (row_set t0.rows to (below n fds))
-    ∙ ap (λ (fs : Fds). with_row (with_row t0 to (below n fds)) to fs) (below-next fds n did at)
-    ∙ ap (λ (m : AllFds). record t0 { rows = m }) (set_twice pid_cmp_total pid_cmp_exact t0.rows to (below n fds) (below (n + 1) fds))

@@ -78,10 +78,10 @@ impl Descriptions {
         requires { IsThere self.old did.now }
         ensures { (s : Value) → map.get self.old did.now ≡ Some s → self.new ≡ map.insert self.old did.now (record s { offset = offset }) }
     {
-        let Some(shared) = self.shared.get(did) else {
+        let Some(shared) = self.shared.get_mut(did) else {
             unreachable!();
         };
-        self.shared.replace(did, Shared { offset, ..shared });
+        shared.offset = offset;
     }
 
     /// Counts one descriptor more of a description. It takes no memory.
@@ -90,11 +90,10 @@ impl Descriptions {
         requires few { (s : Value) → map.get self.old did.now ≡ Some s → s.holders < 18_446_744_073_709_551_615 }
         ensures { (s : Value) → map.get self.old did.now ≡ Some s → self.new ≡ map.insert self.old did.now (record s { holders = s.holders + 1 }) }
     {
-        let Some(shared) = self.shared.get(did) else {
+        let Some(shared) = self.shared.get_mut(did) else {
             unreachable!();
         };
-        let holders = shared.holders + 1;
-        self.shared.replace(did, Shared { holders, ..shared });
+        shared.holders += 1;
     }
 
     /// Counts one descriptor less of a description, which goes with the last one. Returns its object where that has no
@@ -104,17 +103,17 @@ impl Descriptions {
         ensures left { (s : Value) → map.get self.old did.now ≡ Some s → self.new ≡ with_one_less self.old did.now s }
         ensures unused { (s : Value) → map.get self.old did.now ≡ Some s → result ≡ cond (uses_of self.new s.object == 0) (Some s.object) None }
     {
-        let Some(shared) = self.shared.get(did) else {
+        let Some(shared) = self.shared.get_mut(did) else {
             unreachable!();
         };
         if shared.holders > 1 {
-            let holders = shared.holders - 1;
-            self.shared.replace(did, Shared { holders, ..shared });
+            shared.holders -= 1;
             return None;
         }
+        let Shared { object, how, .. } = *shared;
         self.shared.remove(did);
-        self.uses.remove_one(&shared.object, shared.how);
-        self.unused(&shared.object)
+        self.uses.remove_one(&object, how);
+        self.unused(&object)
     }
 
     // An object, where it has no description.

@@ -61,17 +61,17 @@ impl Rows {
         }
     }
 
-    /// Adds a row without descriptors for a process that has none.
-    pub fn add(&mut self, who: &Pid) -> Result<(), NoMemory>
+    /// Adds the row of a process that has none.
+    pub fn add(&mut self, who: &Pid, row: Row) -> Result<(), NoMemory>
         requires { map.get self.old who.now ≡ None }
-        ensures ok { OnOk result (self.new ≡ map.insert self.old who.now map.empty) }
+        ensures ok { OnOk result (self.new ≡ map.insert self.old who.now row) }
         ensures few { OnOk result (map.len self.old < MAX_ROWS) }
         ensures err { OnErr result (self.new ≡ self.old) }
     {
         if self.count >= MAX_ROWS {
             return Err(NoMemory);
         }
-        self.kept.set(&who.label, who.n, Row::new())?;
+        self.kept.set(&who.label, who.n, row)?;
         self.count += 1;
         Ok(())
     }
@@ -111,13 +111,14 @@ impl Rows {
         }
     }
 
-    /// Removes a row, if there is one. It takes no memory.
-    pub fn remove(&mut self, who: &Pid)
-        ensures { self.new ≡ map.remove self.old who.now }
+    /// Removes the row of a process, if it has one, and returns it. It takes no memory.
+    pub fn remove(&mut self, who: &Pid) -> Option<Row>
+        ensures removed { result ≡ map.get self.old who.now }
+        ensures left { self.new ≡ map.remove self.old who.now }
     {
-        if self.kept.remove(&who.label, who.n).is_some() {
-            self.count -= 1;
-        }
+        let row = self.kept.remove(&who.label, who.n)?;
+        self.count -= 1;
+        Some(row)
     }
 
     /// The description to which a descriptor refers, if it is open.

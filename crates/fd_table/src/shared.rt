@@ -1,7 +1,6 @@
 // Open descriptions by their numbers.
 ghost use Rattle.std.specs.Prelude.{◌≡◌, IsOk, IsSome, OnErr, OnOk};
 ghost use Rattle.std.specs.FinMap as map;
-ghost use Rattle.kern_model.specs.Valid.{IsThere};
 
 use kern_model::{Did, NoMemory, Oid};
 use num_table::Table;
@@ -50,6 +49,10 @@ impl Model for SharedTable {
 }
 
 impl SharedTable {
+    ghost use Rattle.std.specs.Borrow.{sem};
+    ghost use Rattle.std.specs.Option.{option_copied_mut};
+    ghost use Rattle.fd_table.specs.Lending.{LendsShared};
+
     /// No description.
     pub fn new(alloc: Global) -> Self
         ensures { result ≡ map.empty }
@@ -66,6 +69,14 @@ impl SharedTable {
         self.kept.get(&did.label, did.n).copied()
     }
 
+    /// The description with a number, for changes to it, if there is one. It takes no memory.
+    pub fn get_mut(&mut self, did: &Did) -> Option<&mut Shared>
+        ensures* writes_back { sem 𝓛 (LendsShared self.entry did.now result) }
+        ensures value { option_copied_mut result ≡ map.get self.old did.now }
+    {
+        self.kept.get_mut(&did.label, did.n)
+    }
+
     /// Puts a description in place of what was there. Where one is there, it takes no memory.
     pub fn set(&mut self, did: Did, shared: Shared) -> Result<(), NoMemory>
         ensures ok { OnOk result (self.new ≡ map.insert self.old did shared) }
@@ -73,16 +84,6 @@ impl SharedTable {
         ensures replaced { IsSome (map.get self.old did) → IsOk result }
     {
         self.kept.set(&did.label, did.n, shared)
-    }
-
-    /// Puts a description in place of the one that is there. It takes no memory.
-    pub fn replace(&mut self, did: &Did, shared: Shared)
-        requires { IsThere self.old did.now }
-        ensures { self.new ≡ map.insert self.old did.now shared }
-    {
-        if self.set(*did, shared).is_err() {
-            unreachable!();
-        }
     }
 
     /// Removes a description.

@@ -13,8 +13,9 @@ ghost use Rattle.fd_table.specs.Descriptions.{description_of};
 ghost use Rattle.fd_table.specs.Rows.{fd_count, row_of};
 
 use crate::descriptions::Descriptions;
-use crate::fifo::drop_fifo;
+use crate::fifo::{drop_fifo, let_go};
 use crate::opened::Opened;
+use crate::row::Row;
 use crate::rows::Rows;
 use crate::shared::{How, Shared};
 use fs_nodes::Buffers;
@@ -110,7 +111,7 @@ impl FdTable {
         ensures ok { OnOk result (self.new ≡ with_row self.old who.now map.empty) }
         ensures err { OnErr result (self.new ≡ self.old) }
     {
-        self.rows.add(who)
+        self.rows.add(who, Row::new())
     }
 
     /// Adds a row without descriptors for a process that has none.
@@ -134,10 +135,10 @@ impl FdTable {
         ensures err { OnErr result (self.new ≡ self.old) }
     {
         let row = self.rows.copy(from);
-        self.rows.add(to)?;
+        self.rows.add(to, row.copy())?;
         for fd in 0..MAX_DESCRIPTORS as Fd {
             if let Some(did) = row.get(fd) {
-                self.set(to, fd, did);
+                self.descriptions.hold(&did);
             }
         }
         Ok(())
@@ -149,16 +150,14 @@ impl FdTable {
         ensures drained { B.objects buffers.new ≡ drained self.old.descriptions self.new.descriptions (B.objects buffers.old) }
         ensures rest { B.rest_same buffers.old buffers.new }
     {
-        if !self.rows.has(who) {
+        let Some(row) = self.rows.remove(who) else {
             return;
-        }
-        let row = self.rows.copy(who);
+        };
         for fd in 0..MAX_DESCRIPTORS as Fd {
-            if row.get(fd).is_some() {
-                let _closed = self.close(who, fd, buffers);
+            if let Some(did) = row.get(fd) {
+                let_go(&mut self.descriptions, &did, buffers);
             }
         }
-        self.rows.remove(who);
     }
 
     /// Why `n` descriptions are not opened, if so.

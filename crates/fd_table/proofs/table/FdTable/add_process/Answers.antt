@@ -12,6 +12,7 @@ invariant_of-self c =
     let shared = c.self.inside.descriptions in
     let numbers = c.self.inside.numbers in
     either_way c.add.result
-    (λ e few. subst (λ (m : AllFds). AreHeld m shared numbers) (sym e) (held-add rows shared numbers c.self.invariant c.args.who.now (ap (λ (t : OpenFiles). map.get t.rows c.args.who.now) c.self.view_is ∙ c.requires) few))
+    (λ e few. subst (λ (m : AllFds). AreHeld m shared numbers) (sym (e ∙ ap (map.insert rows c.args.who.now) c.new.ensures))
+    (held-add rows shared numbers c.self.invariant c.args.who.now (ap (λ (t : OpenFiles). map.get t.rows c.args.who.now) c.self.view_is ∙ c.requires) few))
     (λ e. subst (λ (m : AllFds). AreHeld m shared numbers) (sym e) c.self.invariant)
     c.add.ensures.ok c.add.ensures.few c.add.ensures.err

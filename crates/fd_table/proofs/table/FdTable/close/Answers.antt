@@ -1,16 +1,15 @@
-use Rattle.std.specs.Prelude.{◌≡◌, ◌==◌, Some, None, cond}
+use Rattle.std.specs.Prelude.{◌≡◌, Some}
 use Rattle.std.specs.FinMap as map
 use Rattle.std.proofs.Common.{ap, sym, ◌∙◌, subst}
 use Rattle.kern_model.specs.Valid.{IsThere}
 use Rattle.fd_table.specs.Descriptions.{SharedTable, descriptions_of}
 use Rattle.fd_table.specs.Files.{AreHeld, OpenFiles, did_at}
 use Rattle.fd_table.specs.Rows.{AllFds, row_of}
-use Rattle.fd_table.specs.Descriptions.{uses_of, with_one_less}
+use Rattle.fd_table.specs.Descriptions.{with_one_less}
 use Rattle.fd_table.specs.Files.{drained, is_held, left_with}
-use Rattle.fd_table.specs.Fifo.{without_bytes}
 use Rattle.kern_model.specs.Maps.{select, where_key}
 use Rattle.fd_table.proofs.Holding.{held-free, row_is}
-use Rattle.fd_table.proofs.Leaving.{drained_one, left_held, less_same, there_with, unused_one}
+use Rattle.fd_table.proofs.Leaving.{drained_less, left_held, less_same, there_with}
 use Rattle.fd_table.proofs.table.FdTable.close.Goals as goal
 
 pub free-requires-clause-row : goal.free-requires-clause-row
@@ -50,7 +49,7 @@ returns-clause-left g c =
     let rows' : AllFds = map.insert rows who (map.remove (row_of rows who) c.args.fd) in
     let are = held-free rows shared c.self.inside.numbers c.self.invariant who (row_of rows who) row c.args.fd did there.value there.is at in
     let descriptions : descriptions_of c.release-unused.new.self ≡ select (where_key (is_held rows') (λ d. d)) (descriptions_of shared) =
-    ap descriptions_of (c.release-unused.ensures.left there.value there.is) ∙ left_held rows' shared less c.self.inside.numbers are (less_same shared did there.value there.is) in
+    ap descriptions_of (c.release-unused.ensures.left there.value there.is) ∙ left_held rows' (descriptions_of shared) less c.self.inside.numbers are (less_same shared did there.value there.is) in
     let all : ◌≡◌ {A = OpenFiles} (record { rows = c.free.new.self; descriptions = descriptions_of c.release-unused.new.self; numbers = c.self.inside.numbers })
     (left_with (record { rows = rows; descriptions = descriptions_of shared; numbers = c.self.inside.numbers }) rows') = (λ i. record { rows = c.free.ensures i; descriptions = descriptions i; numbers = c.self.inside.numbers }) in
     all ∙ ap (λ (t : OpenFiles). left_with t (map.insert t.rows who (map.remove (row_of t.rows who) c.args.fd))) c.self.view_is
@@ -60,11 +59,8 @@ returns-clause-drained g c =
     let shared = c.self.inside.descriptions in
     let did = c.in_ok-did.did in
     let there = there_with shared did (subst (λ (t : OpenFiles). IsThere t.descriptions did) (sym c.self.view_is) (c.did.ensures.there did c.in_ok-did.ensures.ok_part)) in
-    let left = c.release-unused.ensures.left there.value there.is in
     let objects = g.B.Buffers.objects c.args.buffers.now in
-    let gone = uses_of (with_one_less shared did there.value) there.value.object == 0 in
     c.drop_fifo.ensures.objects
-    ∙ ap (without_bytes objects) (c.release-unused.ensures.unused there.value there.is ∙ ap (λ (m : SharedTable). cond (uses_of m there.value.object == 0) (Some there.value.object) None) left)
-    ∙ sym (drained_one (descriptions_of shared) (descriptions_of (with_one_less shared did there.value)) objects there.value.object gone (unused_one shared did there.value there.is))
-    ∙ ap (λ (m : SharedTable). drained (descriptions_of shared) (descriptions_of m) objects) (sym left)
+    ∙ drained_less shared did there.value there.is c.release-unused.new.self (c.release-unused.ensures.left there.value there.is)
+    c.release-unused.result (c.release-unused.ensures.unused there.value there.is) objects
     ∙ ap (λ (t : OpenFiles). drained t.descriptions (descriptions_of c.release-unused.new.self) objects) c.self.view_is

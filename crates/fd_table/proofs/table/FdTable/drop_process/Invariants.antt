@@ -1,9 +1,13 @@
-use Rattle.fd_table.proofs.Dropping.{AreClosed}
+use Rattle.std.proofs.Common.{◌≡◌}
+use Rattle.std.specs.FinMap as map
+use Rattle.fd_table.proofs.Dropping.{AreLetGo}
 use Rattle.fd_table.proofs.table.FdTable.drop_process.Given as goal
 
--- the descriptors so far are closed
+-- the row went, and the descriptors so far are let go
 abbrev pub invariant-loop-fd : goal.invariant-loop-fd
 invariant-loop-fd g l = record {
-  closed : AreClosed l.fn.self l.who l.fd l.self (g.B.Buffers.objects l.fn.buffers) (g.B.Buffers.objects l.buffers);
+  rows : l.self-inside.rows ≡ map.remove l.fn.self.rows l.who;
+  numbers : l.self-inside.numbers ≡ l.fn.self.numbers;
+  gone : AreLetGo l.fn.self l.who l.row l.fd l.self-inside.descriptions (g.B.Buffers.objects l.fn.buffers) (g.B.Buffers.objects l.buffers);
   rest : g.B.Buffers.rest_same l.fn.buffers l.buffers;
 }
