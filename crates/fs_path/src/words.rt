@@ -3,92 +3,98 @@ ghost use Rattle.std.specs.Prelude.{◌≡◌, [], ◌∷◌, ◌++◌, ◌<◌,
 ghost use Rattle.std.specs.List.{list_all, prefix_len};
 ghost use Rattle.fs_path.specs.Words.{words_of, is_blank, quoted_text, with_quotes_if_needed, spelling, is_plain, is_bare, is_bare_text, hex_value, hex_pair, escaped, first_item, items_of, is_apart, leading_word, first_word, trim_spaces, hex_digit, item_text};
 
+use crate::split::split_once;
 use crate::{ByteList, List, NoMemory};
-use smallvec::SmallVec;
 use std::alloc::Global;
 use std::marker::Model;
 
 /// The most bytes that a line of an input has, without its line feed.
 pub const MAX_LINE: usize = 2_048;
 
-// The most bytes of a word that take no memory of their own.
-const SHORT_WORD: usize = 24;
-
 // For how many words the list of them has room from the start.
 const USUAL_WORDS: usize = 6;
 
-/// The bytes of a word, seen as the list of them.
-#[derive(Debug)]
-pub struct WordBytes {
-    kept: SmallVec<u8, SHORT_WORD>,
+/// Where the bytes of a word are.
+#[derive(Debug, Drop)]
+enum Place<'a> {
+    /// In its line.
+    InLine(&'a [u8]),
+    /// In a list of their own, since its text in the line has escapes.
+    Apart(ByteList),
 }
 
-impl Model for WordBytes {
+/// The bytes of a word, seen as the list of them.
+#[derive(Debug)]
+pub struct WordBytes<'a> {
+    alloc: Global,
+    place: Place<'a>,
+}
+
+impl<'a> Model for WordBytes<'a> {
     ghost use Rattle.std.specs.Prelude.{List, ℕ};
+    ghost use Rattle.fs_path.specs.Place.{bytes_at};
 
     ghost Value = { List ℕ };
 
-    ghost view = { λ w. w.kept.items };
+    ghost view = { λ w. bytes_at w.place };
 }
 
 // Written out, so that a drop is one call, whether or not the bytes have memory of their own.
-impl Drop for WordBytes {
+impl<'a> Drop for WordBytes<'a> {
     fn drop(self) {
-        let WordBytes { kept: _ } = self;
+        let WordBytes { alloc: _, place: _ } = self;
     }
 }
 
-impl WordBytes {
-    // No byte.
-    fn new(alloc: Global) -> WordBytes
-        ensures { result ≡ [] }
+impl<'a> WordBytes<'a> {
+    // These bytes of a line.
+    fn in_line(alloc: Global, bytes: &'a [u8]) -> WordBytes<'a>
+        ensures { result ≡ bytes.now }
     {
         WordBytes {
-            kept: SmallVec::new(alloc),
+            alloc,
+            place: Place::InLine(bytes),
         }
     }
 
     // These bytes.
-    fn from_slice(alloc: Global, bytes: &[u8]) -> Result<WordBytes, NoMemory>
-        ensures { IfOk result (λ word. word ≡ bytes.now) }
+    fn apart(alloc: Global, bytes: ByteList) -> WordBytes<'a>
+        ensures { result ≡ bytes }
     {
-        let kept = SmallVec::from_slice(alloc, bytes)?;
-        Ok(WordBytes { kept })
-    }
-
-    // Appends a byte.
-    fn push(&mut self, byte: u8) -> Result<(), NoMemory>
-        ensures { OnOk result (self.new ≡ self.old ++ byte ∷ []) }
-    {
-        self.kept.push(byte)?;
-        Ok(())
+        WordBytes {
+            alloc,
+            place: Place::Apart(bytes),
+        }
     }
 
     /// The bytes.
     pub fn items(&self) -> &[u8]
         ensures { result.now ≡ self.now }
     {
-        self.kept.as_slice()
+        match &self.place {
+            Place::InLine(bytes) => bytes,
+            Place::Apart(bytes) => bytes.items(),
+        }
     }
 
     /// A list of the bytes.
     pub fn to_list(&self) -> Result<ByteList, NoMemory>
         ensures { IfOk result (λ list. list ≡ self.now) }
     {
-        ByteList::from_slice(*self.kept.allocator(), self.items())
+        ByteList::from_slice(self.alloc, self.items())
     }
 }
 
 /// A word of a line, without its quotes and escapes.
 #[derive(Debug)]
-pub struct LineWord {
+pub struct LineWord<'a> {
     /// Whether it is written between quotes.
     pub quoted: bool,
     /// Its bytes.
-    pub bytes: WordBytes,
+    pub bytes: WordBytes<'a>,
 }
 
-impl Drop for LineWord {
+impl<'a> Drop for LineWord<'a> {
     fn drop(self) {
         let LineWord {
             quoted: _,
@@ -165,10 +171,10 @@ fn first_item(text: &[u8]) -> Option<(u8, &[u8])>
 }
 
 // The bytes between quotes, from after the first quote, and the text after the second.
-fn between_quotes(alloc: Global, text: &[u8]) -> Result<Option<(WordBytes, &[u8])>, NoMemory>
+fn between_quotes(alloc: Global, text: &[u8]) -> Result<Option<(ByteList, &[u8])>, NoMemory>
     ensures { IfOk result (λ parsed. MatchOption parsed (items_of text.now ≡ None) (λ items. items_of text.now ≡ Some (items.0, items.1.now))) }
 {
-    let mut bytes = WordBytes::new(alloc);
+    let mut bytes = ByteList::new(alloc);
     let mut left = text;
     while let [first, after @ ..] = left {
         if *first == b'"' {
@@ -183,6 +189,39 @@ fn between_quotes(alloc: Global, text: &[u8]) -> Result<Option<(WordBytes, &[u8]
     Ok(None)
 }
 
+// Whether all bytes stand for themselves between quotes.
+fn are_plain(bytes: &[u8]) -> bool
+    ensures { result ≡ list_all is_plain bytes.now }
+{
+    bytes.iter().all(|byte| is_plain(*byte))
+}
+
+// The bytes between quotes and the text after the second, where all of them stand for themselves.
+#[tactic(auto, using(crate::proofs::WordLemmas::plain_items))]
+fn plain_items(text: &[u8]) -> Option<(&[u8], &[u8])>
+    ensures { IfSome result (λ items. items_of text.now ≡ Some (items.0.now, items.1.now)) }
+{
+    let (bytes, rest) = split_once(text, b'"')?;
+    if are_plain(bytes) {
+        Some((bytes, rest))
+    } else {
+        None
+    }
+}
+
+// The bytes of a quoted word, from after its first quote, and the text after the word.
+fn quoted_bytes(alloc: Global, text: &[u8]) -> Result<Option<(WordBytes<'_>, &[u8])>, NoMemory>
+    ensures { IfOk result (λ parsed. MatchOption parsed (items_of text.now ≡ None) (λ items. items_of text.now ≡ Some (items.0, items.1.now))) }
+{
+    if let Some((bytes, rest)) = plain_items(text) {
+        return Ok(Some((WordBytes::in_line(alloc, bytes), rest)));
+    }
+    let Some((bytes, rest)) = between_quotes(alloc, text)? else {
+        return Ok(None);
+    };
+    Ok(Some((WordBytes::apart(alloc, bytes), rest)))
+}
+
 // How many bytes that a bare word may have begin a text.
 fn bare_len(text: &[u8]) -> usize
     ensures { result ≡ prefix_len is_bare text.now }
@@ -191,11 +230,11 @@ fn bare_len(text: &[u8]) -> usize
 }
 
 // The word that begins a text, and the text after it, whatever that is.
-fn leading_word(alloc: Global, text: &[u8]) -> Result<Option<(LineWord, &[u8])>, NoMemory>
+fn leading_word(alloc: Global, text: &[u8]) -> Result<Option<(LineWord<'_>, &[u8])>, NoMemory>
     ensures { IfOk result (λ parsed. MatchOption parsed (leading_word text.now ≡ None) (λ word. leading_word text.now ≡ Some (word.0, word.1.now))) }
 {
     if let [b'"', inner @ ..] = text {
-        let Some((bytes, rest)) = between_quotes(alloc, inner)? else {
+        let Some((bytes, rest)) = quoted_bytes(alloc, inner)? else {
             return Ok(None);
         };
         return Ok(Some((
@@ -210,7 +249,7 @@ fn leading_word(alloc: Global, text: &[u8]) -> Result<Option<(LineWord, &[u8])>,
     if count == 0 {
         return Ok(None);
     }
-    let bytes = WordBytes::from_slice(alloc, &text[..count])?;
+    let bytes = WordBytes::in_line(alloc, &text[..count]);
     Ok(Some((
         LineWord {
             quoted: false,
@@ -231,7 +270,7 @@ fn is_apart(text: &[u8]) -> bool
 }
 
 // The word that begins a text, and the text after it: none, or one that begins with a space.
-fn first_word(alloc: Global, text: &[u8]) -> Result<Option<(LineWord, &[u8])>, NoMemory>
+fn first_word(alloc: Global, text: &[u8]) -> Result<Option<(LineWord<'_>, &[u8])>, NoMemory>
     ensures { IfOk result (λ parsed. MatchOption parsed (first_word text.now ≡ None) (λ word. first_word text.now ≡ Some (word.0, word.1.now))) }
 {
     let Some((word, rest)) = leading_word(alloc, text)? else {
@@ -255,7 +294,7 @@ fn trim_spaces(text: &[u8]) -> &[u8]
 }
 
 /// The words of a line, where it has the form of one: bare and quoted words with spaces between them and at both ends.
-pub fn words_of(alloc: Global, line: &[u8]) -> Result<Option<List<LineWord>>, NoMemory>
+pub fn words_of(alloc: Global, line: &[u8]) -> Result<Option<List<LineWord<'_>>>, NoMemory>
     ensures { IfOk result (λ parsed. parsed ≡ words_of line.now) }
 {
     let mut words = List::with_capacity(alloc, USUAL_WORDS)?;

@@ -18,7 +18,7 @@ use std::alloc::Global;
 
 /// A path.
 #[tactic(auto, unfolding(crate::specs::Argument::path))]
-pub fn path(alloc: Global, word: &LineWord) -> Result<Path, LineError>
+pub fn path(alloc: Global, word: &LineWord<'_>) -> Result<Path, LineError>
     ensures { Answers (argument.path word.now.bytes) result }
 {
     path_of(alloc, word.bytes.items())?.ok_or(LineError::BadPath)
@@ -26,7 +26,7 @@ pub fn path(alloc: Global, word: &LineWord) -> Result<Path, LineError>
 
 /// A label.
 #[tactic(auto, unfolding(crate::specs::Argument::label))]
-pub fn label(policy: &Policy, word: &LineWord) -> Result<Label, LineError>
+pub fn label(policy: &Policy, word: &LineWord<'_>) -> Result<Label, LineError>
     ensures { result ≡ argument.label policy.now word.now.bytes }
 {
     mac_from_text(policy, word.bytes.items()).map_err(|_| LineError::BadLabel)
@@ -34,7 +34,7 @@ pub fn label(policy: &Policy, word: &LineWord) -> Result<Label, LineError>
 
 /// Capability sets.
 #[tactic(auto, unfolding(crate::specs::Argument::caps))]
-pub fn caps(word: &LineWord) -> Result<CapState, LineError>
+pub fn caps(word: &LineWord<'_>) -> Result<CapState, LineError>
     ensures { result ≡ argument.caps word.now.bytes }
 {
     cap_from_text(word.bytes.items()).map_err(|_| LineError::BadCaps)
@@ -51,7 +51,7 @@ fn process(policy: &Policy, number: &[u8], label: &[u8]) -> Option<Pid>
 
 /// The tag of a line.
 #[tactic(auto, unfolding(crate::specs::Argument::tag))]
-pub fn tag(policy: &Policy, word: &LineWord) -> Result<Pid, LineError>
+pub fn tag(policy: &Policy, word: &LineWord<'_>) -> Result<Pid, LineError>
     ensures { result ≡ argument.tag policy.now word.now.bytes }
 {
     let (number, label) = split_once(word.bytes.items(), b'@').ok_or(LineError::BadTag)?;
@@ -60,7 +60,7 @@ pub fn tag(policy: &Policy, word: &LineWord) -> Result<Pid, LineError>
 
 /// The number of a process.
 #[tactic(auto, unfolding(crate::specs::Argument::pid))]
-pub fn pid(policy: &Policy, word: &LineWord) -> Result<Pid, LineError>
+pub fn pid(policy: &Policy, word: &LineWord<'_>) -> Result<Pid, LineError>
     ensures { result ≡ argument.pid policy.now word.now.bytes }
 {
     let (number, label) = split_once(word.bytes.items(), b'@').ok_or(LineError::Syntax)?;
@@ -70,7 +70,7 @@ pub fn pid(policy: &Policy, word: &LineWord) -> Result<Pid, LineError>
 
 /// A number.
 #[tactic(auto, unfolding(crate::specs::Argument::number))]
-pub fn number(word: &LineWord) -> Result<u32, LineError>
+pub fn number(word: &LineWord<'_>) -> Result<u32, LineError>
     ensures { result ≡ argument.number word.now.bytes }
 {
     number_of(word.bytes.items()).ok_or(LineError::Syntax)
@@ -78,7 +78,7 @@ pub fn number(word: &LineWord) -> Result<u32, LineError>
 
 /// A number up to a limit.
 #[tactic(auto, unfolding(crate::specs::Argument::up_to))]
-pub fn up_to(high: u32, word: &LineWord) -> Result<u32, LineError>
+pub fn up_to(high: u32, word: &LineWord<'_>) -> Result<u32, LineError>
     ensures { result ≡ argument.up_to high word.now.bytes }
 {
     let n = numeral(word.bytes.items(), 10, 10, 0, u64::from(high)).ok_or(LineError::Syntax)?;
@@ -87,7 +87,7 @@ pub fn up_to(high: u32, word: &LineWord) -> Result<u32, LineError>
 
 /// An exit status.
 #[tactic(auto, unfolding(crate::specs::Argument::up_to))]
-pub fn status(word: &LineWord) -> Result<u8, LineError>
+pub fn status(word: &LineWord<'_>) -> Result<u8, LineError>
     ensures { result ≡ argument.up_to MAX_STATUS word.now.bytes }
 {
     let n = numeral(word.bytes.items(), 10, 10, 0, u64::from(MAX_STATUS)).ok_or(LineError::Syntax)?;
@@ -96,7 +96,7 @@ pub fn status(word: &LineWord) -> Result<u8, LineError>
 
 /// A mode.
 #[tactic(auto, unfolding(crate::specs::Argument::mode))]
-pub fn mode(word: &LineWord) -> Result<Mode, LineError>
+pub fn mode(word: &LineWord<'_>) -> Result<Mode, LineError>
     ensures { result ≡ argument.mode word.now.bytes }
 {
     mode_of(word.bytes.items()).ok_or(LineError::Syntax)
@@ -104,7 +104,7 @@ pub fn mode(word: &LineWord) -> Result<Mode, LineError>
 
 /// A mode of permission bits alone.
 #[tactic(auto, unfolding(crate::specs::Argument::permissions))]
-pub fn permissions(word: &LineWord) -> Result<Mode, LineError>
+pub fn permissions(word: &LineWord<'_>) -> Result<Mode, LineError>
     ensures { result ≡ argument.permissions word.now.bytes }
 {
     let mode = numeral(word.bytes.items(), 8, 4, 0, u64::from(MAX_PERMISSIONS)).ok_or(
@@ -115,7 +115,7 @@ pub fn permissions(word: &LineWord) -> Result<Mode, LineError>
 
 /// Bytes.
 #[tactic(auto, unfolding(crate::specs::Argument::bytes))]
-pub fn bytes(word: &LineWord) -> Result<ByteList, LineError>
+pub fn bytes(word: &LineWord<'_>) -> Result<ByteList, LineError>
     ensures { Answers (argument.bytes word.now.bytes) result }
 {
     word.bytes.to_list().map_err(LineError::NoMemory)
@@ -133,7 +133,7 @@ fn signed(word: &[u8]) -> Option<i64>
 
 /// An offset.
 #[tactic(auto, unfolding(crate::specs::Argument::offset))]
-pub fn offset(word: &LineWord) -> Result<i64, LineError>
+pub fn offset(word: &LineWord<'_>) -> Result<i64, LineError>
     ensures { result ≡ argument.offset word.now.bytes }
 {
     signed(word.bytes.items()).ok_or(LineError::Syntax)
@@ -141,7 +141,7 @@ pub fn offset(word: &LineWord) -> Result<i64, LineError>
 
 /// From where an offset is counted.
 #[tactic(auto, unfolding(crate::specs::Argument::whence))]
-pub fn whence(word: &LineWord) -> Result<Whence, LineError>
+pub fn whence(word: &LineWord<'_>) -> Result<Whence, LineError>
     ensures { result ≡ argument.whence word.now.bytes }
 {
     match word.bytes.items() {
@@ -154,7 +154,7 @@ pub fn whence(word: &LineWord) -> Result<Whence, LineError>
 
 /// A signal.
 #[tactic(auto, unfolding(crate::specs::Argument::signal))]
-pub fn signal(word: &LineWord) -> Result<Signal, LineError>
+pub fn signal(word: &LineWord<'_>) -> Result<Signal, LineError>
     ensures { result ≡ argument.signal word.now.bytes }
 {
     match word.bytes.items() {
@@ -167,7 +167,7 @@ pub fn signal(word: &LineWord) -> Result<Signal, LineError>
 
 /// `on` or `off`.
 #[tactic(auto, unfolding(crate::specs::Argument::switch))]
-pub fn switch(word: &LineWord) -> Result<bool, LineError>
+pub fn switch(word: &LineWord<'_>) -> Result<bool, LineError>
     ensures { result ≡ argument.switch word.now.bytes }
 {
     choice(b"on", b"off", word.bytes.items()).ok_or(LineError::Syntax)
@@ -223,7 +223,7 @@ fn are_flags(flags: OpenFlags) -> bool
 
 /// Flags that may stand together, with `c` exactly if `creates`.
 #[tactic(auto, unfolding(crate::specs::Argument::flags))]
-pub fn flags(creates: bool, word: &LineWord) -> Result<OpenFlags, LineError>
+pub fn flags(creates: bool, word: &LineWord<'_>) -> Result<OpenFlags, LineError>
     ensures { result ≡ argument.flags creates word.now.bytes }
 {
     let flags = flags_in(word.bytes.items());

@@ -40,7 +40,7 @@ fn call_of_one(
     alloc: Global,
     policy: &Policy,
     name: CallName,
-    word: &LineWord,
+    word: &LineWord<'_>,
 ) -> Result<Call, LineError>
     ensures { Answers (one_parsed policy.now name word.now.bytes) result }
 {
@@ -88,8 +88,8 @@ fn call_of_two(
     alloc: Global,
     policy: &Policy,
     name: CallName,
-    first: &LineWord,
-    second: &LineWord,
+    first: &LineWord<'_>,
+    second: &LineWord<'_>,
 ) -> Result<Call, LineError>
     ensures { Answers (two_parsed policy.now name first.now.bytes second.now.bytes) result }
 {
@@ -124,9 +124,9 @@ fn call_of_two(
 fn call_of_three(
     alloc: Global,
     name: CallName,
-    first: &LineWord,
-    second: &LineWord,
-    third: &LineWord,
+    first: &LineWord<'_>,
+    second: &LineWord<'_>,
+    third: &LineWord<'_>,
 ) -> Result<Call, LineError>
     ensures { Answers (three_parsed name first.now.bytes second.now.bytes third.now.bytes) result }
 {
@@ -164,7 +164,7 @@ pub fn call_of(
     alloc: Global,
     policy: &Policy,
     name: CallName,
-    words: &[LineWord],
+    words: &[LineWord<'_>],
 ) -> Result<Call, LineError>
     ensures { Answers (parse_call policy.now name (bytes_in words.now)) result }
 {

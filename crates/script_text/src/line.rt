@@ -31,9 +31,9 @@ pub enum Line {
 fn call_line(
     alloc: Global,
     policy: &Policy,
-    tag: &LineWord,
+    tag: &LineWord<'_>,
     name: CallName,
-    arguments: &[LineWord],
+    arguments: &[LineWord<'_>],
 ) -> Result<Line, LineError>
     ensures { Answers (call_line policy.now tag.now.bytes (bytes_in arguments.now) name) result }
 {
@@ -44,7 +44,7 @@ fn call_line(
 
 // What the words of a line say.
 #[tactic(auto, unfolding(crate::specs::Line::parse_item, crate::specs::Reading::made))]
-fn item_of(alloc: Global, policy: &Policy, words: &[LineWord]) -> Result<Line, LineError>
+fn item_of(alloc: Global, policy: &Policy, words: &[LineWord<'_>]) -> Result<Line, LineError>
     ensures { Answers (parse_item policy.now words.now) result }
 {
     let [tag, name, arguments @ ..] = words else {

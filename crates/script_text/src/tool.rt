@@ -12,7 +12,7 @@ use lab_text::Policy;
 use sec_utils::{ByteLists, PathList, Tool, Util};
 use std::alloc::Global;
 
-fn paths_of(alloc: Global, words: &[LineWord]) -> Result<PathList, LineError>
+fn paths_of(alloc: Global, words: &[LineWord<'_>]) -> Result<PathList, LineError>
     ensures { Answers (paths (bytes_in words.now)) result }
 {
     let mut paths = List::new(alloc);
@@ -22,7 +22,7 @@ fn paths_of(alloc: Global, words: &[LineWord]) -> Result<PathList, LineError>
     Ok(paths)
 }
 
-fn texts_of(alloc: Global, words: &[LineWord]) -> Result<ByteLists, NoMemory>
+fn texts_of(alloc: Global, words: &[LineWord<'_>]) -> Result<ByteLists, NoMemory>
     ensures { IfOk result (λ texts. texts ≡ bytes_in words.now) }
 {
     let mut texts = List::new(alloc);
@@ -37,9 +37,9 @@ fn texts_of(alloc: Global, words: &[LineWord]) -> Result<ByteLists, NoMemory>
 fn on_paths(
     alloc: Global,
     policy: &Policy,
-    tag: &LineWord,
+    tag: &LineWord<'_>,
     tool: Tool,
-    words: &[LineWord],
+    words: &[LineWord<'_>],
 ) -> Result<Util, LineError>
     ensures { Answers (on_paths policy.now tag.now.bytes tool (bytes_in words.now)) result }
 {
@@ -62,9 +62,9 @@ fn on_paths(
 pub fn util_of(
     alloc: Global,
     policy: &Policy,
-    tag: &LineWord,
+    tag: &LineWord<'_>,
     tool: Tool,
-    words: &[LineWord],
+    words: &[LineWord<'_>],
 ) -> Result<Util, LineError>
     ensures { Answers (parse_tool policy.now tag.now.bytes tool (bytes_in words.now)) result }
 {

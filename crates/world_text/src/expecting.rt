@@ -88,7 +88,7 @@ impl Model for LevelNames {
 }
 
 // The words after a keyword, which is bare.
-fn after_keyword<'a>(keyword: &[u8], words: &'a [LineWord]) -> Option<&'a [LineWord]>
+fn after_keyword<'a, 'w>(keyword: &[u8], words: &'a [LineWord<'w>]) -> Option<&'a [LineWord<'w>]>
     ensures { MatchOption result (after_keyword keyword.now words.now ≡ None) (λ rest. after_keyword keyword.now words.now ≡ Some (bytes_in rest.now)) }
 {
     let [first, rest @ ..] = words else {
@@ -113,7 +113,7 @@ fn unknown_name() -> Parsed
 }
 
 // `world 1`.
-fn parse_format(words: &[LineWord]) -> Parsed
+fn parse_format(words: &[LineWord<'_>]) -> Parsed
     ensures { result ≡ parse_format (bytes_in words.now) }
 {
     match words {
@@ -122,7 +122,7 @@ fn parse_format(words: &[LineWord]) -> Parsed
     }
 }
 
-fn names_of(alloc: Global, words: &[LineWord]) -> Result<List<Word>, NoMemory>
+fn names_of(alloc: Global, words: &[LineWord<'_>]) -> Result<List<Word>, NoMemory>
     ensures { IfOk result (λ names. names ≡ bytes_in words.now) }
 {
     let mut names = List::new(alloc);
@@ -150,7 +150,7 @@ fn policy_of(
 }
 
 // `levels NAME NAME ...`.
-fn parse_levels(alloc: Global, words: &[LineWord]) -> Result<Parsed, NoMemory>
+fn parse_levels(alloc: Global, words: &[LineWord<'_>]) -> Result<Parsed, NoMemory>
     ensures { IfOk result (λ parsed. parsed ≡ parse_levels (bytes_in words.now)) }
 {
     let names = names_of(alloc, words)?;
@@ -167,7 +167,7 @@ fn parse_levels(alloc: Global, words: &[LineWord]) -> Result<Parsed, NoMemory>
 fn parse_categories(
     alloc: Global,
     levels: &LevelNames,
-    words: &[LineWord],
+    words: &[LineWord<'_>],
 ) -> Result<Parsed, NoMemory>
     ensures { IfOk result (λ parsed. parsed ≡ parse_categories levels.now (bytes_in words.now)) }
 {
@@ -215,7 +215,7 @@ fn both<A: Copy, B: Copy>(a: WordValue<A>, b: WordValue<B>) -> WordValue<(A, B)>
 }
 
 // `bound SET`.
-fn parse_bound(alloc: Global, policy: Policy, words: &[LineWord]) -> Parsed
+fn parse_bound(alloc: Global, policy: Policy, words: &[LineWord<'_>]) -> Parsed
     ensures { result ≡ parse_bound policy (bytes_in words.now) }
 {
     let [word] = words else {
@@ -292,7 +292,7 @@ pub struct ObjectFields {
 fn object_fields_in(
     alloc: Global,
     policy: &Policy,
-    words: &[LineWord],
+    words: &[LineWord<'_>],
 ) -> Result<Option<ObjectFields>, NoMemory>
     ensures { IfOk result (λ parsed. parsed ≡ object_fields_in policy.now (bytes_in words.now)) }
 {
@@ -334,7 +334,7 @@ pub struct ProcFields {
 fn proc_fields_in(
     alloc: Global,
     policy: &Policy,
-    words: &[LineWord],
+    words: &[LineWord<'_>],
 ) -> Result<Option<ProcFields>, NoMemory>
     ensures { IfOk result (λ parsed. parsed ≡ proc_fields_in policy.now (bytes_in words.now)) }
 {
@@ -426,7 +426,7 @@ impl PartialWorld {
 fn parse_tree(
     alloc: Global,
     so_far: PartialWorld,
-    words: &[LineWord],
+    words: &[LineWord<'_>],
     caps: WordValue<CapState>,
     body: Body,
 ) -> Result<Parsed, NoMemory>
@@ -467,7 +467,7 @@ fn parse_tree(
 fn parse_proc(
     alloc: Global,
     so_far: PartialWorld,
-    words: &[LineWord],
+    words: &[LineWord<'_>],
     caps: WordValue<CapState>,
 ) -> Result<Parsed, NoMemory>
     ensures { IfOk result (λ parsed. parsed ≡ parse_proc so_far (proc_fields_in so_far.policy (bytes_in words.now)) caps) }
@@ -503,7 +503,7 @@ fn parse_proc(
 fn parse_plain(
     alloc: Global,
     so_far: PartialWorld,
-    words: &[LineWord],
+    words: &[LineWord<'_>],
     body: Body,
 ) -> Result<Parsed, NoMemory>
     ensures { IfOk result (λ parsed. parsed ≡ parse_plain so_far body (bytes_in words.now)) }
@@ -516,14 +516,18 @@ fn parse_plain(
 }
 
 // A file with the bytes that a word stands for.
-fn file_of(word: &LineWord) -> Result<Body, NoMemory>
+fn file_of(word: &LineWord<'_>) -> Result<Body, NoMemory>
     ensures { IfOk result (λ file. file ≡ body.File word.now.bytes) }
 {
     Ok(Body::File(word.bytes.to_list()?))
 }
 
 // `file PATH MODE UID GID LABEL BYTES [CAPS]`.
-fn parse_file(alloc: Global, so_far: PartialWorld, words: &[LineWord]) -> Result<Parsed, NoMemory>
+fn parse_file(
+    alloc: Global,
+    so_far: PartialWorld,
+    words: &[LineWord<'_>],
+) -> Result<Parsed, NoMemory>
     ensures { IfOk result (λ parsed. parsed ≡ parse_file so_far (bytes_in words.now)) }
 {
     if words.len() == 6 {
@@ -543,7 +547,7 @@ fn parse_file(alloc: Global, so_far: PartialWorld, words: &[LineWord]) -> Result
 fn parse_proc_line(
     alloc: Global,
     so_far: PartialWorld,
-    words: &[LineWord],
+    words: &[LineWord<'_>],
 ) -> Result<Parsed, NoMemory>
     ensures { IfOk result (λ parsed. parsed ≡ parse_proc_line so_far (bytes_in words.now)) }
 {
@@ -555,7 +559,7 @@ fn parse_proc_line(
 }
 
 // `script`.
-fn parse_script(so_far: PartialWorld, words: &[LineWord]) -> Parsed
+fn parse_script(so_far: PartialWorld, words: &[LineWord<'_>]) -> Parsed
     ensures { result ≡ parse_script so_far (bytes_in words.now) }
 {
     if !words.is_empty() || so_far.builder.is_empty() {
@@ -568,7 +572,7 @@ fn parse_script(so_far: PartialWorld, words: &[LineWord]) -> Parsed
 fn parse_tree_line(
     alloc: Global,
     so_far: PartialWorld,
-    words: &[LineWord],
+    words: &[LineWord<'_>],
 ) -> Result<Parsed, NoMemory>
     ensures { IfOk result (λ parsed. parsed ≡ parse_tree_line so_far words.now) }
 {
@@ -593,7 +597,7 @@ fn parse_tree_line(
 impl Expecting {
     // What the words of the line say that is due.
     #[tactic(auto, unfolding(crate::specs::Expecting::parse_words))]
-    fn parse_words(self, alloc: Global, words: &[LineWord]) -> Result<Parsed, NoMemory>
+    fn parse_words(self, alloc: Global, words: &[LineWord<'_>]) -> Result<Parsed, NoMemory>
         ensures { IfOk result (λ parsed. parsed ≡ parse_words self words.now) }
     {
         match self {
