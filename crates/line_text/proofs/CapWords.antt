@@ -26,7 +26,7 @@ plain_items (b ∷ bs) plain =
     ap (λ (t : List ℕ). t ++ flat_map item_text bs) (plain_item b parts.0) ∙ ap (λ (t : List ℕ). b ∷ t) (plain_items bs parts.1)
 
 -- bytes that need no escape are quoted as they stand
-pub plain_quoted : (bytes : List ℕ) → list_all is_plain bytes ≡ true → quoted_text bytes ≡ 34 ∷ (bytes ++ 34 ∷ [])
+plain_quoted : (bytes : List ℕ) → list_all is_plain bytes ≡ true → quoted_text bytes ≡ 34 ∷ (bytes ++ 34 ∷ [])
 unfolding quoted_text
 plain_quoted bytes plain = ap (λ (t : List ℕ). 34 ∷ (t ++ 34 ∷ [])) (plain_items bytes plain)
 

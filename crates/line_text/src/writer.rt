@@ -68,6 +68,15 @@ impl LineWriter {
         Ok(self)
     }
 
+    // Appends a space.
+    #[inline(always)]
+    fn space(mut self) -> Result<LineWriter, NoMemory>
+        ensures { IfOk result (λ line. line ≡ self ++ 32 ∷ []) }
+    {
+        self.text.push(b' ')?;
+        Ok(self)
+    }
+
     /// Appends the decimal digits of a number, with no space before them.
     #[inline(always)]
     pub fn digits(mut self, n: u64) -> Result<LineWriter, NoMemory>
@@ -92,10 +101,11 @@ impl LineWriter {
 
     /// Ends the line.
     #[inline(always)]
-    pub fn line_feed(self) -> Result<LineWriter, NoMemory>
+    pub fn line_feed(mut self) -> Result<LineWriter, NoMemory>
         ensures { IfOk result (λ line. line ≡ self ++ 10 ∷ []) }
     {
-        self.bytes(b"\n")
+        self.text.push(b'\n')?;
+        Ok(self)
     }
 
     /// Appends a space and a word.
@@ -103,7 +113,7 @@ impl LineWriter {
     pub fn word(self, word: &[u8]) -> Result<LineWriter, NoMemory>
         ensures { IfOk result (λ line. line ≡ self ++ 32 ∷ word.now) }
     {
-        self.bytes(b" ")?.bytes(word)
+        self.space()?.bytes(word)
     }
 
     /// Appends words, each after a space.
@@ -122,7 +132,7 @@ impl LineWriter {
         ensures text { IfOk result (λ line. line ≡ self ++ 32 ∷ quoted_text bytes.now) }
         ensures in_range { OnOk result (are_bytes bytes.now ≡ true) }
     {
-        let mut line = self.bytes(b" ")?;
+        let mut line = self.space()?;
         put_quoted(&mut line.text, bytes)?;
         Ok(line)
     }
@@ -132,7 +142,7 @@ impl LineWriter {
         ensures text { IfOk result (λ line. line ≡ self ++ 32 ∷ spelling (with_quotes_if_needed bytes.now)) }
         ensures in_range { OnOk result (are_bytes bytes.now ≡ true) }
     {
-        let mut line = self.bytes(b" ")?;
+        let mut line = self.space()?;
         put_word(&mut line.text, bytes)?;
         Ok(line)
     }
@@ -142,21 +152,21 @@ impl LineWriter {
         ensures text { IfOk result (λ line. line ≡ self ++ 32 ∷ decimal n) }
         ensures in_range { OnOk result (IsNumber n) }
     {
-        self.bytes(b" ")?.digits(u64::from(n))
+        self.space()?.digits(u64::from(n))
     }
 
     /// Appends a space and a size in bytes.
     pub fn size(self, bytes: u64) -> Result<LineWriter, NoMemory>
         ensures { IfOk result (λ line. line ≡ self ++ 32 ∷ decimal bytes) }
     {
-        self.bytes(b" ")?.digits(bytes)
+        self.space()?.digits(bytes)
     }
 
     /// Appends a space and a mode.
     pub fn mode(self, mode: u16) -> Result<LineWriter, NoMemory>
         ensures { IfOk result (λ line. line ≡ self ++ 32 ∷ mode_text mode) }
     {
-        let mut line = self.bytes(b" ")?;
+        let mut line = self.space()?;
         put_mode(&mut line.text, mode)?;
         Ok(line)
     }
@@ -166,7 +176,7 @@ impl LineWriter {
         ensures text { IfOk result (λ line. line ≡ self ++ 32 ∷ groups_text groups.now) }
         ensures in_range { OnOk result (are_numbers groups.now ≡ true) }
     {
-        let mut line = self.bytes(b" ")?;
+        let mut line = self.space()?;
         put_groups(&mut line.text, groups)?;
         Ok(line)
     }
@@ -175,7 +185,7 @@ impl LineWriter {
     pub fn label(self, policy: &Policy, label: &Label) -> Result<LineWriter, NoMemory>
         ensures { IfOk result (λ line. line ≡ self ++ 32 ∷ label_text policy.now label.now) }
     {
-        let mut line = self.bytes(b" ")?;
+        let mut line = self.space()?;
         put_label(&mut line.text, policy, label)?;
         Ok(line)
     }
@@ -195,7 +205,7 @@ impl LineWriter {
         ensures text { IfOk result (λ line. line ≡ self ++ 32 ∷ pid_text policy.now pid.now) }
         ensures in_range { OnOk result (pid.now.n < 2 ^ 16) }
     {
-        self.bytes(b" ")?.numbered(policy, pid.n, &pid.label)
+        self.space()?.numbered(policy, pid.n, &pid.label)
     }
 
     /// Appends a space and the number of an object.
@@ -203,7 +213,7 @@ impl LineWriter {
         ensures text { IfOk result (λ line. line ≡ self ++ 32 ∷ oid_text policy.now oid.now) }
         ensures in_range { OnOk result (oid.now.n < 2 ^ 16) }
     {
-        self.bytes(b" ")?.numbered(policy, oid.n, &oid.label)
+        self.space()?.numbered(policy, oid.n, &oid.label)
     }
 
     /// Appends a space and the object or process of a check.
@@ -232,7 +242,7 @@ impl LineWriter {
         ensures text { IfOk result (λ line. line ≡ self ++ 32 ∷ place_text place) }
         ensures in_range { OnOk result (PlaceInRange place) }
     {
-        let mut line = self.bytes(b" ")?;
+        let mut line = self.space()?;
         put_place(&mut line.text, place)?;
         Ok(line)
     }
@@ -242,7 +252,7 @@ impl LineWriter {
         ensures text { IfOk result (λ line. line ≡ self ++ 32 ∷ ending_text ending) }
         ensures in_range { OnOk result (EndingInRange ending) }
     {
-        let mut line = self.bytes(b" ")?;
+        let mut line = self.space()?;
         put_ending(&mut line.text, ending)?;
         Ok(line)
     }
