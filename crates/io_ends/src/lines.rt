@@ -9,6 +9,7 @@ use crate::buffer::Buffer;
 use crate::whole::CHUNK;
 use crate::{Failed, ReadError, Source};
 use fs_path::MAX_LINE;
+use memchr::memchr;
 use std::alloc::{AllocError, Global};
 use std::marker::Model;
 
@@ -41,10 +42,11 @@ enum Look {
 }
 
 // The place of the first line feed.
+#[tactic(auto, using(crate::proofs::LineFeeds::first_line_feed))]
 fn find_line_feed(text: &[u8]) -> Option<usize>
     ensures { result ≡ position (λ b. b == 10) text.now }
 {
-    text.iter().position(|byte| *byte == b'\n')
+    memchr(b'\n', text)
 }
 
 // The length of the first line of a text, whose first `searched` bytes have no line feed.
