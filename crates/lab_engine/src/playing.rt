@@ -1,5 +1,5 @@
 // A script that is played, and the lines of the output and of the trail.
-ghost use Rattle.std.specs.Prelude.{◌≡◌, ℕ, ◌≤◌, ◌<◌, ◌+◌, ◌^◌, ◌++◌, true, cond, List, Some, None, OnOk, IfOk, length};
+ghost use Rattle.std.specs.Prelude.{◌≡◌, [], ℕ, ◌≤◌, ◌<◌, ◌+◌, ◌^◌, ◌++◌, true, cond, List, Some, None, OnOk, IfOk, length};
 ghost use Rattle.std.specs.List.{flat_map};
 ghost use Rattle.kern_model.specs.Run.{played, run, state_after_run};
 ghost use Rattle.kern_model.specs.Step.{step};
@@ -34,7 +34,8 @@ use std::mem::replace;
 
 // Takes a text, and leaves an empty one in its place.
 fn take(room: &mut Vec<u8>, alloc: Global) -> Vec<u8>
-    ensures { result.items ≡ room.old.items }
+    ensures taken { result.items ≡ room.old.items }
+    ensures left { room.new.items ≡ [] }
 {
     replace(room, Vec::new(alloc))
 }
