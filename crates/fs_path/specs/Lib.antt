@@ -4,5 +4,5 @@ pub mod Path
 pub mod PathText
 pub mod Values
 pub mod Split
-pub mod Place
+pub mod Storage
 pub mod Words

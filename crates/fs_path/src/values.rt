@@ -116,6 +116,7 @@ pub fn groups_of(alloc: Global, word: &[u8]) -> Result<Option<List<u32>>, NoMemo
 }
 
 /// Writes a number in decimal.
+#[inline(always)]
 pub fn put_number(text: &mut Vec<u8>, n: u64) -> Result<(), NoMemory>
     ensures { OnOk result (text.new.items ≡ text.old.items ++ decimal n) }
 {

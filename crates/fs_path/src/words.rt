@@ -11,12 +11,23 @@ use std::marker::Model;
 /// The most bytes that a line of an input has, without its line feed.
 pub const MAX_LINE: usize = 2_048;
 
+// Each byte that a bare word may have stands at its own place, and a point at every other place.
+static BARE_MAP: [u8; 256] = *b"\
+    ................................\
+    .!.#$%&'()*+,-./0123456789:;<=>?\
+    @ABCDEFGHIJKLMNOPQRSTUVWXYZ[.]^_\
+    `abcdefghijklmnopqrstuvwxyz{|}~.\
+    ................................\
+    ................................\
+    ................................\
+    ................................";
+
 // For how many words the list of them has room from the start.
 const USUAL_WORDS: usize = 6;
 
 /// Where the bytes of a word are.
 #[derive(Debug, Drop)]
-enum Place<'a> {
+enum Storage<'a> {
     /// In its line.
     InLine(&'a [u8]),
     /// In a list of their own, since its text in the line has escapes.
@@ -27,22 +38,25 @@ enum Place<'a> {
 #[derive(Debug)]
 pub struct WordBytes<'a> {
     alloc: Global,
-    place: Place<'a>,
+    storage: Storage<'a>,
 }
 
 impl<'a> Model for WordBytes<'a> {
     ghost use Rattle.std.specs.Prelude.{List, ℕ};
-    ghost use Rattle.fs_path.specs.Place.{bytes_at};
+    ghost use Rattle.fs_path.specs.Storage.{bytes_at};
 
     ghost Value = { List ℕ };
 
-    ghost view = { λ w. bytes_at w.place };
+    ghost view = { λ w. bytes_at w.storage };
 }
 
 // Written out, so that a drop is one call, whether or not the bytes have memory of their own.
 impl<'a> Drop for WordBytes<'a> {
     fn drop(self) {
-        let WordBytes { alloc: _, place: _ } = self;
+        let WordBytes {
+            alloc: _,
+            storage: _,
+        } = self;
     }
 }
 
@@ -53,7 +67,7 @@ impl<'a> WordBytes<'a> {
     {
         WordBytes {
             alloc,
-            place: Place::InLine(bytes),
+            storage: Storage::InLine(bytes),
         }
     }
 
@@ -63,7 +77,7 @@ impl<'a> WordBytes<'a> {
     {
         WordBytes {
             alloc,
-            place: Place::Apart(bytes),
+            storage: Storage::Apart(bytes),
         }
     }
 
@@ -71,9 +85,9 @@ impl<'a> WordBytes<'a> {
     pub fn items(&self) -> &[u8]
         ensures { result.now ≡ self.now }
     {
-        match &self.place {
-            Place::InLine(bytes) => bytes,
-            Place::Apart(bytes) => bytes.items(),
+        match &self.storage {
+            Storage::InLine(bytes) => bytes,
+            Storage::Apart(bytes) => bytes.items(),
         }
     }
 
@@ -114,7 +128,7 @@ fn is_plain(byte: u8) -> bool
 fn is_bare(byte: u8) -> bool
     ensures { result ≡ is_bare byte }
 {
-    is_plain(byte) && byte != b' '
+    BARE_MAP[byte as usize] == byte
 }
 
 // The value of a hexadecimal digit.
