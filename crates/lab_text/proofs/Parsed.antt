@@ -11,7 +11,7 @@ use Rattle.std.proofs.lemmas.List.Folds.{list_all_at}
 use Rattle.std.proofs.lemmas.List.Elements.{All-nil, All-cons}
 use Rattle.std.proofs.lemmas.List.Splits.{slice_split_none, slice_split_at}
 use Rattle.std.proofs.lemmas.Option.{same_Some}
-use Rattle.lab_lattice.specs.Cats.{CatSet, has_cat, cats_cover}
+use Rattle.lab_lattice.specs.Cats.{CatSet, has_cat, no_cats, cats_cover}
 use Rattle.lab_lattice.specs.Laws.{has-cover, cover-has, same_cats}
 use Rattle.lab_lattice.specs.Label.{Label}
 use Rattle.lab_lattice.specs.Level.{level_covers}
@@ -220,6 +220,16 @@ unfolding label_words
 parse_words n ns h all =
     ap (λ (w : LabelWords). cond (is_label_name w.level && list_all is_label_name w.cats) (Some w) None) (parse_parts n ns h all)
     ∙ ap (λ v. cond v (Some (record { level = n; cats = ns })) None) (and_from (is_label_name n) (list_all is_label_name ns) h all)
+
+-- the name of a level denotes that level, with no category
+pub level_parsed : (p : PolicyNames) (text : List ℕ) (level : ℕ) (cats : CatSet) → place_of p.levels text ≡ Some level → is_label_name text ≡ true → cats ≡ no_cats
+    → parse_label p text ≡ Some (record { first = level; second = cats })
+unfolding parse_label
+level_parsed p text level cats placed named none =
+    ap (λ t. option_and_then (label_of p) (label_words t)) (sym (append-nil text))
+    ∙ ap (option_and_then (label_of p)) (parse_words text [] named refl)
+    ∙ ap (λ o. labelled o (Some [])) placed
+    ∙ ap (λ (c : CatSet). Some (record { first = level; second = c })) (sym none)
 
 -- ---- the categories in a label's text
 

@@ -1,14 +1,15 @@
 -- What holds of names that make a policy, and the places of names in their list.
-use Rattle.std.specs.Prelude.{◌≡◌, ℕ, ◌≤◌, ◌<◌, Bool, true, false, not, ◌==◌, nat_lt, cond, List, [], ◌∷◌, length, get_or, None, Some, refl, zero, suc}
+use Rattle.std.specs.Prelude.{◌≡◌, ℕ, ◌≤◌, ◌<◌, Bool, true, false, not, ◌==◌, nat_lt, cond, List, [], ◌∷◌, length, get_or, None, Some, zero, suc}
+use Rattle.std.specs.Cmp.Lexicographic.{same_text}
 use Rattle.std.specs.List.{list_all, list_any, position_or_len}
-use Rattle.std.proofs.Common.{ap, sym, ◌∙◌, arith}
-use Rattle.std.proofs.lemmas.Bool.{lt-ltb, ltb-false, or_parts, and_parts, not-true, both_ways, false_from_ne_true, not-false}
+use Rattle.std.proofs.Common.{ap, sym, ◌∙◌, arith, inl, inr}
+use Rattle.std.proofs.lemmas.Bool.{lt-ltb, ltb-false, or_cases, or_parts, and_parts, not-true, both_ways, false_from_ne_true, not-false}
 use Rattle.std.proofs.lemmas.Bool.Decides.{nat_tests}
 use Rattle.std.proofs.lemmas.Cmp.{nat_list_eq_equiv}
 use Rattle.std.proofs.lemmas.List.Folds.{list_any_at}
 use Rattle.std.proofs.lemmas.List.Sums.{position_or_len_is}
 use Rattle.fs_path.proofs.PathLaws.{cond_none}
-use Rattle.fs_path.proofs.SplitLemmas.{any_before_end}
+use Rattle.fs_path.proofs.SplitLemmas.{any_before_end, position_found}
 use Rattle.lab_text.specs.Names.{Names, same_bytes, is_label_name, are_distinct, place_of}
 use Rattle.lab_text.specs.Policy.{PolicyNames, names_fault, MakePolicy}
 
@@ -46,6 +47,20 @@ policy_facts p h =
     }
 
 -- ---- places
+
+-- what holds of each name in a list holds of a name that is in it
+listed_holds : (f : List ℕ → Bool) (names : Names) (word : List ℕ) → list_any (same_bytes word) names ≡ true → list_all f names ≡ true → f word ≡ true
+listed_holds f [] word h all = absurd (cc)
+listed_holds f (x ∷ xs) word h all =
+    let parts = and_parts (f x) (list_all f xs) all in
+    elim (or_cases (same_bytes word x) (list_any (same_bytes word) xs) h) [
+      | inl same ↦ ap f (same_text word x (sym same)) ∙ parts.0
+      | inr later ↦ listed_holds f xs word later parts.1
+    ]
+
+-- a level's name has the form of a name
+pub placed_name : (p : PolicyNames) (word : List ℕ) (i : ℕ) → MakePolicy p → place_of p.levels word ≡ Some i → is_label_name word ≡ true
+placed_name p word i h e = listed_holds is_label_name p.levels word (position_found (same_bytes word) p.levels i e).2 (policy_facts p h).level_names
 
 -- a name that is not in the list has no place
 pub unlisted_unplaced : (names : Names) (word : List ℕ) → list_any (same_bytes word) names ≡ false → place_of names word ≡ None

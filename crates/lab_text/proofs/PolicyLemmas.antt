@@ -26,6 +26,11 @@ pub answered : {A : Type 0} (r : Option A) (x : A) (P : Type 0) → (IsSome r �
 answered None x P s i p = let some = s.1 p in absurd (cc)
 answered (Some y) x P s i p = ap Some i
 
+-- what holds in any case holds of a value that there may be
+pub if_some : {A : Type 0} {P : Type 0} (r : Option A) → P → IfSome r (λ _. P)
+if_some None p = tt
+if_some (Some y) p = p
+
 -- the top label of a policy has its last level, and the categories below their count
 pub is_top : (p : PolicyNames) (level : ℕ) (cats : CatSet) (n m : ℕ) → level ≡ n - 1 → n ≡ length p.levels → cats ≡ set.from_list (range_with_len 0 m) → m ≡ length p.cats → record { first = level; second = cats } ≡ top_of p
 unfolding top_of

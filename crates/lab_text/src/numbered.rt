@@ -8,6 +8,7 @@ use lab_lattice::Label;
 
 /// Writes a number and the label that it was drawn at, as `n@label`.
 #[tactic(auto, unfolding(crate::specs::Numbered::numbered_text))]
+#[inline(always)]
 pub fn put_numbered(
     text: &mut Vec<u8>,
     policy: &Policy,

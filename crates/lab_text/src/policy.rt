@@ -1,5 +1,5 @@
 // The names that a world gives to levels and categories.
-ghost use Rattle.std.specs.Prelude.{◌≡◌, ◌-◌, ◌≤◌, length, MatchResult, IfOk, IfErr};
+ghost use Rattle.std.specs.Prelude.{◌≡◌, ◌-◌, ◌≤◌, true, length, MatchResult, IfOk, IfErr, IfSome};
 ghost use Rattle.std.specs.FinSet as set;
 ghost use Rattle.std.specs.List.{list_any, list_all, range_with_len};
 ghost use Rattle.std.specs.Option.{option_map};
@@ -165,7 +165,8 @@ impl Policy {
 
     // The level with this name.
     pub(crate) fn level_named(&self, name: &[u8]) -> Option<Level>
-        ensures { result ≡ place_of self.now.levels name.now }
+        ensures place { result ≡ place_of self.now.levels name.now }
+        ensures name { IfSome result (λ _. is_label_name name.now ≡ true) }
     {
         let place = place_of(self.levels(), name)?;
         Level::new(place as u8)

@@ -1,5 +1,5 @@
 // The texts of labels.
-ghost use Rattle.std.specs.Prelude.{◌≡◌, ◌+◌, ◌++◌, ◌<◌, ◌^◌, true, get_or, [], IfOk, IfErr, OnOk, Some, None};
+ghost use Rattle.std.specs.Prelude.{◌≡◌, ◌+◌, ◌++◌, ◌<◌, ◌^◌, true, get_or, [], IfOk, IfErr, IfSome, OnOk, Some, None};
 ghost use Rattle.std.specs.FinSet as set;
 ghost use Rattle.std.specs.Option.{option_copied, option_map};
 ghost use Rattle.fs_path.specs.Split.{pieces_of_rest, bytes_from};
@@ -45,13 +45,27 @@ fn cats_named(policy: &Policy, list: Option<&[u8]>, start: usize) -> Result<Cats
     Ok(cats)
 }
 
-/// The label that a text denotes. Its form is checked before any name.
+// The label of a level alone, where the text is the level's name.
+fn level_alone(policy: &Policy, text: &[u8]) -> Option<Label>
+    ensures { IfSome result (λ label. parse_label policy.now text.now ≡ Some label) }
+{
+    let first = policy.level_named(text)?;
+    Some(Pair {
+        first,
+        second: Cats::empty(),
+    })
+}
+
+/// The label that a text denotes. A fault of its form comes before an unknown name.
 pub fn mac_from_text(policy: &Policy, text: &[u8]) -> Result<Label, LabelError>
     ensures parsed { IfOk result (λ label. parse_label policy.now text.now ≡ Some label) }
     ensures valid { IfOk result (λ label. is_valid policy.now label ≡ true) }
     ensures cause { IfErr result (SaysNone policy.now text.now) }
     ensures none { IfErr result (λ _. parse_label policy.now text.now ≡ None) }
 {
+    if let Some(label) = level_alone(policy, text) {
+        return Ok(label);
+    }
     if let Some(at) = syntax_fault(text) {
         return Err(LabelError::Syntax(at));
     }
@@ -75,6 +89,7 @@ fn level_name<'a>(policy: &'a Policy, label: &Label) -> &'a [u8]
 
 /// Writes a label: each of its categories once, in the policy's order. Of a label that is not valid in the policy only the
 /// names that the policy has are written.
+#[inline(always)]
 pub fn put_label(text: &mut Vec<u8>, policy: &Policy, label: &Label) -> Result<(), NoMemory>
     ensures { OnOk result (text.new.items ≡ text.old.items ++ label_text policy.now label.now) }
 {
