@@ -1,15 +1,17 @@
 -- Texts that are written piece by piece.
-use Rattle.std.proofs.Common.{◌≡◌, ◌≢◌, ℕ, ◌+◌, ◌<◌, Bool, true, false, cond, List, [], ◌∷◌, ◌++◌, length, take, drop, map, refl, sym, ◌∙◌, ap, arith}
-use Rattle.std.specs.Prelude.{not, ◌&&◌, ◌||◌, nat_lt}
+use Rattle.std.proofs.Common.{◌≡◌, ◌≢◌, ℕ, ◌+◌, ◌<◌, ◌≤◌, Bool, true, false, cond, List, [], ◌∷◌, ◌++◌, length, take, drop, map, refl, sym, ◌∙◌, ap, arith, zero, suc, inl, inr}
+use Rattle.std.specs.Prelude.{not, ◌&&◌, ◌||◌, ◌==◌, nat_lt}
 use Rattle.std.specs.Bool.{beq}
 use Rattle.std.specs.List.{filter, join_with_byte, list_any}
 use Rattle.std.proofs.Math.Bool.{and-true}
+use Rattle.std.proofs.lemmas.Bool.{and_parts, eqb-true, false_from_ne_true, or_cases, or_right}
 use Rattle.std.proofs.lemmas.List.{append-nil, append_assoc, drop_more, drop_all, length-append, nil_from_length}
 use Rattle.std.proofs.lemmas.List.Folds.{list_any_more}
 use Rattle.cap_bits.specs.Cap.{cap_number, cap_name, all_caps, cap_at, cap_at-number}
 use Rattle.cap_bits.proofs.Caps.{few_caps}
-use Rattle.cap_bits.specs.CapSet.{CapSet, has, union_of, minus_of}
-use Rattle.cap_bits.proofs.CapSets.{has-union_of, has-minus_of}
+use Rattle.cap_bits.specs.CapSet.{CapSet, has, no_caps, without_cap, same_cap, same_sets, union_of, minus_of}
+use Rattle.cap_bits.specs.Laws.{same_sets-decides}
+use Rattle.cap_bits.proofs.CapSets.{same_cap-decides, has-no_caps, has-without_cap, has-union_of, has-minus_of}
 use Rattle.cap_bits.specs.State.{has_flag}
 use Rattle.cap_bits.specs.declared.cap.Cap.{Cap}
 use Rattle.cap_bits.specs.declared.cap.Cap.TheVariants.{Chown, DacExecute, DacReadSearch, DacWrite, Fowner, Fsetid, Kill, LinkDir, Setfcap, Setgid, Setuid, MacDowngrade, MacRead, MacRelabelSubj, MacUpgrade, MacWrite, AuditControl, AuditWrite}
@@ -48,6 +50,26 @@ caps_from cap n is =
 no_more_caps : (n : ℕ) → 17 < n → drop n all_caps ≡ []
 no_more_caps n past = drop_all n all_caps (omega arith)
 
+-- the numbers of capabilities count up from k
+abbrev count_up : ℕ → List Cap → Bool
+count_up k [] = true
+count_up k (c ∷ cs) = (cap_number c == k) && count_up (k + 1) cs
+
+-- where no capability from a number on passes a test, none from that number on is kept
+none_kept : (p : Cap → Bool) (k n : ℕ) (cs : List Cap) → count_up k cs ≡ true → ((q : Cap) → k + n ≤ cap_number q → p q ≡ false) → filter p (drop n cs) ≡ []
+none_kept p k zero [] up none = refl
+none_kept p k (suc n) [] up none = refl
+none_kept p k zero (c ∷ cs) up none =
+    let parts = and_parts (cap_number c == k) (count_up (k + 1) cs) up in
+    let here = eqb-true (cap_number c) k parts.0 in
+    ap (λ v. cond v (c ∷ filter p cs) (filter p cs)) (none c (omega arith)) ∙ none_kept p (k + 1) zero cs parts.1 (λ q past. none q (omega arith))
+none_kept p k (suc n) (c ∷ cs) up none =
+    none_kept p (k + 1) n cs (and_parts (cap_number c == k) (count_up (k + 1) cs) up).1 (λ q past. none q (omega arith))
+
+-- the set with no capability has none
+none_in : (left empty : CapSet) (q : Cap) → empty ≡ no_caps → same_sets left empty ≡ true → has left q ≡ false
+none_in left empty q is same = ap (λ (caps : CapSet). has caps q) ((same_sets-decides left empty).0 same ∙ is) ∙ has-no_caps q
+
 -- the names of a set's capabilities from a number on, the first after a mark and each further one after a comma
 unfoldable pub names_from : List ℕ → CapSet → ℕ → List ℕ
 names_from mark caps n = after mark 44 (map cap_name (filter (has caps) (drop n all_caps)))
@@ -68,7 +90,7 @@ names_absent mark caps cap n is absent =
     ap (λ (cs : List Cap). after mark 44 (map cap_name (filter (has caps) cs))) (caps_from cap n is)
     ∙ ap (λ v. after mark 44 (map cap_name (cond v (cap ∷ filter (has caps) (drop (n + 1) all_caps)) (filter (has caps) (drop (n + 1) all_caps))))) absent
 
-names_end : (mark : List ℕ) (caps : CapSet) (n : ℕ) → 17 < n → names_from mark caps n ≡ []
+pub names_end : (mark : List ℕ) (caps : CapSet) (n : ℕ) → 17 < n → names_from mark caps n ≡ []
 unfolding names_from
 names_end mark caps n past = ap (λ (cs : List Cap). after mark 44 (map cap_name (filter (has caps) cs))) (no_more_caps n past)
 
@@ -83,10 +105,29 @@ pub name_passed : (old mark whole : List ℕ) (caps : CapSet) (cap : Cap) (n : �
     → old ++ names_from mark caps n ≡ whole → old ++ names_from mark caps (n + 1) ≡ whole
 name_passed old mark whole caps cap n is absent so_far = ap (λ (t : List ℕ). old ++ t) (sym (names_absent mark caps cap n is absent)) ∙ so_far
 
-pub names_written : (old new mark : List ℕ) (caps : CapSet) (n : ℕ) → 17 < n → new ++ names_from mark caps n ≡ old ++ names_from [] caps 0
+-- where none of the set's capabilities from a number on is left, there are no more names
+pub names_none : (mark : List ℕ) (caps left empty : CapSet) (n : ℕ) → ((q : Cap) → n ≤ cap_number q → has left q ≡ has caps q) → empty ≡ no_caps → same_sets left empty ≡ true → names_from mark caps n ≡ []
+unfolding names_from
+names_none mark caps left empty n so_far is none =
+    ap (λ (cs : List Cap). after mark 44 (map cap_name cs)) (none_kept (has caps) 0 n all_caps refl (λ q past. sym (so_far q (omega arith)) ∙ none_in left empty q is none))
+
+-- a capability is in the set where it is left at its turn
+pub still_there : (caps left : CapSet) (cap : Cap) (n : ℕ) → cap_number cap ≡ n → ((q : Cap) → n ≤ cap_number q → has left q ≡ has caps q) → has caps cap ≡ has left cap
+still_there caps left cap n is so_far = sym (so_far cap (omega arith))
+
+-- what is left of a set's capabilities after one of them was written
+pub names_left : (caps left new : CapSet) (cap : Cap) (n : ℕ) → cap_number cap ≡ n → new ≡ without_cap left cap → ((q : Cap) → n ≤ cap_number q → has left q ≡ has caps q)
+    → (q : Cap) → n + 1 ≤ cap_number q → has new q ≡ has caps q
+names_left caps left new cap n is new_is so_far q past =
+    ap (λ (c : CapSet). has c q) new_is ∙ has-without_cap left cap q ∙ ap (λ v. not v && has left q) (false_from_ne_true (same_cap q cap) other) ∙ so_far q (omega arith)
+  where
+    other : same_cap q cap ≡ true → ⊥
+    other same = let number = ap cap_number ((same_cap-decides q cap).0 same) in omega arith
+
+pub names_written : (old new mark : List ℕ) (caps : CapSet) (n : ℕ) → names_from mark caps n ≡ [] → new ++ names_from mark caps n ≡ old ++ names_from [] caps 0
     → new ≡ old ++ join_with_byte 44 (map cap_name (caps_of caps))
-names_written old new mark caps n past written =
-    sym (append-nil new) ∙ ap (λ (t : List ℕ). new ++ t) (sym (names_end mark caps n past)) ∙ written ∙ ap (λ (t : List ℕ). old ++ t) (names_all caps)
+names_written old new mark caps n done written =
+    sym (append-nil new) ∙ ap (λ (t : List ℕ). new ++ t) (sym done) ∙ written ∙ ap (λ (t : List ℕ). old ++ t) (names_all caps)
 
 -- ---- groups
 
@@ -197,7 +238,7 @@ groups_absent mark s cap n is later =
     ap (λ (cs : List Cap). after mark 32 (map (group_text s) (filter (is_first s) cs))) (caps_from cap n is)
     ∙ ap (λ v. after mark 32 (map (group_text s) (cond v (cap ∷ filter (is_first s) (drop (n + 1) all_caps)) (filter (is_first s) (drop (n + 1) all_caps))))) (first_is_left s cap n is ∙ later)
 
-groups_end : (mark : List ℕ) (s : CapState) (n : ℕ) → 17 < n → groups_from mark s n ≡ []
+pub groups_end : (mark : List ℕ) (s : CapState) (n : ℕ) → 17 < n → groups_from mark s n ≡ []
 unfolding groups_from
 groups_end mark s n past = ap (λ (cs : List Cap). after mark 32 (map (group_text s) (filter (is_first s) cs))) (no_more_caps n past)
 
@@ -212,10 +253,37 @@ pub group_passed : (old mark whole : List ℕ) (s : CapState) (cap : Cap) (n : �
     → old ++ groups_from mark s n ≡ whole → old ++ groups_from mark s (n + 1) ≡ whole
 group_passed old mark whole s cap n is later so_far = ap (λ (t : List ℕ). old ++ t) (sym (groups_absent mark s cap n is later)) ∙ so_far
 
-pub groups_written : (old new mark : List ℕ) (s : CapState) (n : ℕ) → 17 < n → new ++ groups_from mark s n ≡ old ++ groups_from [] s 0
+any_longer : (p : Cap → Bool) (n m : ℕ) (cs : List Cap) → n ≤ m → list_any p (take n cs) ≡ true → list_any p (take m cs) ≡ true
+any_longer p zero m cs few h = absurd (cc)
+any_longer p (suc n) zero cs few h = absurd (omega arith)
+any_longer p (suc n) (suc m) [] few h = absurd (cc)
+any_longer p (suc n) (suc m) (c ∷ cs) few h =
+    elim (or_cases (p c) (list_any p (take n cs)) h) [
+      | inl t ↦ ap (λ v. v || list_any p (take m cs)) t
+      | inr t ↦ or_right (p c) (list_any p (take m cs)) (any_longer p n m cs (omega arith) t)
+    ]
+
+-- a capability that is not left before a number is not left before a later one
+not_later : (s : CapState) (q : Cap) (n m : ℕ) → n ≤ m → is_left s n q ≡ false → is_left s m q ≡ false
+unfolding is_left
+not_later s q n m few h = by_flags (list_any (has_flag s q) all_flags) (list_any (same_flags s q) (take n all_caps)) (any_longer (same_flags s q) n m all_caps few) h
+  where
+    by_flags : (a b : Bool) {c : Bool} → (b ≡ true → c ≡ true) → (a && not b) ≡ false → (a && not c) ≡ false
+    by_flags false b more h = refl
+    by_flags true true more h = ap not (more refl)
+    by_flags true false more h = absurd (cc)
+
+-- where no capability is left, there are no more clauses
+pub groups_none : (mark : List ℕ) (s : CapState) (left empty : CapSet) (n : ℕ) → ((q : Cap) → has left q ≡ is_left s n q) → empty ≡ no_caps → same_sets left empty ≡ true → groups_from mark s n ≡ []
+unfolding groups_from
+groups_none mark s left empty n so_far is none =
+    ap (λ (cs : List Cap). after mark 32 (map (group_text s) cs))
+    (none_kept (is_first s) 0 n all_caps refl (λ q past. first_is_left s q (cap_number q) refl ∙ not_later s q n (cap_number q) (omega arith) (sym (so_far q) ∙ none_in left empty q is none)))
+
+pub groups_written : (old new mark : List ℕ) (s : CapState) (n : ℕ) → groups_from mark s n ≡ [] → new ++ groups_from mark s n ≡ old ++ groups_from [] s 0
     → new ≡ old ++ join_with_byte 32 (map (group_text s) (firsts_of s))
-groups_written old new mark s n past written =
-    sym (append-nil new) ∙ ap (λ (t : List ℕ). new ++ t) (sym (groups_end mark s n past)) ∙ written ∙ ap (λ (t : List ℕ). old ++ t) (groups_all s)
+groups_written old new mark s n done written =
+    sym (append-nil new) ∙ ap (λ (t : List ℕ). new ++ t) (sym done) ∙ written ∙ ap (λ (t : List ℕ). old ++ t) (groups_all s)
 
 -- what is left after a group was written
 pub left_after : (s : CapState) (left : CapSet) (cap : Cap) (n : ℕ) → cap_number cap ≡ n → ((q : Cap) → has left q ≡ is_left s n q) → (q : Cap) → has (minus_of left (group_of s cap)) q ≡ is_left s (n + 1) q

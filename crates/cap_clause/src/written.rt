@@ -20,12 +20,17 @@ const USUAL_TEXT: usize = 32;
 fn put_names(text: &mut Vec<u8>, caps: &CapSet) -> Result<(), NoMemory>
     ensures { OnOk result (text.new.items ≡ text.old.items ++ join_with_byte 44 (map cap_name (caps_of caps.now))) }
 {
+    let mut left = *caps;
     let mut mark: &[u8] = b"";
     let mut number = 0;
     while let Some(cap) = Cap::from_number(number) {
-        if caps.has(cap) {
+        if left == CapSet::none() {
+            return Ok(());
+        }
+        if left.has(cap) {
             text.extend_from_slice(mark)?;
             text.extend_from_slice(cap.name())?;
+            left = left.without(cap);
             mark = b",";
         }
         number += 1;
@@ -126,6 +131,9 @@ fn put_groups(text: &mut Vec<u8>, state: &CapState) -> Result<(), NoMemory>
     let mut mark: &[u8] = b"";
     let mut candidate = 0;
     while let Some(cap) = Cap::from_number(candidate) {
+        if left == CapSet::none() {
+            return Ok(());
+        }
         if left.has(cap) {
             text.extend_from_slice(mark)?;
             put_group(text, state, cap)?;

@@ -1,7 +1,7 @@
 use Rattle.std.proofs.Common.{◌+◌, ◌++◌, ◌∙◌, ap, sym, refl, arith}
 use Rattle.cap_bits.proofs.Caps.{few_caps}
 use Rattle.cap_bits.specs.CapSet.{has, minus_of, union_of}
-use Rattle.cap_clause.proofs.WriteLemmas.{groups_from, left_at_first, left_after, left_past, group_written, group_passed, groups_written}
+use Rattle.cap_clause.proofs.WriteLemmas.{groups_from, left_at_first, left_after, left_past, group_written, group_passed, groups_none, groups_end, groups_written}
 use Rattle.cap_clause.proofs.written.put_groups.Goals as goal
 use Rattle.cap_clause.proofs.written.put_groups.Goals.{then-has+in_ok-extend_from_slice+in_ok-put_group, else-has}
 
@@ -36,5 +36,12 @@ loop-cap-preserved c =
           }
     ]
 
+pub returns-then-eq : goal.returns-then-eq
+returns-then-eq c =
+    groups_written c.args.text.now.items c.loop-cap.text.items c.loop-cap.mark.now c.args.state.now c.loop-cap.candidate
+    (groups_none c.loop-cap.mark.now c.args.state.now c.loop-cap.left c.none.result c.loop-cap.candidate c.loop-cap.invariant.left c.none.ensures (sym c.if-eq.ensures)) c.loop-cap.invariant.text
+
 pub returns : goal.returns
-returns c = groups_written c.args.text.now.items c.loop-cap.text.items c.loop-cap.mark.now c.args.state.now c.loop-cap.candidate c.in_default.ensures.number c.loop-cap.invariant.text
+returns c =
+    groups_written c.args.text.now.items c.loop-cap.text.items c.loop-cap.mark.now c.args.state.now c.loop-cap.candidate
+    (groups_end c.loop-cap.mark.now c.args.state.now c.loop-cap.candidate c.in_default.ensures.number) c.loop-cap.invariant.text
