@@ -1,5 +1,7 @@
 // The words of a line of a script: its tag, and the arguments of its call.
-ghost use Rattle.std.specs.Prelude.{◌≡◌};
+ghost use Rattle.std.specs.Prelude.{◌≡◌, ◌==◌, [], ◌∷◌, cond, drop};
+ghost use Rattle.std.specs.List.{starts_with};
+ghost use Rattle.fs_path.specs.Options.{keep_if};
 ghost use Rattle.kern_model.specs.Arguments.{are_flags};
 ghost use Rattle.kern_model.specs.declared.limits.TheConstants.{MAX_STATUS};
 ghost use Rattle.script_text.specs.Reading.{Answers};
@@ -173,44 +175,28 @@ pub fn switch(word: &LineWord<'_>) -> Result<bool, LineError>
     choice(b"on", b"off", word.bytes.items()).ok_or(LineError::Syntax)
 }
 
-// Whether a letter stands in a word.
-fn stands_in(word: &[u8], letter: u8) -> bool
-    ensures { result ≡ argument.stands_in word.now letter }
+// Whether a text begins with a letter, and the text without it.
+fn strip(text: &[u8], letter: u8) -> (bool, &[u8])
+    ensures begins { result.0 ≡ starts_with ◌==◌ text.now (letter ∷ []) }
+    ensures rest { result.1.now ≡ drop (cond result.0 1 0) text.now }
 {
-    word.iter().any(|byte| *byte == letter)
-}
-
-// The flags whose letters stand in a word.
-fn flags_in(word: &[u8]) -> OpenFlags
-    ensures { result ≡ argument.flags_in word.now }
-{
-    OpenFlags {
-        r: stands_in(word, b'r'),
-        w: stands_in(word, b'w'),
-        c: stands_in(word, b'c'),
-        x: stands_in(word, b'x'),
-        t: stands_in(word, b't'),
-        a: stands_in(word, b'a'),
+    match text {
+        [first, rest @ ..] if *first == letter => (true, rest),
+        _ => (false, text),
     }
 }
 
-// Whether a word consists of letters of flags, in their order and each at most once.
-fn is_in_order(word: &[u8]) -> bool
-    ensures { result ≡ argument.is_in_order word.now }
+// The flags whose letters make a word, in their order and each at most once.
+fn flags_of(word: &[u8]) -> Option<OpenFlags>
+    ensures { result ≡ keep_if (argument.is_in_order word.now) (argument.flags_in word.now) }
 {
-    let mut left = word;
-    for letter in b"rwcxta" {
-        if stands_in(word, *letter) {
-            let [first, rest @ ..] = left else {
-                return false;
-            };
-            if first != letter {
-                return false;
-            }
-            left = rest;
-        }
-    }
-    left.is_empty()
+    let (r, left) = strip(word, b'r');
+    let (w, left) = strip(left, b'w');
+    let (c, left) = strip(left, b'c');
+    let (x, left) = strip(left, b'x');
+    let (t, left) = strip(left, b't');
+    let (a, left) = strip(left, b'a');
+    left.is_empty().then_some(OpenFlags { r, w, c, x, t, a })
 }
 
 // Whether a call may have these flags together.
@@ -222,12 +208,12 @@ fn are_flags(flags: OpenFlags) -> bool
 }
 
 /// Flags that may stand together, with `c` exactly if `creates`.
-#[tactic(auto, unfolding(crate::specs::Argument::flags))]
+#[tactic(auto, using(crate::proofs::ArgumentLemmas::flags_fitting))]
 pub fn flags(creates: bool, word: &LineWord<'_>) -> Result<OpenFlags, LineError>
     ensures { result ≡ argument.flags creates word.now.bytes }
 {
-    let flags = flags_in(word.bytes.items());
-    if !is_in_order(word.bytes.items()) || !are_flags(flags) || flags.c != creates {
+    let flags = flags_of(word.bytes.items()).ok_or(LineError::Syntax)?;
+    if !are_flags(flags) || flags.c != creates {
         return Err(LineError::Syntax);
     }
     Ok(flags)

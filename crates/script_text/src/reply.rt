@@ -9,6 +9,7 @@ use line_text::LineWriter;
 
 /// The reply line of a call, with its line feed. `word` names the call, and `room` is an earlier text, whose memory is used.
 #[tactic(auto, using(line_text::proofs::ReplyLemmas::line_written), unfolding(line_text::specs::Reply::reply_line))]
+#[inline(always)]
 pub fn reply_text(
     room: Vec<u8>,
     policy: &Policy,
