@@ -4,4 +4,5 @@ pub mod Lists
 pub mod NumberLaws
 pub mod Outcomes
 pub mod Rows
+pub mod Slots
 pub mod Sorted

@@ -16,3 +16,13 @@ on_ok (Err e) then h = tt
 pub on_err : {X E P Q : Type 0} (r : Result X E) → (P → Q) → OnErr r P → OnErr r Q
 on_err (Ok x) then h = tt
 on_err (Err e) then h = then h
+
+-- what holds in any case holds where a value is lent
+pub always : {B P : Type 0} (r : Option B) → P → OnSome r P
+always None p = tt
+always (Some b) p = p
+
+-- and where a call fails
+pub where_err : {X E P : Type 0} (r : Result X E) → P → OnErr r P
+where_err (Ok x) p = tt
+where_err (Err e) p = p

@@ -1,17 +1,11 @@
 -- What a table ends as, where a value of it is lent.
-use Rattle.std.specs.Prelude.{◌≡◌, ℕ, List, Option, Some, OnSome}
+use Rattle.std.specs.Prelude.{◌≡◌, Option, OnSome}
 use Rattle.std.specs.Borrow.{LendsSo, MutBor, Fml, RattleType}
 use Rattle.std.specs.FinMap as map
 use Rattle.std.specs.FinMap.{FinMap}
 use Rattle.num_table.specs.Numbers.{Num, num_cmp}
-use Rattle.num_table.specs.Rows.{IsSet}
-use Rattle.num_table.specs.contracts.row.Row as row
 use Rattle.num_table.specs.contracts.table.Table as table
 
--- a list ends with the value that was lent as it was left, and as it was where there is none
-abbrev pub LendsPlace : (T : RattleType) → MutBor (List (Option T.Denot)) → ℕ → Option (MutBor T.Denot) → Fml
-LendsPlace T s n r = LendsSo (row.the_row T) T s r (λ new x. OnSome r (IsSet s.now n (Some x) new)) (λ new. new ≡ s.now)
-
--- so does a table
+-- it ends with the value that was lent as it was left, and as it was where there is none
 abbrev pub LendsItem : (T : RattleType) → MutBor (FinMap num_cmp T.Denot) → Num → Option (MutBor T.Denot) → Fml
 LendsItem T s n r = LendsSo (table.the_row T) T s r (λ new x. OnSome r (new ≡ map.insert s.now n x)) (λ new. new ≡ s.now)

@@ -2,3 +2,4 @@ pub mod Keys
 pub mod Lending
 pub mod Numbers
 pub mod Rows
+pub mod Slots

@@ -1,6 +1,7 @@
 //! Values by numbers that are drawn in turn: a list for each label, with a place for each count of a draw.
 #![tactic(auto)]
 
+mod keys;
 mod row;
 mod table;
 

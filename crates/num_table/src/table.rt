@@ -1,24 +1,26 @@
 // Values by numbers that are drawn in turn.
-ghost use Rattle.std.specs.Prelude.{◌≡◌, IfOk, IsOk, IsSome, OnErr, OnOk, option_copied};
+ghost use Rattle.std.specs.Prelude.{◌≡◌, None, IfOk, IsOk, IsSome, OnErr, OnOk, option_copied};
 ghost use Rattle.std.specs.Borrow.{sem};
 ghost use Rattle.std.specs.FinMap as map;
 
-use crate::row::Row;
-use kern_model::{LabelMap, NoMemory};
+use crate::keys::Keys;
+use kern_model::NoMemory;
 use lab_lattice::Label;
+use slab::Slab;
 use std::alloc::Global;
 use std::marker::Model;
 
 /// Values by numbers that are drawn in turn at each label, seen as a finite map. A list never shrinks: where a value is removed,
-/// its place stays.
+/// its place stays. Its slot in the slab goes to the next value.
 pub struct Table<T> {
-    alloc: Global,
-    kept: LabelMap<Row<T>>,
+    slots: Slab<T>,
+    // Where each value is in the slab.
+    keys: Keys,
 }
 
 impl<T: Drop> Drop for Table<T> {
     fn drop(self) {
-        let Table { alloc: _, kept: _ } = self;
+        let Table { slots: _, keys: _ } = self;
     }
 }
 
@@ -27,13 +29,15 @@ impl<T> Model for Table<T> {
     ghost use Rattle.std.specs.Coded.{coded×, coded_ℕ};
     ghost use Rattle.lab_lattice.specs.Label.{label_code};
     ghost use Rattle.num_table.specs.Numbers.{num_cmp};
-    ghost use Rattle.num_table.specs.Rows.{items_in};
+    ghost use Rattle.num_table.specs.Slots.{IsPlaced, values_in};
 
     ghost Value = { map.FinMap num_cmp T };
 
     ghost coded = { map.code (coded× label_code coded_ℕ) T.code };
 
-    ghost view = { λ t. items_in t.kept };
+    ghost view = { λ t. values_in t.slots t.keys };
+
+    ghost invariant = { λ t. IsPlaced t.slots t.keys };
 }
 
 impl<T: Drop> Table<T> {
@@ -45,8 +49,8 @@ impl<T: Drop> Table<T> {
         ensures { result ≡ map.empty }
     {
         Table {
-            alloc,
-            kept: LabelMap::new(alloc),
+            slots: Slab::new(alloc),
+            keys: Keys::new(alloc),
         }
     }
 
@@ -54,7 +58,8 @@ impl<T: Drop> Table<T> {
     pub fn get(&self, label: &Label, n: u16) -> Option<&T>
         ensures { option_copied result ≡ map.get self.now (label.now, n) }
     {
-        self.kept.get(label)?.get(n)
+        let key = self.keys.get(label, n)?;
+        self.slots.get(key as usize)
     }
 
     /// The value at a number, for changes to it, if there is one.
@@ -62,10 +67,8 @@ impl<T: Drop> Table<T> {
         ensures* writes_back { sem 𝓛 (LendsItem T.row self.entry (label.now, n) result) }
         ensures value { option_copied_mut result ≡ map.get self.old (label.now, n) }
     {
-        match self.kept.get_mut(label) {
-            Some(row) => row.get_mut(n),
-            None => None,
-        }
+        let key = self.keys.find(label, n)?;
+        self.slots.get_mut(key as usize)
     }
 
     /// Puts a value at a number, in place of one that is there. Where one is there, it takes no memory.
@@ -81,17 +84,20 @@ impl<T: Drop> Table<T> {
         self.add(label, n, item)
     }
 
-    // Puts a value at a number.
+    // Puts a value at a number that has none.
     fn add(&mut self, label: &Label, n: u16, item: T) -> Result<(), NoMemory>
+        requires { map.get self.old (label.now, n) ≡ None }
         ensures ok { OnOk result (self.new ≡ map.insert self.old (label.now, n) item) }
         ensures err { OnErr result (self.new ≡ self.old) }
     {
-        if let Some(row) = self.kept.get_mut(label) {
-            return row.set(n, item);
+        self.slots.reserve(1)?;
+        let key = self.slots.vacant_key();
+        // A key past those of 32 bits is out of memory.
+        if key > u32::MAX as usize {
+            return Err(NoMemory);
         }
-        let mut row = Row::new(self.alloc);
-        row.set(n, item)?;
-        self.kept.insert(*label, row)?;
+        self.keys.set(label, n, key as u32)?;
+        self.slots.insert_reserved(item);
         Ok(())
     }
 
@@ -100,20 +106,14 @@ impl<T: Drop> Table<T> {
         ensures removed { result ≡ map.get self.old (label.now, n) }
         ensures left { self.new ≡ map.remove self.old (label.now, n) }
     {
-        self.kept.get_mut(label)?.remove(n)
+        let key = self.keys.remove(label, n)?;
+        Some(self.slots.remove(key as usize))
     }
 
     /// The numbers at which there is a value, in order.
     pub fn numbers(&self, alloc: Global) -> Result<Vec<(Label, u16)>, NoMemory>
         ensures { IfOk result (λ numbers. numbers.items ≡ map.keys self.now) }
     {
-        let mut numbers = Vec::new(alloc);
-        let labels = self.kept.labels(alloc)?;
-        for label in labels.iter() {
-            if let Some(row) = self.kept.get(label) {
-                row.add_numbers(label, &mut numbers)?;
-            }
-        }
-        Ok(numbers)
+        self.keys.numbers(alloc)
     }
 }

@@ -5,4 +5,4 @@ use Rattle.num_table.proofs.row.Row.add_numbers.Given as goal
 
 -- the numbers so far and those that are left
 abbrev pub invariant-loop-place : goal.invariant-loop-place
-invariant-loop-place g l = l.numbers.items ++ keys_of (numbered l.label l.place (drop l.place l.self)) ≡ l.fn.numbers.items ++ keys_of (numbered l.label 0 l.self)
+invariant-loop-place l = l.numbers.items ++ keys_of (numbered l.label l.place (drop l.place l.self)) ≡ l.fn.numbers.items ++ keys_of (numbered l.label 0 l.self)

@@ -1,36 +1,38 @@
-use Rattle.std.specs.Prelude.{List, None, Option, Some}
-use Rattle.std.specs.Option.{option_copied_mut}
+use Rattle.std.specs.Prelude.{ℕ, Some}
 use Rattle.std.specs.FinMap as map
-use Rattle.std.proofs.Common.{ap, sym, ◌∙◌, subst}
-use Rattle.num_table.specs.Rows.{IsSet, Rows, items_in}
-use Rattle.num_table.proofs.Lists.{same_in, set_in}
-use Rattle.num_table.proofs.Outcomes.{at_some, on_err, on_ok}
+use Rattle.std.specs.FinMap.{FinMap}
+use Rattle.std.proofs.Common.{ap, sym, subst, ◌∙◌}
+use Rattle.slab.specs.Slab.{Updates}
+use Rattle.num_table.specs.Numbers.{Num, num_cmp}
+use Rattle.num_table.specs.Slots.{IsPlaced, values_in}
+use Rattle.num_table.proofs.Outcomes.{where_err}
+use Rattle.num_table.proofs.Slots.{absent_key, added_placed, added_value, reserved, reserved_values}
 use Rattle.num_table.proofs.table.Table.add.Goals as goal
 
-pub returns-in-Some-clause-ok : goal.returns-in-Some-clause-ok
-returns-in-Some-clause-ok g c =
-    let is = sym (ap option_copied_mut c.in-Some.is) ∙ c.get_mut.ensures.value in
-    let row = c.set.new.self in
-    on_ok c.set.result
-    (set_in c.self.inside.kept c.args.label.now (Some c.in-Some.row.now) is c.args.self.now c.self.view_is c.args.n
-    (c.get_mut.follows.lender row) row (at_some c.in-Some.is (c.get_mut.follows.holds row)) c.args.item)
-    c.set.ensures.ok
+pub returns-in_err-reserve-clause-err : goal.returns-in_err-reserve-clause-err
+returns-in_err-reserve-clause-err g c = where_err c.from_residual.result (reserved_values c.self.inside.slots c.reserve.new.self c.self.inside.keys c.reserve.ensures.rest_kept ∙ c.self.view_is)
 
-pub returns-in-Some-clause-err : goal.returns-in-Some-clause-err
-returns-in-Some-clause-err g c =
-    let is = sym (ap option_copied_mut c.in-Some.is) ∙ c.get_mut.ensures.value in
-    let row = c.set.new.self in
-    on_err c.set.result
-    (same_in c.self.inside.kept c.args.label.now (Some c.in-Some.row.now) is c.args.self.now c.self.view_is c.args.n
-    (c.get_mut.follows.lender row) row (at_some c.in-Some.is (c.get_mut.follows.holds row)))
-    c.set.ensures.err
+pub returns-then-key-clause-err : goal.returns-then-key-clause-err
+returns-then-key-clause-err g c = reserved_values c.self.inside.slots c.reserve.new.self c.self.inside.keys c.reserve.ensures.rest_kept ∙ c.self.view_is
+
+pub returns-in_err-set-clause-err : goal.returns-in_err-set-clause-err
+returns-in_err-set-clause-err g c = where_err c.from_residual-in_err-set.result
+    (ap (values_in c.reserve.new.self) c.in_err-set.ensures.err ∙ reserved_values c.self.inside.slots c.reserve.new.self c.self.inside.keys c.reserve.ensures.rest_kept ∙ c.self.view_is)
+
+pub invariant_of-self-2 : goal.invariant_of-self-2
+invariant_of-self-2 g c =
+    let num : Num = (c.args.label.now, c.args.n) in
+    let placed = reserved c.self.inside.slots c.reserve.new.self c.self.inside.keys c.reserve.ensures.rest_kept c.self.invariant in
+    let updates = subst (λ (key : ℕ). Updates c.reserve.new.self c.insert_reserved.new.self key (Some c.args.item)) (c.insert_reserved.ensures.key ∙ sym c.vacant_key-key.ensures.value) c.insert_reserved.ensures.updates in
+    subst (λ (keys : FinMap num_cmp ℕ). IsPlaced c.insert_reserved.new.self keys) (sym c.in_ok-set.ensures.ok)
+    (added_placed placed num c.vacant_key-key.result c.insert_reserved.new.self c.args.item c.vacant_key-key.ensures.vacant updates
+    (absent_key c.self.inside.slots c.self.inside.keys c.args.self.now c.self.view_is num c.self.invariant c.requires) c.insert_reserved.ensures.len)
 
 pub returns-clause-ok : goal.returns-clause-ok
 returns-clause-ok g c =
-    let is = sym (ap option_copied_mut c.in_default.is) ∙ c.get_mut.ensures.value in
-    let same = c.get_mut.follows.holds-at-none in
-    let label = c.args.label.now in
-    let gone = is ∙ sym (ap (λ (rows : Rows g.row.T.Denot). map.get rows label) same) in
-    let row = c.set-2.new.self in
-    set_in c.get_mut.follows.lender-at-none label None gone c.args.self.now (ap items_in same ∙ c.self.view_is) c.args.n c.insert.new.self row c.in_ok-insert.ensures.ok c.args.item
-    (subst (λ (r : List (Option g.row.T.Denot)). IsSet r c.args.n (Some c.args.item) row) c.new-row.ensures c.in_ok-set.ensures.ok)
+    let num : Num = (c.args.label.now, c.args.n) in
+    let placed = reserved c.self.inside.slots c.reserve.new.self c.self.inside.keys c.reserve.ensures.rest_kept c.self.invariant in
+    let updates = subst (λ (key : ℕ). Updates c.reserve.new.self c.insert_reserved.new.self key (Some c.args.item)) (c.insert_reserved.ensures.key ∙ sym c.vacant_key-key.ensures.value) c.insert_reserved.ensures.updates in
+    ap (values_in c.insert_reserved.new.self) c.in_ok-set.ensures.ok
+    ∙ added_value placed num c.vacant_key-key.result c.insert_reserved.new.self c.args.item c.vacant_key-key.ensures.vacant updates
+    ∙ ap (λ (m : FinMap num_cmp g.row.T.Denot). map.insert m num c.args.item) (reserved_values c.self.inside.slots c.reserve.new.self c.self.inside.keys c.reserve.ensures.rest_kept ∙ c.self.view_is)

@@ -1,11 +1,14 @@
-use Rattle.std.specs.Prelude.{None, Some}
 use Rattle.std.specs.Option.{option_copied}
-use Rattle.std.proofs.Common.{ap, sym, ◌∙◌}
-use Rattle.num_table.proofs.Lists.{get_in}
+use Rattle.std.proofs.Common.{ap, ◌∙◌}
+use Rattle.num_table.proofs.Slots.{no_value, value_at}
 use Rattle.num_table.proofs.table.Table.get.Goals as goal
 
-pub returns-in_err-get : goal.returns-in_err-get
-returns-in_err-get g c = ap option_copied c.from_residual.ensures ∙ sym (get_in c.self.inside.kept c.args.label.now None c.in_err-get.ensures c.args.self.now c.self.view_is c.args.n)
+pub returns-in_err-key : goal.returns-in_err-key
+returns-in_err-key g c =
+    ap option_copied c.from_residual.ensures
+    ∙ no_value c.self.inside.slots c.self.inside.keys c.args.self.now c.self.view_is (c.args.label.now, c.args.n) c.get.result c.get.ensures c.in_err-key.was
 
 pub returns : goal.returns
-returns g c = c.get-2.ensures ∙ sym (get_in c.self.inside.kept c.args.label.now (Some c.in_ok-get.field-0.now) c.in_ok-get.ensures c.args.self.now c.self.view_is c.args.n)
+returns g c =
+    c.get-2.ensures
+    ∙ value_at c.self.inside.slots c.self.inside.keys c.args.self.now c.self.view_is (c.args.label.now, c.args.n) c.get.result c.get.ensures c.in_ok-key.key c.in_ok-key.was

@@ -1,33 +1,51 @@
-use Rattle.std.specs.Prelude.{List, None, Option, Some, get_or, refl}
-use Rattle.std.proofs.Common.{ap, sym, ◌∙◌}
-use Rattle.std.specs.Option.{option_copied_mut}
-use Rattle.num_table.specs.Rows.{items_in}
-use Rattle.num_table.proofs.Lists.{get_in, same_in, set_in}
-use Rattle.num_table.proofs.Outcomes.{at_some, lent_then}
+use Rattle.std.specs.Prelude.{ℕ}
+use Rattle.std.specs.Option.{ghost_name_of, option_copied_mut}
+use Rattle.std.specs.FinMap as map
+use Rattle.std.specs.FinMap.{FinMap}
+use Rattle.std.proofs.Common.{ap, refl, subst, sym, ◌∙◌}
+use Rattle.kern_model.proofs.LabelMaps.{at_none}
+use Rattle.slab.specs.Slab.{with_value}
+use Rattle.num_table.specs.Numbers.{Num, num_cmp}
+use Rattle.num_table.specs.Slots.{IsPlaced, values_in}
+use Rattle.num_table.proofs.Outcomes.{always}
+use Rattle.num_table.proofs.Slots.{found_key, no_value, replaced_placed, replaced_value, value_at}
 use Rattle.num_table.proofs.table.Table.get_mut.Goals as goal
 
-pub returns-in-Some : goal.returns-in-Some
-returns-in-Some g c =
-    let rows = c.self.inside.kept in
-    let label = c.args.label.now in
-    let o = Some c.in-Some.row.now in
-    let is = sym (ap option_copied_mut c.in-Some.is) ∙ c.get_mut.ensures.value in
-    let lent = c.get_mut.follows in
-    let set = λ (row : List (Option g.row.T.Denot)). at_some c.in-Some.is (lent.holds row) in
-    let row = c.get_mut-in-Some.follows in (
-      (
-        refl,
-        (λ w. lent_then c.get_mut-in-Some.result (row.holds w) (λ has.
-            set_in rows label o is c.args.self.now c.self.view_is c.args.n (lent.lender (row.lender w)) (row.lender w) (set (row.lender w)) w has)),
-        same_in rows label o is c.args.self.now c.self.view_is c.args.n (lent.lender row.lender-at-none) row.lender-at-none (set row.lender-at-none)
-            (λ k. ap (λ (r : List (Option g.row.T.Denot)). get_or r k None) row.holds-at-none),
-      ),
-      record { writes_back = tt; value = c.get_mut-in-Some.ensures.value ∙ sym (get_in rows label o is c.args.self.now c.self.view_is c.args.n) },
+pub invariant_of-self-lent : goal.invariant_of-self-lent
+invariant_of-self-lent g c =
+    let num : Num = (c.args.label.now, c.args.n) in
+    let is = found_key c.self.inside.keys num c.find.result c.find.ensures.key c.in_ok-key.key c.in_ok-key.was in
+    λ _. subst
+    (λ (keys : FinMap num_cmp ℕ). ((x : g.row.T.Denot) → IsPlaced (with_value c.self.inside.slots c.in_ok-key.key x) keys) × IsPlaced c.self.inside.slots keys)
+    (sym c.find.ensures.same) ((λ x. replaced_placed c.self.invariant num c.in_ok-key.key is x), c.self.invariant)
+
+pub returns-in_err-key : goal.returns-in_err-key
+returns-in_err-key g c =
+    let none = c.from_residual.ensures in (
+      (ap ghost_name_of (sym none), (λ x. at_none _ none), ap (values_in c.self.inside.slots) c.find.ensures.same ∙ c.self.view_is),
+      record {
+        writes_back = tt;
+        value =
+            ap option_copied_mut none
+            ∙ no_value c.self.inside.slots c.self.inside.keys c.args.self.now c.self.view_is (c.args.label.now, c.args.n) c.find.result c.find.ensures.key c.in_err-key.was;
+      },
     )
 
-pub returns-in-None : goal.returns-in-None
-returns-in-None g c =
-    let is = sym (ap option_copied_mut c.in-None.is) ∙ c.get_mut.ensures.value in (
-      (refl, (λ _. tt), ap items_in c.get_mut.follows.holds-at-none ∙ c.self.view_is),
-      record { writes_back = tt; value = sym (get_in c.self.inside.kept c.args.label.now None is c.args.self.now c.self.view_is c.args.n) },
+pub returns : goal.returns
+returns g c =
+    let num : Num = (c.args.label.now, c.args.n) in
+    let is = found_key c.self.inside.keys num c.find.result c.find.ensures.key c.in_ok-key.key c.in_ok-key.was in (
+      (
+        refl {a = ghost_name_of c.get_mut.result},
+        (λ x. always c.get_mut.result
+            (ap (values_in (with_value c.self.inside.slots c.in_ok-key.key x)) c.find.ensures.same
+            ∙ replaced_value c.self.invariant num c.in_ok-key.key is x ∙ ap (λ (m : FinMap num_cmp g.row.T.Denot). map.insert m num x) c.self.view_is)),
+        ap (values_in c.self.inside.slots) c.find.ensures.same ∙ c.self.view_is,
+      ),
+      record {
+        writes_back = tt;
+        value =
+            c.get_mut.ensures.value
+            ∙ value_at c.self.inside.slots c.self.inside.keys c.args.self.now c.self.view_is num c.find.result c.find.ensures.key c.in_ok-key.key c.in_ok-key.was;
+      },
     )

@@ -1,7 +1,13 @@
-use Rattle.std.proofs.Common.{ap, ◌∙◌}
-use Rattle.num_table.specs.Rows.{items_in}
-use Rattle.num_table.proofs.Rows.{items_in-empty}
+use Rattle.std.specs.Prelude.{ℕ, count_by, is_some}
+use Rattle.std.specs.FinMap.{FinMap}
+use Rattle.std.proofs.Common.{ap, sym, subst, ◌∙◌}
+use Rattle.num_table.specs.Numbers.{num_cmp}
+use Rattle.num_table.specs.Slots.{IsPlaced, values_in}
+use Rattle.num_table.proofs.Slots.{none_placed, none_there}
 use Rattle.num_table.proofs.table.Table.new.Goals as goal
 
+pub invariant_of-result : goal.invariant_of-result
+invariant_of-result g c = subst (λ (keys : FinMap num_cmp ℕ). IsPlaced c.new.result keys) (sym c.new-2.ensures) (none_placed c.new.result (ap (count_by is_some) c.new.ensures.empty))
+
 pub returns : goal.returns
-returns g c = ap items_in c.new.ensures ∙ items_in-empty
+returns g c = ap (values_in c.new.result) c.new-2.ensures ∙ none_there c.new.result

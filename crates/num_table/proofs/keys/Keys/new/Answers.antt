@@ -1,0 +1,7 @@
+use Rattle.std.proofs.Common.{ap, ◌∙◌}
+use Rattle.num_table.specs.Rows.{items_in}
+use Rattle.num_table.proofs.Rows.{items_in-empty}
+use Rattle.num_table.proofs.keys.Keys.new.Goals as goal
+
+pub returns : goal.returns
+returns c = ap items_in c.new.ensures ∙ items_in-empty
