@@ -13,32 +13,20 @@ use Rattle.kern_model.specs.State.{Process, drawn}
 use Rattle.kern_model.proofs.KeyLaws.{pid_cmp_total, pid_cmp_exact}
 use Rattle.kern_model.proofs.MapLemmas.{each-insert, each-remove, insert-same, never_some, same_key}
 use Rattle.kern_model.proofs.Selections.{get-select_each, select-insert_each}
-use Rattle.proc_table.specs.declared.children.Children.{Children}
-use Rattle.proc_table.specs.Children.{IsKept, has_parent, is_child}
+use Rattle.proc_table.specs.Children.{IsKept, ChildIndex, has_parent, is_child}
 use Rattle.proc_table.specs.Procs.{AreDrawn, all_parted, altered_at, altered, ended_by, parted, told, with_ended, without_parent}
 use Rattle.proc_table.proofs.KeptLemmas.{kept_set}
 
-not_its : (a : Bool) → (not (a && true) && a) ≡ false
-not_its true = refl
-not_its false = refl
-
-others : (a b : Bool) → (not (a && false) && b) ≡ b
-others true b = refl
-others false b = refl
-
-module _ (living : FinMap pid_cmp Process) (children : Children) (made : ℕ) (kept : IsKept living children made) where
+module _ (living : FinMap pid_cmp Process) (children : ChildIndex) (made : ℕ) (kept : IsKept living children made) where
   -- the processes without one, or where one has lost its parent
-  module _ (who : Pid) (p : Process) (is : map.get living who ≡ Some p) (new : Children)
-      (removes : (q c : Pid) → is_child new q c ≡ (not (is_pid q p.parent && same_pid c who) && is_child children q c))
+  module _ (who : Pid) (new : ChildIndex) (removes : (q c : Pid) → is_child new q c ≡ (not (same_pid c who) && is_child children q c))
       (instead : Option Process) (no_parent : (q : Pid) → has_parent instead q ≡ false) where
-    index_at : (q c : Pid) (b : Bool) → same_pid c who ≡ b → (not (is_pid q p.parent && b) && is_child children q c) ≡ has_parent (cond b instead (map.get living c)) q
-    index_at q c true t =
-        ap (λ b. not (is_pid q p.parent && true) && b) (kept.index q c ∙ ap (λ (o : Option Process). has_parent o q) (ap (map.get living) (same_key pid_cmp_exact c who t) ∙ is))
-        ∙ not_its (is_pid q p.parent) ∙ sym (no_parent q)
-    index_at q c false t = others (is_pid q p.parent) (is_child children q c) ∙ kept.index q c
+    index_at : (q c : Pid) (b : Bool) → (not b && is_child children q c) ≡ has_parent (cond b instead (map.get living c)) q
+    index_at q c true = sym (no_parent q)
+    index_at q c false = kept.index q c
 
     index_left : (q c : Pid) → is_child new q c ≡ has_parent (cond (same_pid c who) instead (map.get living c)) q
-    index_left q c = removes q c ∙ index_at q c (same_pid c who) refl
+    index_left q c = removes q c ∙ index_at q c (same_pid c who)
 
   -- a process goes
   module _ (who : Pid) (p : Process) (is : map.get living who ≡ Some p) where
@@ -52,9 +40,9 @@ module _ (living : FinMap pid_cmp Process) (children : Children) (made : ℕ) (k
     room_left : (q : Pid) (x : Process) → map.get (map.remove living who) q ≡ Some x → length x.ended + map.len (map.remove living who) + 1 ≤ made
     room_left q x there = let room = each-remove pid_cmp_total pid_cmp_exact (λ (q : Pid) (x : Process). length x.ended + map.len living ≤ made) living kept.room who q x there in omega (arith, room, one_less)
 
-    kept_removed : (new : Children) → ((q c : Pid) → is_child new q c ≡ (not (is_pid q p.parent && same_pid c who) && is_child children q c)) → IsKept (map.remove living who) new made
+    kept_removed : (new : ChildIndex) → ((q c : Pid) → is_child new q c ≡ (not (same_pid c who) && is_child children q c)) → IsKept (map.remove living who) new made
     kept_removed new removes = record {
-      index = λ q c. index_left who p is new removes None (λ _. refl) q c ∙ ap (λ (o : Option Process). has_parent o q) (sym (get-remove pid_cmp_total living who c));
+      index = λ q c. index_left who new removes None (λ _. refl) q c ∙ ap (λ (o : Option Process). has_parent o q) (sym (get-remove pid_cmp_total living who c));
       room = λ q x there. let room = room_left q x there in omega (arith, room);
       all = let all = kept.all in omega (arith, all, one_less);
       few = kept.few;
@@ -80,13 +68,12 @@ module _ (living : FinMap pid_cmp Process) (children : Children) (made : ℕ) (k
     abbrev orphaned : Option Process → FinMap pid_cmp Process
     orphaned o = altered_at living c without_parent o
 
-    kept_at : (o : Option Process) → map.get living c ≡ o → (new : Children) → ((q d : Pid) → is_child new q d ≡ (not (same_pid q who && same_pid d c) && is_child children q d)) → IsKept (orphaned o) new made
+    kept_at : (o : Option Process) → map.get living c ≡ o → (new : ChildIndex) → ((q d : Pid) → is_child new q d ≡ (not (same_pid d c) && is_child children q d)) → IsKept (orphaned o) new made
     kept_at None is new removes = absurd (true≢false (sym child ∙ kept.index who c ∙ ap (λ (o : Option Process). has_parent o who) is))
     kept_at (Some x) is new removes =
-        let parent : x.parent ≡ Some who = its x.parent (sym (kept.index who c ∙ ap (λ (o : Option Process). has_parent o who) is) ∙ child) in
         let size : map.len (map.insert living c (without_parent x)) ≡ map.len living = len-insert pid_cmp_total living c (without_parent x) ∙ ap (λ (o : Option Process). cond (is_some o) (map.len living) (map.len living + 1)) is in
         record {
-          index = λ q d. index_left c x is new (λ q d. removes q d ∙ ap (λ o. not (is_pid q o && same_pid d c) && is_child children q d) (sym parent)) (Some (without_parent x)) (λ _. refl) q d
+          index = λ q d. index_left c new removes (Some (without_parent x)) (λ _. refl) q d
               ∙ ap (λ (o : Option Process). has_parent o q) (sym (get-insert pid_cmp_total living c (without_parent x) d));
           room = each-insert pid_cmp_total pid_cmp_exact (λ (q : Pid) (p : Process). length p.ended + map.len (map.insert living c (without_parent x)) ≤ made) living
               (λ q p there. let room = kept.room q p there in omega (arith, room, size))
@@ -95,7 +82,7 @@ module _ (living : FinMap pid_cmp Process) (children : Children) (made : ℕ) (k
           few = kept.few;
         }
 
-    pub kept_orphaned : (new : Children) → ((q d : Pid) → is_child new q d ≡ (not (same_pid q who && same_pid d c) && is_child children q d)) → IsKept (altered living c without_parent) new made
+    pub kept_orphaned : (new : ChildIndex) → ((q d : Pid) → is_child new q d ≡ (not (same_pid d c) && is_child children q d)) → IsKept (altered living c without_parent) new made
     kept_orphaned = kept_at (map.get living c) refl
 
     parted_at : (o : Option Process) → map.get living c ≡ o → all_parted who (orphaned o) ≡ all_parted who living
@@ -121,12 +108,12 @@ module _ (living : FinMap pid_cmp Process) (children : Children) (made : ℕ) (k
         ∙ alike (map.get living q) (sym (kept.index who q) ∙ none q))
 
 -- a process goes, and its parent learns of it
-module _ (living : FinMap pid_cmp Process) (children : Children) (made : ℕ) (kept : IsKept living children made) (who : Pid) (p : Process) (is : map.get living who ≡ Some p) where
+module _ (living : FinMap pid_cmp Process) (children : ChildIndex) (made : ℕ) (kept : IsKept living children made) (who : Pid) (p : Process) (is : map.get living who ≡ Some p) where
   -- the list of each other process may grow by one
   pub may_grow : (q : Pid) (x : Process) → map.get (map.remove living who) q ≡ Some x → length x.ended + 1 < 2 ^ 63
   may_grow q x there = let fits = room_left living children made kept who p is q x there in let few = kept.few in omega (arith, fits, few)
 
-  pub kept_ended : (how : Ending) (new : Children) → ((q c : Pid) → is_child new q c ≡ (not (is_pid q p.parent && same_pid c who) && is_child children q c))
+  pub kept_ended : (how : Ending) (new : ChildIndex) → ((q c : Pid) → is_child new q c ≡ (not (same_pid c who) && is_child children q c))
       → (o : Option Pid) → IsKept (told (map.remove living who) o (with_ended who how)) new made
   kept_ended how new removes = kept_told (map.remove living who) new made (kept_removed living children made kept who p is new removes) (room_left living children made kept who p is) who how
 

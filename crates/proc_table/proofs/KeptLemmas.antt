@@ -4,7 +4,6 @@ use Rattle.std.specs.FinMap as map
 use Rattle.std.specs.FinMap.{FinMap, get-empty, get-insert, len-empty, len-insert}
 use Rattle.std.specs.Ordering.{eq_by_cmp}
 use Rattle.std.proofs.Common.{sym, ap, ◌∙◌, arith}
-use Rattle.std.proofs.lemmas.Bool.{true≢false}
 use Rattle.kern_model.specs.declared.numbers.Pid.{Pid}
 use Rattle.kern_model.specs.Keys.{is_pid, pid_cmp, same_pid}
 use Rattle.kern_model.specs.State.{Process}
@@ -12,11 +11,10 @@ use Rattle.kern_model.proofs.KeyLaws.{pid_cmp_total, pid_cmp_exact}
 use Rattle.kern_model.proofs.MapLemmas.{each-insert, never_some, same_key}
 use Rattle.proc_creds.specs.Credentials.{Credentials}
 use Rattle.proc_table.specs.Procs.{set_creds, under_creds, with_creds}
-use Rattle.proc_table.specs.declared.children.Children.{Children}
 use Rattle.proc_table.specs.declared.table.TheConstants.{MAX_MADE}
-use Rattle.proc_table.specs.Children.{IsKept, has_parent, is_child}
+use Rattle.proc_table.specs.Children.{IsKept, ChildIndex, has_parent, is_child}
 
-pub none_kept : (children : Children) → ((q c : Pid) → is_child children q c ≡ false) → IsKept map.empty children 0
+pub none_kept : (children : ChildIndex) → ((q c : Pid) → is_child children q c ≡ false) → IsKept map.empty children 0
 none_kept children none = record {
   index = λ q c. none q c ∙ ap (λ (o : Option Process). has_parent o q) (sym (get-empty pid_cmp c));
   room = λ q p is. absurd (never_some (map.get map.empty q) p (get-empty pid_cmp q) is);
@@ -24,26 +22,17 @@ none_kept children none = record {
   few = omega arith;
 }
 
--- a child that was entered and removed again
-undone : (a b : Bool) → (a ≡ true → b ≡ false) → (not a && (a || b)) ≡ b
-undone true b h = sym (h refl)
-undone false b h = refl
-
-second : (a b : Bool) → (a && b) ≡ true → b ≡ true
-second true b h = h
-second false b h = absurd (true≢false (sym h))
-
-alone : (a : Bool) → (a && true || false) ≡ a
+pub alone : (a : Bool) → (a && true || false) ≡ a
 alone true = refl
 alone false = refl
 
-neither : (a : Bool) → (a && false) ≡ false
+pub neither : (a : Bool) → (a && false) ≡ false
 neither true = refl
 neither false = refl
 
-module _ (living : FinMap pid_cmp Process) (children : Children) (made : ℕ) (kept : IsKept living children made) where
+module _ (living : FinMap pid_cmp Process) (children : ChildIndex) (made : ℕ) (kept : IsKept living children made) where
   -- the same children are kept
-  pub kept_alike : (new : Children) → ((q c : Pid) → is_child new q c ≡ is_child children q c) → IsKept living new made
+  pub kept_alike : (new : ChildIndex) → ((q c : Pid) → is_child new q c ≡ is_child children q c) → IsKept living new made
   kept_alike new alike = record { index = λ q c. alike q c ∙ kept.index q c; room = kept.room; all = kept.all; few = kept.few }
 
   module _ (who : Pid) (old : Process) (is : map.get living who ≡ Some old) (new : Process) where
@@ -77,19 +66,21 @@ module _ (living : FinMap pid_cmp Process) (children : Children) (made : ℕ) (k
   ] refl
 
   module _ (who : Pid) (none : map.get living who ≡ None) (parent : Option Pid) where
-    is_new : (q c : Pid) → (is_pid q parent && same_pid c who) ≡ true → is_child children q c ≡ false
-    is_new q c t =
-        let same = same_key pid_cmp_exact c who (second (is_pid q parent) (same_pid c who) t) in
-        kept.index q c ∙ ap (λ (o : Option Process). has_parent o q) (ap (map.get living) same ∙ none)
+    -- it is no child before
+    pub is_new : (q : Pid) → is_child children q who ≡ false
+    is_new q = kept.index q who ∙ ap (λ (o : Option Process). has_parent o q) none
+
+    undone : (q c : Pid) (b : Bool) → same_pid c who ≡ b → (not b && (is_pid q parent && b || is_child children q c)) ≡ is_child children q c
+    undone q c true t = sym (ap (is_child children q) (same_key pid_cmp_exact c who t) ∙ is_new q)
+    undone q c false _ = ap (λ b. b || is_child children q c) (neither (is_pid q parent))
 
     -- a child is entered, and removed again
-    pub kept_undone : (added : Children) → ((q c : Pid) → is_child added q c ≡ (is_pid q parent && same_pid c who || is_child children q c))
-        → (new : Children) → ((q c : Pid) → is_child new q c ≡ (not (is_pid q parent && same_pid c who) && is_child added q c)) → IsKept living new made
-    kept_undone added adds new removes = kept_alike new (λ q c. removes q c ∙ ap (λ b. not (is_pid q parent && same_pid c who) && b) (adds q c)
-        ∙ undone (is_pid q parent && same_pid c who) (is_child children q c) (is_new q c))
+    pub kept_undone : (added : ChildIndex) → ((q c : Pid) → is_child added q c ≡ (is_pid q parent && same_pid c who || is_child children q c))
+        → (new : ChildIndex) → ((q c : Pid) → is_child new q c ≡ (not (same_pid c who) && is_child added q c)) → IsKept living new made
+    kept_undone added adds new removes = kept_alike new (λ q c. removes q c ∙ ap (λ b. not (same_pid c who) && b) (adds q c) ∙ undone q c (same_pid c who) refl)
 
     -- a process is made
-    pub kept_made : (p : Process) → p.parent ≡ parent → p.ended ≡ [] → made < MAX_MADE → (new : Children)
+    pub kept_made : (p : Process) → p.parent ≡ parent → p.ended ≡ [] → made < MAX_MADE → (new : ChildIndex)
         → ((q c : Pid) → is_child new q c ≡ (is_pid q parent && same_pid c who || is_child children q c)) → IsKept (map.insert living who p) new (made + 1)
     kept_made p its none_ended more new adds =
         let size : map.len (map.insert living who p) ≡ map.len living + 1 = len-insert pid_cmp_total living who p ∙ ap (λ (o : Option Process). cond (is_some o) (map.len living) (map.len living + 1)) none in

@@ -13,8 +13,7 @@ use Rattle.kern_model.specs.State.{Process}
 use Rattle.kern_model.proofs.KeyLaws.{pid_cmp_total, pid_cmp_exact}
 use Rattle.kern_model.proofs.MapLemmas.{same_key}
 use Rattle.kern_model.proofs.Selections.{none_pass, one_passes}
-use Rattle.proc_table.specs.declared.children.Children.{Children}
-use Rattle.proc_table.specs.Children.{IsKept, has_parent, is_child}
+use Rattle.proc_table.specs.Children.{IsKept, ChildIndex, has_parent, is_child}
 use Rattle.proc_table.specs.Procs.{AreDrawn, TakesEnded, has_living_child}
 use Rattle.proc_table.proofs.DrawnLemmas.{still_drawn}
 use Rattle.proc_table.proofs.KeptLemmas.{kept_changed}
@@ -37,13 +36,13 @@ module _ (living new : FinMap pid_cmp Process) (who : Pid) (p : Process) (is : m
   none_taken t = t.now ∙ ap (λ (l : List (Pid × Ending)). map.insert living who (record p { ended = l })) (t.list.1 ∙ sym t.list.0) ∙ unchanged living who p is
 
   -- the processes stay drawn, and the same children are kept
-  pub taken_kept : (first : Option (Pid × Ending)) → TakesEnded living new who p first → (numbers : FinMap label_cmp ℕ) (children : Children) (made : ℕ)
+  pub taken_kept : (first : Option (Pid × Ending)) → TakesEnded living new who p first → (numbers : FinMap label_cmp ℕ) (children : ChildIndex) (made : ℕ)
       → AreDrawn living numbers × IsKept living children made → AreDrawn new numbers × IsKept new children made
   taken_kept first t numbers children made h =
       subst (λ (m : FinMap pid_cmp Process). AreDrawn m numbers × IsKept m children made) (sym t.now)
       (still_drawn living numbers h.0 who p is (record p { ended = t.left }), kept_changed living children made h.1 who p is (record p { ended = t.left }) refl (shorter first p.ended t.left t.list))
 
-module _ (living : FinMap pid_cmp Process) (children : Children) (made : ℕ) (kept : IsKept living children made) (who : Pid) where
+module _ (living : FinMap pid_cmp Process) (children : ChildIndex) (made : ℕ) (kept : IsKept living children made) (who : Pid) where
   -- a process has a living child exactly where one is kept
   pub no_child : ((c : Pid) → is_child children who c ≡ false) → has_living_child living who ≡ false
   no_child none = none_pass pid_cmp_total pid_cmp_exact (λ (q : Pid) (child : Process). is_pid who child.parent) living (λ c x is. ap (λ (o : Option Process). has_parent o who) (sym is) ∙ sym (kept.index who c) ∙ none c)

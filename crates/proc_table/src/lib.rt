@@ -1,9 +1,11 @@
 //! The living processes by their numbers, and the numbers drawn of each label.
 #![tactic(auto)]
 
+mod child_lists;
 mod children;
 mod ended;
 mod living;
+mod positions;
 mod process;
 mod procs;
 mod table;

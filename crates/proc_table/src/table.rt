@@ -81,7 +81,7 @@ impl Table {
         let parent = process.parent();
         self.children.add(&parent, who)?;
         if let Err(e) = self.draw(who, process) {
-            self.children.remove(&parent, who);
+            self.children.remove(who);
             return Err(e);
         }
         self.made += 1;
@@ -113,7 +113,7 @@ impl Table {
             unreachable!();
         };
         let Proc { parent, place, .. } = process;
-        self.children.remove(&parent, who);
+        self.children.remove(who);
         if let Some(parent) = parent {
             self.living.add_ended(&parent, place, who, ending);
         }
@@ -127,7 +127,7 @@ impl Table {
         ensures kept { IsKept self.new.living self.new.children self.new.made }
     {
         while let Some(child) = self.children.first(who) {
-            self.children.remove(&Some(*who), &child);
+            self.children.remove(&child);
             self.living.orphan(&child);
         }
     }

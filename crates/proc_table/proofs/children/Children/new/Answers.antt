@@ -1,10 +1,20 @@
-use Rattle.std.proofs.Common.{ap}
-use Rattle.std.specs.List.{list_any}
-use Rattle.std.specs.BTreeMap.{is_at}
-use Rattle.std.specs.Prelude.{Some}
-use Rattle.proc_table.specs.Children.{is_child, pair_cmp}
+use Rattle.std.specs.Prelude.{false, List}
+use Rattle.std.specs.FinMap as map
+use Rattle.std.specs.FinMap.{FinMap}
+use Rattle.std.proofs.Common.{◌≡◌, sym, subst}
+use Rattle.kern_model.specs.declared.numbers.Pid.{Pid}
+use Rattle.kern_model.specs.Keys.{pid_cmp}
+use Rattle.proc_table.specs.declared.positions.Position.{Position}
+use Rattle.proc_table.specs.Children.{AreInPlace, is_child}
+use Rattle.proc_table.proofs.PositionLemmas.{no_children, none_placed}
 use Rattle.proc_table.proofs.children.Children.new.Goals as goal
 
+pub invariant_of-result : goal.invariant_of-result
+invariant_of-result c =
+    subst (λ (lists : FinMap pid_cmp (List Pid)). AreInPlace (record { lists = lists; positions = c.new-2.result })) (sym c.new.ensures)
+    (subst (λ (positions : FinMap pid_cmp Position). AreInPlace (record { lists = map.empty; positions = positions })) (sym c.new-2.ensures) none_placed)
+
 pub returns : goal.returns
-unfolding is_child
-returns c = λ q d. ap (λ keys. list_any (is_at (pair_cmp (q, Some d))) keys) c.new.ensures.empty
+returns c =
+    subst (λ (lists : FinMap pid_cmp (List Pid)). (q d : Pid) → is_child (record { lists = lists; positions = c.new-2.result }) q d ≡ false) (sym c.new.ensures)
+    (subst (λ (positions : FinMap pid_cmp Position). (q d : Pid) → is_child (record { lists = map.empty; positions = positions }) q d ≡ false) (sym c.new-2.ensures) no_children)

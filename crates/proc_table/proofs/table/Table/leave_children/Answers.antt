@@ -1,4 +1,4 @@
-use Rattle.std.specs.Prelude.{◌≡◌, ◌+◌, cond}
+use Rattle.std.specs.Prelude.{◌≡◌, ◌+◌}
 use Rattle.std.specs.FinMap.{FinMap}
 use Rattle.std.proofs.Common.{ap, sym, ◌∙◌, subst, arith, refl}
 use Rattle.kern_model.specs.Keys.{pid_cmp}
@@ -31,7 +31,8 @@ pub loop-child-smaller : goal.loop-child-smaller
 loop-child-smaller c =
     let t = c.loop-child.self in
     let is = some_match _ _ c.first.result c.in-Some.child c.in-Some.is c.first.ensures in
-    let fewer : child_count c.remove.new.self + 1 ≡ child_count t.children = ap (λ b. child_count c.remove.new.self + cond b 1 0) (sym is) ∙ c.remove.ensures.count in
+    let who = c.args.who.now in
+    let fewer : child_count c.remove.new.self who + 1 ≡ child_count t.children who = c.remove.ensures.count who is in
     omega (arith, fewer)
 
 pub returns-clause-living : goal.returns-clause-living

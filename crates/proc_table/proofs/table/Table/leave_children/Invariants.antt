@@ -12,4 +12,4 @@ invariant-loop-child l = record {
 }
 
 abbrev pub decreases-loop-child : goal.decreases-loop-child
-decreases-loop-child l = child_count l.self.children
+decreases-loop-child l = child_count l.self.children l.who
