@@ -1,5 +1,5 @@
 -- The slots of a row, seen as its descriptors.
-use Rattle.std.specs.Prelude.{◌≡◌, ℕ, zero, suc, ◌+◌, ◌<◌, ◌==◌, Bool, true, false, List, [], ◌∷◌, Option, None, Some, cond, count_by, is_none, is_some, length, map, not, refl}
+use Rattle.std.specs.Prelude.{◌≡◌, ℕ, zero, suc, ◌+◌, ◌<◌, ◌==◌, Bool, true, false, List, [], ◌∷◌, Option, None, Some, cond, count_by, drop, get_or, is_none, is_some, length, map, not, replicate, refl}
 use Rattle.std.specs.Option.{option_flatten}
 use Rattle.std.specs.List.{slice_get, position_or_len}
 use Rattle.std.specs.Ordering.{nat_cmp, is_lt, eq_by_cmp}
@@ -10,13 +10,14 @@ use Rattle.std.specs.FinMap as table
 use Rattle.std.specs.FinMap.{find, is_sorted, empty_of_len, len-entries, entries-from_sorted, get-from_sorted, get-insert, get-remove, same_map, nat_cmp-IsAntisymmetric}
 use Rattle.std.specs.FinMap.Entries.{below_all}
 use Rattle.std.proofs.Common.{ap, sym, ◌∙◌, subst, T, arith}
+use Rattle.std.proofs.lemmas.Bool.{false≢true}
 use Rattle.std.proofs.lemmas.Bool.Decides.{nat_tests}
 use Rattle.std.proofs.lemmas.List.Sums.{sum_by-cons}
 use Rattle.kern_model.specs.declared.numbers.Did.{Did}
 use Rattle.kern_model.specs.Descriptors.{first_gap, lowest_free}
 use Rattle.kern_model.proofs.TableLemmas.{both_T}
-use Rattle.fd_table.specs.Rows.{fd_count, fds_in, in_slots}
-use Rattle.fd_table.specs.Taken.{taken_in}
+use Rattle.lab_lattice.specs.Label.{Label, bottom}
+use Rattle.fd_table.specs.Rows.{fd_count, fds_in, in_slots, slots_of}
 
 less : (a b : ℕ) → a < b → T (is_lt (nat_cmp a b))
 less a b h = subst (λ r. T (is_lt r)) (nat_cmp_is a b Less h) tt
@@ -95,17 +96,43 @@ first_is_free (None ∷ slots) = refl
 first_is_free (Some did ∷ slots) = let one : 1 + position_or_len is_none slots ≡ suc (position_or_len is_none slots) = omega arith in ap (λ k. option_flatten (slice_get (Some did ∷ slots) k)) one ∙ first_is_free slots
 
 -- ---- the same by which slots are taken
-pub count-taken : (slots : List (Option Did)) → count_by (λ taken. taken) (taken_in slots) ≡ count_by is_some slots
-count-taken [] = refl
-count-taken (s ∷ slots) =
-    let rest = count-taken slots in
-    let taken = sum_by-cons (λ (b : Bool). cond b 1 0) (is_some s) (taken_in slots) in
-    let step = sum_by-cons (λ (t : Option Did). cond (is_some t) 1 0) s slots in omega (arith, rest, taken, step)
+abbrev first_did : List Label → List ℕ → Did
+first_did labels counts = record { label = get_or labels 0 bottom; n = get_or counts 0 0 }
 
-pub lowest-taken : (slots : List (Option Did)) → position_or_len not (taken_in slots) ≡ position_or_len is_none slots
-lowest-taken [] = refl
-lowest-taken (None ∷ slots) = refl
-lowest-taken (Some did ∷ slots) = ap (λ n. 1 + n) (lowest-taken slots)
+pub count-taken : (taken : List Bool) (labels : List Label) (counts : List ℕ) → count_by is_some (slots_of taken labels counts) ≡ count_by (λ b. b) taken
+count-taken [] labels counts = refl
+count-taken (true ∷ taken) labels counts =
+    let rest = count-taken taken (drop 1 labels) (drop 1 counts) in
+    let bit = sum_by-cons (λ (b : Bool). cond b 1 0) true taken in
+    let step = sum_by-cons (λ (t : Option Did). cond (is_some t) 1 0) (Some (first_did labels counts)) (slots_of taken (drop 1 labels) (drop 1 counts)) in omega (arith, rest, bit, step)
+count-taken (false ∷ taken) labels counts =
+    let rest = count-taken taken (drop 1 labels) (drop 1 counts) in
+    let bit = sum_by-cons (λ (b : Bool). cond b 1 0) false taken in
+    let step = sum_by-cons (λ (t : Option Did). cond (is_some t) 1 0) None (slots_of taken (drop 1 labels) (drop 1 counts)) in omega (arith, rest, bit, step)
+
+pub lowest-taken : (taken : List Bool) (labels : List Label) (counts : List ℕ) → position_or_len is_none (slots_of taken labels counts) ≡ position_or_len not taken
+lowest-taken [] labels counts = refl
+lowest-taken (true ∷ taken) labels counts = ap (λ n. 1 + n) (lowest-taken taken (drop 1 labels) (drop 1 counts))
+lowest-taken (false ∷ taken) labels counts = refl
+
+pub length-slots : (taken : List Bool) (labels : List Label) (counts : List ℕ) → length (slots_of taken labels counts) ≡ length taken
+length-slots [] labels counts = refl
+length-slots (b ∷ taken) labels counts = ap suc (length-slots taken (drop 1 labels) (drop 1 counts))
+
+-- a slot that is not taken
+pub free_slot : (taken : List Bool) (labels : List Label) (counts : List ℕ) (i : ℕ) → get_or taken i false ≡ false → option_flatten (slice_get (slots_of taken labels counts) i) ≡ None
+free_slot [] labels counts i free = refl
+free_slot (b ∷ taken) labels counts zero free = ap (λ b. cond b (Some (first_did labels counts)) None) free
+free_slot (b ∷ taken) labels counts (suc i) free = free_slot taken (drop 1 labels) (drop 1 counts) i free
+
+-- a slot that is taken
+pub taken_slot : (taken : List Bool) (labels : List Label) (counts : List ℕ) (i : ℕ) (l : Label) → get_or taken i false ≡ true → i < length labels
+    → option_flatten (slice_get (slots_of taken labels counts) i) ≡ Some (record { label = get_or labels i l; n = get_or counts i 0 })
+taken_slot [] labels counts i l is h = absurd (false≢true is)
+taken_slot (b ∷ taken) [] counts i l is h = absurd (omega arith)
+taken_slot (b ∷ taken) (m ∷ labels) counts zero l is h = ap (λ b. cond b (Some (record { label = m; n = get_or counts 0 0 })) None) is
+taken_slot (b ∷ taken) (m ∷ labels) [] (suc i) l is h = taken_slot taken labels [] i l is (omega arith)
+taken_slot (b ∷ taken) (m ∷ labels) (n ∷ counts) (suc i) l is h = taken_slot taken labels counts i l is (omega arith)
 
 -- ---- a slot that is set
 slice_get-set : (slots : List (Option Did)) (i q : ℕ) (w : Option Did) → i < length slots → slice_get (set slots i w) q ≡ cond (q == i) (Some w) (slice_get slots q)
@@ -133,6 +160,27 @@ module _ (slots : List (Option Did)) (i : ℕ) (within : i < length slots) where
   pub fds-clear : fds_in (set slots i None) ≡ table.remove (fds_in slots) i
   fds-clear = same_map nat_cmp_total nat_cmp-IsAntisymmetric _ _ (λ q. get-set None q ∙ sym (get-remove nat_cmp_total (fds_in slots) i q))
 
+-- ---- the same, by what is written
+pub slots-set : (taken : List Bool) (labels : List Label) (counts : List ℕ) (i : ℕ) (did : Did) → i < length labels → i < length counts
+    → slots_of (set taken i true) (set labels i did.label) (set counts i did.n) ≡ set (slots_of taken labels counts) i (Some did)
+slots-set [] labels counts i did h k = refl
+slots-set (b ∷ taken) [] counts i did h k = absurd (omega arith)
+slots-set (b ∷ taken) (l ∷ labels) [] i did h k = absurd (omega arith)
+slots-set (b ∷ taken) (l ∷ labels) (n ∷ counts) zero did h k = refl
+slots-set (b ∷ taken) (l ∷ labels) (n ∷ counts) (suc i) did h k = ap (λ slots. cond b (Some (record { label = l; n = n })) None ∷ slots) (slots-set taken labels counts i did (omega arith) (omega arith))
+
+pub slots-clear : (taken : List Bool) (labels : List Label) (counts : List ℕ) (i : ℕ) → slots_of (set taken i false) labels counts ≡ set (slots_of taken labels counts) i None
+slots-clear [] labels counts i = refl
+slots-clear (b ∷ taken) labels counts zero = refl
+slots-clear (b ∷ taken) labels counts (suc i) = ap (λ slots. cond b (Some (first_did labels counts)) None ∷ slots) (slots-clear taken (drop 1 labels) (drop 1 counts) i)
+
 -- no slot is taken
-pub no_fds : (slots : List (Option Did)) → in_slots 0 slots ≡ [] → fds_in slots ≡ table.empty
-no_fds slots none = empty_of_len (fds_in slots) (len-entries (fds_in slots) ∙ ap length (entries-fds slots ∙ none))
+none_in : (m n : ℕ) (labels : List Label) (counts : List ℕ) → in_slots n (slots_of (replicate m false) labels counts) ≡ []
+none_in zero n labels counts = refl
+none_in (suc m) n labels counts = none_in m (n + 1) (drop 1 labels) (drop 1 counts)
+
+pub no_fds : (taken : List Bool) (labels : List Label) (counts : List ℕ) (m : ℕ) → taken ≡ replicate m false → fds_in (slots_of taken labels counts) ≡ table.empty
+no_fds taken labels counts m is =
+    let slots = slots_of taken labels counts in
+    let none : in_slots 0 slots ≡ [] = ap (λ (bs : List Bool). in_slots 0 (slots_of bs labels counts)) is ∙ none_in m 0 labels counts in
+    empty_of_len (fds_in slots) (len-entries (fds_in slots) ∙ ap length (entries-fds slots ∙ none))

@@ -1,8 +1,9 @@
 -- The descriptors of processes.
-use Rattle.std.specs.Prelude.{ℕ, ◌+◌, List, [], ◌∷◌, Option, None, Some, length, sum_by}
+use Rattle.std.specs.Prelude.{ℕ, ◌+◌, Bool, List, [], ◌∷◌, Option, None, Some, cond, drop, length, slice_index_or, sum_by}
 use Rattle.std.specs.Ordering.{nat_cmp}
 use Rattle.std.specs.FinMap as map
 use Rattle.std.specs.FinMap.{FinMap}
+use Rattle.lab_lattice.specs.Label.{Label, bottom}
 use Rattle.kern_model.specs.declared.numbers.Did.{Did}
 use Rattle.kern_model.specs.declared.numbers.Pid.{Pid}
 use Rattle.kern_model.specs.Keys.{pid_cmp, same_did}
@@ -15,6 +16,11 @@ Fds = FinMap nat_cmp Did
 -- the descriptors of each process
 abbrev pub AllFds : Type 0
 AllFds = FinMap pid_cmp Fds
+
+-- what each slot refers to: where it is taken, the number whose label and count the arrays hold there
+abbrev pub slots_of : List Bool → List Label → List ℕ → List (Option Did)
+slots_of [] labels counts = []
+slots_of (b ∷ taken) labels counts = cond b (Some (record { label = slice_index_or labels 0 bottom; n = slice_index_or counts 0 0 })) None ∷ slots_of taken (drop 1 labels) (drop 1 counts)
 
 -- the descriptors in a list of slots, which are numbered from n on
 abbrev pub in_slots : ℕ → List (Option Did) → List (ℕ × Did)

@@ -1,12 +1,7 @@
 -- Which slots of a row are taken.
-use Rattle.std.specs.Prelude.{ℕ, zero, suc, ◌/◌, ◌%◌, ◌==◌, Bool, List, [], ◌∷◌, Option, is_some, map}
-use Rattle.kern_model.specs.declared.numbers.Did.{Did}
+use Rattle.std.specs.Prelude.{ℕ, zero, suc, ◌/◌, ◌%◌, ◌==◌, Bool, List, [], ◌∷◌}
 
 -- the n lowest bits of a number, from the lowest on
 unfoldable pub lowest_bits : ℕ → ℕ → List Bool
 lowest_bits zero bits = []
 lowest_bits (suc n) bits = (bits % 2 == 1) ∷ lowest_bits n (bits / 2)
-
--- whether each slot refers to a description
-abbrev pub taken_in : List (Option Did) → List Bool
-taken_in slots = map is_some slots

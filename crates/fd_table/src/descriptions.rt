@@ -98,6 +98,7 @@ impl Descriptions {
 
     /// Counts one descriptor less of a description, which goes with the last one. Returns its object where that has no
     /// description any more. It takes no memory.
+    #[inline(always)]
     pub fn release(&mut self, did: &Did) -> Option<Oid>
         requires { IsThere self.old did.now }
         ensures left { (s : Value) → map.get self.old did.now ≡ Some s → self.new ≡ with_one_less self.old did.now s }
@@ -126,6 +127,7 @@ impl Descriptions {
             None
         }
     }
+
     /// Whether an object has a description for reading.
     pub fn has_reader(&self, id: &Oid) -> bool
         ensures { result ≡ has_user (λ s. s.how.reads) self.now id.now }

@@ -11,8 +11,8 @@ use crate::descriptions::Descriptions;
 use fs_nodes::Buffers;
 use kern_model::{Did, Kind, Oid};
 
-/// Removes all bytes from an object, if there is one and it is a FIFO. It takes no memory.
-pub fn drop_fifo<B: Buffers>(buffers: &mut B, id: &Option<Oid>)
+// Removes all bytes from an object, if there is one and it is a FIFO. It takes no memory.
+fn drop_fifo<B: Buffers>(buffers: &mut B, id: &Option<Oid>)
     ensures objects { B.objects buffers.new ≡ without_bytes (B.objects buffers.old) id.now }
     ensures rest { B.rest_same buffers.old buffers.new }
 {
@@ -27,6 +27,7 @@ pub fn drop_fifo<B: Buffers>(buffers: &mut B, id: &Option<Oid>)
 
 /// Counts one descriptor less of a description, which goes with the last one, and with the last one of a FIFO its bytes. It takes
 /// no memory.
+#[inline(always)]
 pub fn let_go<B: Buffers>(descriptions: &mut Descriptions, did: &Did, buffers: &mut B)
     requires { IsThere descriptions.old did.now }
     ensures left { (s : Value) → map.get descriptions.old did.now ≡ Some s → descriptions.new ≡ with_one_less descriptions.old did.now s }

@@ -9,32 +9,36 @@ ghost use Rattle.fd_table.specs.Rows.{fd_count};
 use crate::taken::TakenSlots;
 use kern_model::limits::MAX_DESCRIPTORS;
 use kern_model::{Did, Fd};
+use lab_lattice::{Label, bottom};
 use std::marker::Model;
 
 /// The descriptors of one process, and the description to which each refers.
 #[derive(Drop)]
 pub struct Row {
-    slots: [Option<Did>; MAX_DESCRIPTORS],
     /// Which of the slots are taken.
     taken: TakenSlots,
+    /// The labels of the numbers in the slots that are taken.
+    labels: [Label; MAX_DESCRIPTORS],
+    /// The counts of their draws.
+    counts: [u16; MAX_DESCRIPTORS],
 }
 
 impl Model for Row {
-    ghost use Rattle.std.specs.Prelude.{◌≡◌, ℕ};
+    ghost use Rattle.std.specs.Prelude.{◌≡◌, ℕ, length};
     ghost use Rattle.std.specs.FinMap as map;
     ghost use Rattle.std.specs.Coded.{coded_ℕ};
     ghost use Rattle.std.specs.Coded.{codes};
     ghost use Rattle.lab_lattice.specs.Label.{label_code};
-    ghost use Rattle.fd_table.specs.Rows.{Fds, fds_in};
-    ghost use Rattle.fd_table.specs.Taken.{taken_in};
+    ghost use Rattle.kern_model.specs.declared.limits.TheConstants.{MAX_DESCRIPTORS};
+    ghost use Rattle.fd_table.specs.Rows.{Fds, fds_in, slots_of};
 
     ghost Value = { Fds };
 
     ghost coded = { map.code coded_ℕ (Prim.hlevel (codes, label_code)) };
 
-    ghost view = { λ r. fds_in r.slots };
+    ghost view = { λ r. fds_in (slots_of r.taken r.labels r.counts) };
 
-    ghost invariant = { λ r. r.taken ≡ taken_in r.slots };
+    ghost invariant = { λ r. length r.taken ≡ MAX_DESCRIPTORS };
 }
 
 impl Row {
@@ -43,8 +47,9 @@ impl Row {
         ensures { result ≡ map.empty }
     {
         Row {
-            slots: [None; MAX_DESCRIPTORS],
             taken: TakenSlots::new(),
+            labels: [bottom(); MAX_DESCRIPTORS],
+            counts: [0; MAX_DESCRIPTORS],
         }
     }
 
@@ -52,11 +57,14 @@ impl Row {
     pub fn copy(&self) -> Self
         ensures { result ≡ self.now }
     {
-        let mut slots = [None; MAX_DESCRIPTORS];
-        slots.copy_from_slice(&self.slots);
+        let mut labels = [bottom(); MAX_DESCRIPTORS];
+        labels.copy_from_slice(&self.labels);
+        let mut counts = [0; MAX_DESCRIPTORS];
+        counts.copy_from_slice(&self.counts);
         Row {
-            slots,
             taken: self.taken.copy(),
+            labels,
+            counts,
         }
     }
 
@@ -73,7 +81,13 @@ impl Row {
         ensures did { result ≡ map.get self.now fd }
         ensures below { (did : Number) → result ≡ Some did → fd < MAX_DESCRIPTORS }
     {
-        *self.slots.get(fd as usize)?
+        if !self.taken.has(fd) {
+            return None;
+        }
+        Some(Did {
+            label: self.labels[fd as usize],
+            n: self.counts[fd as usize],
+        })
     }
 
     /// The lowest descriptor that is free.
@@ -91,7 +105,8 @@ impl Row {
         requires { fd < MAX_DESCRIPTORS }
         ensures { self.new ≡ map.insert self.old fd did }
     {
-        self.slots[fd as usize] = Some(did);
+        self.labels[fd as usize] = did.label;
+        self.counts[fd as usize] = did.n;
         self.taken.insert(fd);
     }
 
@@ -100,7 +115,6 @@ impl Row {
         requires { fd < MAX_DESCRIPTORS }
         ensures { self.new ≡ map.remove self.old fd }
     {
-        self.slots[fd as usize] = None;
         self.taken.remove(fd);
     }
 }

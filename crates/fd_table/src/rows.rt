@@ -94,6 +94,7 @@ impl Rows {
     }
 
     // The row of a process, if it has one.
+    #[inline(always)]
     fn row(&self, who: &Pid) -> Option<&Row>
         ensures { option_copied result ≡ map.get self.now who.now }
     {

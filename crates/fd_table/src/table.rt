@@ -13,7 +13,7 @@ ghost use Rattle.fd_table.specs.Descriptions.{description_of};
 ghost use Rattle.fd_table.specs.Rows.{fd_count, row_of};
 
 use crate::descriptions::Descriptions;
-use crate::fifo::{drop_fifo, let_go};
+use crate::fifo::let_go;
 use crate::opened::Opened;
 use crate::row::Row;
 use crate::rows::Rows;
@@ -161,6 +161,7 @@ impl FdTable {
     }
 
     /// Why `n` descriptions are not opened, if so.
+    #[inline(always)]
     pub fn open_refusal(&self, who: &Pid, label: &Label, n: u32) -> Option<FdError>
         ensures { result ≡ open_refusal self.now who.now label.now n }
     {
@@ -254,8 +255,7 @@ impl FdTable {
     {
         let did = self.did(who, fd).ok_or(FdError::NotOpen)?;
         self.rows.free(who, fd);
-        let unused = self.descriptions.release(&did);
-        drop_fifo(buffers, &unused);
+        let_go(&mut self.descriptions, &did, buffers);
         Ok(())
     }
 
@@ -342,6 +342,7 @@ impl FdTable {
         self.descriptions.hold(&did);
         self.rows.set(who, fd, did);
     }
+
     /// Whether an object has a description for reading.
     pub fn has_reader(&self, id: &Oid) -> bool
         ensures { result ≡ any_on self.now (λ d. d.reads) id.now }

@@ -1,5 +1,5 @@
 // Which slots of a row are taken.
-ghost use Rattle.std.specs.Prelude.{◌≡◌, ◌<◌, ◌≤◌, true, false, count_by, not, replicate, set};
+ghost use Rattle.std.specs.Prelude.{◌≡◌, ◌<◌, ◌≤◌, true, false, IsTrue, count_by, get_or, not, replicate, set};
 ghost use Rattle.std.specs.List.{position_or_len};
 ghost use Rattle.kern_model.specs.declared.limits.TheConstants.{MAX_DESCRIPTORS};
 
@@ -44,6 +44,14 @@ impl TakenSlots {
         ensures few { result ≤ MAX_DESCRIPTORS }
     {
         self.bits.count_ones() as usize
+    }
+
+    /// Whether a slot is taken.
+    pub fn has(&self, slot: Fd) -> bool
+        ensures taken { result ≡ get_or self.now slot false }
+        ensures below { IsTrue result → slot < MAX_DESCRIPTORS }
+    {
+        (slot as usize) < MAX_DESCRIPTORS && self.bits >> slot & 1 == 1
     }
 
     /// The lowest slot that is free.

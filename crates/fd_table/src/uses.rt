@@ -94,6 +94,7 @@ impl Uses {
 
     /// How many descriptions an object has.
     #[tactic(auto, unfolding(kern_model::specs::Maps::get_or))]
+    #[inline(always)]
     pub fn count(&self, id: &Oid) -> UseCount
         ensures { result ≡ get_or self.now id.now no_use }
     {
@@ -108,6 +109,7 @@ impl Uses {
     }
 
     // Puts a count in place of what was there. Where one is there, it takes no memory.
+    #[inline(always)]
     fn set(&mut self, id: Oid, count: UseCount) -> Result<(), NoMemory>
         ensures ok { OnOk result (self.new ≡ map.insert self.old id count) }
         ensures err { OnErr result (self.new ≡ self.old) }

@@ -1,19 +1,20 @@
-use Rattle.std.specs.Option.{option_flatten}
+use Rattle.std.specs.Prelude.{◌≡◌, length}
 use Rattle.std.specs.FinMap as map
-use Rattle.std.proofs.Common.{ap, sym, ◌∙◌}
-use Rattle.std.proofs.lemmas.Option.{slice_get_past, slice_get-get_or}
-use Rattle.fd_table.proofs.Slots.{get-fds}
-use Rattle.fd_table.specs.Rows.{Fds}
+use Rattle.std.proofs.Common.{refl, ap, sym, ◌∙◌, arith, rules}
+use Rattle.fd_table.specs.Rows.{Fds, slots_of}
+use Rattle.fd_table.proofs.Slots.{free_slot, get-fds, taken_slot}
 use Rattle.fd_table.proofs.row.Row.get.Goals as goal
 
-pub returns-in_err-get-clause-did : goal.returns-in_err-get-clause-did
-returns-in_err-get-clause-did c =
-    c.from_residual.ensures
-    ∙ sym (ap (λ (fds : Fds). map.get fds c.args.fd) (sym c.self.view_is) ∙ get-fds c.self.inside.slots c.args.fd ∙ ap option_flatten (slice_get_past c.self.inside.slots c.args.fd c.in_err-get.ensures.lookup.3))
+pub returns-then-not-has-clause-did : goal.returns-then-not-has-clause-did
+returns-then-not-has-clause-did c =
+    let row = c.self.inside in
+    let free = free_slot row.taken row.labels row.counts c.args.fd (sym c.if-not-has.ensures.taken) in
+    sym (get-fds (slots_of row.taken row.labels row.counts) c.args.fd ∙ free) ∙ ap (λ (fds : Fds). map.get fds c.args.fd) c.self.view_is
 
 pub returns-clause-did : goal.returns-clause-did
 returns-clause-did c =
-    let found = c.in_ok-get.ensures.lookup in
-    found.1
-    ∙ sym (ap (λ (fds : Fds). map.get fds c.args.fd) (sym c.self.view_is) ∙ get-fds c.self.inside.slots c.args.fd
-    ∙ ap option_flatten (slice_get-get_or c.self.inside.slots c.args.fd c.in_ok-get.field-0.now found.3.0))
+    let row = c.self.inside in
+    let labels : length row.labels ≡ 32 = search rules in
+    let below = c.if-not-has.ensures.below refl in
+    let taken = taken_slot row.taken row.labels row.counts c.args.fd c.index-self-fd.result (sym c.if-not-has.ensures.taken) (omega (arith, labels, below)) in
+    sym (get-fds (slots_of row.taken row.labels row.counts) c.args.fd ∙ taken) ∙ ap (λ (fds : Fds). map.get fds c.args.fd) c.self.view_is

@@ -1,14 +1,20 @@
-use Rattle.std.specs.Prelude.{Bool, List, None, false, is_some, set}
+use Rattle.std.specs.Prelude.{Bool, List, false, length}
 use Rattle.std.specs.FinMap as map
-use Rattle.std.proofs.Common.{ap, sym, ◌∙◌, arith}
-use Rattle.std.proofs.lemmas.List.{map-set}
-use Rattle.fd_table.specs.Rows.{Fds}
-use Rattle.fd_table.proofs.Slots.{fds-clear}
+use Rattle.std.proofs.Common.{ap, ◌∙◌, arith}
+use Rattle.std.proofs.lemmas.List.{length-set}
+use Rattle.fd_table.specs.Rows.{Fds, fds_in, slots_of}
+use Rattle.fd_table.proofs.Slots.{fds-clear, length-slots, slots-clear}
 use Rattle.fd_table.proofs.row.Row.remove.Goals as goal
 
 pub invariant_of-self : goal.invariant_of-self
-invariant_of-self c =
-    c.remove.ensures ∙ ap (λ (taken : List Bool). set taken c.args.fd false) c.self.invariant ∙ sym (map-set is_some c.self.inside.slots c.args.fd None)
+invariant_of-self c = ap length c.remove.ensures ∙ length-set c.self.inside.taken c.args.fd false ∙ c.self.invariant
 
 pub returns : goal.returns
-returns c = fds-clear c.self.inside.slots c.args.fd (omega arith) ∙ ap (λ (fds : Fds). map.remove fds c.args.fd) c.self.view_is
+returns c =
+    let row = c.self.inside in
+    let long = c.self.invariant in
+    let within = length-slots row.taken row.labels row.counts in
+    ap (λ (taken : List Bool). fds_in (slots_of taken row.labels row.counts)) c.remove.ensures
+    ∙ ap fds_in (slots-clear row.taken row.labels row.counts c.args.fd)
+    ∙ fds-clear (slots_of row.taken row.labels row.counts) c.args.fd (omega (arith, long, within))
+    ∙ ap (λ (fds : Fds). map.remove fds c.args.fd) c.self.view_is
