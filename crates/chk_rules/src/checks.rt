@@ -59,6 +59,7 @@ impl Checks {
 
     /// The verdict of a check. Where its capability is exercised, a record of that is added.
     #[tactic(auto, unfolding(kern_model::specs::Row::verdict_of))]
+    #[inline(always)]
     pub fn need(&mut self, check: &Check) -> Result<Verdict, NoMemory>
         ensures verdict { IfOk result (λ verdict. verdict ≡ verdict_of self.old.subject check.now) }
         ensures used { IfOk result (λ verdict. self.new ≡ noting self.old check.now verdict) }
@@ -68,6 +69,18 @@ impl Checks {
         if check.holds {
             return Ok(Verdict::Passed);
         }
+        self.by_capability(check)
+    }
+
+    // The verdict of a check whose rule does not hold: it passes by its capability, or is denied.
+    #[tactic(auto, unfolding(kern_model::specs::Row::verdict_of))]
+    #[inline(never)]
+    fn by_capability(&mut self, check: &Check) -> Result<Verdict, NoMemory>
+        ensures verdict { check.now.holds ≡ false → IfOk result (λ verdict. verdict ≡ verdict_of self.old.subject check.now) }
+        ensures used { check.now.holds ≡ false → IfOk result (λ verdict. self.new ≡ noting self.old check.now verdict) }
+        ensures subject { self.new.subject ≡ self.old.subject }
+        ensures err { OnErr result (self.new ≡ self.old) }
+    {
         match check.name.cap() {
             Some(cap) if self.effective.has(cap) => {
                 self.used.push(Rec::Exercise(
@@ -109,6 +122,7 @@ impl Checks {
 
 /// Makes a check that has to let the call go on: where it is denied, the call stops.
 #[tactic(auto, unfolding(kern_model::specs::Row::judge, crate::specs::Ends::EndsBy))]
+#[inline(always)]
 pub fn must(checks: &mut Checks, check: &Check) -> Result<(), Stop>
     ensures { GoesOn checks.old (λ rest. Need check.now (rest tt)) result checks.new }
 {
@@ -120,6 +134,7 @@ pub fn must(checks: &mut Checks, check: &Check) -> Result<(), Stop>
 
 /// Makes a check that stops nothing, and returns whether it lets the call go on in full.
 #[tactic(auto, unfolding(kern_model::specs::Row::judge, crate::specs::Ends::EndsBy))]
+#[inline(always)]
 pub fn prefer(checks: &mut Checks, check: &Check) -> Result<bool, Stop>
     ensures { GoesOn checks.old (λ rest. Soft check.now (rest true) (rest false)) result checks.new }
 {

@@ -165,6 +165,7 @@ fn label_order(label: &Label, dir: &Metadata, place: Place) -> Check
 }
 
 /// A check of an object, given whether its rule holds.
+#[inline(always)]
 pub fn check_of(name: CheckName, holds: bool, object: &Metadata, place: Place) -> Check
     ensures { result ≡ record { name = name; holds = holds; thing = thing.Object object.now.id; thing_label = object.now.label; new_label = None; place = place } }
 {

@@ -48,6 +48,7 @@ impl Caller<'_> {
     }
 
     /// Enters a directory: it may be read, is a directory, and may be searched.
+    #[inline(always)]
     pub fn enter(&self, checks: &mut Checks, dir: &Oid, place: Place) -> Result<(), Stop>
         ensures step { GoesOn checks.old (λ rest. enter (state_of self.now.shared.now) (process_of self.now) dir.now place (rest tt)) result checks.new }
         ensures dir { OnOk result (IsDir (state_of self.now.shared.now).objects dir.now) }
