@@ -10,7 +10,7 @@ use std::collections::VecDeque;
 use std::marker::Model;
 
 // How many items are in each tier but the last.
-const TIER: usize = 256;
+const TIER: usize = 1_024;
 
 /// A list in tiers. Where an item comes or goes, items move within one tier, and one item moves from each later tier.
 pub struct Tiers<T> {

@@ -2,6 +2,7 @@ use Rattle.std.proofs.Common.{◌/◌, ◌%◌, ◌<◌, ◌∙◌, ap, subst, s
 use Rattle.std.specs.Borrow.{MutBor}
 use Rattle.std.specs.Prelude.{IsSome}
 use Rattle.std.specs.VecDeque.{deque_with_item}
+use Rattle.fs_dirs.specs.declared.tiers.TheConstants.{TIER}
 use Rattle.fs_dirs.specs.Tiers.{Tier}
 use Rattle.fs_dirs.proofs.TierLemmas.{if_some, item_back, item_there, item_tier, item_within, kept_over, on_some, replaced, same_items}
 use Rattle.fs_dirs.proofs.tiers.Tiers.get_mut.Goals as goal
@@ -10,9 +11,9 @@ pub invariant_of-self-lent : goal.invariant_of-self-lent
 invariant_of-self-lent g c r =
     let ts = c.self.inside.tiers.items in
     let tier = c.in-Some.tier.now in
-    let at = c.args.place / 256 in
+    let at = c.args.place / TIER in
     let same = ap (λ (t : Tier g.row.T.Denot). length t.items) c.in-Some.ensures.value in (
-      (λ w. kept_over ts c.self.inside.len at (deque_with_item tier (c.args.place % 256) w) tier c.self.invariant (length-set tier.items (c.args.place % 256) w ∙ same)),
+      (λ w. kept_over ts c.self.inside.len at (deque_with_item tier (c.args.place % TIER) w) tier c.self.invariant (length-set tier.items (c.args.place % TIER) w ∙ same)),
       kept_over ts c.self.inside.len at tier tier c.self.invariant same,
     )
 
@@ -21,8 +22,8 @@ returns-in-Some g c =
     let ts = c.self.inside.tiers.items in
     let items = λ (t : Tier g.row.T.Denot). t.items in
     let tier = c.in-Some.tier.now in
-    let at = c.args.place / 256 in
-    let place = c.args.place % 256 in
+    let at = c.args.place / TIER in
+    let place = c.args.place % TIER in
     let is = c.in-Some.ensures.value in
     let lent = c.get_mut-in-Some in
     let long = ap length c.self.view_is in
