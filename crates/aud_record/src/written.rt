@@ -71,6 +71,7 @@ fn line_of(room: Vec<u8>, policy: &Policy, call: u64, rec: &Rec) -> Result<Vec<u
 
 /// The line of a record, after the number of its call, which is 0 for the records of the start. Of a label that is not
 /// valid in the policy only the names that the policy has are written. `room` is an earlier text, whose memory is used.
+#[inline(always)]
 pub fn rec_text(room: Vec<u8>, policy: &Policy, call: u64, rec: &Rec) -> Result<Vec<u8>, NoMemory>
     ensures text { IfOk result (λ text. text.items ≡ rec_text policy.now call rec.now) }
     // Where its labels are valid the line is read as this record, whatever follows it.

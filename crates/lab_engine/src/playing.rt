@@ -134,7 +134,10 @@ fn play_call<C: Calls, K: Sink, T: Sink>(
     let outcome = kernel.call(who, call)?;
     let shown = report.take_in(who, &outcome)?;
     let replies = show(texts, shown, number, outcome.recs.items(), room, out, trail)?;
-    Ok(replies.then_some(outcome.reply))
+    if replies {
+        return Ok(Some(outcome.reply));
+    }
+    Ok(None)
 }
 
 // Plays a line that is one call, and writes what is reported of it.

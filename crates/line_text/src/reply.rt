@@ -69,6 +69,7 @@ fn put_answer(line: LineWriter, policy: &Policy, answer: &Answer) -> Result<Line
 impl LineWriter {
     /// Appends the words of a reply, each after a space.
     #[tactic(auto, unfolding(crate::specs::Reply::outcome_words))]
+    #[inline(always)]
     pub fn outcome(self, policy: &Policy, reply: &Reply) -> Result<LineWriter, NoMemory>
         ensures { IfOk result (λ line. line ≡ with_words self (outcome_words policy.now reply.now)) }
     {

@@ -87,6 +87,7 @@ impl LineWriter {
     }
 
     /// Appends `n@label`, with no space before it.
+    #[inline(always)]
     pub fn numbered(
         mut self,
         policy: &Policy,
@@ -148,6 +149,7 @@ impl LineWriter {
     }
 
     /// Appends a space and a number of 32 bits.
+    #[inline(always)]
     pub fn number(self, n: u32) -> Result<LineWriter, NoMemory>
         ensures text { IfOk result (λ line. line ≡ self ++ 32 ∷ decimal n) }
         ensures in_range { OnOk result (IsNumber n) }
@@ -182,6 +184,7 @@ impl LineWriter {
     }
 
     /// Appends a space and a label.
+    #[inline(always)]
     pub fn label(self, policy: &Policy, label: &Label) -> Result<LineWriter, NoMemory>
         ensures { IfOk result (λ line. line ≡ self ++ 32 ∷ label_text policy.now label.now) }
     {
@@ -201,6 +204,7 @@ impl LineWriter {
     }
 
     /// Appends a space and the number of a process.
+    #[inline(always)]
     pub fn pid(self, policy: &Policy, pid: &Pid) -> Result<LineWriter, NoMemory>
         ensures text { IfOk result (λ line. line ≡ self ++ 32 ∷ pid_text policy.now pid.now) }
         ensures in_range { OnOk result (pid.now.n < 2 ^ 16) }

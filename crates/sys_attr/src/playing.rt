@@ -20,6 +20,7 @@ use kern_model::{Call, Pid};
 use sys_lookup::{Effect, Shared};
 
 /// Plays a call of a living process on modes, owners, the umask, capability sets of files, or labels of objects.
+#[inline(never)]
 pub fn play(
     shared: &mut Shared,
     checks: &mut Checks,

@@ -21,6 +21,7 @@ use std::alloc::Global;
 use sys_lookup::{Caller, Effect, Shared, living};
 
 /// Plays a call of a living process on descriptors, or one that opens or makes what descriptors refer to.
+#[inline(never)]
 pub fn play(
     alloc: Global,
     shared: &mut Shared,

@@ -23,6 +23,7 @@ use kern_model::{Call, Pid};
 use sys_lookup::{Effect, Shared, living};
 
 /// Plays a call of a living process on processes: their children and ends, ids, programs, capability sets and labels.
+#[inline(never)]
 pub fn play(
     shared: &mut Shared,
     checks: &mut Checks,

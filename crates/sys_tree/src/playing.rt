@@ -20,6 +20,7 @@ use kern_model::{Call, Pid};
 use sys_lookup::{Caller, Effect, Shared, living};
 
 /// Plays a call of a living process on directories and names.
+#[inline(never)]
 pub fn play(
     shared: &mut Shared,
     checks: &mut Checks,
