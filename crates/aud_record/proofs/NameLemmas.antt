@@ -1,5 +1,5 @@
 -- The names of capabilities in canonical form.
-use Rattle.std.specs.Prelude.{◌≡◌, ℕ, Bool, true, false, List, None, Some, refl}
+use Rattle.std.specs.Prelude.{◌≡◌, ℕ, Bool, true, false, List, None, Some}
 use Rattle.std.specs.Bool.{then_some}
 use Rattle.std.specs.Str.{str_to_ascii_lowercase}
 use Rattle.std.proofs.Common.{ap, sym, ◌∙◌}
@@ -7,7 +7,6 @@ use Rattle.std.proofs.lemmas.Bool.{both_ways}
 use Rattle.cap_bits.specs.Cap.{cap_name, cap_named, all_caps}
 use Rattle.cap_bits.proofs.Names.{cap_named_by, lower_name}
 use Rattle.cap_bits.specs.declared.cap.Cap.{Cap}
-use Rattle.cap_bits.specs.declared.cap.Cap.TheVariants as cap
 use Rattle.lab_text.specs.Names.{same_bytes}
 use Rattle.kern_model.specs.Named.{named}
 use Rattle.kern_model.proofs.NamedLaws.{named_is}

@@ -6,7 +6,7 @@ use Rattle.std.proofs.lemmas.Bool.{and_parts, and_from}
 use Rattle.std.proofs.lemmas.List.{append-nil, length-append, take_at, drop_at}
 use Rattle.fs_path.proofs.RoundTrip.{decimal_bare, spaces_apart}
 use Rattle.fs_path.specs.Split.{split_once}
-use Rattle.fs_path.specs.Words.{is_apart, after_spaces, line_text}
+use Rattle.fs_path.specs.Words.{after_spaces, line_text}
 use Rattle.lab_text.specs.Policy.{PolicyNames, MakePolicy}
 use Rattle.kern_model.specs.declared.numbers.Pid.{Pid}
 use Rattle.kern_model.specs.declared.records.Rec.{Rec}

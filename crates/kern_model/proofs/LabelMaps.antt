@@ -8,6 +8,7 @@ use Rattle.std.specs.Map.{keys_of}
 use Rattle.std.specs.FinMap as map
 use Rattle.std.specs.FinMap.{FinMap, get-empty, get-insert, same_map}
 use Rattle.std.proofs.Common.{sym, ◌∙◌, ap, subst, arith, set, get_or}
+use Rattle.std.proofs.lemmas.Bool.{and_parts}
 use Rattle.std.proofs.lemmas.Bool.Decides.{nat_tests}
 use Rattle.std.proofs.lemmas.Cmp.{tied_itself}
 use Rattle.std.proofs.lemmas.Option.{slice_get_read}
@@ -48,11 +49,6 @@ within : {X Y : Type 0} (f : X → Y) (xs : List X) (i : ℕ) (y : Y) → option
 within f [] i y h = absurd (cc)
 within f (x ∷ xs) zero y h = omega arith
 within f (x ∷ xs) (suc i) y h = let rest = within f xs i y h in omega arith
-
-both_true : (a b : Bool) → true ≡ (a && b) → (a ≡ true) × (b ≡ true)
-both_true true true h = (refl, refl)
-both_true true false h = absurd (cc)
-both_true false b h = absurd (cc)
 
 -- ---- values by labels
 module _ {X : Type 0} where
@@ -151,7 +147,7 @@ module _ {X : Type 0} (es : List (Entry X)) (places : FinMap label_cmp ℕ) (are
   -- an entry whose label is the one asked for stands where the label does
   pub place_equal : (place : ℕ) (d : Entry X) (q : Label) → place < length es → d ≡ get_or es place d → true ≡ (dominates d.label q && dominates q d.label) → Some place ≡ map.get places q
   place_equal place d q low at same =
-      let both = both_true _ _ same in
+      let both = and_parts _ _ (sym same) in
       sym (ap (map.get places) (sym (dominates_both d.label q both.0 both.1)) ∙ are.placed place d (slice_get_read es (length es) place d refl low at))
 
   -- the entry of a label is put in its place

@@ -1,5 +1,5 @@
 use Rattle.std.proofs.Common.{◌+◌, ◌≤◌, length, refl, sym, subst, arith}
-use Rattle.world_text.specs.Reading.{Reading, IsRead, IsNotRead, read_text}
+use Rattle.world_text.specs.Reading.{Reading, IsRead, read_text}
 use Rattle.world_text.proofs.Accepted.{accepted_text}
 use Rattle.world_text.proofs.ReadingLemmas.{read_on, read_refused, read_world, read_end, refused_for, ended_for}
 use Rattle.world_text.proofs.world.WorldText.read.Goals as goal
