@@ -10,7 +10,8 @@ const MAX_LEVEL: u8 = 15;
 /// A level of secrecy, seen as its number: 0 is the lowest, 15 the highest that a value can have.
 #[derive(Clone, Copy, Debug, PartialEq, Eq, PartialOrd, Ord)]
 pub struct Level {
-    number: u8,
+    // As wide as the categories beside it, so that a label has no padding.
+    number: u64,
 }
 
 impl Model for Level {
@@ -32,7 +33,9 @@ impl Level {
         ensures level { IfSome result (λ level. level ≡ n) }
     {
         if n <= MAX_LEVEL {
-            Some(Level { number: n })
+            Some(Level {
+                number: u64::from(n),
+            })
         } else {
             None
         }
@@ -50,7 +53,7 @@ impl Level {
         ensures number { result ≡ self.now }
         ensures few { result ≤ 15 }
     {
-        self.number
+        self.number as u8
     }
 }
 

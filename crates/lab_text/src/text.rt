@@ -1,8 +1,9 @@
 // The texts of labels.
-ghost use Rattle.std.specs.Prelude.{◌≡◌, ◌+◌, ◌++◌, ◌<◌, ◌^◌, true, get_or, [], IfOk, IfErr, IfSome, OnOk, Some, None};
+ghost use Rattle.std.specs.Prelude.{◌≡◌, ◌↔◌, ◌+◌, ◌++◌, ◌<◌, ◌^◌, true, get_or, [], IfOk, IfErr, IfSome, OnOk, Some, None};
 ghost use Rattle.std.specs.FinSet as set;
 ghost use Rattle.std.specs.Option.{option_copied, option_map};
 ghost use Rattle.fs_path.specs.Split.{pieces_of_rest, bytes_from};
+ghost use Rattle.lab_text.specs.Names.{place_of};
 ghost use Rattle.lab_text.specs.Policy.{is_valid};
 ghost use Rattle.lab_text.specs.Text.{places_of, first_unknown, parse_label, SaysNone, label_text};
 
@@ -47,7 +48,8 @@ fn cats_named(policy: &Policy, list: Option<&[u8]>, start: usize) -> Result<Cats
 
 // The label of a level alone, where the text is the level's name.
 fn level_alone(policy: &Policy, text: &[u8]) -> Option<Label>
-    ensures { IfSome result (λ label. parse_label policy.now text.now ≡ Some label) }
+    ensures label { IfSome result (λ label. parse_label policy.now text.now ≡ Some label) }
+    ensures none { (result ≡ None) ↔ (place_of policy.now.levels text.now ≡ None) }
 {
     let first = policy.level_named(text)?;
     Some(Pair {

@@ -19,7 +19,7 @@ pub cats_named-requires : goal.cats_named-requires
 cats_named-requires c = let few = c.first_piece.ensures.lengths in omega arith
 
 pub returns-in-Some-clause-valid : goal.returns-in-Some-clause-valid
-returns-in-Some-clause-valid c = parsed_valid c.args.policy.now c.args.text.now c.in-Some.label c.in-Some.ensures
+returns-in-Some-clause-valid c = parsed_valid c.args.policy.now c.args.text.now c.in-Some.label c.in-Some.ensures.label
 
 pub returns-in-Some-syntax_fault-clause-none : goal.returns-in-Some-syntax_fault-clause-none
 returns-in-Some-syntax_fault-clause-none c = says_none c.args.policy.now c.args.text.now (error.Syntax c.in-Some-syntax_fault.at) c.in-Some-syntax_fault.ensures
