@@ -1,5 +1,5 @@
 -- How many entries pass a test, and which one does, after an entry is set or goes.
-use Rattle.std.specs.Prelude.{◌≡◌, ◌||◌, ◌==◌, not, ℕ, ◌+◌, ◌≤◌, Bool, true, false, List, [], ◌∷◌, ◌++◌, Some, None, cond, count_by, length, refl}
+use Rattle.std.specs.Prelude.{◌≡◌, ◌||◌, ◌==◌, not, ℕ, ◌+◌, Bool, true, false, List, [], ◌∷◌, ◌++◌, Some, None, cond, count_by, length, refl}
 use Rattle.std.specs.declared.cmp.Ordering.{Ordering}
 use Rattle.std.specs.declared.cmp.Ordering.TheVariants.{Less, Equal, Greater}
 use Rattle.std.specs.Ordering.{is_eq, eq_by_cmp}
@@ -10,12 +10,11 @@ use Rattle.std.specs.FinMap as table
 use Rattle.std.specs.FinMap.{FinMap, IsAntisymmetric, find, put, entries-insert, get-entries, len-entries, len-empty, get-insert, get-remove, same_map}
 use Rattle.std.specs.FinMap.Entries.{by_order}
 use Rattle.std.proofs.Common.{ap, sym, ◌∙◌, arith}
-use Rattle.std.proofs.lemmas.Bool.{true≢false}
 use Rattle.std.proofs.lemmas.Bool.Decides.{nat_tests}
 use Rattle.std.proofs.lemmas.List.Sums.{sum_by-cons}
 use Rattle.kern_model.specs.Maps.{any_entry, count_entries}
 use Rattle.kern_model.proofs.Selections.{get-remove_same}
-use Rattle.kern_model.proofs.MapLemmas.{same_key, never_some, some_same}
+use Rattle.kern_model.proofs.MapLemmas.{same_key, never_some}
 
 -- ---- lists
 module _ {X : Type 0} (p : X → Bool) where
@@ -118,44 +117,6 @@ module _ {K X : Type 0} {R : K → K → Ordering} (p : K → X → Bool) where
       -- an entry that goes counted where it passes
       pub count_entries-remove : (m : FinMap R X) (k : K) (x : X) → table.get m k ≡ Some x → count_entries p m ≡ cond (p k x) 1 0 + count_entries p (table.remove m k)
       count_entries-remove m k x e = ap (count_entries p) (sym (insert-remove o exact m k x e)) ∙ count_entries-insert (table.remove m k) k x (get-remove_same o m k)
-
-      -- where none passes, what is there does not
-      passes_counted : (es : List (K × X)) (k : K) (x : X) → find R k es ≡ Some x → p k x ≡ true → 1 ≤ passing p es
-      passes_counted [] k x f t = absurd (never_some None x refl f)
-      passes_counted (e ∷ es) k x f t =
-          let step = count-cons (λ (e : K × X). p e.0 e.1) e es in
-          elim (eq_by_cmp R k e.0) as (λ b. eq_by_cmp R k e.0 ≡ b → cond b (Some e.1) (find R k es) ≡ Some x → 1 ≤ passing p (e ∷ es)) [
-            | true ↦ λ s g.
-                let here : p e.0 e.1 ≡ true = ap (λ j. p j e.1) (sym (same_key exact k e.0 s)) ∙ ap (p k) (some_same e.1 x g) ∙ t in
-                let one : ◌≡◌ {A = ℕ} (cond (p e.0 e.1) 1 0) 1 = ap (λ b. cond {A = ℕ} b 1 0) here in
-                omega (arith, step, one)
-            | false ↦ λ _ g. let rest = passes_counted es k x g t in omega (arith, step, rest)
-          ] refl f
-
-      -- the first entry that passes is the only one
-      first_passing : (es : List (K × X)) (k : K) (x : X) → passing p es ≤ 1 → find R k es ≡ Some x → p k x ≡ true → list.find (λ (e : K × X). p e.0 e.1) es ≡ Some (k, x)
-      first_passing [] k x one f t = absurd (never_some None x refl f)
-      first_passing (e ∷ es) k x one f t =
-          let step = count-cons (λ (e : K × X). p e.0 e.1) e es in
-          elim (p e.0 e.1) as (λ b. p e.0 e.1 ≡ b → cond b (Some e) (list.find (λ (e : K × X). p e.0 e.1) es) ≡ Some (k, x)) [
-            | true ↦ λ here.
-                let counted : ◌≡◌ {A = ℕ} (cond (p e.0 e.1) 1 0) 1 = ap (λ b. cond {A = ℕ} b 1 0) here in
-                elim (eq_by_cmp R k e.0) as (λ b. eq_by_cmp R k e.0 ≡ b → cond b (Some e.1) (find R k es) ≡ Some x → Some e ≡ Some (k, x)) [
-                  | true ↦ λ s g. λ i. Some (sym (same_key exact k e.0 s) i, some_same e.1 x g i)
-                  | false ↦ λ _ g. let more = passes_counted es k x g t in absurd (omega (arith, step, counted, more, one))
-                ] refl f
-            | false ↦ λ here.
-                let counted : ◌≡◌ {A = ℕ} (cond (p e.0 e.1) 1 0) 0 = ap (λ b. cond {A = ℕ} b 1 0) here in
-                first_passing es k x (omega (arith, step, counted, one)) (elim (eq_by_cmp R k e.0) as (λ b. eq_by_cmp R k e.0 ≡ b → cond b (Some e.1) (find R k es) ≡ Some x → find R k es ≡ Some x) [
-                  | true ↦ λ s g. absurd (true≢false (sym (ap (λ j. p j e.1) (sym (same_key exact k e.0 s)) ∙ ap (p k) (some_same e.1 x g) ∙ t) ∙ here))
-                  | false ↦ λ _ g. g
-                ] refl f) t
-          ] refl
-
-      -- where at most one entry passes, it is found
-      pub only_passing : (m : FinMap R X) (k : K) (x : X) → count_entries p m ≤ 1 → table.get m k ≡ Some x → p k x ≡ true → list.find (λ (e : K × X). p e.0 e.1) (table.entries m) ≡ Some (k, x)
-      unfolding count_entries
-      only_passing m k x one e t = first_passing (table.entries m) k x one (sym (get-entries m k) ∙ e) t
 
   -- and where none passes, none is
   pub none_passing : (m : FinMap R X) → count_entries p m ≡ 0 → list.find (λ (e : K × X). p e.0 e.1) (table.entries m) ≡ None

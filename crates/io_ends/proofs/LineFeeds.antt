@@ -1,5 +1,5 @@
 -- The first line feed of a text, by a search of a library.
-use Rattle.std.specs.Prelude.{◌≡◌, ℕ, ◌<◌, ◌≤◌, ◌==◌, Bool, true, false, List, Option, None, Some, cond, length, nat_lt, position, refl, slice_index}
+use Rattle.std.specs.Prelude.{◌≡◌, ℕ, ◌==◌, Bool, true, false, List, Option, None, Some, cond, length, nat_lt, position, refl}
 use Rattle.std.specs.List.{position_or_len}
 use Rattle.std.proofs.Common.{ap, sym, ◌∙◌, arith, get_or}
 use Rattle.std.proofs.lemmas.Bool.Decides.{nat_tests}

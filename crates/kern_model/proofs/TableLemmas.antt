@@ -8,7 +8,7 @@ use Rattle.std.specs.BTreeMap.{is_at}
 use Rattle.std.specs.List.{AllByRecursion}
 use Rattle.std.specs.List.Sorted.{IsStrictlySortedBy}
 use Rattle.std.specs.Map.{lookup, keys_of}
-use Rattle.std.specs.FinMap.{FinMap, IsAntisymmetric, find, get, insert, from_entries, get-from_entries, get-insert, get-remove, remove, same_map, is_sorted, entries, from_sorted, entries-from_sorted, get-from_sorted}
+use Rattle.std.specs.FinMap.{FinMap, IsAntisymmetric, find, get, insert, from_entries, get-from_entries, get-insert, same_map, is_sorted, entries, from_sorted, entries-from_sorted, get-from_sorted}
 use Rattle.std.specs.FinMap.Entries.{below_all}
 use Rattle.std.proofs.Common.{ap, sym, ◌∙◌, subst, T}
 use Rattle.kern_model.specs.Maps.{get_or}
@@ -27,12 +27,6 @@ module _ {K X : Type 0} {R : K → K → Ordering} (o : IsTotalOrder R) where
   one_set exact es fs k x h = same_map o exact _ _ (λ q.
       get_at fs q ∙ h q ∙ ap (λ b. cond b (Some x) (lookup (is_at (R q)) es)) ((eq_by_cmp_equiv o).symm k q)
       ∙ sym (get-insert o (from_entries es) k x q ∙ ap (cond (is_at (R q) k) (Some x)) (get_at es q)))
-
-  -- a list of entries that differs from another at one key, by having none there, makes the map with that key removed
-  pub one_removed : IsAntisymmetric R → (es fs : List (K × X)) (k : K) → ((q : K) → lookup (is_at (R q)) fs ≡ cond (is_at (R k) q) None (lookup (is_at (R q)) es)) → from_entries {R = R} fs ≡ remove (from_entries es) k
-  one_removed exact es fs k h = same_map o exact _ _ (λ q.
-      get_at fs q ∙ h q ∙ ap (λ b. cond b None (lookup (is_at (R q)) es)) ((eq_by_cmp_equiv o).symm k q)
-      ∙ sym (get-remove o (from_entries es) k q ∙ ap (cond (is_at (R q) k) None) (get_at es q)))
 
 -- ---- entries sorted by their keys
 pub both_T : (a b : Bool) → T a → T b → T (a && b)

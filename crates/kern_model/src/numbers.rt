@@ -3,7 +3,7 @@ ghost use Rattle.std.specs.Prelude.{◌≡◌};
 ghost use Rattle.kern_model.specs.Keys.{same_oid};
 
 use fs_path::List;
-use lab_lattice::Label;
+use lab_lattice::{Label, bottom};
 
 /// The number of a process: the label that it was drawn at, and the count of its draw from 1 on.
 #[derive(Clone, Copy, Debug, PartialEq, Eq, PartialOrd, Ord)]
@@ -12,11 +12,41 @@ pub struct Pid {
     pub n: u16,
 }
 
+// No process has this number. A `SmallVec` fills its unused places with it.
+impl Default for Pid {
+    ghost use Rattle.std.specs.Prelude.{◌≡◌};
+    ghost use Rattle.lab_lattice.specs.Label.{bottom};
+
+    ghost is_default = { λ pid. pid ≡ record { label = bottom; n = 0 } };
+
+    fn default() -> Pid {
+        Pid {
+            label: bottom(),
+            n: 0,
+        }
+    }
+}
+
 /// The number of an object: the label that it was drawn at, and the count of its draw from 1 on.
 #[derive(Clone, Copy, Debug, PartialEq, Eq, PartialOrd, Ord)]
 pub struct Oid {
     pub label: Label,
     pub n: u16,
+}
+
+// No object has this number. A `SmallVec` fills its unused places with it.
+impl Default for Oid {
+    ghost use Rattle.std.specs.Prelude.{◌≡◌};
+    ghost use Rattle.lab_lattice.specs.Label.{bottom};
+
+    ghost is_default = { λ oid. oid ≡ record { label = bottom; n = 0 } };
+
+    fn default() -> Oid {
+        Oid {
+            label: bottom(),
+            n: 0,
+        }
+    }
 }
 
 impl Oid {

@@ -1,5 +1,5 @@
 -- What a process takes on by exec of a file.
-use Rattle.std.specs.Prelude.{◌≡◌, ℕ, Bool, true, false, Option, None, Some, cond, unwrap_or, refl}
+use Rattle.std.specs.Prelude.{◌≡◌, ℕ, Bool, true, false, None, Some, cond, unwrap_or, refl}
 use Rattle.kern_model.specs.Exec.{exec_ids}
 use Rattle.kern_model.specs.Kinds.{sets_user, sets_group}
 use Rattle.kern_model.specs.declared.numbers.Ids.{Ids}

@@ -3,7 +3,7 @@ use Rattle.std.proofs.Common.{◌≡◌, ℕ, ◌+◌, ◌<◌, true, List, [], 
 use Rattle.std.specs.Prelude.{is_some, filter_map, zip}
 use Rattle.std.specs.List.{cons_option, list_all}
 use Rattle.std.proofs.lemmas.Bool.{and_parts, and_from}
-use Rattle.std.proofs.lemmas.List.{drop_all, drop_more, get_or-map, length-map}
+use Rattle.std.proofs.lemmas.List.{drop_more, get_or-map, length-map}
 use Rattle.std.proofs.lemmas.Slice.Zip.{get_or-zip, length-zip}
 use Rattle.cap_bits.specs.declared.state.CapState.{CapState}
 use Rattle.fs_path.specs.Path.{PathValue}
@@ -67,10 +67,6 @@ module _ (util : Util) where
   items_from whole i c within =
       let d = item_of util (get_or util.texts i []) (get_or (calls_of util) i c) in
       drop_more (items_of util) i d (omega (arith, items_length whole)) ∙ ap (λ x. x ∷ drop (i + 1) (items_of util)) (item_at whole i c d within)
-
-  -- no item is left after the last path
-  pub no_items_left : IsWhole util → drop (length util.paths) (items_of util) ≡ []
-  no_items_left whole = drop_all (length util.paths) (items_of util) (omega (arith, items_length whole))
 
   -- the items may be played where the caller is a number and each call may be made
   module _ (top : Label) (caller : is_number top util.who ≡ true) where
