@@ -1,11 +1,11 @@
 // The checks of a call: their verdicts, and the exercises that they leave.
-ghost use Rattle.std.specs.Prelude.{◌≡◌, IfOk, OnErr, false, true};
-ghost use Rattle.kern_model.specs.Row.{verdict_of, Need, Refuse, Soft};
+ghost use Rattle.std.specs.Prelude.{◌≡◌, ◌++◌, IfOk, OnErr, OnOk, Some, false, true};
+ghost use Rattle.kern_model.specs.Row.{exercise_with, verdict_of, Need, Refuse, Soft};
 ghost use Rattle.chk_rules.specs.CheckLog.{CheckLog, check_log, noting};
 ghost use Rattle.chk_rules.specs.Ends.{GoesOn};
 
 use crate::Stop;
-use cap_bits::CapSet;
+use cap_bits::{Cap, CapSet};
 use kern_model::{Check, Errno, NoMemory, Pid, Rec, RecList, Verdict};
 use lab_lattice::Label;
 use std::alloc::Global;
@@ -69,34 +69,31 @@ impl Checks {
         if check.holds {
             return Ok(Verdict::Passed);
         }
-        self.by_capability(check)
-    }
-
-    // The verdict of a check whose rule does not hold: it passes by its capability, or is denied.
-    #[tactic(auto, unfolding(kern_model::specs::Row::verdict_of))]
-    #[inline(never)]
-    fn by_capability(&mut self, check: &Check) -> Result<Verdict, NoMemory>
-        ensures verdict { check.now.holds ≡ false → IfOk result (λ verdict. verdict ≡ verdict_of self.old.subject check.now) }
-        ensures used { check.now.holds ≡ false → IfOk result (λ verdict. self.new ≡ noting self.old check.now verdict) }
-        ensures subject { self.new.subject ≡ self.old.subject }
-        ensures err { OnErr result (self.new ≡ self.old) }
-    {
         match check.name.cap() {
             Some(cap) if self.effective.has(cap) => {
-                self.used.push(Rec::Exercise(
-                    self.who,
-                    self.label,
-                    cap,
-                    check.name,
-                    check.thing,
-                    check.thing_label,
-                    check.new_label,
-                    check.place,
-                ))?;
+                self.exercise(cap, check)?;
                 Ok(Verdict::Exercised)
             }
             _ => Ok(Verdict::Denied),
         }
+    }
+
+    // Adds the record of a check that passes by a capability.
+    #[inline(never)]
+    fn exercise(&mut self, cap: Cap, check: &Check) -> Result<(), NoMemory>
+        ensures ok { OnOk result (self.new ≡ record self.old { used = self.old.used ++ exercise_with self.old.subject check.now (Some cap) }) }
+        ensures err { OnErr result (self.new ≡ self.old) }
+    {
+        self.used.push(Rec::Exercise(
+            self.who,
+            self.label,
+            cap,
+            check.name,
+            check.thing,
+            check.thing_label,
+            check.new_label,
+            check.place,
+        ))
     }
 
     /// The exercises so far, in order.
