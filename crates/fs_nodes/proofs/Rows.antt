@@ -6,7 +6,7 @@ use Rattle.std.specs.Ordering.{nat_cmp, is_eq, is_lt, eq_by_cmp, ordering_then}
 use Rattle.std.specs.Option.{option_or}
 use Rattle.std.specs.List.{flat_map}
 use Rattle.std.specs.FinMap as map
-use Rattle.std.specs.FinMap.{find, is_sorted, entries_sorted, get-entries, get-empty, get-from_entries, get-insert, get-remove, same_map}
+use Rattle.std.specs.FinMap.{find, is_sorted, entries_sorted, get-entries, get-from_entries, get-insert, same_map}
 use Rattle.std.specs.FinMap.Entries.{below_all}
 use Rattle.std.proofs.Common.{ap, sym, ◌∙◌, subst, arith, T}
 use Rattle.std.proofs.lemmas.Bool.Decides.{nat_tests}
@@ -78,7 +78,7 @@ module _ {K X : Type 0} (R : K → K → Ordering) where
   find_with q k None es = elim (eq_by_cmp R q k) as (λ b. find R q es ≡ cond b (find R q es) (find R q es)) [ true ↦ refl | false ↦ refl ]
   find_with q k (Some x) es = refl
 
-abbrev number : Label → ℕ → Oid
+abbrev pub number : Label → ℕ → Oid
 number label n = record { label = label; n = n }
 
 module _ {X : Type 0} where
@@ -157,21 +157,11 @@ module _ {X : Type 0} where
       get-from_entries oid_cmp_total (flat_map placed (map.entries rows)) q ∙ find_all q (map.entries rows) (entries_sorted rows)
       ∙ ap (in_row q.n) (sym (get-entries rows q.label)) ∙ row_says rows q
 
-  -- no list, nothing
-  pub items_in-empty : items_in {X = X} map.empty ≡ map.empty
-  items_in-empty = same_map oid_cmp_total oid_cmp_exact _ _ (λ q.
-      get-items_in map.empty q ∙ ap (λ (r : List (Option X)). get_or r q.n None) (get_or-absent map.empty q.label [] (get-empty label_cmp q.label)) ∙ sym (get-empty oid_cmp q))
-
   module _ (rows : Rows (Option X)) (id : Oid) (row : List (Option X)) where
     pub items_in-set : (x : X) → IsSet None (row_at rows id.label) id.n (Some x) row → items_in (map.insert rows id.label row) ≡ map.insert (items_in rows) id x
     items_in-set x set = same_map oid_cmp_total oid_cmp_exact _ _ (λ q.
         get-items_in (map.insert rows id.label row) q ∙ item_set None rows id row (Some x) set q
         ∙ ap (cond (same_oid q id) (Some x)) (sym (get-items_in rows q)) ∙ sym (get-insert oid_cmp_total (items_in rows) id x q))
-
-    pub items_in-cleared : IsSet None (row_at rows id.label) id.n None row → items_in (map.insert rows id.label row) ≡ map.remove (items_in rows) id
-    items_in-cleared set = same_map oid_cmp_total oid_cmp_exact _ _ (λ q.
-        get-items_in (map.insert rows id.label row) q ∙ item_set None rows id row None set q
-        ∙ ap (cond (same_oid q id) None) (sym (get-items_in rows q)) ∙ sym (get-remove oid_cmp_total (items_in rows) id q))
 
 -- ---- the list of a label, as it is looked up
 module _ {X : Type 0} (rows : Rows X) (label : Label) where

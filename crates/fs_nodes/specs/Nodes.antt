@@ -24,6 +24,20 @@ pub record NodeSlots : Type 0 where
   pub slots : Slab Object
   pub keys : FinMap oid_cmp ℕ
 
+-- the key in the slab of each object, and the last number drawn of each label
+pub record NodeKeys : Type 0 where
+  pub keys : FinMap oid_cmp ℕ
+  pub numbers : FinMap label_cmp ℕ
+
+-- how they are stored
+abbrev pub keys_code : Coded Oid → Coded Label → Coded NodeKeys
+keys_code oid label =
+    code_by (FinMap oid_cmp ℕ × FinMap label_cmp ℕ)
+    (coded× (map.code oid coded_ℕ) (map.code label coded_ℕ))
+    (λ k. (k.keys, k.numbers))
+    (λ p. record { keys = p.0; numbers = p.1 })
+    (λ _. refl)
+
 -- how a table is stored, with the slab and the keys
 abbrev pub slots_code : Coded Oid → Coded Object → Coded Label → Coded NodeSlots
 slots_code oid object label =
@@ -48,6 +62,10 @@ with_object t id o = record t { objects = map.insert t.objects id o }
 -- a new object under the next number of a label
 abbrev pub with_new : NodeTable → Label → Object → NodeTable
 with_new t l o = record { objects = map.insert t.objects (next_in t l) o; numbers = map.insert t.numbers l (drawn t.numbers l + 1) }
+
+-- the key of a new object, whose number is then the last one drawn of its label
+abbrev pub with_key : NodeKeys → Oid → ℕ → NodeKeys
+with_key k id key = record { keys = map.insert k.keys id key; numbers = map.insert k.numbers id.label id.n }
 
 -- the number is that of a file
 pub record IsFile (objects : FinMap oid_cmp Object) (id : Oid) : Type 0 where

@@ -1,5 +1,5 @@
 -- What is kept at the numbers of objects: a list for each label, with a place for each count of a draw.
-use Rattle.std.specs.Prelude.{◌≡◌, ℕ, ◌+◌, ◌==◌, List, [], ◌∷◌, Option, cond, get_or}
+use Rattle.std.specs.Prelude.{◌≡◌, ℕ, ◌+◌, ◌==◌, List, [], ◌∷◌, Option, Some, None, cond, get_or, length, map as map_list}
 use Rattle.std.specs.List.{flat_map}
 use Rattle.std.specs.FinMap as map
 use Rattle.std.specs.FinMap.{FinMap}
@@ -7,7 +7,7 @@ use Rattle.lab_lattice.specs.Label.{Label, label_cmp}
 use Rattle.kern_model.specs.declared.numbers.Oid.{Oid}
 use Rattle.kern_model.specs.Keys.{oid_cmp}
 use Rattle.kern_model.specs.Maps as maps
-use Rattle.kern_model.specs.Maps.{with_entry}
+use Rattle.kern_model.specs.Maps.{select, with_entry}
 
 -- a list for each label
 abbrev pub Rows : Type 0 → Type 0
@@ -33,3 +33,15 @@ numbered label n (item ∷ items) = with_entry (record { label = label; n = n })
 -- what stands at each number
 unfoldable pub items_in : {X : Type 0} → Rows (Option X) → FinMap oid_cmp X
 items_in {X = X} rows = map.from_entries (flat_map (λ (row : Label × List (Option X)). numbered row.0 0 row.1) (map.entries rows))
+
+-- the items of a list by counts from 1 on
+abbrev pub from_one : {X : Type 0} → List X → List (Option X)
+from_one items = None ∷ map_list Some items
+
+-- the key of each object, where the list of a label has those of its objects in the order in which their numbers were drawn
+unfoldable pub keys_in : Rows ℕ → FinMap oid_cmp ℕ
+keys_in rows = items_in (select (λ _ (row : List ℕ). Some (from_one row)) rows)
+
+-- the last number drawn of each label
+unfoldable pub numbers_in : Rows ℕ → FinMap label_cmp ℕ
+numbers_in rows = select (λ _ (row : List ℕ). Some (length row)) rows

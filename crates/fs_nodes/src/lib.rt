@@ -3,8 +3,8 @@
 
 mod buffers;
 mod index;
-mod keys;
 mod nodes;
+mod row;
 
 pub use buffers::Buffers;
 pub use fs_path::NoMemory;

@@ -125,14 +125,14 @@ impl Nodes {
         ensures holds { (key : ℕ) → result ≡ Some key → get self.now.slots key ≡ map.get self.now.table.objects id.now }
         ensures apart { (a b : Number) (key : ℕ) → map.get self.now.keys a ≡ Some key → map.get self.now.keys b ≡ Some key → a ≡ b }
     {
-        self.index.keys.get(id)
+        self.index.get(id)
     }
 
     /// The object with a number, if there is one.
     pub fn get(&self, id: &Oid) -> Option<&Object>
         ensures { option_copied result ≡ map.get self.now.table.objects id.now }
     {
-        let key = self.index.keys.get(id)?;
+        let key = self.index.get(id)?;
         self.slots.get(key)
     }
 

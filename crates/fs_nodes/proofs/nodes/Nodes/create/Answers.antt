@@ -8,8 +8,7 @@ use Rattle.kern_model.specs.declared.numbers.Oid.{Oid}
 use Rattle.kern_model.specs.State.{drawn}
 use Rattle.kern_model.specs.declared.objects.Object.{Object}
 use Rattle.kern_model.specs.Keys.{oid_cmp}
-use Rattle.fs_nodes.specs.Nodes.{NodeSlots, NodeTable, IsPlaced, objects_in, with_new}
-use Rattle.fs_nodes.specs.declared.index.Index.{Index}
+use Rattle.fs_nodes.specs.Nodes.{NodeKeys, NodeSlots, NodeTable, IsPlaced, objects_in, with_new}
 use Rattle.fs_nodes.proofs.Made.{same_objects, placed_reserved, objects_made, placed_made, where_err}
 use Rattle.fs_nodes.proofs.nodes.Nodes.create.Goals as goal
 
@@ -39,12 +38,12 @@ returns-in_err-reserve-clause-err c = where_err c.from_residual-in_err-reserve.r
 
 pub invariant_of-self-in_err-enter : goal.invariant_of-self-in_err-enter
 invariant_of-self-in_err-enter c =
-    subst (λ (x : Index). IsPlaced c.reserve.new.self x.keys x.numbers) (sym c.in_err-enter.ensures.err)
+    subst (λ (k : NodeKeys). IsPlaced c.reserve.new.self k.keys k.numbers) (sym c.in_err-enter.ensures.err)
     (reserved c.self.inside.slots c.reserve.new.self c.self.inside.index.keys c.self.inside.index.numbers c.reserve.ensures.rest_kept c.self.invariant)
 
 pub returns-in_err-enter-clause-err : goal.returns-in_err-enter-clause-err
 returns-in_err-enter-clause-err c = where_err c.from_residual-in_err-enter.result
-    (ap (λ (x : Index). record { objects = objects_in c.reserve.new.self x.keys; numbers = x.numbers }) c.in_err-enter.ensures.err
+    (ap (λ (k : NodeKeys). record { objects = objects_in c.reserve.new.self k.keys; numbers = k.numbers }) c.in_err-enter.ensures.err
     ∙ same_table c.self.inside.slots c.reserve.new.self c.self.inside.index.keys c.self.inside.index.numbers c.args.self.now c.reserve.ensures.rest_kept c.self.view_is)
 
 -- what holds of the value of an option that has one
@@ -61,8 +60,7 @@ invariant_of-self-2 c =
     let placed = reserved c.self.inside.slots c.reserve.new.self c.self.inside.index.keys c.self.inside.index.numbers c.reserve.ensures.rest_kept c.self.invariant in
     let updates = subst (λ (key : ℕ). Updates c.reserve.new.self c.insert_reserved.new.self key (Some c.object_from-object.result)) (c.insert_reserved.ensures.key ∙ sym c.vacant_key-key.ensures.value) c.insert_reserved.ensures.updates in
     let made = placed_made placed c.in_ok-id.id (drawn_next c.self.inside.index.numbers c.object_from-object.result.label c.in_ok-id.id id.0) c.vacant_key-key.result c.object_from-object.result c.insert_reserved.new.self c.vacant_key-key.ensures.vacant updates c.insert_reserved.ensures.len in
-    subst (λ (keys : FinMap oid_cmp ℕ). IsPlaced c.insert_reserved.new.self keys c.enter.new.self.numbers) (sym c.in_ok-enter.ensures.keys)
-    (subst (λ (numbers : FinMap label_cmp ℕ). IsPlaced c.insert_reserved.new.self (map.insert c.self.inside.index.keys c.in_ok-id.id c.vacant_key-key.result) numbers) (sym c.in_ok-enter.ensures.numbers) made)
+    subst (λ (k : NodeKeys). IsPlaced c.insert_reserved.new.self k.keys k.numbers) (sym c.in_ok-enter.ensures.ok) made
 
 pub returns-clause-made : goal.returns-clause-made
 returns-clause-made c =
@@ -71,6 +69,6 @@ returns-clause-made c =
     let updates = subst (λ (key : ℕ). Updates c.reserve.new.self c.insert_reserved.new.self key (Some c.object_from-object.result)) (c.insert_reserved.ensures.key ∙ sym c.vacant_key-key.ensures.value) c.insert_reserved.ensures.updates in
     let objects = objects_made placed c.in_ok-id.id (drawn_next c.self.inside.index.numbers c.object_from-object.result.label c.in_ok-id.id id.0) c.vacant_key-key.result c.object_from-object.result c.insert_reserved.new.self c.vacant_key-key.ensures.vacant updates in
     let table = same_table c.self.inside.slots c.reserve.new.self c.self.inside.index.keys c.self.inside.index.numbers c.args.self.now c.reserve.ensures.rest_kept c.self.view_is in
-    let keys = ap (objects_in c.insert_reserved.new.self) c.in_ok-enter.ensures.keys ∙ objects in
-    new_table c.self.inside.index.numbers (objects_in c.reserve.new.self c.self.inside.index.keys) c.args.self.now.table c.in_ok-id.id c.object_from-object.result id.0 table keys c.in_ok-enter.ensures.numbers
+    let keys = ap (λ (k : NodeKeys). objects_in c.insert_reserved.new.self k.keys) c.in_ok-enter.ensures.ok ∙ objects in
+    new_table c.self.inside.index.numbers (objects_in c.reserve.new.self c.self.inside.index.keys) c.args.self.now.table c.in_ok-id.id c.object_from-object.result id.0 table keys (ap (λ (k : NodeKeys). k.numbers) c.in_ok-enter.ensures.ok)
     ∙ ap (λ (o : Object). with_new c.args.self.now.table o.label o) c.object_from-object.ensures
