@@ -1,7 +1,5 @@
 -- What is kept of the names of objects, after an entry is set or goes.
 use Rattle.std.specs.Prelude.{◌≡◌, ◌&&◌, ◌||◌, not, ℕ, ◌+◌, ◌-◌, ◌≤◌, ◌<◌, ◌==◌, Bool, true, false, List, [], ◌∷◌, ◌++◌, Option, Some, None, IfSome, IsSome, cond, count_by, get_or, is_some, length, refl, slice_get}
-use Rattle.std.specs.declared.alloc.Global.{Global}
-use Rattle.std.specs.declared.vec.Vec.{Vec}
 use Rattle.std.specs.Ordering.{is_eq}
 use Rattle.std.specs.List.{find, list_all, list_any, swap_remove}
 use Rattle.std.specs.Option.{option_map}
@@ -11,7 +9,7 @@ use Rattle.std.specs.FinMap.{FinMap, get-empty, len-empty, len-insert}
 use Rattle.std.proofs.Common.{ap, sym, ◌∙◌, subst, arith, set}
 use Rattle.std.proofs.lemmas.Bool.{true≢false}
 use Rattle.std.proofs.lemmas.Cmp.{tied_itself}
-use Rattle.std.proofs.lemmas.List.Sums.{count_by-le-length, sum_by-set, sum_by-swap_remove, sum_by_push}
+use Rattle.std.proofs.lemmas.List.Sums.{sum_by-set, sum_by-swap_remove, sum_by_push}
 use Rattle.fs_path.specs.Name.{Name}
 use Rattle.lab_lattice.specs.Label.{label_cmp}
 use Rattle.kern_model.specs.declared.limits.TheConstants.{MAX_LINKS}
@@ -25,9 +23,7 @@ use Rattle.kern_model.proofs.Selections.{count_remove, get-remove_same}
 use Rattle.fs_nodes.specs.Rows.{IsSet, row_at}
 use Rattle.fs_nodes.proofs.Places.{one_number}
 use Rattle.fs_nodes.proofs.Rows.{item_set}
-use Rattle.fs_dirs.specs.Entries.{AreHolders, AreKept, HasLess, HasMore, HasMoved, Holders, IsIn, IsInPlace, IsWith, dirs_at, dirs_of, entries_alone, name_count}
-use Rattle.fs_dirs.specs.declared.links.Kept.{Kept}
-use Rattle.fs_dirs.specs.declared.links.Kept.TheVariants.{Nowhere, One, Shared}
+use Rattle.fs_dirs.specs.Entries.{AreHolders, AreKept, HasLess, HasMore, HasMoved, Holders, IsIn, IsInPlace, IsWith, dirs_at, entries_alone, name_count}
 use Rattle.fs_dirs.proofs.CountLemmas.{any_counted, any_entry-count, count-cons, count_entries-empty, count_entries-insert, count_entries-remove, insert-remove, passing}
 
 pub itself : (id : Oid) → same_oid id id ≡ true
@@ -59,39 +55,6 @@ put_over dirs from to place within is test =
     let all : count_by test (set dirs place to) + cond (test (get_or dirs place from)) 1 0 ≡ count_by test dirs + cond (test to) 1 0 = sum_by-set (λ (d : Oid). cond (test d) 1 0) dirs place to from within in
     let same : ◌≡◌ {A = ℕ} (cond (test (get_or dirs place from)) 1 0) (cond (test from) 1 0) = ap (λ (x : Oid). cond {A = ℕ} (test x) 1 0) is in
     omega (arith, all, same)
-
--- where one is there, there is some
-pub some_dir : (dirs : List Oid) (dir : Oid) → IsIn dir dirs → 0 < length dirs
-some_dir dirs dir is_in = let few = count_by-le-length (λ (d : Oid). same_oid d dir) dirs in omega (arith, few, is_in)
-
--- the one directory is the one that is there
-pub only_one : (dirs : List Oid) (dir : Oid) → length dirs ≡ 1 → IsIn dir dirs → dirs ≡ dir ∷ []
-only_one [] dir one is_in = absurd (omega (arith, one))
-only_one (d ∷ []) dir one is_in =
-    elim (same_oid d dir) as (λ b. same_oid d dir ≡ b → d ∷ [] ≡ dir ∷ []) [
-      | true ↦ λ t. ap (λ (x : Oid). x ∷ []) (same_key oid_cmp_exact d dir t)
-      | false ↦ λ f.
-          let none : count_by (λ (x : Oid). same_oid x dir) (d ∷ []) ≡ 0 = count-cons (λ (x : Oid). same_oid x dir) d [] ∙ ap (λ b. cond {A = ℕ} b 1 0 + 0) f in
-          absurd (omega (arith, none, is_in))
-    ] refl
-only_one (d ∷ e ∷ dirs) dir one is_in = absurd (omega (arith, one))
-
--- the one directory, in place of another one
-pub one_in_place : (dirs : List Oid) (from to : Oid) → length dirs ≡ 1 → IsIn from dirs → IsInPlace dirs from to (to ∷ [])
-one_in_place dirs from to one is_in test =
-    let old : count_by test dirs ≡ cond (test from) 1 0 + 0 = ap (count_by test) (only_one dirs from one is_in) ∙ count-cons test from [] in
-    let new = count-cons test to [] in
-    omega (arith, old, new)
-
--- with one that is nowhere else
-pub alone : (dir : Oid) (dirs : List Oid) → dirs ≡ dir ∷ [] → IsWith [] dir dirs
-alone dir dirs is test = ap (count_by test) is ∙ count-cons test dir []
-
--- what is not shared by several names is where the one name is
-pub one_kept : (kept : Kept) → ((dirs : Vec Oid Global) → kept ≡ Shared dirs → ⊥) → (dir : Oid) → IsIn dir (dirs_of kept) → dirs_of kept ≡ dir ∷ []
-one_kept Nowhere not_shared dir is_in = absurd (omega (arith, is_in))
-one_kept (One d) not_shared dir is_in = only_one (d ∷ []) dir refl is_in
-one_kept (Shared dirs) not_shared dir is_in = absurd (not_shared dirs refl)
 
 nothing_more : (n : ℕ) → n ≡ 0 + n
 nothing_more n = omega arith

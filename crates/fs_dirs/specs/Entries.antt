@@ -14,8 +14,6 @@ use Rattle.kern_model.specs.Maps.{count_entries, get_or, select, where_key}
 use Rattle.kern_model.specs.State.{State}
 use Rattle.fs_nodes.specs.Rows.{Rows, item_at, items_in}
 use Rattle.fs_dirs.specs.Directory.{name_cmp}
-use Rattle.fs_dirs.specs.declared.links.Kept.{Kept}
-use Rattle.fs_dirs.specs.declared.links.Kept.TheVariants.{Nowhere, One, Shared}
 
 -- ---- what directories contain
 
@@ -71,13 +69,7 @@ count_in entries id test = count_entries (λ (spot : Spot) (at : Oid). same_oid 
 abbrev pub AreHolders : FinMap spot_cmp Oid → Oid → List Oid → Type 0
 AreHolders entries id dirs = (test : Oid → Bool) → count_by test dirs ≡ count_in entries id test
 
--- the directories where the names of an object stand
-abbrev pub dirs_of : Kept → List Oid
-dirs_of Nowhere = []
-dirs_of (One dir) = dir ∷ []
-dirs_of (Shared dirs) = dirs.items
-
--- those of each object
+-- the directories where the names of each object stand
 abbrev pub Holders : Type 0
 Holders = Rows (List Oid)
 

@@ -8,25 +8,15 @@ ghost use Rattle.fs_dirs.specs.Entries.{HasLess, HasMore, HasMoved, IsIn, IsInPl
 use crate::numbers::same;
 use fs_path::NoMemory;
 use kern_model::{LabelMap, Oid};
+use smallvec::SmallVec;
 use std::alloc::Global;
 use std::marker::Model;
-use std::slice;
-
-// Where the names of one object stand.
-#[derive(Drop)]
-enum Kept {
-    // It has no name.
-    Nowhere,
-    // One name, in this directory.
-    One(Oid),
-    // A name in each of these.
-    Shared(Vec<Oid>),
-}
 
 /// Where the names of an object stand: each directory as often as it holds the object.
 #[derive(Drop)]
 pub struct Links {
-    kept: Kept,
+    // A single directory takes no memory of its own.
+    kept: SmallVec<Oid, 1>,
 }
 
 impl Model for Links {
@@ -34,13 +24,12 @@ impl Model for Links {
     ghost use Rattle.std.specs.Coded.{codes, coded_list};
     ghost use Rattle.lab_lattice.specs.Label.{label_code};
     ghost use Rattle.kern_model.specs.declared.numbers.Oid.{Oid};
-    ghost use Rattle.fs_dirs.specs.Entries.{dirs_of};
 
     ghost Value = { List Oid };
 
     ghost coded = { coded_list (Prim.hlevel (codes, label_code)) };
 
-    ghost view = { λ l. dirs_of l.kept };
+    ghost view = { λ l. l.kept.items };
 }
 
 // The place of a directory among others.
@@ -57,31 +46,13 @@ fn place_of(dirs: &[Oid], dir: &Oid) -> usize
     unreachable!()
 }
 
-// Takes one directory out of others.
-fn take_out(dirs: &mut Vec<Oid>, dir: &Oid)
-    requires { IsIn dir.now dirs.old.items }
-    ensures { IsWith dirs.new.items dir.now dirs.old.items }
-{
-    let place = place_of(dirs, dir);
-    dirs.swap_remove(place);
-}
-
-// Puts a directory in place of another one.
-fn put_in_place(dirs: &mut Vec<Oid>, from: &Oid, to: &Oid)
-    requires { IsIn from.now dirs.old.items }
-    ensures { IsInPlace dirs.old.items from.now to.now dirs.new.items }
-{
-    let place = place_of(dirs, from);
-    dirs[place] = *to;
-}
-
 impl Links {
     /// No name.
-    fn new() -> Links
+    fn new(alloc: Global) -> Links
         ensures { result ≡ [] }
     {
         Links {
-            kept: Kept::Nowhere,
+            kept: SmallVec::new(alloc),
         }
     }
 
@@ -89,26 +60,15 @@ impl Links {
     fn dirs(&self) -> &[Oid]
         ensures { result.now ≡ self.now }
     {
-        match &self.kept {
-            Kept::Nowhere => &[],
-            Kept::One(dir) => slice::from_ref(dir),
-            Kept::Shared(dirs) => dirs.as_slice(),
-        }
+        self.kept.as_slice()
     }
 
     /// Adds a name.
-    fn push(&mut self, alloc: Global, dir: Oid) -> Result<(), NoMemory>
+    fn push(&mut self, dir: Oid) -> Result<(), NoMemory>
         ensures ok { OnOk result (self.new ≡ self.old ++ dir ∷ []) }
         ensures err { OnErr result (self.new ≡ self.old) }
     {
-        match &mut self.kept {
-            Kept::Nowhere => self.kept = Kept::One(dir),
-            Kept::One(first) => {
-                let dirs = vec![in alloc; *first, dir]?;
-                self.kept = Kept::Shared(dirs);
-            }
-            Kept::Shared(dirs) => dirs.push(dir)?,
-        }
+        self.kept.push(dir)?;
         Ok(())
     }
 
@@ -117,15 +77,8 @@ impl Links {
         requires { IsIn dir.now self.old }
         ensures { IsWith self.new dir.now self.old }
     {
-        let Kept::Shared(dirs) = &mut self.kept else {
-            self.kept = Kept::Nowhere;
-            return;
-        };
-        take_out(dirs, dir);
-        if let [last] = dirs.as_slice() {
-            let last = *last;
-            self.kept = Kept::One(last);
-        }
+        let place = place_of(&self.kept, dir);
+        self.kept.swap_remove(place);
     }
 
     /// Moves a name to another directory.
@@ -133,11 +86,8 @@ impl Links {
         requires { IsIn from.now self.old }
         ensures { IsInPlace self.old from.now to.now self.new }
     {
-        if let Kept::Shared(dirs) = &mut self.kept {
-            put_in_place(dirs, from, to);
-            return;
-        }
-        self.kept = Kept::One(*to);
+        let place = place_of(&self.kept, from);
+        self.kept[place] = *to;
     }
 }
 
@@ -186,18 +136,18 @@ impl Row {
         ensures same { (m : ℕ) → get_or self.new m [] ≡ get_or self.old m [] }
     {
         while self.kept.len() <= n as usize {
-            self.kept.push(Links::new())?;
+            self.kept.push(Links::new(*self.kept.allocator()))?;
         }
         Ok(())
     }
 
     /// Adds a name of the object at a count.
-    fn add(&mut self, alloc: Global, n: u16, dir: Oid) -> Result<(), NoMemory>
+    fn add(&mut self, n: u16, dir: Oid) -> Result<(), NoMemory>
         ensures ok { OnOk result (IsSet [] self.old n (get_or self.old n [] ++ dir ∷ []) self.new) }
         ensures err { OnErr result ((m : ℕ) → get_or self.new m [] ≡ get_or self.old m []) }
     {
         self.reach(n)?;
-        self.kept[n as usize].push(alloc, dir)
+        self.kept[n as usize].push(dir)
     }
 
     /// Takes out one name of the object at a count, which stands in a directory.
@@ -266,12 +216,11 @@ impl LinkTable {
         ensures ok { OnOk result (HasMore self.old id.now dir.now self.new) }
         ensures err { OnErr result ((q : Number) → dirs_at self.new q ≡ dirs_at self.old q) }
     {
-        let alloc = self.alloc;
         if let Some(row) = self.kept.get_mut(&id.label) {
-            return row.add(alloc, id.n, *dir);
+            return row.add(id.n, *dir);
         }
-        let mut row = Row::new(alloc);
-        row.add(alloc, id.n, *dir)?;
+        let mut row = Row::new(self.alloc);
+        row.add(id.n, *dir)?;
         self.kept.insert(id.label, row)?;
         Ok(())
     }

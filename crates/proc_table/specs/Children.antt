@@ -1,5 +1,5 @@
 -- Which living processes are children of which, as it is kept.
-use Rattle.std.specs.Prelude.{◌≡◌, ◌≢◌, ℕ, ◌+◌, ◌≤◌, Bool, false, List, [], ◌∷◌, Option, None, Some, length, refl, slice_get}
+use Rattle.std.specs.Prelude.{◌≡◌, ◌≢◌, ℕ, ◌+◌, ◌≤◌, Bool, false, List, [], Option, None, Some, length, refl, slice_get}
 use Rattle.std.specs.Coded.{Coded, code_by, coded×}
 use Rattle.std.specs.Option.{option_map}
 use Rattle.std.specs.FinMap as map
@@ -8,8 +8,6 @@ use Rattle.kern_model.specs.Maps.{get_or}
 use Rattle.kern_model.specs.declared.numbers.Pid.{Pid}
 use Rattle.kern_model.specs.Keys.{is_pid, pid_cmp}
 use Rattle.kern_model.specs.State.{Process}
-use Rattle.proc_table.specs.declared.child_lists.Kept.{Kept}
-use Rattle.proc_table.specs.declared.child_lists.Kept.TheVariants.{Empty, One, Several}
 use Rattle.proc_table.specs.declared.positions.Position.{Position}
 use Rattle.proc_table.specs.declared.table.TheConstants.{MAX_MADE}
 
@@ -30,12 +28,6 @@ child_index_code who list position =
 -- the list of a parent, empty where there is none
 abbrev pub list_at : FinMap pid_cmp (List Pid) → Pid → List Pid
 list_at lists q = get_or lists q []
-
--- the children that a list keeps
-abbrev pub children_of : Kept → List Pid
-children_of Empty = []
-children_of (One child) = child ∷ []
-children_of (Several children) = children.items
 
 -- a list without what stood at a place, to which the last one has moved
 pub record IsSwapRemoved (old : List Pid) (place : ℕ) (new : List Pid) : Type 0 where

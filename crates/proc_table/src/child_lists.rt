@@ -5,22 +5,15 @@ ghost use Rattle.proc_table.specs.Children.{IsSwapRemoved, IsSwapRemovedAt, list
 
 use kern_model::{NoMemory, Pid};
 use num_table::Table;
+use smallvec::SmallVec;
 use std::alloc::Global;
 use std::marker::Model;
-use std::slice;
-
-// The children of one parent. A single one takes no memory of its own.
-#[derive(Drop)]
-enum Kept {
-    Empty,
-    One(Pid),
-    Several(Vec<Pid>),
-}
 
 /// The children of one parent, in any order.
 #[derive(Drop)]
 pub struct ChildList {
-    kept: Kept,
+    // A single one takes no memory of its own.
+    kept: SmallVec<Pid, 1>,
 }
 
 impl Model for ChildList {
@@ -28,33 +21,21 @@ impl Model for ChildList {
     ghost use Rattle.std.specs.Coded.{codes};
     ghost use Rattle.lab_lattice.specs.Label.{label_code};
     ghost use Rattle.kern_model.specs.declared.numbers.Pid.{Pid};
-    ghost use Rattle.proc_table.specs.Children.{children_of};
 
     ghost Value = { List Pid };
 
     ghost coded = { Prim.hlevel (codes, label_code) };
 
-    ghost view = { λ l. children_of l.kept };
+    ghost view = { λ l. l.kept.items };
 }
 
 impl ChildList {
     /// One child.
-    fn new(child: Pid) -> Self
+    fn new(alloc: Global, child: Pid) -> Self
         ensures { result ≡ child ∷ [] }
     {
         ChildList {
-            kept: Kept::One(child),
-        }
-    }
-
-    /// The children.
-    fn children(&self) -> &[Pid]
-        ensures { result.now ≡ self.now }
-    {
-        match &self.kept {
-            Kept::Empty => &[],
-            Kept::One(child) => slice::from_ref(child),
-            Kept::Several(children) => children.as_slice(),
+            kept: SmallVec::from_buf(alloc, [child]),
         }
     }
 
@@ -62,29 +43,22 @@ impl ChildList {
     fn len(&self) -> usize
         ensures { result ≡ length self.now }
     {
-        self.children().len()
+        self.kept.len()
     }
 
     /// The last one, if there is one.
     fn last(&self) -> Option<Pid>
         ensures { result ≡ slice_get self.now (length self.now - 1) }
     {
-        self.children().last().copied()
+        self.kept.last().copied()
     }
 
     /// Appends a child.
-    fn push(&mut self, alloc: Global, child: Pid) -> Result<(), NoMemory>
+    fn push(&mut self, child: Pid) -> Result<(), NoMemory>
         ensures ok { OnOk result (self.new ≡ self.old ++ child ∷ []) }
         ensures err { OnErr result (self.new ≡ self.old) }
     {
-        match &mut self.kept {
-            Kept::Empty => self.kept = Kept::One(child),
-            Kept::One(first) => {
-                let children = vec![in alloc; *first, child]?;
-                self.kept = Kept::Several(children);
-            }
-            Kept::Several(children) => children.push(child)?,
-        }
+        self.kept.push(child)?;
         Ok(())
     }
 
@@ -95,12 +69,8 @@ impl ChildList {
         ensures removed { IsSwapRemoved self.old place self.new }
         ensures moved { result ≡ slice_get self.new place }
     {
-        let Kept::Several(children) = &mut self.kept else {
-            self.kept = Kept::Empty;
-            return None;
-        };
-        children.swap_remove(place);
-        children.get(place).copied()
+        self.kept.swap_remove(place);
+        self.kept.get(place).copied()
     }
 }
 
@@ -161,10 +131,9 @@ impl ChildLists {
         ensures err { OnErr result (self.new ≡ self.old) }
     {
         if let Some(list) = self.kept.get_mut(&parent.label, parent.n) {
-            return list.push(self.alloc, *child);
+            return list.push(*child);
         }
-        self.kept
-            .set(&parent.label, parent.n, ChildList::new(*child))
+        self.kept.set(&parent.label, parent.n, ChildList::new(self.alloc, *child))
     }
 
     /// Removes the child at a place of a parent's list, to which the last one moves. Returns who stands there then, if someone
