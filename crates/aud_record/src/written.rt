@@ -1,16 +1,19 @@
 // The writing of the trail.
-ghost use Rattle.std.specs.Prelude.{◌≡◌, true, List, ℕ, ◌++◌, length, IfOk, OnOk, Ok};
+ghost use Rattle.std.specs.Prelude.{◌≡◌, ◌<◌, ◌^◌, true, List, ℕ, [], ◌∷◌, ◌++◌, length, IfOk, OnOk, Ok};
 ghost use Rattle.cap_clause.specs.Written.{set_text};
-ghost use Rattle.fs_path.specs.Words.{after_spaces};
+ghost use Rattle.lab_text.specs.Text.{label_text};
+ghost use Rattle.line_text.specs.Reply.{with_words};
+ghost use Rattle.line_text.specs.Words.{caps_word, oid_text};
 ghost use Rattle.aud_record.specs.Fits.{has_valid_labels, RestInRange, IsInRange};
 ghost use Rattle.aud_record.specs.Parsed.{parse_rec};
 ghost use Rattle.aud_record.specs.Written.{switch_word, rest_words, rec_text, header_text};
 
 use crate::NoMemory;
 use crate::event::{Event, who};
-use cap_bits::CapSet;
+use cap_bits::{CapSet, CapState};
 use cap_clause::set_to_text;
-use kern_model::Rec;
+use kern_model::{Oid, Rec};
+use lab_lattice::Label;
 use lab_text::Policy;
 use line_text::LineWriter;
 use std::alloc::Global;
@@ -21,52 +24,89 @@ fn switch_word(on: bool) -> &'static [u8]
     if on { b"on" } else { b"off" }
 }
 
-// The words after the number of the process.
-fn put_rest(line: LineWriter, policy: &Policy, rec: &Rec) -> Result<LineWriter, NoMemory>
-    ensures text { IfOk result (λ new. new ≡ line ++ after_spaces (rest_words policy.now rec.now)) }
+// Appends a file and its capability sets.
+fn put_file(
+    line: &mut LineWriter,
+    policy: &Policy,
+    file: &Oid,
+    caps: &CapState,
+) -> Result<(), NoMemory>
+    ensures text { OnOk result (line.new ≡ with_words line.old (oid_text policy.now file.now ∷ caps_word caps.now ∷ [])) }
+    ensures in_range { OnOk result (file.now.n < 2 ^ 16) }
+{
+    line.oid(policy, file)?;
+    line.caps(caps)
+}
+
+// Appends the label before a change and the one after it.
+fn put_labels(
+    line: &mut LineWriter,
+    policy: &Policy,
+    old: &Label,
+    new: &Label,
+) -> Result<(), NoMemory>
+    ensures { OnOk result (line.new ≡ with_words line.old (label_text policy.now old.now ∷ label_text policy.now new.now ∷ [])) }
+{
+    line.label(policy, old)?;
+    line.label(policy, new)
+}
+
+// Appends the words after the number of the process.
+fn put_rest(line: &mut LineWriter, policy: &Policy, rec: &Rec) -> Result<(), NoMemory>
+    ensures text { OnOk result (line.new ≡ with_words line.old (rest_words policy.now rec.now)) }
     ensures in_range { OnOk result (RestInRange rec.now) }
 {
     match rec {
-        Rec::Boot(_, label, caps) => line.label(policy, label)?.caps(caps),
+        Rec::Boot(_, label, caps) => {
+            line.label(policy, label)?;
+            line.caps(caps)
+        }
         Rec::Fork(_, child) => line.pid(policy, child),
-        Rec::Exec(_, file, file_caps, caps) => line.oid(policy, file)?.caps(file_caps)?.caps(caps),
+        Rec::Exec(_, file, file_caps, caps) => {
+            put_file(line, policy, file, file_caps)?;
+            line.caps(caps)
+        }
         Rec::Exit(_, ending) => line.ending(*ending),
         Rec::CapSetProc(_, caps) => line.caps(caps),
-        Rec::CapSetFile(_, file, caps) => line.oid(policy, file)?.caps(caps),
-        Rec::MacSetProc(_, old, new) => line.label(policy, old)?.label(policy, new),
-        Rec::MacSetFile(_, object, old, new) => line
-            .oid(policy, object)?
-            .label(policy, old)?
-            .label(policy, new),
-        Rec::Exercise(_, label, cap, check, thing, thing_label, new_label, place) => line
-            .label(policy, label)?
-            .word(cap.name())?
-            .word(check.word())?
-            .thing(policy, thing)?
-            .label(policy, thing_label)?
-            .new_label(policy, new_label)?
-            .place(*place),
-        Rec::Deny(_, call, errno, check, place) => line
-            .word(call.word())?
-            .word(errno.word())?
-            .word(check.word())?
-            .place(*place),
+        Rec::CapSetFile(_, file, caps) => put_file(line, policy, file, caps),
+        Rec::MacSetProc(_, old, new) => put_labels(line, policy, old, new),
+        Rec::MacSetFile(_, object, old, new) => {
+            line.oid(policy, object)?;
+            put_labels(line, policy, old, new)
+        }
+        Rec::Exercise(_, label, cap, check, thing, thing_label, new_label, place) => {
+            line.label(policy, label)?;
+            line.word(cap.name())?;
+            line.word(check.word())?;
+            line.thing(policy, thing)?;
+            line.label(policy, thing_label)?;
+            line.new_label(policy, new_label)?;
+            line.place(*place)
+        }
+        Rec::Deny(_, call, errno, check, place) => {
+            line.word(call.word())?;
+            line.word(errno.word())?;
+            line.word(check.word())?;
+            line.place(*place)
+        }
         Rec::Switch(_, on) => line.word(switch_word(*on)),
         Rec::Note(_, bytes) => line.quoted(bytes.items()),
     }
 }
 
 // The line of a record.
-#[tactic(auto, unfolding(crate::specs::Written::line_of, crate::specs::Written::rec_text))]
+#[tactic(auto, using(crate::proofs::LineLemmas::line_written), unfolding(crate::specs::Written::line_of, crate::specs::Written::rec_text))]
 fn line_of(room: Vec<u8>, policy: &Policy, call: u64, rec: &Rec) -> Result<Vec<u8>, NoMemory>
     ensures text { IfOk result (λ text. text.items ≡ rec_text policy.now call rec.now) }
     ensures in_range { OnOk result (IsInRange call rec.now) }
 {
-    let line = LineWriter::over(room)
-        .digits(call)?
-        .word(Event::of(rec).word())?
-        .pid(policy, &who(rec))?;
-    Ok(put_rest(line, policy, rec)?.line_feed()?.into_text())
+    let mut line = LineWriter::over(room);
+    line.digits(call)?;
+    line.word(Event::of(rec).word())?;
+    line.pid(policy, &who(rec))?;
+    put_rest(&mut line, policy, rec)?;
+    line.line_feed()?;
+    Ok(line.into_text())
 }
 
 /// The line of a record, after the number of its call, which is 0 for the records of the start. Of a label that is not
@@ -88,13 +128,13 @@ pub fn header_text(alloc: Global, policy: &Policy, bound: &CapSet) -> Result<Vec
     ensures { IfOk result (λ text. text.items ≡ header_text policy.now bound.now) }
 {
     let bound = set_to_text(alloc, bound)?;
-    let line = LineWriter::new(alloc)?
-        .bytes(b"trail 1\nlevels")?
-        .words(policy.levels())?
-        .bytes(b"\ncategories")?
-        .words(policy.cats())?
-        .bytes(b"\nbound")?
-        .word(bound.as_slice())?
-        .line_feed()?;
+    let mut line = LineWriter::new(alloc)?;
+    line.bytes(b"trail 1\nlevels")?;
+    line.words(policy.levels())?;
+    line.bytes(b"\ncategories")?;
+    line.words(policy.cats())?;
+    line.bytes(b"\nbound")?;
+    line.word(bound.as_slice())?;
+    line.line_feed()?;
     Ok(line.into_text())
 }

@@ -1,5 +1,5 @@
 // The lines of the output other than replies.
-ghost use Rattle.std.specs.Prelude.{◌≡◌, ◌++◌, IfOk};
+ghost use Rattle.std.specs.Prelude.{◌≡◌, ◌++◌, IfOk, OnOk};
 ghost use Rattle.fs_path.specs.Words.{line_text};
 ghost use Rattle.lab_engine.specs.Texts.{life_text, part_text, refusal_text, last_text, last_words};
 
@@ -65,26 +65,30 @@ pub fn end_line(
 ) -> Result<Vec<u8>, NoMemory>
     ensures { IfOk result (λ text. text.items ≡ life_text texts.entry.policy.now who.now label.now caps.now) }
 {
-    let line = LineWriter::new(texts.alloc)?
-        .bytes(b"end")?
-        .pid(texts.policy, who)?
-        .label(texts.policy, label)?
-        .caps(caps)?
-        .line_feed()?;
+    let mut line = LineWriter::new(texts.alloc)?;
+    line.bytes(b"end")?;
+    line.pid(texts.policy, who)?;
+    line.label(texts.policy, label)?;
+    line.caps(caps)?;
+    line.line_feed()?;
     Ok(line.into_text())
 }
 
 // Appends the words of the last line.
-fn put_last(line: LineWriter, count: u64, ending: InputEnd) -> Result<LineWriter, NoMemory>
-    ensures { IfOk result (λ new. new ≡ line ++ line_text (last_words count ending)) }
+fn put_last(line: &mut LineWriter, count: u64, ending: InputEnd) -> Result<(), NoMemory>
+    ensures { OnOk result (line.new ≡ line.old ++ line_text (last_words count ending)) }
 {
     match ending {
-        InputEnd::Whole => line.bytes(b"done ")?.digits(count),
-        InputEnd::Refused(number, part, why) => line
-            .bytes(b"refused ")?
-            .digits(number)?
-            .word(part.word())?
-            .word(why.word()),
+        InputEnd::Whole => {
+            line.bytes(b"done ")?;
+            line.digits(count)
+        }
+        InputEnd::Refused(number, part, why) => {
+            line.bytes(b"refused ")?;
+            line.digits(number)?;
+            line.word(part.word())?;
+            line.word(why.word())
+        }
         InputEnd::TooMuch => line.bytes(b"too long"),
     }
 }
@@ -94,6 +98,8 @@ fn put_last(line: LineWriter, count: u64, ending: InputEnd) -> Result<LineWriter
 pub fn last_line(alloc: Global, count: u64, ending: InputEnd) -> Result<Vec<u8>, NoMemory>
     ensures { IfOk result (λ text. text.items ≡ last_text count ending) }
 {
-    let line = put_last(LineWriter::new(alloc)?, count, ending)?;
-    Ok(line.line_feed()?.into_text())
+    let mut line = LineWriter::new(alloc)?;
+    put_last(&mut line, count, ending)?;
+    line.line_feed()?;
+    Ok(line.into_text())
 }

@@ -22,14 +22,14 @@ use world_text::WorldText;
 fn ok_line(alloc: Global, world: &World, calls: u64) -> Result<Vec<u8>, NoMemory>
     ensures { IfOk result (λ text. text.items ≡ ok_text (length world.now.objects) (length world.now.procs) calls) }
 {
-    let line = LineWriter::new(alloc)?
-        .bytes(b"ok ")?
-        .digits(world.objects.items().len() as u64)?
-        .bytes(b" ")?
-        .digits(world.procs.items().len() as u64)?
-        .bytes(b" ")?
-        .digits(calls)?
-        .line_feed()?;
+    let mut line = LineWriter::new(alloc)?;
+    line.bytes(b"ok ")?;
+    line.digits(world.objects.items().len() as u64)?;
+    line.bytes(b" ")?;
+    line.digits(world.procs.items().len() as u64)?;
+    line.bytes(b" ")?;
+    line.digits(calls)?;
+    line.line_feed()?;
     Ok(line.into_text())
 }
 

@@ -1,5 +1,5 @@
 // The generated input, played and counted.
-ghost use Rattle.std.specs.Prelude.{◌≡◌, ◌≤◌, ◌^◌, ◌++◌, true, IfOk};
+ghost use Rattle.std.specs.Prelude.{◌≡◌, ◌≤◌, ◌^◌, ◌++◌, true, IfOk, OnOk};
 ghost use Rattle.kern_model.specs.World.{IsWorld};
 ghost use Rattle.lab_text.specs.Policy.{top_of};
 ghost use Rattle.io_ends.specs.Sinks.{sink_view};
@@ -18,19 +18,21 @@ use std::alloc::Global;
 use world_text::WorldText;
 
 // Appends a number after its word.
-fn put_count(line: LineWriter, word: &[u8], count: u64) -> Result<LineWriter, NoMemory>
-    ensures { IfOk result (λ after. after ≡ line ++ count_text word.now count) }
+fn put_count(line: &mut LineWriter, word: &[u8], count: u64) -> Result<(), NoMemory>
+    ensures { OnOk result (line.new ≡ line.old ++ count_text word.now count) }
 {
-    line.word(word)?.bytes(b" ")?.digits(count)
+    line.word(word)?;
+    line.bytes(b" ")?;
+    line.digits(count)
 }
 
 // Appends what was counted of calls.
-fn put_counts(line: LineWriter, tally: &Tally) -> Result<LineWriter, NoMemory>
-    ensures { IfOk result (λ after. after ≡ line ++ counts_text tally.now) }
+fn put_counts(line: &mut LineWriter, tally: &Tally) -> Result<(), NoMemory>
+    ensures { OnOk result (line.new ≡ line.old ++ counts_text tally.now) }
 {
-    let line = put_count(line, b"ok", tally.ok)?;
-    let line = put_count(line, b"denied", tally.denied)?;
-    let line = put_count(line, b"refused", tally.refused)?;
+    put_count(line, b"ok", tally.ok)?;
+    put_count(line, b"denied", tally.denied)?;
+    put_count(line, b"refused", tally.refused)?;
     put_count(line, b"exercised", tally.exercised)
 }
 
@@ -39,9 +41,12 @@ fn put_counts(line: LineWriter, tally: &Tally) -> Result<LineWriter, NoMemory>
 fn tally_line(alloc: Global, lines: u32, tally: &Tally, living: u64) -> Result<Vec<u8>, NoMemory>
     ensures { IfOk result (λ text. text.items ≡ tally_text lines tally.now living) }
 {
-    let line = LineWriter::new(alloc)?.bytes(b"drill")?.number(lines)?;
-    let line = put_counts(line, tally)?;
-    let line = put_count(line, b"live", living)?.line_feed()?;
+    let mut line = LineWriter::new(alloc)?;
+    line.bytes(b"drill")?;
+    line.number(lines)?;
+    put_counts(&mut line, tally)?;
+    put_count(&mut line, b"live", living)?;
+    line.line_feed()?;
     Ok(line.into_text())
 }
 

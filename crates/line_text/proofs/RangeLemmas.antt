@@ -1,5 +1,5 @@
 -- Items of slices are in the ranges of their types.
-use Rattle.std.specs.Prelude.{◌≡◌, ℕ, ◌<◌, ◌≤◌, true, List, [], ◌∷◌, refl}
+use Rattle.std.specs.Prelude.{◌≡◌, ℕ, ◌<◌, ◌≤◌, true, List, [], ◌∷◌, Result, Ok, Err, OnOk, refl}
 use Rattle.std.proofs.Common.{suc, get_or}
 use Rattle.std.proofs.lemmas.Bool.{and_from, lt-ltb, le-leb}
 use Rattle.kern_model.specs.declared.limits.TheConstants.{MAX_NUMBER}
@@ -14,3 +14,8 @@ bytes_from (x ∷ xs) small = and_from _ _ (lt-ltb x 256 (small 0)) (bytes_from 
 pub numbers_from : (xs : List ℕ) → ((i : ℕ) → get_or xs i 0 ≤ MAX_NUMBER) → are_numbers xs ≡ true
 numbers_from [] small = refl
 numbers_from (x ∷ xs) small = and_from _ _ (le-leb x MAX_NUMBER (small 0)) (numbers_from xs (λ i. small (suc i)))
+
+-- what holds in any case holds at `Ok`
+pub on_ok : {T E P : Type 0} (r : Result T E) → P → OnOk r P
+on_ok (Ok x) p = p
+on_ok (Err e) p = tt

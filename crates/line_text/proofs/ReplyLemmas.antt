@@ -3,7 +3,8 @@ use Rattle.std.proofs.Common.{◌≡◌, ℕ, List, [], ◌∷◌, ◌++◌, sym
 use Rattle.fs_path.specs.Words.{after_spaces, line_text}
 use Rattle.line_text.specs.Reply.{with_words}
 
-words_after : (text : List ℕ) (words : List (List ℕ)) → with_words text words ≡ text ++ after_spaces words
+-- a text with further words is the text and the words, each after a space
+pub words_after : (text : List ℕ) (words : List (List ℕ)) → with_words text words ≡ text ++ after_spaces words
 words_after text [] = sym (append-nil text)
 words_after text (word ∷ words) = words_after (text ++ 32 ∷ word) words ∙ append_assoc text (32 ∷ word) (after_spaces words)
 

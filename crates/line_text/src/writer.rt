@@ -22,8 +22,8 @@ use std::marker::Model;
 // For how many bytes a writer has room from the start.
 const USUAL_LINE: usize = 96;
 
-/// Lines under construction. Its value is the bytes written so far. Each method appends and returns the writer; at an
-/// error, which is always out of memory, the writer is dropped.
+/// Lines under construction. Its value is the bytes written so far. Each method appends; after an error, which is always
+/// out of memory, what is written is of no use.
 pub struct LineWriter {
     text: Vec<u8>,
 }
@@ -61,141 +61,130 @@ impl LineWriter {
 
     /// Appends bytes as they are.
     #[inline(always)]
-    pub fn bytes(mut self, bytes: &[u8]) -> Result<LineWriter, NoMemory>
-        ensures { IfOk result (λ line. line ≡ self ++ bytes.now) }
+    pub fn bytes(&mut self, bytes: &[u8]) -> Result<(), NoMemory>
+        ensures { OnOk result (self.new ≡ self.old ++ bytes.now) }
     {
-        self.text.extend_from_slice(bytes)?;
-        Ok(self)
+        self.text.extend_from_slice(bytes)
     }
 
     // Appends a space.
     #[inline(always)]
-    fn space(mut self) -> Result<LineWriter, NoMemory>
-        ensures { IfOk result (λ line. line ≡ self ++ 32 ∷ []) }
+    fn space(&mut self) -> Result<(), NoMemory>
+        ensures { OnOk result (self.new ≡ self.old ++ 32 ∷ []) }
     {
         self.text.push(b' ')?;
-        Ok(self)
+        Ok(())
     }
 
     /// Appends the decimal digits of a number, with no space before them.
     #[inline(always)]
-    pub fn digits(mut self, n: u64) -> Result<LineWriter, NoMemory>
-        ensures { IfOk result (λ line. line ≡ self ++ decimal n) }
+    pub fn digits(&mut self, n: u64) -> Result<(), NoMemory>
+        ensures { OnOk result (self.new ≡ self.old ++ decimal n) }
     {
-        put_number(&mut self.text, n)?;
-        Ok(self)
+        put_number(&mut self.text, n)
     }
 
     /// Appends `n@label`, with no space before it.
     #[inline(always)]
-    pub fn numbered(
-        mut self,
-        policy: &Policy,
-        n: u16,
-        label: &Label,
-    ) -> Result<LineWriter, NoMemory>
-        ensures { IfOk result (λ line. line ≡ self ++ numbered_text policy.now n label.now) }
+    pub fn numbered(&mut self, policy: &Policy, n: u16, label: &Label) -> Result<(), NoMemory>
+        ensures { OnOk result (self.new ≡ self.old ++ numbered_text policy.now n label.now) }
     {
-        put_numbered(&mut self.text, policy, u64::from(n), label)?;
-        Ok(self)
+        put_numbered(&mut self.text, policy, u64::from(n), label)
     }
 
     /// Ends the line.
     #[inline(always)]
-    pub fn line_feed(mut self) -> Result<LineWriter, NoMemory>
-        ensures { IfOk result (λ line. line ≡ self ++ 10 ∷ []) }
+    pub fn line_feed(&mut self) -> Result<(), NoMemory>
+        ensures { OnOk result (self.new ≡ self.old ++ 10 ∷ []) }
     {
         self.text.push(b'\n')?;
-        Ok(self)
+        Ok(())
     }
 
     /// Appends a space and a word.
     #[inline(always)]
-    pub fn word(self, word: &[u8]) -> Result<LineWriter, NoMemory>
-        ensures { IfOk result (λ line. line ≡ self ++ 32 ∷ word.now) }
+    pub fn word(&mut self, word: &[u8]) -> Result<(), NoMemory>
+        ensures { OnOk result (self.new ≡ self.old ++ 32 ∷ word.now) }
     {
-        self.space()?.bytes(word)
+        self.space()?;
+        self.bytes(word)
     }
 
     /// Appends words, each after a space.
-    pub fn words(self, words: &[Word]) -> Result<LineWriter, NoMemory>
-        ensures { IfOk result (λ line. line ≡ self ++ after_spaces words.now) }
+    pub fn words(&mut self, words: &[Word]) -> Result<(), NoMemory>
+        ensures { OnOk result (self.new ≡ self.old ++ after_spaces words.now) }
     {
-        let mut line = self;
         for word in words {
-            line = line.word(word.bytes())?;
+            self.word(word.bytes())?;
         }
-        Ok(line)
+        Ok(())
     }
 
     /// Appends a space and a word between quotes.
-    pub fn quoted(self, bytes: &[u8]) -> Result<LineWriter, NoMemory>
-        ensures text { IfOk result (λ line. line ≡ self ++ 32 ∷ quoted_text bytes.now) }
+    pub fn quoted(&mut self, bytes: &[u8]) -> Result<(), NoMemory>
+        ensures text { OnOk result (self.new ≡ self.old ++ 32 ∷ quoted_text bytes.now) }
         ensures in_range { OnOk result (are_bytes bytes.now ≡ true) }
     {
-        let mut line = self.space()?;
-        put_quoted(&mut line.text, bytes)?;
-        Ok(line)
+        self.space()?;
+        put_quoted(&mut self.text, bytes)
     }
 
     /// Appends a space and a word, between quotes where it needs them.
-    pub fn bare_or_quoted(self, bytes: &[u8]) -> Result<LineWriter, NoMemory>
-        ensures text { IfOk result (λ line. line ≡ self ++ 32 ∷ spelling (with_quotes_if_needed bytes.now)) }
+    pub fn bare_or_quoted(&mut self, bytes: &[u8]) -> Result<(), NoMemory>
+        ensures text { OnOk result (self.new ≡ self.old ++ 32 ∷ spelling (with_quotes_if_needed bytes.now)) }
         ensures in_range { OnOk result (are_bytes bytes.now ≡ true) }
     {
-        let mut line = self.space()?;
-        put_word(&mut line.text, bytes)?;
-        Ok(line)
+        self.space()?;
+        put_word(&mut self.text, bytes)
     }
 
     /// Appends a space and a number of 32 bits.
     #[inline(always)]
-    pub fn number(self, n: u32) -> Result<LineWriter, NoMemory>
-        ensures text { IfOk result (λ line. line ≡ self ++ 32 ∷ decimal n) }
+    pub fn number(&mut self, n: u32) -> Result<(), NoMemory>
+        ensures text { OnOk result (self.new ≡ self.old ++ 32 ∷ decimal n) }
         ensures in_range { OnOk result (IsNumber n) }
     {
-        self.space()?.digits(u64::from(n))
+        self.space()?;
+        self.digits(u64::from(n))
     }
 
     /// Appends a space and a size in bytes.
-    pub fn size(self, bytes: u64) -> Result<LineWriter, NoMemory>
-        ensures { IfOk result (λ line. line ≡ self ++ 32 ∷ decimal bytes) }
+    pub fn size(&mut self, bytes: u64) -> Result<(), NoMemory>
+        ensures { OnOk result (self.new ≡ self.old ++ 32 ∷ decimal bytes) }
     {
-        self.space()?.digits(bytes)
+        self.space()?;
+        self.digits(bytes)
     }
 
     /// Appends a space and a mode.
-    pub fn mode(self, mode: u16) -> Result<LineWriter, NoMemory>
-        ensures { IfOk result (λ line. line ≡ self ++ 32 ∷ mode_text mode) }
+    pub fn mode(&mut self, mode: u16) -> Result<(), NoMemory>
+        ensures { OnOk result (self.new ≡ self.old ++ 32 ∷ mode_text mode) }
     {
-        let mut line = self.space()?;
-        put_mode(&mut line.text, mode)?;
-        Ok(line)
+        self.space()?;
+        put_mode(&mut self.text, mode)
     }
 
     /// Appends a space and supplementary groups.
-    pub fn groups(self, groups: &[u32]) -> Result<LineWriter, NoMemory>
-        ensures text { IfOk result (λ line. line ≡ self ++ 32 ∷ groups_text groups.now) }
+    pub fn groups(&mut self, groups: &[u32]) -> Result<(), NoMemory>
+        ensures text { OnOk result (self.new ≡ self.old ++ 32 ∷ groups_text groups.now) }
         ensures in_range { OnOk result (are_numbers groups.now ≡ true) }
     {
-        let mut line = self.space()?;
-        put_groups(&mut line.text, groups)?;
-        Ok(line)
+        self.space()?;
+        put_groups(&mut self.text, groups)
     }
 
     /// Appends a space and a label.
     #[inline(always)]
-    pub fn label(self, policy: &Policy, label: &Label) -> Result<LineWriter, NoMemory>
-        ensures { IfOk result (λ line. line ≡ self ++ 32 ∷ label_text policy.now label.now) }
+    pub fn label(&mut self, policy: &Policy, label: &Label) -> Result<(), NoMemory>
+        ensures { OnOk result (self.new ≡ self.old ++ 32 ∷ label_text policy.now label.now) }
     {
-        let mut line = self.space()?;
-        put_label(&mut line.text, policy, label)?;
-        Ok(line)
+        self.space()?;
+        put_label(&mut self.text, policy, label)
     }
 
     /// Appends a space and the new label of a check, or `-`.
-    pub fn new_label(self, policy: &Policy, label: &Option<Label>) -> Result<LineWriter, NoMemory>
-        ensures { IfOk result (λ line. line ≡ self ++ 32 ∷ new_label_text policy.now label.now) }
+    pub fn new_label(&mut self, policy: &Policy, label: &Option<Label>) -> Result<(), NoMemory>
+        ensures { OnOk result (self.new ≡ self.old ++ 32 ∷ new_label_text policy.now label.now) }
     {
         match label {
             Some(label) => self.label(policy, label),
@@ -205,60 +194,66 @@ impl LineWriter {
 
     /// Appends a space and the number of a process.
     #[inline(always)]
-    pub fn pid(self, policy: &Policy, pid: &Pid) -> Result<LineWriter, NoMemory>
-        ensures text { IfOk result (λ line. line ≡ self ++ 32 ∷ pid_text policy.now pid.now) }
+    pub fn pid(&mut self, policy: &Policy, pid: &Pid) -> Result<(), NoMemory>
+        ensures text { OnOk result (self.new ≡ self.old ++ 32 ∷ pid_text policy.now pid.now) }
         ensures in_range { OnOk result (pid.now.n < 2 ^ 16) }
     {
-        self.space()?.numbered(policy, pid.n, &pid.label)
+        self.space()?;
+        self.numbered(policy, pid.n, &pid.label)
     }
 
     /// Appends a space and the number of an object.
-    pub fn oid(self, policy: &Policy, oid: &Oid) -> Result<LineWriter, NoMemory>
-        ensures text { IfOk result (λ line. line ≡ self ++ 32 ∷ oid_text policy.now oid.now) }
+    pub fn oid(&mut self, policy: &Policy, oid: &Oid) -> Result<(), NoMemory>
+        ensures text { OnOk result (self.new ≡ self.old ++ 32 ∷ oid_text policy.now oid.now) }
         ensures in_range { OnOk result (oid.now.n < 2 ^ 16) }
     {
-        self.space()?.numbered(policy, oid.n, &oid.label)
+        self.space()?;
+        self.numbered(policy, oid.n, &oid.label)
     }
 
     /// Appends a space and the object or process of a check.
-    pub fn thing(self, policy: &Policy, thing: &Thing) -> Result<LineWriter, NoMemory>
-        ensures text { IfOk result (λ line. line ≡ self ++ 32 ∷ thing_text policy.now thing.now) }
+    pub fn thing(&mut self, policy: &Policy, thing: &Thing) -> Result<(), NoMemory>
+        ensures text { OnOk result (self.new ≡ self.old ++ 32 ∷ thing_text policy.now thing.now) }
         ensures in_range { OnOk result (count_of thing.now < 2 ^ 16) }
     {
         match thing {
-            Thing::Object(oid) => self.word(b"obj:")?.numbered(policy, oid.n, &oid.label),
-            Thing::Process(pid) => self.word(b"proc:")?.numbered(policy, pid.n, &pid.label),
+            Thing::Object(oid) => {
+                self.word(b"obj:")?;
+                self.numbered(policy, oid.n, &oid.label)
+            }
+            Thing::Process(who) => {
+                self.word(b"proc:")?;
+                self.numbered(policy, who.n, &who.label)
+            }
         }
     }
 
     /// Appends a space and a capability state, between quotes.
     #[tactic(auto, using(crate::proofs::CapWords::caps_written))]
-    pub fn caps(self, caps: &CapState) -> Result<LineWriter, NoMemory>
-        ensures { IfOk result (λ line. line ≡ self ++ 32 ∷ caps_word caps.now) }
+    pub fn caps(&mut self, caps: &CapState) -> Result<(), NoMemory>
+        ensures { OnOk result (self.new ≡ self.old ++ 32 ∷ caps_word caps.now) }
     {
-        let mut line = self.bytes(b" \"")?;
-        put_caps(&mut line.text, caps)?;
-        line.bytes(b"\"")
+        self.bytes(b" \"")?;
+        put_caps(&mut self.text, caps)?;
+        self.bytes(b"\"")
     }
 
     /// Appends a space and a place of a check.
-    pub fn place(self, place: Place) -> Result<LineWriter, NoMemory>
-        ensures text { IfOk result (λ line. line ≡ self ++ 32 ∷ place_text place) }
+    pub fn place(&mut self, place: Place) -> Result<(), NoMemory>
+        ensures text { OnOk result (self.new ≡ self.old ++ 32 ∷ place_text place) }
         ensures in_range { OnOk result (PlaceInRange place) }
     {
-        let mut line = self.space()?;
-        put_place(&mut line.text, place)?;
-        Ok(line)
+        self.space()?;
+        put_place(&mut self.text, place)
     }
 
     /// Appends a space and the two words of how a process ended.
-    pub fn ending(self, ending: Ending) -> Result<LineWriter, NoMemory>
-        ensures text { IfOk result (λ line. line ≡ self ++ 32 ∷ ending_text ending) }
+    pub fn ending(&mut self, ending: Ending) -> Result<(), NoMemory>
+        ensures text { OnOk result (self.new ≡ self.old ++ 32 ∷ ending_text ending) }
         ensures in_range { OnOk result (EndingInRange ending) }
     {
-        let mut line = self.space()?;
-        put_ending(&mut line.text, ending)?;
-        Ok(line)
+        self.space()?;
+        put_ending(&mut self.text, ending)
     }
 
     /// The bytes written.

@@ -19,9 +19,10 @@ pub fn reply_text(
 ) -> Result<Vec<u8>, NoMemory>
     ensures { IfOk result (λ text. text.items ≡ reply_line policy.now who.now word.now reply.now) }
 {
-    let line = LineWriter::over(room)
-        .numbered(policy, who.n, &who.label)?
-        .word(word)?
-        .outcome(policy, reply)?;
-    Ok(line.line_feed()?.into_text())
+    let mut line = LineWriter::over(room);
+    line.numbered(policy, who.n, &who.label)?;
+    line.word(word)?;
+    line.outcome(policy, reply)?;
+    line.line_feed()?;
+    Ok(line.into_text())
 }

@@ -22,10 +22,11 @@ pub fn util_text(
     requires texts { length util.now.texts ≡ length util.now.paths }
     ensures { IfOk result (λ text. text.items ≡ reply_line policy.now util.now.who (head_at util.now at) reply.now) }
 {
-    let line = LineWriter::over(room)
-        .numbered(policy, util.who.n, &util.who.label)?
-        .word(util.tool.word())?
-        .quoted(util.texts.items()[at].items())?
-        .outcome(policy, reply)?;
-    Ok(line.line_feed()?.into_text())
+    let mut line = LineWriter::over(room);
+    line.numbered(policy, util.who.n, &util.who.label)?;
+    line.word(util.tool.word())?;
+    line.quoted(util.texts.items()[at].items())?;
+    line.outcome(policy, reply)?;
+    line.line_feed()?;
+    Ok(line.into_text())
 }

@@ -1,8 +1,9 @@
 // The writing of a world.
 ghost use Rattle.std.specs.Prelude.{◌≡◌, true, [], ◌∷◌, ◌++◌, map, OnOk, IfOk};
 ghost use Rattle.std.specs.List.{AllByRecursion, flat_map};
-ghost use Rattle.fs_path.specs.Words.{with_quotes_if_needed, spelling, after_spaces};
+ghost use Rattle.fs_path.specs.Words.{with_quotes_if_needed, spelling};
 ghost use Rattle.line_text.specs.Ranges.{are_bytes};
+ghost use Rattle.line_text.specs.Reply.{with_words};
 ghost use Rattle.world_text.specs.CanBeRead.{HasBytes, IsWrittenObject, IsWrittenIds, IsWorldText, HasShortLines};
 ghost use Rattle.world_text.specs.Reading.{Accepted, read_text};
 ghost use Rattle.world_text.specs.Written.{path_text, line_of, names_words, head_words, body_keyword, caps_words, body_words, object_words, process_words, next_number, written};
@@ -31,8 +32,8 @@ pub fn path_text(alloc: Global, names: &[Name]) -> Result<Vec<u8>, NoMemory>
     Ok(text)
 }
 
-fn put_path(alloc: Global, line: LineWriter, path: &Path) -> Result<LineWriter, NoMemory>
-    ensures text { IfOk result (λ new. new ≡ line ++ 32 ∷ spelling (with_quotes_if_needed (path_text path.now.names))) }
+fn put_path(alloc: Global, line: &mut LineWriter, path: &Path) -> Result<(), NoMemory>
+    ensures text { OnOk result (line.new ≡ line.old ++ 32 ∷ spelling (with_quotes_if_needed (path_text path.now.names))) }
     ensures in_range { OnOk result (are_bytes (path_text path.now.names) ≡ true) }
 {
     let path = path_text(alloc, path.components())?;
@@ -40,28 +41,32 @@ fn put_path(alloc: Global, line: LineWriter, path: &Path) -> Result<LineWriter, 
 }
 
 // Appends a capability text, unless it is `=`.
-fn put_some_caps(alloc: Global, line: LineWriter, caps: &CapState) -> Result<LineWriter, NoMemory>
-    ensures { IfOk result (λ new. new ≡ line ++ after_spaces (map spelling (caps_words caps.now))) }
+fn put_some_caps(alloc: Global, line: &mut LineWriter, caps: &CapState) -> Result<(), NoMemory>
+    ensures { OnOk result (line.new ≡ with_words line.old (map spelling (caps_words caps.now))) }
 {
     let caps = cap_to_text(alloc, caps)?;
     if caps.as_slice() == b"=".as_slice() {
-        return Ok(line);
+        return Ok(());
     }
     line.quoted(caps.as_slice())
 }
 
-#[tactic(auto, unfolding(crate::specs::Written::line_of))]
-fn put_names_line(line: LineWriter, keyword: &[u8], names: &[Word]) -> Result<LineWriter, NoMemory>
-    ensures { IfOk result (λ new. new ≡ line ++ line_of (names_words keyword.now names.now)) }
+#[tactic(auto, using(crate::proofs::AppendLemmas::names_after), unfolding(crate::specs::Written::line_of))]
+fn put_names_line(line: &mut LineWriter, keyword: &[u8], names: &[Word]) -> Result<(), NoMemory>
+    ensures { OnOk result (line.new ≡ line.old ++ line_of (names_words keyword.now names.now)) }
 {
-    line.bytes(keyword)?.words(names)?.line_feed()
+    line.bytes(keyword)?;
+    line.words(names)?;
+    line.line_feed()
 }
 
 #[tactic(auto, unfolding(crate::specs::Written::line_of))]
-fn put_word_line(line: LineWriter, keyword: &[u8], word: &[u8]) -> Result<LineWriter, NoMemory>
-    ensures { IfOk result (λ new. new ≡ line ++ line_of (names_words keyword.now (word.now ∷ []))) }
+fn put_word_line(line: &mut LineWriter, keyword: &[u8], word: &[u8]) -> Result<(), NoMemory>
+    ensures { OnOk result (line.new ≡ line.old ++ line_of (names_words keyword.now (word.now ∷ []))) }
 {
-    line.bytes(keyword)?.word(word)?.line_feed()
+    line.bytes(keyword)?;
+    line.word(word)?;
+    line.line_feed()
 }
 
 fn body_keyword(body: &Body) -> &'static [u8]
@@ -78,100 +83,96 @@ fn body_keyword(body: &Body) -> &'static [u8]
 // Appends the content and the capabilities of a file.
 fn put_body(
     alloc: Global,
-    line: LineWriter,
+    line: &mut LineWriter,
     body: &Body,
     caps: &CapState,
-) -> Result<LineWriter, NoMemory>
-    ensures text { IfOk result (λ new. new ≡ line ++ after_spaces (map spelling (body_words body.now caps.now))) }
+) -> Result<(), NoMemory>
+    ensures text { OnOk result (line.new ≡ with_words line.old (map spelling (body_words body.now caps.now))) }
     ensures in_range { OnOk result (HasBytes body.now) }
 {
     let Body::File(bytes) = body else {
-        return Ok(line);
+        return Ok(());
     };
-    put_some_caps(alloc, line.quoted(bytes.items())?, caps)
+    line.quoted(bytes.items())?;
+    put_some_caps(alloc, line, caps)
 }
 
-#[tactic(auto, unfolding(crate::specs::Written::line_of, crate::specs::Written::object_words))]
+#[tactic(auto, using(crate::proofs::AppendLemmas::object_after), unfolding(crate::specs::Written::line_of, crate::specs::Written::object_words))]
 fn put_object(
     alloc: Global,
-    line: LineWriter,
+    line: &mut LineWriter,
     policy: &Policy,
     object: &WorldObject,
-) -> Result<LineWriter, NoMemory>
-    ensures text { IfOk result (λ new. new ≡ line ++ line_of (object_words policy.now object.now)) }
+) -> Result<(), NoMemory>
+    ensures text { OnOk result (line.new ≡ line.old ++ line_of (object_words policy.now object.now)) }
     ensures in_range { OnOk result (IsWrittenObject object.now) }
 {
-    let line = line.bytes(body_keyword(&object.body))?;
-    let line = put_path(alloc, line, &object.path)?
-        .mode(object.attr.mode)?
-        .number(object.attr.owner)?
-        .number(object.attr.group)?
-        .label(policy, &object.label)?;
-    put_body(alloc, line, &object.body, &object.attr.caps)?.line_feed()
+    line.bytes(body_keyword(&object.body))?;
+    put_path(alloc, line, &object.path)?;
+    line.mode(object.attr.mode)?;
+    line.number(object.attr.owner)?;
+    line.number(object.attr.group)?;
+    line.label(policy, &object.label)?;
+    put_body(alloc, line, &object.body, &object.attr.caps)?;
+    line.line_feed()
 }
 
 #[tactic(auto, unfolding(crate::specs::Written::line_of, crate::specs::Written::process_words))]
-fn put_process(
-    line: LineWriter,
-    policy: &Policy,
-    process: &WorldProc,
-) -> Result<LineWriter, NoMemory>
-    ensures text { IfOk result (λ new. new ≡ line ++ line_of (process_words policy.now process.now)) }
+fn put_process(line: &mut LineWriter, policy: &Policy, process: &WorldProc) -> Result<(), NoMemory>
+    ensures text { OnOk result (line.new ≡ line.old ++ line_of (process_words policy.now process.now)) }
     ensures in_range { OnOk result (IsWrittenIds process.now.ids) }
 {
-    line.bytes(b"proc")?
-        .label(policy, &process.label)?
-        .number(process.ids.euid)?
-        .number(process.ids.egid)?
-        .groups(process.ids.groups.items())?
-        .caps(&process.caps)?
-        .line_feed()
+    line.bytes(b"proc")?;
+    line.label(policy, &process.label)?;
+    line.number(process.ids.euid)?;
+    line.number(process.ids.egid)?;
+    line.groups(process.ids.groups.items())?;
+    line.caps(&process.caps)?;
+    line.line_feed()
 }
 
 fn put_objects(
     alloc: Global,
-    line: LineWriter,
+    line: &mut LineWriter,
     policy: &Policy,
     objects: &[WorldObject],
-) -> Result<LineWriter, NoMemory>
-    ensures text { IfOk result (λ new. new ≡ line ++ flat_map (λ object. line_of (object_words policy.now object)) objects.now) }
+) -> Result<(), NoMemory>
+    ensures text { OnOk result (line.new ≡ line.old ++ flat_map (λ object. line_of (object_words policy.now object)) objects.now) }
     ensures in_range { OnOk result (AllByRecursion IsWrittenObject objects.now) }
 {
-    let mut line = line;
     for object in objects {
-        line = put_object(alloc, line, policy, object)?;
+        put_object(alloc, line, policy, object)?;
     }
-    Ok(line)
+    Ok(())
 }
 
 fn put_processes(
-    line: LineWriter,
+    line: &mut LineWriter,
     policy: &Policy,
     processes: &[WorldProc],
-) -> Result<LineWriter, NoMemory>
-    ensures text { IfOk result (λ new. new ≡ line ++ flat_map (λ process. line_of (process_words policy.now process)) processes.now) }
+) -> Result<(), NoMemory>
+    ensures text { OnOk result (line.new ≡ line.old ++ flat_map (λ process. line_of (process_words policy.now process)) processes.now) }
     ensures in_range { OnOk result (AllByRecursion (λ process. IsWrittenIds process.ids) processes.now) }
 {
-    let mut line = line;
     for process in processes {
-        line = put_process(line, policy, process)?;
+        put_process(line, policy, process)?;
     }
-    Ok(line)
+    Ok(())
 }
 
 // Appends the lines of the format, the names and the bound.
 fn put_head(
     alloc: Global,
-    line: LineWriter,
+    line: &mut LineWriter,
     policy: &Policy,
     bound: &CapSet,
-) -> Result<LineWriter, NoMemory>
-    ensures { IfOk result (λ new. new ≡ line ++ flat_map line_of (head_words policy.now bound.now)) }
+) -> Result<(), NoMemory>
+    ensures { OnOk result (line.new ≡ line.old ++ flat_map line_of (head_words policy.now bound.now)) }
 {
     let bound = set_to_text(alloc, bound)?;
-    let line = put_word_line(line, b"world", b"1")?;
-    let line = put_names_line(line, b"levels", policy.levels())?;
-    let line = put_names_line(line, b"categories", policy.cats())?;
+    put_word_line(line, b"world", b"1")?;
+    put_names_line(line, b"levels", policy.levels())?;
+    put_names_line(line, b"categories", policy.cats())?;
     put_word_line(line, b"bound", bound.as_slice())
 }
 
@@ -186,10 +187,11 @@ impl WorldText {
         // The names of its levels make a policy, which the clause `round_trip` needs.
         let _names = self.policy.levels();
         let alloc = self.policy.allocator();
-        let line = LineWriter::new(alloc)?;
-        let line = put_head(alloc, line, &self.policy, &self.world.bound)?;
-        let line = put_objects(alloc, line, &self.policy, self.world.objects.items())?;
-        let line = put_processes(line, &self.policy, self.world.procs.items())?;
-        Ok(line.bytes(b"script\n")?.into_text())
+        let mut line = LineWriter::new(alloc)?;
+        put_head(alloc, &mut line, &self.policy, &self.world.bound)?;
+        put_objects(alloc, &mut line, &self.policy, self.world.objects.items())?;
+        put_processes(&mut line, &self.policy, self.world.procs.items())?;
+        line.bytes(b"script\n")?;
+        Ok(line.into_text())
     }
 }

@@ -1,6 +1,6 @@
 use Rattle.std.proofs.Common.{arith}
-use Rattle.line_text.proofs.RangeLemmas.{bytes_from}
+use Rattle.line_text.proofs.RangeLemmas.{bytes_from, on_ok}
 use Rattle.line_text.proofs.writer.LineWriter.quoted.Goals as goal
 
 pub returns-clause-in_range : goal.returns-clause-in_range
-returns-clause-in_range c = bytes_from c.args.bytes.now (λ i. omega (arith, c.type_inv.bytes i))
+returns-clause-in_range c = on_ok _ (bytes_from c.args.bytes.now (λ i. omega (arith, c.type_inv.bytes i)))

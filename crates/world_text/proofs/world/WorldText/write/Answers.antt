@@ -21,9 +21,9 @@ gathered a b d e head objects procs end s1 s2 s3 s4 = rw (s4, s3, s2, s1) (simp 
 pub returns-clause-text : goal.returns-clause-text
 unfolding line_of written
 returns-clause-text c =
-    let objects = rw c.items.ensures at c.in_ok-line-3.ensures.text in
-    let procs = rw c.items-2.ensures at c.in_ok-line-4.ensures.text in
-    c.into_text.ensures ∙ c.in_ok-bytes.ensures ∙ gathered _ _ _ _ _ _ _ _ c.in_ok-line.ensures c.in_ok-line-2.ensures objects procs
+    let objects = rw c.items.ensures at c.in_ok-put_objects.ensures.text in
+    let procs = rw c.items-2.ensures at c.in_ok-put_processes.ensures.text in
+    c.into_text.ensures ∙ c.in_ok-bytes.ensures ∙ gathered _ _ _ _ _ _ _ _ c.in_ok-line.ensures c.in_ok-put_head.ensures objects procs
     ∙ sym (parts (head_words c.args.self.now.policy c.args.self.now.world.bound) (object_words c.args.self.now.policy) c.args.self.now.world.objects (process_words c.args.self.now.policy) c.args.self.now.world.procs script_words)
 
 pub returns-clause-round_trip : goal.returns-clause-round_trip
@@ -33,6 +33,6 @@ returns-clause-round_trip c = λ is short.
       is = is;
       lines = short;
       policy = c.levels-names.ensures.policy;
-      objects = rw c.items.ensures at c.in_ok-line-3.ensures.in_range;
-      procs = rw c.items-2.ensures at c.in_ok-line-4.ensures.in_range;
+      objects = rw c.items.ensures at c.in_ok-put_objects.ensures.in_range;
+      procs = rw c.items-2.ensures at c.in_ok-put_processes.ensures.in_range;
     })
