@@ -1,11 +1,14 @@
 -- The bytes of one call: what comes before its reply, and then the reply where it is written.
-use Rattle.std.proofs.Common.{◌≡◌, ℕ, Bool, true, false, cond, List, [], ◌++◌, refl, sym, ◌∙◌, ap, Option, Some, None}
+use Rattle.std.proofs.Common.{◌≡◌, ℕ, Bool, true, false, cond, List, [], ◌++◌, refl, sym, ◌∙◌, ap}
 use Rattle.std.proofs.lemmas.List.{append-nil}
 use Rattle.std.specs.Prelude.{Result}
-use Rattle.kern_model.specs.declared.calls.Reply.{Reply}
+use Rattle.kern_model.specs.declared.records.Outcome.{Outcome}
 use Rattle.kern_model.specs.declared.records.Rec.{Rec}
+use Rattle.kern_model.specs.declared.world.ScriptItem.{ScriptItem}
 use Rattle.kern_model.specs.Isolation.{crossing, low}
-use Rattle.kern_model.specs.Run.{CallRecord}
+use Rattle.kern_model.specs.Run.{CallRecord, played}
+use Rattle.kern_model.specs.State.{State}
+use Rattle.kern_model.specs.Step.{IsPlayed, StepResult}
 use Rattle.lab_text.specs.Policy.{PolicyNames}
 use Rattle.line_text.specs.Reply.{reply_line}
 use Rattle.lab_engine.specs.declared.ending.Fault.{Fault}
@@ -15,7 +18,7 @@ use Rattle.lab_engine.specs.declared.reporting.Shown.{Shown}
 use Rattle.lab_engine.specs.declared.reporting.Shown.TheVariants as shown
 use Rattle.lab_engine.specs.Order.{Sent, call_order, to_out}
 use Rattle.lab_engine.specs.Playing.{Ends, Writes}
-use Rattle.lab_engine.specs.Report.{before_reply, call_sends, crossed_line, has_reply, shown_of}
+use Rattle.lab_engine.specs.Report.{before_reply, call_record, call_sends, crossed_line, has_reply, shown_of}
 use Rattle.lab_engine.specs.Texts.{reply_text}
 use Rattle.lab_engine.proofs.Sending.{in_order}
 
@@ -23,14 +26,9 @@ use Rattle.lab_engine.proofs.Sending.{in_order}
 pub shown_writes : {T : Type 0} (result : Result T Fault) (policy : PolicyNames) (n : ℕ) (recs : List Rec) (x y : Shown) (e f : Ends) → y ≡ x → Writes result (before_reply x policy n recs) e f → Writes result (before_reply y policy n recs) e f
 shown_writes result policy n recs x y e f is w = in_order result _ _ e f (ap (λ (q : Shown). before_reply q policy n recs) (sym is)) w
 
--- a reply that is handed on is to be written
-reply_there : (b : Bool) (reply given : Reply) (o : Option Reply) → o ≡ cond b (Some reply) None → o ≡ Some given → (b ≡ true) × (given ≡ reply)
-reply_there true reply given o is some = (refl, cc)
-reply_there false reply given o is some = absurd (cc)
-
-no_reply : (b : Bool) (reply : Reply) (o : Option Reply) → o ≡ cond b (Some reply) None → o ≡ None → b ≡ false
-no_reply true reply o is none = absurd (cc)
-no_reply false reply o is none = refl
+-- what was played of an item, by its outcome
+pub by_outcome : (s t : State) (i : ScriptItem) (o : Outcome) → IsPlayed s i.who i.call o t → call_record i.who i.head o ≡ played s i
+by_outcome s t i o is = ap {A = StepResult} {B = CallRecord} (λ x. record { who = i.who; head = i.head; reply = x.reply; recs = x.recs }) (sym is)
 
 module _ (policy : PolicyNames) (n : ℕ) (p : CallRecord) where
   -- what is written of a call is what comes before its reply, and then the reply where it is written
@@ -49,22 +47,24 @@ module _ (policy : PolicyNames) (n : ℕ) (p : CallRecord) where
   call_by_parts Crossed = refl
   call_by_parts (Counted t) = refl
 
-  module _ (r : Report) (o : Option Reply) (handed : o ≡ cond (has_reply (shown_of r p.who p.recs)) (Some p.reply) None) where
+  module _ (r : Report) (q : CallRecord) (same : p ≡ q) where
     abbrev before : List Sent
     before = before_reply (shown_of r p.who p.recs) policy n p.recs
 
+    pub equal_call : before ++ cond (has_reply (shown_of r p.who p.recs)) (to_out (reply_text policy p)) [] ≡ call_sends r policy n q
+    equal_call = call_by_parts r ∙ ap (call_sends r policy n) same
+
     -- the reply is written
-    pub reply_written : (given : Reply) → o ≡ Some given → (text : List ℕ) → text ≡ reply_line policy p.who p.head given → before ++ to_out text ≡ call_sends r policy n p
+    pub reply_written : has_reply (shown_of r p.who p.recs) ≡ true → (text : List ℕ) → text ≡ reply_line policy p.who p.head p.reply → before ++ to_out text ≡ call_sends r policy n q
     unfolding reply_text
-    reply_written given some text is =
-        let there = reply_there (has_reply (shown_of r p.who p.recs)) p.reply given o handed some in
-        ap (λ (t : List ℕ). before ++ to_out t) (is ∙ ap (reply_line policy p.who p.head) there.1)
-        ∙ ap (λ b. before ++ cond b (to_out (reply_text policy p)) []) (sym there.0)
-        ∙ call_by_parts r
+    reply_written there text is =
+        ap (λ (t : List ℕ). before ++ to_out t) is
+        ∙ ap (λ b. before ++ cond b (to_out (reply_text policy p)) []) (sym there)
+        ∙ equal_call
 
     -- the reply is not written
-    pub reply_left_out : o ≡ None → before ≡ call_sends r policy n p
+    pub reply_left_out : has_reply (shown_of r p.who p.recs) ≡ false → before ≡ call_sends r policy n q
     reply_left_out none =
         sym (append-nil before)
-        ∙ ap (λ b. before ++ cond b (to_out (reply_text policy p)) []) (sym (no_reply (has_reply (shown_of r p.who p.recs)) p.reply o handed none))
-        ∙ call_by_parts r
+        ∙ ap (λ b. before ++ cond b (to_out (reply_text policy p)) []) (sym none)
+        ∙ equal_call

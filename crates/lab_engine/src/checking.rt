@@ -15,9 +15,9 @@ use io_ends::{Lines, Source};
 use script_text::Line;
 
 // How many calls a line stands for.
-fn calls_in(line: Line) -> u64
-    requires { (util : Util) → line ≡ a_line.Tool util → IsWhole util }
-    ensures { result ≡ length (items_in line) }
+fn calls_in(line: &Line) -> u64
+    requires { (util : Util) → line.now ≡ a_line.Tool util → IsWhole util }
+    ensures { result ≡ length (items_in line.now) }
 {
     match line {
         Line::Blank => 0,
@@ -41,7 +41,7 @@ pub fn check_script<S: Source>(
     let mut count = 0u64;
     loop {
         match read_next(texts, lines, source)? {
-            NextLine::Line(line) => count += calls_in(line),
+            NextLine::Line(line) => count += calls_in(&line),
             NextLine::Ended(ending) => return Ok(Played { count, ending }),
         }
     }

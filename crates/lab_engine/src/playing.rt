@@ -15,7 +15,7 @@ ghost use Rattle.lab_engine.specs.Input.{item_of, items_in};
 ghost use Rattle.lab_engine.specs.Texts.{last_text};
 ghost use Rattle.lab_engine.specs.declared.reporting.Report.TheVariants as a_report;
 ghost use Rattle.lab_engine.specs.declared.reporting.Shown.TheVariants as a_shown;
-ghost use Rattle.lab_engine.specs.Report.{CountsAtMost, before_reply, call_sends, has_reply, items_reported, report_after, report_after_call, shown_of};
+ghost use Rattle.lab_engine.specs.Report.{CountsAtMost, before_reply, call_record, call_sends, has_reply, items_reported, report_after, report_after_call, shown_of};
 ghost use Rattle.lab_engine.specs.Readable.{AreReadable, CallsReadable};
 ghost use Rattle.lab_engine.specs.Playing.{PlaysScript, WritesBoth, WritesOut, WritesTrail, ends};
 
@@ -26,7 +26,7 @@ use crate::{Fault, InputEnd};
 use aud_record::{header_text, rec_text};
 use cap_bits::CapSet;
 use io_ends::{Lines, Sink, Source, write_whole};
-use kern_model::{Call, Calls, Pid, Rec, Reply};
+use kern_model::{Call, Calls, Outcome, Pid, Rec};
 use script_text::{Line, reply_text};
 use sec_utils::{Util, expand, util_text};
 use std::alloc::Global;
@@ -108,36 +108,27 @@ fn show<K: Sink, T: Sink>(
     }
 }
 
-// Plays one call, and writes what of it comes before its reply. Returns the reply where it is to be written.
+// Writes what of a call comes before its reply, and returns whether the reply is to be written.
 #[inline(always)]
-fn play_call<C: Calls, K: Sink, T: Sink>(
+fn report_call<K: Sink, T: Sink>(
     texts: Texts<'_>,
-    kernel: &mut C,
     number: u64,
     report: &mut Report,
     who: &Pid,
-    call: &Call,
+    outcome: &Outcome,
     room: &mut Vec<u8>,
     out: &mut K,
     trail: &mut T,
-) -> Result<Option<Reply>, Fault>
-    requires arguments { is_call (C.state kernel.old).top call.now ≡ true }
-    requires small { CountsAtMost (2 ^ 60) report.old }
-    ensures writes { let recs = (step (C.state kernel.old) who.now call.now).recs in
-        WritesBoth result (before_reply (shown_of report.old who.now recs) texts.entry.policy.now number recs)
+) -> Result<bool, Fault>
+    requires { CountsAtMost (2 ^ 60) report.old }
+    ensures writes { WritesBoth result (before_reply (shown_of report.old who.now outcome.now.recs) texts.entry.policy.now number outcome.now.recs)
         (sink_view (K.held out.old) (K.faults out.old)) (sink_view (K.held out.new) (K.faults out.new)) (sink_view (T.held trail.old) (T.faults trail.old)) (sink_view (T.held trail.new) (T.faults trail.new)) }
-    ensures reply { let s = step (C.state kernel.old) who.now call.now in IfOk result (λ reply. reply ≡ cond (has_reply (shown_of report.old who.now s.recs)) (Some s.reply) None) }
-    ensures state { OnOk result (C.state kernel.new ≡ (step (C.state kernel.old) who.now call.now).state) }
-    ensures report { (head : List ℕ) → OnOk result (report.new ≡ report_after_call report.old (played (C.state kernel.old) (record { who = who.now; head = head; call = call.now }))) }
-    ensures readable { OnOk result (report.old ≡ a_report.All → AreReadable texts.entry.policy.now number (step (C.state kernel.old) who.now call.now).recs) }
+    ensures reply { IfOk result (λ reply. reply ≡ has_reply (shown_of report.old who.now outcome.now.recs)) }
+    ensures report { (head : List ℕ) → OnOk result (report.new ≡ report_after_call report.old (call_record who.now head outcome.now)) }
+    ensures readable { OnOk result (report.old ≡ a_report.All → AreReadable texts.entry.policy.now number outcome.now.recs) }
 {
-    let outcome = kernel.call(who, call)?;
-    let shown = report.take_in(who, &outcome)?;
-    let replies = show(texts, shown, number, outcome.recs.items(), room, out, trail)?;
-    if replies {
-        return Ok(Some(outcome.reply));
-    }
-    Ok(None)
+    let shown = report.take_in(who, outcome)?;
+    show(texts, shown, number, outcome.recs.items(), room, out, trail)
 }
 
 // Plays a line that is one call, and writes what is reported of it.
@@ -161,14 +152,19 @@ fn play_one<C: Calls, K: Sink, T: Sink>(
     ensures report { OnOk result (report.new ≡ report_after_call report.old (played (C.state kernel.old) (item_of who.now call.now))) }
     ensures readable { OnOk result (report.old ≡ a_report.All → AreReadable texts.entry.policy.now number (step (C.state kernel.old) who.now call.now).recs) }
 {
-    match play_call(texts, kernel, number, report, who, call, room, out, trail)? {
-        Some(reply) => {
-            let word = call.name().word();
-            *room = reply_text(take(room, texts.alloc), texts.policy, who, word, &reply)?;
-            answer(out, room)
-        }
-        None => Ok(()),
+    let outcome = kernel.call(who, call)?;
+    if !report_call(texts, number, report, who, &outcome, room, out, trail)? {
+        return Ok(());
     }
+    let word = call.name().word();
+    *room = reply_text(
+        take(room, texts.alloc),
+        texts.policy,
+        who,
+        word,
+        &outcome.reply,
+    )?;
+    answer(out, room)
 }
 
 // Plays the call of a utility on one of its paths, in the same way.
@@ -194,18 +190,22 @@ fn play_path<C: Calls, K: Sink, T: Sink>(
     ensures report { OnOk result (report.new ≡ report_after_call report.old (played (C.state kernel.old) (record { who = util.now.who; head = head_at util.now at; call = call.now }))) }
     ensures readable { OnOk result (report.old ≡ a_report.All → AreReadable texts.entry.policy.now number (step (C.state kernel.old) util.now.who call.now).recs) }
 {
-    match play_call(
-        texts, kernel, number, report, &util.who, call, room, out, trail,
-    )? {
-        Some(reply) => {
-            *room = util_text(take(room, texts.alloc), texts.policy, util, at, &reply)?;
-            answer(out, room)
-        }
-        None => Ok(()),
+    let outcome = kernel.call(&util.who, call)?;
+    if !report_call(texts, number, report, &util.who, &outcome, room, out, trail)? {
+        return Ok(());
     }
+    *room = util_text(
+        take(room, texts.alloc),
+        texts.policy,
+        util,
+        at,
+        &outcome.reply,
+    )?;
+    answer(out, room)
 }
 
 // Plays the calls of a utility, one for each path, and returns the number of the last one.
+#[inline(never)]
 fn play_tool<C: Calls, K: Sink, T: Sink>(
     texts: Texts<'_>,
     kernel: &mut C,
@@ -243,20 +243,20 @@ fn play_line<C: Calls, K: Sink, T: Sink>(
     kernel: &mut C,
     count: u64,
     report: &mut Report,
-    line: Line,
+    line: &Line,
     room: &mut Vec<u8>,
     out: &mut K,
     trail: &mut T,
 ) -> Result<u64, Fault>
-    requires calls { MayBePlayed (C.state kernel.old).top line }
-    requires small { count + length (items_in line) ≤ 2 ^ 60 }
+    requires calls { MayBePlayed (C.state kernel.old).top line.now }
+    requires small { count + length (items_in line.now) ≤ 2 ^ 60 }
     requires counted { CountsAtMost count report.old }
-    ensures writes { WritesBoth result (items_reported report.old texts.entry.policy.now count (C.state kernel.old) (items_in line))
+    ensures writes { WritesBoth result (items_reported report.old texts.entry.policy.now count (C.state kernel.old) (items_in line.now))
         (sink_view (K.held out.old) (K.faults out.old)) (sink_view (K.held out.new) (K.faults out.new)) (sink_view (T.held trail.old) (T.faults trail.old)) (sink_view (T.held trail.new) (T.faults trail.new)) }
-    ensures state { OnOk result (C.state kernel.new ≡ state_after_run (C.state kernel.old) (items_in line)) }
-    ensures report { OnOk result (report.new ≡ report_after report.old (run (C.state kernel.old) (items_in line))) }
-    ensures count { IfOk result (λ last. last ≡ count + length (items_in line)) }
-    ensures readable { OnOk result (report.old ≡ a_report.All → CallsReadable texts.entry.policy.now count (C.state kernel.old) (items_in line)) }
+    ensures state { OnOk result (C.state kernel.new ≡ state_after_run (C.state kernel.old) (items_in line.now)) }
+    ensures report { OnOk result (report.new ≡ report_after report.old (run (C.state kernel.old) (items_in line.now))) }
+    ensures count { IfOk result (λ last. last ≡ count + length (items_in line.now)) }
+    ensures readable { OnOk result (report.old ≡ a_report.All → CallsReadable texts.entry.policy.now count (C.state kernel.old) (items_in line.now)) }
 {
     match line {
         Line::Blank => Ok(count),
@@ -266,15 +266,15 @@ fn play_line<C: Calls, K: Sink, T: Sink>(
                 kernel,
                 count + 1,
                 report,
-                &who,
-                &call,
+                who,
+                call,
                 room,
                 out,
                 trail,
             )?;
             Ok(count + 1)
         }
-        Line::Tool(util) => play_tool(texts, kernel, count, report, &util, room, out, trail),
+        Line::Tool(util) => play_tool(texts, kernel, count, report, util, room, out, trail),
     }
 }
 
@@ -321,7 +321,7 @@ pub fn play_script<C: Calls, S: Source, K: Sink, T: Sink>(
     loop {
         match read_next(texts, lines, source)? {
             NextLine::Line(line) => {
-                count = play_line(texts, kernel, count, report, line, &mut room, out, trail)?;
+                count = play_line(texts, kernel, count, report, &line, &mut room, out, trail)?;
             }
             NextLine::Ended(ending) => return Ok(Played { count, ending }),
         }

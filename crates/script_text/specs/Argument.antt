@@ -54,9 +54,13 @@ caps word = caps_by (parse_caps word)
 abbrev pub process : PolicyNames → List ℕ × List ℕ → Option Pid
 process policy parts = option_and_then (λ n. option_map (λ at. record { label = at; n = n }) (parse_label policy parts.1)) (numeral 10 10 1 MAX_PROCS parts.0)
 
--- a tag: `n@label`
+-- the process of a tag: `n@label`
+abbrev pub tagged : PolicyNames → List ℕ → Option Pid
+tagged policy word = option_and_then (process policy) (split_once 64 word)
+
+-- a tag
 unfoldable pub tag : PolicyNames → List ℕ → Reading Pid
-tag policy word = ok_or (option_and_then (process policy) (split_once 64 word)) error.BadTag
+tag policy word = ok_or (tagged policy word) error.BadTag
 
 -- a number, `@` and a rest
 abbrev pub numbered : List ℕ → Option (List ℕ × List ℕ)

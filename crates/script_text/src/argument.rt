@@ -51,13 +51,20 @@ fn process(policy: &Policy, number: &[u8], label: &[u8]) -> Option<Pid>
     Some(Pid { label, n: n as u16 })
 }
 
+/// The process of a tag, if it is one.
+pub fn tagged(policy: &Policy, word: &LineWord<'_>) -> Option<Pid>
+    ensures { result ≡ argument.tagged policy.now word.now.bytes }
+{
+    let (number, label) = split_once(word.bytes.items(), b'@')?;
+    process(policy, number, label)
+}
+
 /// The tag of a line.
 #[tactic(auto, unfolding(crate::specs::Argument::tag))]
 pub fn tag(policy: &Policy, word: &LineWord<'_>) -> Result<Pid, LineError>
     ensures { result ≡ argument.tag policy.now word.now.bytes }
 {
-    let (number, label) = split_once(word.bytes.items(), b'@').ok_or(LineError::BadTag)?;
-    process(policy, number, label).ok_or(LineError::BadTag)
+    tagged(policy, word).ok_or(LineError::BadTag)
 }
 
 /// The number of a process.

@@ -57,8 +57,8 @@ fn rank(fault: LineError) -> u8
     }
 }
 
-// The first of two faults.
-fn first_of(a: LineError, b: LineError) -> LineError
+/// The first of two faults.
+pub fn first_of(a: LineError, b: LineError) -> LineError
     ensures { result ≡ first_of a b }
 {
     if rank(a) <= rank(b) { a } else { b }

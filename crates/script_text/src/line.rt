@@ -5,7 +5,7 @@ ghost use Rattle.script_text.specs.Reading.{Answers, IsCause};
 ghost use Rattle.script_text.specs.Line.{bytes_in, call_line, parse_item, parse_line, MayBePlayed};
 
 use crate::call::call_of;
-use crate::fault::both;
+use crate::fault::first_of;
 use crate::tool::util_of;
 use crate::{LineError, argument};
 use fs_path::{LineWord, is_blank, words_of};
@@ -16,7 +16,7 @@ use sec_utils::{Tool, Util};
 use std::alloc::Global;
 
 /// What a line of a script says.
-#[derive(Debug, Drop)]
+#[derive(Debug)]
 pub enum Line {
     /// No call: it is blank or a comment.
     Blank,
@@ -26,8 +26,20 @@ pub enum Line {
     Tool(Util),
 }
 
-// A call with its tag and its arguments.
-#[tactic(auto, unfolding(crate::specs::Reading::made, crate::specs::Reading::both))]
+// Written out, so that a drop is one call, whatever the line says.
+impl Drop for Line {
+    #[inline(always)]
+    fn drop(self) {
+        match self {
+            Line::Blank => {}
+            Line::One { who: _, call: _ } => {}
+            Line::Tool(_) => {}
+        }
+    }
+}
+
+// A call with its tag and its arguments. It is moved into its line at once, and not by way of `both`.
+#[tactic(auto, unfolding(crate::specs::Argument::tag, crate::specs::Reading::made, crate::specs::Reading::both))]
 fn call_line(
     alloc: Global,
     policy: &Policy,
@@ -38,8 +50,12 @@ fn call_line(
     ensures { Answers (call_line policy.now tag.now.bytes (bytes_in arguments.now) name) result }
 {
     let call = call_of(alloc, policy, name, arguments);
-    let (who, call) = both(argument::tag(policy, tag), call)?;
-    Ok(Line::One { who, call })
+    match (argument::tagged(policy, tag), call) {
+        (Some(who), Ok(call)) => Ok(Line::One { who, call }),
+        (Some(_), Err(fault)) => Err(fault),
+        (None, Ok(_)) => Err(LineError::BadTag),
+        (None, Err(fault)) => Err(first_of(LineError::BadTag, fault)),
+    }
 }
 
 // What the words of a line say.

@@ -161,21 +161,19 @@ fn is_parsed(policy: &Policy, call: &Call) -> bool {
         || is_of_processes(policy, call)
 }
 
-// The call that a line says.
-fn call(alloc: Global, policy: &Policy, line: &[u8]) -> Result<Call, Fail> {
-    match read_line(alloc, policy, line)? {
-        Line::One { who: _, call } => Ok(call),
-        Line::Blank | Line::Tool(_) => Err(Fail::new("the line says no call")),
-    }
+// Whether a call is that of the word which stands first in its line, with the values of its table.
+fn is_of_line(policy: &Policy, call: &Call, line: &[u8]) -> bool {
+    let word = call.name().word();
+    is_parsed(policy, call) && line.get(6..6 + word.len()) == Some(word)
 }
 
 // Whether a line says the call that stands first in it, with the values of its table.
 fn is_of_table(alloc: Global, policy: &Policy, line: &[u8]) -> Result<bool, Fail> {
-    let call = call(alloc, policy, line)?;
-    let word = call.name().word();
-    let parsed = is_parsed(policy, &call) && line.get(6..6 + word.len()) == Some(word);
-    drop(call);
-    Ok(parsed)
+    let said = read_line(alloc, policy, line)?;
+    match &said {
+        Line::One { who: _, call } => Ok(is_of_line(policy, call, line)),
+        Line::Blank | Line::Tool(_) => Err(Fail::new("the line says no call")),
+    }
 }
 
 // The first of the lines that says another call.
