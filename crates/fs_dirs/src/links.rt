@@ -79,6 +79,9 @@ impl Links {
     {
         let place = place_of(&self.kept, dir);
         self.kept.swap_remove(place);
+        if self.kept.len() == 1 {
+            self.kept.shrink_to_fit();
+        }
     }
 
     /// Moves a name to another directory.
