@@ -9,7 +9,7 @@ use Rattle.std.proofs.lemmas.List.Folds.{list_all-append}
 use Rattle.fs_path.specs.Split.{onto_piece, split_once}
 use Rattle.fs_path.specs.Words.{is_space, is_plain, is_bare, is_bare_text, is_apart, hex_digit, item_text, quoted_text}
 use Rattle.aud_record.specs.Words.{quoted_len, word_len, first_word, after_word}
-use Rattle.fs_path.proofs.RoundTrip.{no_quote}
+use Rattle.fs_path.proofs.FormLemmas.{no_quote}
 
 -- ---- a text split at a byte
 

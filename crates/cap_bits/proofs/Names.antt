@@ -1,9 +1,11 @@
 -- A word in any case of its letters names the capability whose name it is in lower case.
-use Rattle.std.proofs.Common.{◌≡◌, ℕ, List, Bool, refl, ap, sym, ◌∙◌}
-use Rattle.std.specs.Prelude.{◌↔◌, IsTrue, Some}
+use Rattle.std.proofs.Common.{◌≡◌, ℕ, List, [], ◌∷◌, Bool, true, refl, ap, sym, subst, ◌∙◌}
+use Rattle.std.specs.Prelude.{◌↔◌, IsTrue, Option, Some}
 use Rattle.std.specs.Cmp.Lexicographic.{bytes_decides}
 use Rattle.std.specs.Str.{str_to_ascii_lowercase, bytes_eq}
+use Rattle.std.proofs.lemmas.Bool.{cond_both}
 use Rattle.std.proofs.lemmas.Bool.Decides.{same_from_decides}
+use Rattle.std.proofs.lemmas.Option.{same_Some}
 use Rattle.cap_bits.specs.declared.cap.Cap.{Cap}
 use Rattle.cap_bits.specs.declared.cap.Cap.TheVariants.{Chown, DacExecute, DacReadSearch, DacWrite, Fowner, Fsetid, Kill, LinkDir, Setfcap, Setgid, Setuid, MacDowngrade, MacRead, MacRelabelSubj, MacUpgrade, MacWrite, AuditControl, AuditWrite}
 use Rattle.cap_bits.specs.Cap.{cap_name, is_name_of, all_caps, cap_named}
@@ -61,3 +63,16 @@ first_of_name AuditWrite = refl
 pub cap_named_by : (word : List ℕ) (cap : Cap) → str_to_ascii_lowercase word ≡ cap_name cap → cap_named word ≡ Some cap
 unfolding cap_named is_name_of
 cap_named_by word cap e = ap (λ (name : List ℕ). find (λ other. bytes_eq (cap_name other) name) all_caps) e ∙ first_of_name cap
+
+-- what is found passes
+find_passes : {X : Type 0} (p : X → Bool) (xs : List X) (x : X) → find p xs ≡ Some x → p x ≡ true
+find_passes p [] x h = absurd (cc)
+find_passes p (y ∷ ys) x h = cond_both (p y) (Some y) (find p ys) (λ o. o ≡ Some x → p x ≡ true) (λ pass is. ap p (sym (same_Some y x is)) ∙ pass) (λ _ is. find_passes p ys x is) h
+
+-- a word names the capabilities whose name it is in any case of its letters: one or none
+pub cap_found_by : (word : List ℕ) (found : Option Cap) → found ≡ cap_named word → (cap : Cap) → (found ≡ Some cap) ↔ IsTrue (is_name_of word cap)
+unfolding cap_named is_name_of
+cap_found_by word found is cap = subst (λ (o : Option Cap). (o ≡ Some cap) ↔ IsTrue (is_name_of word cap)) (sym is) (
+  λ h. find_passes (is_name_of word) all_caps cap h,
+  λ named. cap_named_by word cap (sym ((bytes_decides (cap_name cap) (str_to_ascii_lowercase word)).0 named)),
+)

@@ -1,5 +1,5 @@
 // The capabilities, their numbers and their names.
-ghost use Rattle.std.specs.Prelude.{◌≡◌, ◌<◌, MatchOption, Some};
+ghost use Rattle.std.specs.Prelude.{◌≡◌, ◌↔◌, ◌<◌, IsTrue, MatchOption, Some};
 ghost use Rattle.cap_bits.specs.Cap.{cap_number, cap_name, is_name_of, cap_named};
 
 /// A capability of the withdrawn draft IEEE P1003.1e. Each has a number, which is its place in this
@@ -119,7 +119,8 @@ impl Cap {
     /// The capability with this name, in which the case of ASCII letters does not count.
     #[tactic(auto, unfolding(crate::specs::Cap::cap_named))]
     pub fn from_name(name: &[u8]) -> Option<Cap>
-        ensures { result ≡ cap_named name.now }
+        ensures found { result ≡ cap_named name.now }
+        ensures exact { (cap : Cap) → (result ≡ Some cap) ↔ IsTrue (is_name_of name.now cap) }
     {
         ALL.iter().copied().find(|cap| cap.has_name(name))
     }

@@ -1,10 +1,9 @@
 -- The head of a name: how it is made, and that heads that differ are ordered as their names.
-use Rattle.std.proofs.Common.{◌≡◌, ◌≢◌, ℕ, zero, suc, ◌+◌, ◌-◌, ◌*◌, ◌^◌, ◌<◌, ◌≤◌, true, false, List, [], ◌∷◌, length, get_or, drop, refl, ap, sym, ◌∙◌, subst, arith, inl, inr, add-mul, mul_assoc, mul-le-mul_left}
+use Rattle.std.proofs.Common.{◌≡◌, ℕ, zero, suc, ◌+◌, ◌-◌, ◌*◌, ◌^◌, ◌<◌, ◌≤◌, true, false, List, [], ◌∷◌, length, get_or, drop, refl, ap, sym, ◌∙◌, subst, arith, inl, inr, add-mul, mul_assoc, mul-le-mul_left}
 use Rattle.std.proofs.Math.Nat.{pow-succ'}
 use Rattle.std.proofs.lemmas.Nat.{pow-add}
 use Rattle.std.proofs.lemmas.List.{drop_all}
 use Rattle.std.specs.Prelude.{◌&&◌, nat_lt}
-use Rattle.std.specs.declared.cmp.Ordering.{Ordering}
 use Rattle.std.specs.declared.cmp.Ordering.TheVariants.{Less, Equal, Greater}
 use Rattle.std.specs.Ordering.{nat_cmp, ordering_reverse, ordering_then}
 use Rattle.std.specs.Cmp.{nat_cmp_is}
@@ -12,10 +11,8 @@ use Rattle.std.specs.Cmp.Lexicographic.{slice_cmp}
 use Rattle.std.specs.List.{list_all}
 use Rattle.std.proofs.lemmas.Bool.{cases_lt}
 use Rattle.std.proofs.lemmas.Bool.Decides.{nat_tests}
-use Rattle.std.proofs.lemmas.Cmp.{nat_list_cmp_total}
-use Rattle.std.proofs.lemmas.Map.Lookups.{exact_unsigned}
+use Rattle.std.proofs.lemmas.Cmp.{nat_list_cmp_total, ranked}
 use Rattle.fs_dirs.specs.Head.{head, head_of, are_bytes}
-use Rattle.fs_dirs.specs.declared.head.Head.{Head}
 
 -- a power is 256 times the one before
 power : (n : ℕ) → 256 ^ suc n ≡ 256 * 256 ^ n
@@ -136,7 +133,7 @@ pub head_greater : (n : ℕ) (a b : List ℕ) → are_bytes a ≡ true → head 
 head_greater n a b h low = nat_list_cmp_total.antisymm a b ∙ ap ordering_reverse (head_less n b a h low)
 
 -- the number of n and m bytes, by that of the first n and that of the m after them
-head_split : (n m : ℕ) (bytes : List ℕ) → head (n + m) bytes ≡ head n bytes * 256 ^ m + head m (drop n bytes)
+pub head_split : (n m : ℕ) (bytes : List ℕ) → head (n + m) bytes ≡ head n bytes * 256 ^ m + head m (drop n bytes)
 unfolding head
 head_split zero m bytes = subst (λ n. head n bytes ≡ 0 * 256 ^ m + head m bytes) {x = m} {y = 0 + m} (omega arith) (omega arith)
 head_split (suc n) m [] =
@@ -151,41 +148,45 @@ head_split (suc n) m (x ∷ bytes) =
     let shown : x * 256 ^ (n + m) + head (n + m) bytes ≡ (x * 256 ^ n + head n bytes) * 256 ^ m + head m (drop n bytes) = rw power_of (omega (arith, rest, times, both)) in
     subst (λ k. head k (x ∷ bytes) ≡ (x * 256 ^ n + head n bytes) * 256 ^ m + head m (drop n bytes)) {x = suc (n + m)} {y = suc n + m} (omega arith) shown
 
--- where the first eight bytes are the same, the eight after them tell
-second_less : (a b : List ℕ) → head 8 a ≡ head 8 b → head 8 (drop 8 a) < head 8 (drop 8 b) → head 16 a < head 16 b
-second_less a b same low =
-    let of_a : head 16 a ≡ head 8 a * 256 ^ 8 + head 8 (drop 8 a) = head_split 8 8 a in
-    let of_b : head 16 b ≡ head 8 b * 256 ^ 8 + head 8 (drop 8 b) = head_split 8 8 b in
-    omega (arith, of_a, of_b, same, low)
+-- the order of two lists of bytes is that of their heads, where these differ
+pub less_by_head : (x y : ℕ) (a b : List ℕ) → x ≡ head_of a → y ≡ head_of b → are_bytes b ≡ true → Less ≡ nat_cmp x y → slice_cmp nat_cmp a b ≡ Less
+less_by_head x y a b of_a of_b h order =
+    let low : x < y = ranked x y Less order in
+    head_less 16 a b h (omega (arith, of_a, of_b, low))
 
--- an order that is told where one of two numbers is less is theirs, if they differ
-tells : (x y : ℕ) (order : Ordering) → (x < y → order ≡ Less) → (y < x → order ≡ Greater) → nat_cmp x y ≢ Equal → nat_cmp x y ≡ order
-tells x y order lesser larger differ = elim (cases_lt x y) [
-  | inl less ↦ sym (nat_cmp_is x y Less less) ∙ sym (lesser less)
-  | inr most ↦ elim (cases_lt y x) [
-    | inl more ↦ sym (nat_cmp_is x y Greater more) ∙ sym (larger more)
-    | inr least ↦ absurd (differ (sym (nat_cmp_is x y Equal (omega arith))))
+pub greater_by_head : (x y : ℕ) (a b : List ℕ) → x ≡ head_of a → y ≡ head_of b → are_bytes a ≡ true → Greater ≡ nat_cmp x y → slice_cmp nat_cmp a b ≡ Greater
+greater_by_head x y a b of_a of_b h order =
+    let low : y < x = ranked x y Greater order in
+    head_greater 16 a b h (omega (arith, of_a, of_b, low))
+
+-- a number with the greater first digit is greater
+above : (p a b c d : ℕ) → b < p → a < c → a * p + b < c * p + d
+above p a b c d low h =
+    let more : p * suc a ≤ p * c = mul-le-mul_left p h in
+    omega (arith, more)
+
+-- the same number more on both sides keeps an order
+second_digits : (x y b d : ℕ) → x ≡ y → nat_cmp b d ≡ nat_cmp (x + b) (y + d)
+second_digits x y b d same = elim (cases_lt b d) [
+  | inl less ↦ sym (nat_cmp_is b d Less less) ∙ nat_cmp_is (x + b) (y + d) Less (omega arith)
+  | inr most ↦ elim (cases_lt d b) [
+    | inl more ↦ sym (nat_cmp_is b d Greater more) ∙ nat_cmp_is (x + b) (y + d) Greater (omega arith)
+    | inr least ↦ sym (nat_cmp_is b d Equal (omega arith)) ∙ nat_cmp_is (x + b) (y + d) Equal (omega arith)
   ]
 ]
 
--- where the first numbers of the heads differ, their order is that of the lists
-pub first_tells : (x y : Head) (a b : List ℕ) → x ≡ head_of a → y ≡ head_of b → are_bytes a ≡ true → are_bytes b ≡ true → nat_cmp x.first y.first ≢ Equal → nat_cmp x.first y.first ≡ slice_cmp nat_cmp a b
-first_tells x y a b x_is y_is of_a of_b =
-    let of_x : x.first ≡ head 8 a = ap (λ (h : Head). h.first) x_is in
-    let of_y : y.first ≡ head 8 b = ap (λ (h : Head). h.first) y_is in
-    tells x.first y.first (slice_cmp nat_cmp a b)
-    (λ low. head_less 8 a b of_b (omega (arith, of_x, of_y, low)))
-    (λ low. head_greater 8 a b of_a (omega (arith, of_x, of_y, low)))
-
--- and where only the second numbers differ, it is theirs
-pub second_tells : (x y : Head) (a b : List ℕ) → x ≡ head_of a → y ≡ head_of b → are_bytes a ≡ true → are_bytes b ≡ true → nat_cmp x.first y.first ≡ Equal → nat_cmp x.second y.second ≢ Equal → nat_cmp x.second y.second ≡ slice_cmp nat_cmp a b
-second_tells x y a b x_is y_is of_a of_b equal =
-    let same : head 8 a ≡ head 8 b = sym (ap (λ (h : Head). h.first) x_is) ∙ exact_unsigned x.first y.first equal ∙ ap (λ (h : Head). h.first) y_is in
-    let of_x : x.second ≡ head 8 (drop 8 a) = ap (λ (h : Head). h.second) x_is in
-    let of_y : y.second ≡ head 8 (drop 8 b) = ap (λ (h : Head). h.second) y_is in
-    tells x.second y.second (slice_cmp nat_cmp a b)
-    (λ low. head_less 16 a b of_b (second_less a b same (omega (arith, of_x, of_y, low))))
-    (λ low. head_greater 16 a b of_a (second_less b a (sym same) (omega (arith, of_x, of_y, low))))
+-- numbers of two digits are ordered by the first ones, and then by the second ones
+pub by_digits : (p a b c d : ℕ) → b < p → d < p → ordering_then (nat_cmp a c) (nat_cmp b d) ≡ nat_cmp (a * p + b) (c * p + d)
+by_digits p a b c d low_b low_d = elim (cases_lt a c) [
+  | inl less ↦ ap (λ r. ordering_then r (nat_cmp b d)) (sym (nat_cmp_is a c Less less)) ∙ nat_cmp_is (a * p + b) (c * p + d) Less (above p a b c d low_b less)
+  | inr most ↦ elim (cases_lt c a) [
+    | inl more ↦ ap (λ r. ordering_then r (nat_cmp b d)) (sym (nat_cmp_is a c Greater more)) ∙ nat_cmp_is (a * p + b) (c * p + d) Greater (above p c d a b low_d more)
+    | inr least ↦
+        let same : a ≡ c = omega arith in
+        let times : a * p ≡ c * p = ap (λ x. x * p) same in
+        ap (λ r. ordering_then r (nat_cmp b d)) (sym (nat_cmp_is a c Equal same)) ∙ second_digits (a * p) (c * p) b d times
+  ]
+]
 
 -- a list of at most eight bytes has none after them
 pub no_second : (bytes : List ℕ) → length bytes ≤ 8 → head 8 (drop 8 bytes) ≡ 0

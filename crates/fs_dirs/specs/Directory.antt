@@ -31,13 +31,18 @@ pub record IsAt (entries : List Slot) (name : Name) (place : ℕ) : Type 0 where
   pub within : place < length entries
   pub same : HoldsAt (λ (e : Slot). name_cmp e.entry.value.name name ≡ Equal) entries place
 
--- the name belongs at a place: lesser names stand before it, and greater ones from it on
-pub record IsGap (entries : List Slot) (name : Name) (place : ℕ) : Type 0 where
-  pub within : place ≤ length entries
-  pub less : AllWithin (λ (e : Slot). name_cmp e.entry.value.name name ≡ Less) entries 0 place
-  pub greater : AllWithin (λ (e : Slot). name_cmp e.entry.value.name name ≡ Greater) entries place (length entries)
+-- lesser names stand before one place, and greater ones from another place on
+pub record IsBetween (entries : List Slot) (name : Name) (from to : ℕ) : Type 0 where
+  pub ordered : from ≤ to
+  pub within : to ≤ length entries
+  pub less : AllWithin (λ (e : Slot). name_cmp e.entry.value.name name ≡ Less) entries 0 from
+  pub greater : AllWithin (λ (e : Slot). name_cmp e.entry.value.name name ≡ Greater) entries to (length entries)
 
--- a look-up among n names makes few comparisons: 2 to the power of their number is at most 4 n + 2
+-- the name belongs at a place: lesser names stand before it, and greater ones from it on
+abbrev pub IsGap : List Slot → Name → ℕ → Type 0
+IsGap entries name place = IsBetween entries name place place
+
+-- a look-up among n names makes few comparisons, of names or of their heads: 2 to the power of their number is at most 4 n + 2
 pub record TakesFewSteps (n before after : ℕ) : Type 0 where
   pub steps : ℕ
   pub counted : after ≡ before + steps

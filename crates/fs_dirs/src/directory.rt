@@ -1,7 +1,7 @@
 // One directory.
-ghost use Rattle.std.specs.Prelude.{◌≡◌, ◌<◌, IfErr, IfOk, IsOk, IsSome, OnErr, OnOk, length, slice_get};
+ghost use Rattle.std.specs.Prelude.{◌≡◌, ◌-◌, ◌*◌, ◌^◌, ◌<◌, ◌≤◌, IfErr, IfOk, IsOk, IsSome, OnErr, OnOk, length, slice_get};
 ghost use Rattle.std.specs.FinMap as map;
-ghost use Rattle.fs_dirs.specs.Directory.{AreSorted, IsAt, IsGap, TakesFewSteps};
+ghost use Rattle.fs_dirs.specs.Directory.{AreSorted, IsAt, IsBetween, IsGap, TakesFewSteps};
 
 use crate::head::Head;
 use crate::slot::Slot;
@@ -55,7 +55,7 @@ impl Directory {
         self.entries.len()
     }
 
-    /// The object to which a name leads, if it is there. Each comparison of names is counted.
+    /// The object to which a name leads, if it is there. Each comparison of names, or of their heads, is counted.
     pub fn look_counted<L: Ledger>(&self, name: &Name, steps: &mut Steps<L>) -> Option<Oid>
         ensures found { result ≡ map.get self.now name.now }
         ensures counted { TakesFewSteps (map.len self.now) steps.old steps.new }
@@ -120,7 +120,8 @@ impl Directory {
     }
 }
 
-// Where a name is among sorted entries, or else where it belongs. Each comparison of names is counted, but not those of heads.
+// Where a name is among sorted entries, or else where it belongs. From the first head on that is that of the name, the names
+// themselves are compared. Each comparison is counted.
 fn search<L: Ledger>(
     entries: &Tiers<Slot>,
     name: &Name,
@@ -136,13 +137,40 @@ fn search<L: Ledger>(
     let mut high = entries.len();
     while low < high {
         let middle = low + (high - low) / 2;
-        match entries.item(middle).compare(name, head, steps) {
+        match entries.item(middle).head.compare(&head, steps) {
             Ordering::Less => low = middle + 1,
-            Ordering::Equal => return Ok(middle),
+            Ordering::Equal => return search_by_names(entries, name, low, high, steps),
             Ordering::Greater => high = middle,
         }
     }
     Err(low)
+}
+
+// The same between two places, by names alone.
+fn search_by_names<L: Ledger>(
+    entries: &Tiers<Slot>,
+    name: &Name,
+    mut from: usize,
+    mut to: usize,
+    steps: &mut Steps<L>,
+) -> Result<usize, usize>
+    requires sorted { AreSorted entries.now }
+    requires between { IsBetween entries.now name.now from to }
+    requires some { from < to }
+    ensures found { IfOk result (IsAt entries.now name.now) }
+    ensures absent { IfErr result (IsGap entries.now name.now) }
+    ensures least { steps.old ≤ steps.new }
+    ensures few { 2 ^ (steps.new - steps.old) ≤ 2 * (to - from) }
+{
+    while from < to {
+        let middle = from + (to - from) / 2;
+        match entries.item(middle).entry.name.compare(name, steps) {
+            Ordering::Less => from = middle + 1,
+            Ordering::Equal => return Ok(middle),
+            Ordering::Greater => to = middle,
+        }
+    }
+    Err(from)
 }
 
 // The same search, with a count of its own.

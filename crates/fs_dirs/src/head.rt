@@ -1,22 +1,35 @@
 // The head of a name, by which most names can be told apart.
-ghost use Rattle.std.specs.Prelude.{◌≡◌, slice_index_or, true};
-ghost use Rattle.fs_dirs.specs.Head.{are_bytes, head};
+ghost use Rattle.std.specs.Prelude.{◌≡◌, ◌+◌, slice_index_or, true};
+ghost use Rattle.std.specs.Ordering.{nat_cmp};
+ghost use Rattle.fs_dirs.specs.Head.{are_bytes, head, head_of};
 
-use fs_path::Name;
+use fs_path::{Name, Steps};
+use std::cmp::Ordering;
+use std::marker::Model;
+use std::sync::ledger::Ledger;
 
 // How many bytes make a number.
 const NUMBER_BYTES: usize = 8;
 
-/// The head of a name: the number of its first eight bytes and that of the eight after them, with zeros after its end.
-#[derive(Clone, Copy)]
+/// The head of a name: the number that its first sixteen bytes make, with zeros after its end.
+#[derive(Drop)]
 pub struct Head {
-    pub first: u64,
-    pub second: u64,
+    // The number of the first eight of them, and that of the others.
+    first: u64,
+    second: u64,
+}
+
+impl Model for Head {
+    ghost use Rattle.std.specs.Prelude.{ℕ, ◌+◌, ◌*◌, ◌^◌, ◌<◌};
+
+    ghost Value = { ℕ };
+
+    ghost view = { λ h. h.first * 2 ^ 64 + h.second };
+
+    ghost invariant = { λ h. h.second < 2 ^ 64 };
 }
 
 impl Head {
-    ghost use Rattle.fs_dirs.specs.Head.{head_of};
-
     /// The head of a name. For a short name, the second number is 0 at once.
     pub fn of(name: &Name) -> Head
         ensures head { result ≡ head_of name.now }
@@ -32,6 +45,14 @@ impl Head {
             first: number_of_eight(bytes),
             second,
         }
+    }
+
+    /// The order of two heads. It counts as one comparison.
+    pub fn compare<L: Ledger>(&self, other: &Head, steps: &mut Steps<L>) -> Ordering
+        ensures order { result ≡ nat_cmp self.now other.now }
+        ensures counted { steps.new ≡ steps.old + 1 }
+    {
+        steps.compare(&(self.first, self.second), &(other.first, other.second))
     }
 }
 

@@ -3,11 +3,9 @@ ghost use Rattle.std.specs.Prelude.{◌≡◌, true};
 ghost use Rattle.fs_dirs.specs.Head.{are_bytes, head_of};
 
 use crate::head::Head;
-use fs_path::{Name, NoMemory, Steps};
+use fs_path::{Name, NoMemory};
 use kern_model::Oid;
 use std::alloc::Global;
-use std::cmp::Ordering;
-use std::sync::ledger::Ledger;
 
 /// A name in a directory, and the object to which it leads.
 #[derive(Drop)]
@@ -26,9 +24,7 @@ pub struct Slot {
 }
 
 impl Slot {
-    ghost use Rattle.std.specs.Prelude.{◌+◌, ◌≤◌, IfOk};
-    ghost use Rattle.std.specs.Cmp.Lexicographic.{slice_cmp};
-    ghost use Rattle.std.specs.Ordering.{nat_cmp};
+    ghost use Rattle.std.specs.Prelude.{IfOk};
 
     /// The entry of a name that leads to an object.
     pub fn new(alloc: Global, name: Name, id: Oid) -> Result<Slot, NoMemory>
@@ -44,23 +40,5 @@ impl Slot {
         ensures { self.new.entry.value ≡ record { name = self.old.entry.value.name; id = id } }
     {
         self.entry.id = id;
-    }
-
-    /// The order of its name and another one, whose head is given. Where the heads differ, it is theirs. Else the names are compared,
-    /// which is counted.
-    pub fn compare<L: Ledger>(&self, name: &Name, head: Head, steps: &mut Steps<L>) -> Ordering
-        requires head { head ≡ head_of name.now }
-        requires bytes { are_bytes name.now ≡ true }
-        ensures order { result ≡ slice_cmp nat_cmp self.now.entry.value.name name.now }
-        ensures least { steps.old ≤ steps.new }
-        ensures most { steps.new ≤ steps.old + 1 }
-    {
-        match self.head.first.cmp(&head.first) {
-            Ordering::Equal => match self.head.second.cmp(&head.second) {
-                Ordering::Equal => self.entry.name.compare(name, steps),
-                order => order,
-            },
-            order => order,
-        }
     }
 }

@@ -7,3 +7,4 @@ pub mod PathLaws
 pub mod ValueRanges
 pub mod WordSizes
 pub mod WordSteps
+pub mod FormLemmas

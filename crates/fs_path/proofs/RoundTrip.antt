@@ -1,24 +1,25 @@
 -- Round trips of words, numbers, modes, groups and lines.
-use Rattle.std.specs.Prelude.{◌≡◌, ℕ, suc, ◌+◌, ◌*◌, ◌-◌, ◌/◌, ◌%◌, ◌≤◌, ◌<◌, ◌^◌, ◌==◌, ◌&&◌, ◌||◌, not, nat_le, nat_lt, Bool, true, false, cond, List, [], ◌∷◌, ◌++◌, length, drop, map, Option, None, Some, All, refl}
-use Rattle.std.proofs.Common.{sym, ◌∙◌, ap, subst, arith, append_assoc, take, get_or, inl, inr}
+use Rattle.std.specs.Prelude.{◌≡◌, ℕ, ◌+◌, ◌*◌, ◌-◌, ◌/◌, ◌%◌, ◌≤◌, ◌<◌, ◌^◌, ◌==◌, ◌&&◌, ◌||◌, not, nat_le, nat_lt, Bool, true, false, cond, List, [], ◌∷◌, ◌++◌, length, drop, map, Option, Some, All, refl}
+use Rattle.std.proofs.Common.{sym, ◌∙◌, ap, subst, arith, inl, inr}
 use Rattle.std.specs.Cmp.Lexicographic.{pointwise}
 use Rattle.std.specs.Fmt.{decimal}
-use Rattle.std.specs.List.{flat_map, list_all, prefix_len, slice_split}
+use Rattle.std.specs.List.{flat_map, list_all, slice_split}
 use Rattle.std.specs.Option.{option_and_then, option_map}
-use Rattle.std.proofs.lemmas.Bool.{cases_Bool, and_parts, and_from, or_parts, eqb-true, eqb-false, ne_eqb, leb-true, leb-false, ltb-true, lt-ltb, le-leb, lt-leb, cond-true, cond-false}
+use Rattle.std.proofs.lemmas.Bool.{cases_Bool, and_parts, and_from, or_cases, eqb-true, ne_eqb, leb-true, leb-false, ltb-true, lt-ltb, le-leb, lt-leb, cond-true, cond-false}
 use Rattle.std.proofs.lemmas.Fmt.{decimal_by_steps, decimal_nonempty, length-decimal-le}
-use Rattle.std.proofs.lemmas.List.{append-nil, length-append, take_at, drop_at, length-map}
+use Rattle.std.proofs.lemmas.List.{append-nil, length-append, length-map}
 use Rattle.std.proofs.lemmas.List.Elements.{All-nil, All-cons}
 use Rattle.std.proofs.lemmas.List.Folds.{list_all-append}
 use Rattle.std.proofs.lemmas.List.Splits.{slice_split_none, slice_split_at}
+use Rattle.std.proofs.Math.Seq.{drop-append_seam}
 use Rattle.std.proofs.Math.Nat.{div-div-eq-div-mul}
 use Rattle.fs_path.specs.declared.values.TheConstants.{MAX_MODE}
 use Rattle.fs_path.specs.declared.words.LineWord.{LineWord}
 use Rattle.fs_path.specs.Options.{keep_if}
 use Rattle.fs_path.specs.Values.{is_digit, digits_value, numeral, number_of, is_mode, mode_of, numbers_of, few_numbers, groups_of, mode_text, after_commas, groups_text}
-use Rattle.fs_path.specs.Split.{onto_piece}
-use Rattle.fs_path.specs.Words.{is_space, is_plain, is_bare, is_bare_text, hex_value, hex_pair, escaped, first_item, items_of, quoted_word, leading_word, apart, is_apart, first_word, trim_spaces, words_by, words_of, hex_digit, item_text, quoted_text, has_spelling, with_quotes_if_needed, spelling, after_spaces, line_text}
-use Rattle.fs_path.proofs.WordSteps.{items_next, words_are, words_first}
+use Rattle.fs_path.specs.Words.{is_plain, is_bare, is_bare_text, hex_value, is_apart, words_of, hex_digit, item_text, quoted_text, appended, has_spelling, with_quotes_if_needed, spelling, after_spaces, line_text}
+use Rattle.fs_path.specs.LineForm.{IsItem, Plain, Quote, Backslash, Coded, AreItems, NoItem, ItemMore, IsSpelling, Bare, Quoted, HasWords, NoWord, WordMore}
+use Rattle.fs_path.proofs.FormLemmas.{words_read}
 
 -- ---- items between quotes
 
@@ -43,81 +44,32 @@ digit_round_trip n small = elim (cases_Bool (nat_le n 9)) [ inl e ↦ low e | in
         let under : nat_le (87 + n) 102 ≡ true = le-leb (87 + n) 102 (omega arith) in
         rw (e, above, no_digit, over, under, is)
 
--- before further text, `text` denotes the byte b, and it begins with no quote
-abbrev Begins : ℕ → List ℕ → List ℕ → Type 0
-Begins b more text = (first_item (text ++ more) ≡ Some (b, more)) × (get_or (text ++ more) 0 0 ≡ 34 → ⊥)
-
-item_round_trip : (b : ℕ) (more : List ℕ) → b < 256 → Begins b more (item_text b)
-item_round_trip b more small =
-    elim (cases_Bool (b == 34 || b == 92)) [ inl e ↦ marked e | inr e ↦ elim (cases_Bool (is_plain b)) [ inl p ↦ plain e p | inr p ↦ coded e p ] ]
+-- a written byte is an item that denotes it
+item_is : (b : ℕ) → b < 256 → IsItem b (item_text b)
+item_is b small = elim (cases_Bool (b == 34 || b == 92)) [ inl e ↦ marked e | inr e ↦ elim (cases_Bool (is_plain b)) [ inl p ↦ plain e p | inr p ↦ coded e p ] ]
   where
-    marked : (b == 34 || b == 92) ≡ true → Begins b more (item_text b)
+    marked : (b == 34 || b == 92) ≡ true → IsItem b (item_text b)
     marked e =
-        let is : item_text b ≡ 92 ∷ b ∷ [] = cond-true _ _ _ e in
-        subst (Begins b more) (sym is) (cond-true (b == 34 || b == 92) (Some (b, more)) (cond (b == 120) (hex_pair more) None) e, λ q. absurd (omega arith))
+        subst (IsItem b) (sym (cond-true _ _ _ e)) (elim (or_cases (b == 34) (b == 92) e) [
+          | inl quote ↦ subst (λ n. IsItem n (92 ∷ n ∷ [])) (sym (eqb-true b 34 quote)) Quote
+          | inr slash ↦ subst (λ n. IsItem n (92 ∷ n ∷ [])) (sym (eqb-true b 92 slash)) Backslash
+        ])
 
-    plain : (b == 34 || b == 92) ≡ false → is_plain b ≡ true → Begins b more (item_text b)
-    plain e p =
-        let is : item_text b ≡ b ∷ [] = cond-false _ _ _ e ∙ cond-true _ _ _ p in
-        let no = or_parts (b == 34) (b == 92) e in
-        subst (Begins b more) (sym is) (cond-false (b == 92) (escaped more) (cond (is_plain b) (Some (b, more)) None) no.1 ∙ cond-true (is_plain b) (Some (b, more)) None p, eqb-false b 34 no.0)
+    plain : (b == 34 || b == 92) ≡ false → is_plain b ≡ true → IsItem b (item_text b)
+    plain e p = subst (IsItem b) (sym (cond-false _ _ _ e ∙ cond-true _ _ _ p)) (Plain b p)
 
-    coded : (b == 34 || b == 92) ≡ false → is_plain b ≡ false → Begins b more (item_text b)
+    coded : (b == 34 || b == 92) ≡ false → is_plain b ≡ false → IsItem b (item_text b)
     coded e p =
-        let is : item_text b ≡ 92 ∷ 120 ∷ hex_digit (b / 16) ∷ hex_digit (b % 16) ∷ [] = cond-false _ _ _ e ∙ cond-false _ _ _ p in
+        let digits = 92 ∷ 120 ∷ hex_digit (b / 16) ∷ hex_digit (b % 16) ∷ [] in
         let whole : 16 * (b / 16) + b % 16 ≡ b = omega arith in
-        subst (Begins b more) (sym is) (
-          ap (λ (o : Option ℕ). option_and_then (λ high. option_map (λ low. (16 * high + low, more)) (hex_value (hex_digit (b % 16)))) o) (digit_round_trip (b / 16) (omega arith))
-              ∙ ap (λ (o : Option ℕ). option_map (λ low. (16 * (b / 16) + low, more)) o) (digit_round_trip (b % 16) (omega arith)) ∙ ap (λ n. Some (n, more)) whole,
-          λ q. absurd (omega arith),
-        )
+        let item = Coded (hex_digit (b / 16)) (hex_digit (b % 16)) (b / 16) (b % 16) (digit_round_trip (b / 16) (omega arith)) (digit_round_trip (b % 16) (omega arith)) in
+        subst (IsItem b) (sym (cond-false _ _ _ e ∙ cond-false _ _ _ p)) (subst (λ n. IsItem n digits) whole item)
 
-items_round_trip : (bytes rest : List ℕ) → list_all (λ b. nat_lt b 256) bytes ≡ true → items_of (flat_map item_text bytes ++ 34 ∷ rest) ≡ Some (bytes, rest)
-items_round_trip [] rest small = refl
-items_round_trip (b ∷ bs) rest small =
+items_are : (bytes : List ℕ) → list_all (λ b. nat_lt b 256) bytes ≡ true → AreItems bytes (flat_map item_text bytes)
+items_are [] small = NoItem
+items_are (b ∷ bs) small =
     let parts = and_parts (nat_lt b 256) (list_all (λ b. nat_lt b 256) bs) small in
-    let after = flat_map item_text bs ++ 34 ∷ rest in
-    let item = item_round_trip b after (ltb-true b 256 parts.0) in
-    ap items_of (append_assoc (item_text b) (flat_map item_text bs) (34 ∷ rest)) ∙ items_next (item_text b ++ after) after b item.1 item.0 ∙ ap (onto_piece b) (items_round_trip bs rest parts.1)
-
--- ---- words
-
--- a quoted text is read as the bytes that were quoted
-pub quoted_round_trip : (bytes rest : List ℕ) → list_all (λ b. nat_lt b 256) bytes ≡ true → is_apart rest ≡ true → first_word (quoted_text bytes ++ rest) ≡ Some (record { quoted = true; bytes = bytes }, rest)
-unfolding quoted_text
-quoted_round_trip bytes rest small ends =
-    let read = ap items_of (append_assoc (flat_map item_text bytes) (34 ∷ []) rest) ∙ items_round_trip bytes rest small in
-    ap (λ (o : Option (List ℕ × List ℕ)). option_and_then apart (option_map quoted_word o)) read ∙ cond-true (is_apart rest) _ None ends
-
-bare_len : (bytes rest : List ℕ) → list_all is_bare bytes ≡ true → is_apart rest ≡ true → prefix_len is_bare (bytes ++ rest) ≡ length bytes
-bare_len [] [] bare ends = refl
-bare_len [] (r ∷ rs) bare ends = let is = eqb-true r 32 ends in ap (λ b. cond (is_bare b) (1 + prefix_len is_bare rs) 0) is
-bare_len (b ∷ bs) rest bare ends =
-    let parts = and_parts (is_bare b) (list_all is_bare bs) bare in
-    let more = bare_len bs rest parts.1 ends in
-    let first = cond-true (is_bare b) (1 + prefix_len is_bare (bs ++ rest)) 0 parts.0 in
-    omega (arith, more, first)
-
-pub no_quote : (b : ℕ) → is_bare b ≡ true → (b == 34) ≡ false
-no_quote b bare = ne_eqb b 34 (λ is. let no : false ≡ true = subst (λ n. is_bare n ≡ true) is bare in cc)
-
-no_space : (b : ℕ) → is_bare b ≡ true → is_space b ≡ false
-no_space b bare = ne_eqb b 32 (λ is. let no : false ≡ true = subst (λ n. is_bare n ≡ true) is bare in cc)
-
--- a bare word is read as that word
-pub bare_round_trip : (bytes rest : List ℕ) → is_bare_text bytes ≡ true → is_apart rest ≡ true → first_word (bytes ++ rest) ≡ Some (record { quoted = false; bytes = bytes }, rest)
-bare_round_trip [] rest bare ends = absurd (cc)
-bare_round_trip (b ∷ bs) rest bare ends =
-    let all = (and_parts (nat_lt 0 (length (b ∷ bs))) (list_all is_bare (b ∷ bs)) bare).1 in
-    let first = (and_parts (is_bare b) (list_all is_bare bs) all).0 in
-    let len = bare_len (b ∷ bs) rest all ends in
-    let text = (b ∷ bs) ++ rest in
-    let word : ℕ → LineWord × List ℕ = λ n. (record { quoted = false; bytes = take n text }, drop n text) in
-    let begun : leading_word text ≡ Some (word (prefix_len is_bare text)) = cond-false _ _ _ (no_quote b first) ∙ cond-true _ _ _ first in
-    let is : leading_word text ≡ Some (record { quoted = false; bytes = b ∷ bs }, rest) =
-    begun ∙ ap (λ n. Some (word n)) len ∙ ap (λ (t : List ℕ). Some (record { quoted = false; bytes = t }, drop (length (b ∷ bs)) text)) (take_at (b ∷ bs) rest (length (b ∷ bs)) refl)
-    ∙ ap (λ (t : List ℕ). Some (record { quoted = false; bytes = b ∷ bs }, t)) (drop_at (b ∷ bs) rest (length (b ∷ bs)) refl) in
-    ap (option_and_then apart) is ∙ cond-true (is_apart rest) _ None ends
+    ItemMore b bs (item_text b) (flat_map item_text bs) (item_is b (ltb-true b 256 parts.0)) (items_are bs parts.1)
 
 -- ---- numbers, modes and groups
 
@@ -273,49 +225,41 @@ word_spelling bytes small =
 
 -- ---- lines
 
--- a written word is read as that word
-word_round_trip : (w : LineWord) (rest : List ℕ) → has_spelling w ≡ true → is_apart rest ≡ true → first_word (spelling w ++ rest) ≡ Some (w, rest)
-word_round_trip w rest can ends = elim w.quoted as (λ v. cond v (list_all (λ b. nat_lt b 256) w.bytes) (is_bare_text w.bytes) ≡ true → first_word (cond v (quoted_text w.bytes) w.bytes ++ rest) ≡ Some (record { quoted = v; bytes = w.bytes }, rest))
-    [ true ↦ λ can. quoted_round_trip w.bytes rest can ends | false ↦ λ can. bare_round_trip w.bytes rest can ends ] can
-
-past_one : (text : List ℕ) → trim_spaces (32 ∷ text) ≡ trim_spaces text
-past_one text = ap (λ n. drop n (32 ∷ text)) (one_add (prefix_len is_space text))
-  where
-    one_add : (n : ℕ) → 1 + n ≡ suc n
-    one_add n = omega arith
-
-no_space_first : (b : ℕ) (bs : List ℕ) → is_space b ≡ false → trim_spaces (b ∷ bs) ≡ b ∷ bs
-no_space_first b bs other = ap (λ v. drop (cond v (1 + prefix_len is_space bs) 0) (b ∷ bs)) other
-
--- a spelling begins with no space
-spelling_first : (w : LineWord) (rest : List ℕ) → has_spelling w ≡ true → trim_spaces (spelling w ++ rest) ≡ spelling w ++ rest
+-- a written word is a spelling of it
+spelling_is : (w : LineWord) → has_spelling w ≡ true → IsSpelling w (spelling w)
 unfolding quoted_text
-spelling_first w rest can = elim w.quoted as (λ v. cond v (list_all (λ b. nat_lt b 256) w.bytes) (is_bare_text w.bytes) ≡ true → trim_spaces (cond v (quoted_text w.bytes) w.bytes ++ rest) ≡ cond v (quoted_text w.bytes) w.bytes ++ rest)
-    [ true ↦ λ can. refl | false ↦ λ can. by_first w.bytes can ] can
-  where
-    by_first : (bytes : List ℕ) → is_bare_text bytes ≡ true → trim_spaces (bytes ++ rest) ≡ bytes ++ rest
-    by_first [] can = absurd (cc)
-    by_first (b ∷ bs) can = no_space_first b (bs ++ rest) (no_space b (and_parts (is_bare b) (list_all is_bare bs) (and_parts (nat_lt 0 (length (b ∷ bs))) (list_all is_bare (b ∷ bs)) can).1).0)
+spelling_is w can = elim w.quoted as (λ v. cond v (list_all (λ b. nat_lt b 256) w.bytes) (is_bare_text w.bytes) ≡ true → IsSpelling (record { quoted = v; bytes = w.bytes }) (cond v (quoted_text w.bytes) w.bytes))
+    [ true ↦ λ small. Quoted w.bytes (flat_map item_text w.bytes) (items_are w.bytes small) | false ↦ λ bare. Bare w.bytes bare ] can
 
 pub spaces_apart : (ws : List (List ℕ)) → is_apart (after_spaces ws) ≡ true
 spaces_apart [] = refl
 spaces_apart (w ∷ ws) = refl
 
-one_round_trip : (w : LineWord) (ws : List LineWord) → has_spelling w ≡ true → words_of (after_spaces (map spelling ws)) ≡ Some ws → words_by words_of (trim_spaces (spelling w ++ after_spaces (map spelling ws))) ≡ Some (w ∷ ws)
-one_round_trip w ws can round_trip =
-    let rest = after_spaces (map spelling ws) in
-    ap (words_by words_of) (spelling_first w rest can) ∙ words_first (spelling w ++ rest) rest w (word_round_trip w rest can (spaces_apart (map spelling ws))) ∙ ap (option_map (λ vs. w ∷ vs)) round_trip
-
-after_round_trip : (ws : List LineWord) → list_all has_spelling ws ≡ true → words_of (after_spaces (map spelling ws)) ≡ Some ws
-after_round_trip [] can = words_are []
-after_round_trip (w ∷ ws) can =
+rest_has : (ws : List LineWord) → list_all has_spelling ws ≡ true → HasWords (after_spaces (map spelling ws)) ws
+rest_has [] can = NoWord [] refl
+rest_has (w ∷ ws) can =
     let parts = and_parts (has_spelling w) (list_all has_spelling ws) can in
-    let text = spelling w ++ after_spaces (map spelling ws) in
-    words_are (32 ∷ text) ∙ ap (words_by words_of) (past_one text) ∙ one_round_trip w ws parts.0 (after_round_trip ws parts.1)
+    WordMore (32 ∷ []) (spelling w) (after_spaces (map spelling ws)) w ws refl (spelling_is w parts.0) (spaces_apart (map spelling ws)) (rest_has ws parts.1)
+
+-- a line of written words has these words
+line_has : (words : List LineWord) → list_all has_spelling words ≡ true → HasWords (line_text (map spelling words)) words
+line_has [] can = NoWord [] refl
+line_has (w ∷ ws) can =
+    let parts = and_parts (has_spelling w) (list_all has_spelling ws) can in
+    WordMore [] (spelling w) (after_spaces (map spelling ws)) w ws refl (spelling_is w parts.0) (spaces_apart (map spelling ws)) (rest_has ws parts.1)
 
 -- written words, with a space between each two, are read as these words
 pub line_round_trip : (words : List LineWord) → list_all has_spelling words ≡ true → words_of (line_text (map spelling words)) ≡ Some words
-line_round_trip [] can = words_are []
-line_round_trip (w ∷ ws) can =
-    let parts = and_parts (has_spelling w) (list_all has_spelling ws) can in
-    words_are (spelling w ++ after_spaces (map spelling ws)) ∙ one_round_trip w ws parts.0 (after_round_trip ws parts.1)
+line_round_trip words can = words_read (line_text (map spelling words)) words (line_has words can)
+
+-- a quoted text alone is read as one quoted word
+pub quoted_round_trip : (bytes : List ℕ) → list_all (λ b. nat_lt b 256) bytes ≡ true → words_of (quoted_text bytes) ≡ Some (record { quoted = true; bytes = bytes } ∷ [])
+quoted_round_trip bytes small =
+    let word : LineWord = record { quoted = true; bytes = bytes } in
+    ap words_of (sym (append-nil (quoted_text bytes))) ∙ line_round_trip (word ∷ []) (and_from (has_spelling word) true small refl)
+
+-- ---- what was appended
+
+-- what is appended to a text has what the appended text has
+pub of_appended : (P : List ℕ → Type 0) (old new text : List ℕ) → new ≡ old ++ text → P text → P (appended old new)
+of_appended P old new text is h = subst P (sym (ap (drop (length old)) is ∙ drop-append_seam old text)) h

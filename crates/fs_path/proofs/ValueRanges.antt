@@ -1,10 +1,10 @@
 -- The ranges of numbers, modes and groups that words denote.
-use Rattle.std.specs.Prelude.{◌≡◌, ℕ, ◌≤◌, ◌==◌, nat_le, Bool, true, false, cond, List, [], ◌∷◌, length, Option, Some, None, refl, codes}
+use Rattle.std.specs.Prelude.{◌≡◌, ℕ, suc, ◌≤◌, ◌<◌, ◌==◌, nat_le, nat_lt, Bool, true, false, cond, List, [], ◌∷◌, length, Option, Some, None, refl, codes}
 use Rattle.std.specs.Cmp.Lexicographic.{pointwise}
-use Rattle.std.specs.List.{slice_split}
+use Rattle.std.specs.List.{list_all, slice_split}
 use Rattle.std.specs.Option.{option_map}
-use Rattle.std.proofs.Common.{ap, sym, subst, arith}
-use Rattle.std.proofs.lemmas.Bool.{and_parts, leb-true}
+use Rattle.std.proofs.Common.{ap, sym, subst, arith, get_or}
+use Rattle.std.proofs.lemmas.Bool.{and_parts, and_from, leb-true, le-leb, lt-ltb}
 use Rattle.std.proofs.lemmas.Option.{cond_some, option_and_then_some, same_Some}
 use Rattle.fs_path.specs.Options.{keep_if}
 use Rattle.fs_path.specs.Values.{numeral, number_of, is_mode, mode_of, numbers_of, few_numbers, groups_of}
@@ -47,3 +47,13 @@ groups_few word groups is = by_dash (pointwise ◌==◌ word (codes "-")) is
         let same = ap (λ (xs : List (List ℕ)). length xs) kept.1 in
         let many = as_many words groups last in
         omega arith)
+
+-- items below 256 are bytes
+pub bytes_from : (xs : List ℕ) → ((i : ℕ) → get_or xs i 0 < 256) → list_all (λ b. nat_lt b 256) xs ≡ true
+bytes_from [] small = refl
+bytes_from (x ∷ xs) small = and_from _ _ (lt-ltb x 256 (small 0)) (bytes_from xs (λ i. small (suc i)))
+
+-- items of at most 32 bits are numbers
+pub numbers_from : (xs : List ℕ) → ((i : ℕ) → get_or xs i 0 ≤ 4294967295) → list_all (λ n. nat_le n 4294967295) xs ≡ true
+numbers_from [] small = refl
+numbers_from (x ∷ xs) small = and_from _ _ (le-leb x 4294967295 (small 0)) (numbers_from xs (λ i. small (suc i)))

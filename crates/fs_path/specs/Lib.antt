@@ -6,3 +6,4 @@ pub mod Values
 pub mod Split
 pub mod Storage
 pub mod Words
+pub mod LineForm

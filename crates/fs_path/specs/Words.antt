@@ -139,3 +139,7 @@ after_spaces words = flat_map (λ w. 32 ∷ w) words
 abbrev pub line_text : List (List ℕ) → List ℕ
 line_text [] = []
 line_text (w ∷ ws) = w ++ after_spaces ws
+
+-- what a text has after an earlier one that it begins with
+abbrev pub appended : List ℕ → List ℕ → List ℕ
+appended old new = drop (length old) new

@@ -109,8 +109,7 @@ impl Name {
         ensures order { result ≡ slice_cmp nat_cmp self.now other.now }
         ensures counted { steps.new ≡ steps.old + 1 }
     {
-        steps.count();
-        self.cmp(other)
+        steps.compare(self, other)
     }
 
     /// A copy of the name.

@@ -1,10 +1,11 @@
 // A count of comparisons.
 ghost use Rattle.std.specs.Prelude.{◌≡◌, ◌+◌, ◌<◌};
 
+use std::cmp::Ordering;
 use std::marker::Model;
 use std::sync::ledger::{Blank, Book, Ledger, Share};
 
-/// How many comparisons of names were made. It takes no bytes, and only [`Name::compare`](crate::Name::compare) counts.
+/// How many comparisons were made. It takes no bytes, and only [`compare`](Steps::compare) counts.
 #[derive(Drop)]
 pub struct Steps<L: Ledger> {
     book: Book<L>,
@@ -33,10 +34,12 @@ impl<L: Ledger> Steps<L> {
         Steps { book, share }
     }
 
-    // Counts one comparison.
-    pub(crate) fn count(&mut self)
-        ensures { self.new ≡ self.old + 1 }
+    /// The order of two keys. It counts as one comparison.
+    pub fn compare<K: Ord>(&mut self, first: &K, second: &K) -> Ordering
+        ensures order { result ≡ K.cmp first.now second.now }
+        ensures counted { self.new ≡ self.old + 1 }
     {
         self.book.add(&mut self.share, 1);
+        first.cmp(second)
     }
 }

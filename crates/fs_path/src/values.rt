@@ -1,9 +1,10 @@
 // Numbers, modes and groups as words.
-ghost use Rattle.std.specs.Prelude.{◌≡◌, ◌+◌, ◌%◌, ◌&&◌, ◌<◌, ◌≤◌, ◌^◌, ◌++◌, List, nat_le, map, ◌==◌, OnOk, IfOk, IfSome};
+ghost use Rattle.std.specs.Prelude.{◌≡◌, ◌+◌, ◌%◌, ◌&&◌, ◌<◌, ◌≤◌, ◌^◌, ◌++◌, List, nat_le, map, ◌==◌, length, IsTrue, Some, OnOk, IfOk, IfSome};
 ghost use Rattle.std.specs.Fmt.{decimal};
 ghost use Rattle.std.specs.List.{list_all, slice_split};
 ghost use Rattle.fs_path.specs.Options.{keep_if};
 ghost use Rattle.fs_path.specs.Values.{is_digit, digits_value, numeral, number_of, mode_of, is_mode, numbers_of, groups_of, mode_text, groups_text};
+ghost use Rattle.fs_path.specs.Words.{appended};
 
 use crate::{List, NoMemory};
 use itoa::Buffer;
@@ -118,7 +119,8 @@ pub fn groups_of(alloc: Global, word: &[u8]) -> Result<Option<List<u32>>, NoMemo
 /// Writes a number in decimal.
 #[inline(always)]
 pub fn put_number(text: &mut Vec<u8>, n: u64) -> Result<(), NoMemory>
-    ensures { OnOk result (text.new.items ≡ text.old.items ++ decimal n) }
+    ensures text { OnOk result (text.new.items ≡ text.old.items ++ decimal n) }
+    ensures read_back { OnOk result (n ≤ u32.MAX → number_of (appended text.old.items text.new.items) ≡ Some n) }
 {
     text.extend_from_slice(Buffer::new().format(n).as_bytes())
 }
@@ -133,7 +135,8 @@ fn octal_digit(n: u16) -> u8
 /// Writes a mode as four octal digits.
 #[tactic(auto, unfolding(crate::specs::Values::mode_text))]
 pub fn put_mode(text: &mut Vec<u8>, mode: u16) -> Result<(), NoMemory>
-    ensures { OnOk result (text.new.items ≡ text.old.items ++ mode_text mode) }
+    ensures text { OnOk result (text.new.items ≡ text.old.items ++ mode_text mode) }
+    ensures read_back { OnOk result (IsTrue (is_mode mode) → mode_of (appended text.old.items text.new.items) ≡ Some mode) }
 {
     text.extend_from_slice(&[
         octal_digit(mode / 512),
@@ -146,7 +149,8 @@ pub fn put_mode(text: &mut Vec<u8>, mode: u16) -> Result<(), NoMemory>
 /// Writes groups: `-` where there are none, else the numbers with commas between them.
 #[tactic(auto, unfolding(crate::specs::Values::groups_text))]
 pub fn put_groups(text: &mut Vec<u8>, groups: &[u32]) -> Result<(), NoMemory>
-    ensures { OnOk result (text.new.items ≡ text.old.items ++ groups_text groups.now) }
+    ensures text { OnOk result (text.new.items ≡ text.old.items ++ groups_text groups.now) }
+    ensures read_back { OnOk result (length groups.now ≤ 16 → groups_of (appended text.old.items text.new.items) ≡ Some groups.now) }
 {
     let [first, more @ ..] = groups else {
         text.push(b'-')?;

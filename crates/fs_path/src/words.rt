@@ -1,7 +1,8 @@
 // The words of a line.
-ghost use Rattle.std.specs.Prelude.{◌≡◌, [], ◌∷◌, ◌++◌, ◌<◌, OnOk, IfOk, IfSome, MatchOption, None, Some};
+ghost use Rattle.std.specs.Prelude.{◌≡◌, ◌↔◌, [], ◌∷◌, ◌++◌, ◌<◌, true, OnOk, IfOk, IfSome, MatchOption, None, Some};
 ghost use Rattle.std.specs.List.{list_all, prefix_len};
-ghost use Rattle.fs_path.specs.Words.{words_of, is_blank, quoted_text, with_quotes_if_needed, spelling, is_plain, is_bare, is_bare_text, hex_value, hex_pair, escaped, first_item, items_of, is_apart, leading_word, first_word, trim_spaces, hex_digit, item_text};
+ghost use Rattle.fs_path.specs.LineForm.{HasWords};
+ghost use Rattle.fs_path.specs.Words.{words_of, is_blank, quoted_text, with_quotes_if_needed, spelling, is_plain, is_bare, is_bare_text, hex_value, hex_pair, escaped, first_item, items_of, is_apart, leading_word, first_word, trim_spaces, hex_digit, item_text, appended};
 
 use crate::split::split_once;
 use crate::{ByteList, List, NoMemory};
@@ -309,7 +310,8 @@ fn trim_spaces(text: &[u8]) -> &[u8]
 
 /// The words of a line, where it has the form of one: bare and quoted words with spaces between them and at both ends.
 pub fn words_of(alloc: Global, line: &[u8]) -> Result<Option<List<LineWord<'_>>>, NoMemory>
-    ensures { IfOk result (λ parsed. parsed ≡ words_of line.now) }
+    ensures parsed { IfOk result (λ parsed. parsed ≡ words_of line.now) }
+    ensures exact { IfOk result (λ parsed. (words : List LineWord) → (parsed ≡ Some words) ↔ HasWords line.now words) }
 {
     let mut words = List::with_capacity(alloc, USUAL_WORDS)?;
     let mut left = trim_spaces(line);
@@ -362,7 +364,8 @@ fn put_item(text: &mut Vec<u8>, byte: u8) -> Result<(), NoMemory>
 /// Writes bytes as a quoted word.
 #[tactic(auto, unfolding(crate::specs::Words::quoted_text))]
 pub fn put_quoted(text: &mut Vec<u8>, bytes: &[u8]) -> Result<(), NoMemory>
-    ensures { OnOk result (text.new.items ≡ text.old.items ++ quoted_text bytes.now) }
+    ensures text { OnOk result (text.new.items ≡ text.old.items ++ quoted_text bytes.now) }
+    ensures read_back { OnOk result (words_of (appended text.old.items text.new.items) ≡ Some (record { quoted = true; bytes = bytes.now } ∷ [])) }
 {
     text.push(b'"')?;
     for byte in bytes {

@@ -8,16 +8,18 @@ ghost use Rattle.io_ends.specs.Faults.{CountsFault, counted};
 use crate::ends::count_fault;
 use crate::{Failed, Sink, Source};
 use std::fs;
-use std::io::{self, Read, Write};
+use std::io::{self, ErrorKind, Read, Write};
 use std::marker::Model;
 use std::rt::Files;
 
 /// A source over standard input, as the runtime's `reader()` returns it, or over a file that is open
-/// for reading. Each read that the system refuses is a fault.
+/// for reading. Each read that the system refuses is a fault. One that a signal interrupted is made
+/// again.
 #[derive(Drop)]
 pub struct FileSource<R: Read> {
     reader: R,
     faults: u64,
+    error: Option<io::Error>,
 }
 
 impl<R: Read> Model for FileSource<R> {
@@ -33,8 +35,31 @@ impl<R: Read> FileSource<R> {
     pub fn new(reader: R) -> Self
         ensures { result ≡ record { reported = R.remaining reader; faults = 0 } }
     {
-        FileSource { reader, faults: 0 }
+        FileSource {
+            reader,
+            faults: 0,
+            error: None,
+        }
     }
+
+    /// The error of the last fault, if there was one. No contract speaks of it.
+    pub fn error(&self) -> Option<io::Error> {
+        self.error
+    }
+}
+
+// A read, made again as long as signals interrupt it.
+fn read_again<R: Read>(reader: &mut R, buf: &mut [u8]) -> io::Result<usize>
+    ensures bound { ReadsAtMost result buf.new }
+    ensures bytes { ReadConsumes (R.remaining reader.old) (R.remaining reader.new) result buf.new }
+{
+    for _ in 0..u64::MAX {
+        match reader.read(buf) {
+            Err(e) if e.kind() == ErrorKind::Interrupted => {}
+            read => return read,
+        }
+    }
+    reader.read(buf)
 }
 
 impl<R: Read> Source for FileSource<R> {
@@ -50,9 +75,12 @@ impl<R: Read> Source for FileSource<R> {
         // It returns the bytes of its reader.
         ensures given { ReadConsumes self.old.reported self.new.reported result buf.new }
     {
-        match self.reader.read(buf) {
+        match read_again(&mut self.reader, buf) {
             Ok(count) => Ok(count),
-            Err(_) => Err(count_fault(&mut self.faults)),
+            Err(error) => {
+                self.error = Some(error);
+                Err(count_fault(&mut self.faults))
+            }
         }
     }
 }
@@ -66,13 +94,14 @@ enum Place<F> {
 }
 
 /// A sink over standard output, or over a named file. Each write that the system refuses is a
-/// fault, and so is one that takes no byte of a piece that is not empty. It is not buffered: each
-/// write calls the system before it returns.
+/// fault, and so is one that takes no byte of a piece that is not empty. One that a signal
+/// interrupted is made again. It is not buffered: each write calls the system before it returns.
 #[derive(Drop)]
 pub struct FileSink<R: Files> {
     rt: R,
     place: Place<R::File>,
     faults: u64,
+    error: Option<io::Error>,
 }
 
 impl<R: Files> Model for FileSink<R> {
@@ -92,6 +121,7 @@ impl<R: Files + Print> FileSink<R> {
             rt,
             place: Place::Standard,
             faults: 0,
+            error: None,
         }
     }
 
@@ -104,7 +134,13 @@ impl<R: Files + Print> FileSink<R> {
             rt,
             place: Place::Named(name),
             faults: 0,
+            error: None,
         }
+    }
+
+    /// The error of the last fault, if there was one that the system gave. No contract speaks of it.
+    pub fn error(&self) -> Option<io::Error> {
+        self.error
     }
 }
 
@@ -128,6 +164,23 @@ fn write_some<R: Files + Print>(
     }
 }
 
+// A write of a piece, made again as long as signals interrupt it.
+fn write_again<R: Files + Print>(
+    rt: &R,
+    place: &mut Place<R::File>,
+    piece: &[u8],
+) -> io::Result<usize>
+    ensures { IfOk result (λ n. n ≤ length piece.now) }
+{
+    for _ in 0..u64::MAX {
+        match write_some(rt, place, piece) {
+            Err(e) if e.kind() == ErrorKind::Interrupted => {}
+            written => return written,
+        }
+    }
+    write_some(rt, place, piece)
+}
+
 impl<R: Files + Print> Sink for FileSink<R> {
     ghost held = { λ _. None };
 
@@ -143,9 +196,12 @@ impl<R: Files + Print> Sink for FileSink<R> {
         if piece.is_empty() {
             return Ok(0);
         }
-        match write_some(&self.rt, &mut self.place, piece) {
+        match write_again(&self.rt, &mut self.place, piece) {
             Ok(count) if count > 0 => Ok(count),
-            _ => Err(count_fault(&mut self.faults)),
+            written => {
+                self.error = written.err();
+                Err(count_fault(&mut self.faults))
+            }
         }
     }
 }

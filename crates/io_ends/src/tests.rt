@@ -140,9 +140,37 @@ fn a_read_that_fails_takes_nothing(rt: HostRuntime) {
     let mut buf = [0u8; 2];
     assert!(rt; source.read(&mut buf) == Ok(1));
     assert!(rt; source.read(&mut buf) == Err(Failed));
+    assert!(rt;
+        source
+            .error()
+            .is_some_and(|e| e.kind() == io::ErrorKind::Other)
+    );
     assert!(rt; buf == [1, 0]);
     assert!(rt; source.read(&mut buf) == Ok(1));
     assert!(rt; buf == [3, 0]);
+}
+
+// A reader whose first call a signal interrupts.
+#[derive(Drop)]
+struct Interrupted {
+    calls: u8,
+}
+
+impl Read for Interrupted {
+    fn read(&mut self, _buf: &mut [u8]) -> io::Result<usize> {
+        self.calls = self.calls.saturating_add(1);
+        if self.calls == 1 {
+            return Err(io::Error::from(io::ErrorKind::Interrupted));
+        }
+        Ok(0)
+    }
+}
+
+#[test]
+fn a_read_that_is_interrupted_is_made_again(rt: HostRuntime) {
+    let mut source = FileSource::new(Interrupted { calls: 0 });
+    assert!(rt; source.read(&mut [0u8; 2]) == Ok(0));
+    assert!(rt; source.error().is_none());
 }
 
 #[test]

@@ -96,10 +96,10 @@ impl Kernel {
     }
 
     /// Plays one call of a process, and returns the reply and the records that it leaves. When memory runs out nothing is
-    /// promised of the state.
+    /// promised of the state. After that each call fails, whatever its arguments are.
     #[tactic(auto, unfolding(crate::specs::Kernel::state_of, crate::specs::Kernel::has_failed))]
     pub fn call(&mut self, who: &Pid, call: &Call) -> Result<Outcome, NoMemory>
-        requires arguments { is_call (state_of self.old).top call.now ≡ true }
+        requires arguments { has_failed self.old ≡ false → is_call (state_of self.old).top call.now ≡ true }
         ensures played { IfOk result (λ outcome. IsPlayed (state_of self.old) who.now call.now outcome (state_of self.new)) }
         ensures kept { IfOk result (λ outcome. IsStopped outcome.reply → state_of self.new ≡ state_of self.old) }
         ensures valid { OnOk result (∥ IsValid (state_of self.new) ∥₁) }

@@ -1,8 +1,8 @@
 -- Words and what they name: what is found has the word, and each call, check and error number is found by its word.
-use Rattle.std.specs.Prelude.{◌≡◌, ℕ, Bool, true, false, ◌==◌, cond, List, [], ◌∷◌, Some, refl}
+use Rattle.std.specs.Prelude.{◌≡◌, ◌↔◌, ℕ, Bool, true, false, ◌==◌, cond, List, [], ◌∷◌, Option, Some, refl}
 use Rattle.std.specs.Cmp.Lexicographic.{pointwise, same_text}
 use Rattle.std.specs.List.{find}
-use Rattle.std.proofs.Common.{ap, sym, ◌∙◌}
+use Rattle.std.proofs.Common.{ap, sym, subst, ◌∙◌}
 use Rattle.kern_model.specs.declared.calls.CallName.{CallName}
 use Rattle.kern_model.specs.declared.calls.CallName.TheVariants as name
 use Rattle.kern_model.specs.declared.calls.Errno.{Errno}
@@ -10,7 +10,7 @@ use Rattle.kern_model.specs.declared.calls.Errno.TheVariants as errno
 use Rattle.kern_model.specs.declared.checks.CheckName.{CheckName}
 use Rattle.kern_model.specs.declared.checks.CheckName.TheVariants as check
 use Rattle.kern_model.specs.Names.{word_of, check_word, errno_word}
-use Rattle.kern_model.specs.Named.{named, call_named, check_named, errno_named}
+use Rattle.kern_model.specs.Named.{named, IsFoundBy, call_named, check_named, errno_named}
 
 -- what is found has the word
 pub named_is : {X : Type 0} (word_of : X → List ℕ) (values : List X) (word : List ℕ) (x : X) → named word_of values word ≡ Some x → word ≡ word_of x
@@ -25,6 +25,12 @@ named_is {X} word_of values word x h = by_values values h
     by_values : (vs : List X) → find (λ y. pointwise ◌==◌ word (word_of y)) vs ≡ Some x → word ≡ word_of x
     by_values [] h = absurd (cc)
     by_values (v ∷ vs) h = by_test (pointwise ◌==◌ word (word_of v)) v vs refl (by_values vs) h
+
+-- where each value is found by its word, it is found by no other
+pub found_by : {X : Type 0} (word_of : X → List ℕ) (values : List X) (word : List ℕ) (found : Option X) → ((x : X) → named word_of values (word_of x) ≡ Some x) → found ≡ named word_of values word → IsFoundBy word_of word found
+found_by {X} word_of values word found round_trip is x =
+    subst (λ (o : Option X). (o ≡ Some x) ↔ (word ≡ word_of x)) (sym is)
+    (λ h. named_is word_of values word x h, λ same. ap (named word_of values) same ∙ round_trip x)
 
 -- each call is found by its word
 pub call_round_trip : (c : CallName) → call_named (word_of c) ≡ Some c

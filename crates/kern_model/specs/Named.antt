@@ -1,5 +1,5 @@
 -- Calls, checks and error numbers by their words.
-use Rattle.std.specs.Prelude.{ℕ, ◌==◌, List, [], ◌∷◌, Option}
+use Rattle.std.specs.Prelude.{◌≡◌, ◌↔◌, ℕ, ◌==◌, List, [], ◌∷◌, Option, Some}
 use Rattle.std.specs.Cmp.Lexicographic.{pointwise}
 use Rattle.std.specs.List.{find}
 use Rattle.kern_model.specs.declared.calls.CallName.{CallName}
@@ -13,6 +13,10 @@ use Rattle.kern_model.specs.Names.{word_of, check_word, errno_word}
 -- the first of some values that has a word
 unfoldable pub named : {X : Type 0} → (X → List ℕ) → List X → List ℕ → Option X
 named word_of values word = find (λ x. pointwise ◌==◌ word (word_of x)) values
+
+-- what is found for a word is the value that has this word, and nothing where no value has it
+abbrev pub IsFoundBy : {X : Type 0} → (X → List ℕ) → List ℕ → Option X → Type 0
+IsFoundBy {X} word_of word found = (x : X) → (found ≡ Some x) ↔ (word ≡ word_of x)
 
 -- ---- calls
 

@@ -1,7 +1,7 @@
 // Calls, checks and error numbers by their words.
 ghost use Rattle.std.specs.Prelude.{◌≡◌};
-ghost use Rattle.kern_model.specs.Names.{word_of};
-ghost use Rattle.kern_model.specs.Named.{call_named, check_named, errno_named, named};
+ghost use Rattle.kern_model.specs.Names.{word_of, check_word, errno_word};
+ghost use Rattle.kern_model.specs.Named.{call_named, check_named, errno_named, named, IsFoundBy};
 
 use crate::{CallName, CheckName, Errno};
 
@@ -141,7 +141,8 @@ fn first_named(calls: &[CallName], word: &[u8]) -> Option<CallName>
 impl CallName {
     /// The call with this word.
     pub fn from_word(word: &[u8]) -> Option<CallName>
-        ensures { result ≡ call_named word.now }
+        ensures found { result ≡ call_named word.now }
+        ensures exact { IsFoundBy word_of word.now result }
     {
         first_named(alike(word), word)
     }
@@ -151,7 +152,8 @@ impl CheckName {
     /// The check with this word.
     #[tactic(auto, unfolding(crate::specs::Named::named))]
     pub fn from_word(word: &[u8]) -> Option<CheckName>
-        ensures { result ≡ check_named word.now }
+        ensures found { result ≡ check_named word.now }
+        ensures exact { IsFoundBy check_word word.now result }
     {
         CHECKS.iter().copied().find(|check| word == check.word())
     }
@@ -161,7 +163,8 @@ impl Errno {
     /// The error number with this word.
     #[tactic(auto, unfolding(crate::specs::Named::named))]
     pub fn from_word(word: &[u8]) -> Option<Errno>
-        ensures { result ≡ errno_named word.now }
+        ensures found { result ≡ errno_named word.now }
+        ensures exact { IsFoundBy errno_word word.now result }
     {
         ERRNOS.iter().copied().find(|errno| word == errno.word())
     }

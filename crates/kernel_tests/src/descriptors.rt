@@ -80,6 +80,18 @@ impl Files {
             && self.dup(0) == Ok(5)
     }
 
+    // Whether descriptor 0 is open for reading, from the offset on that was asked for, and descriptor 1 is not open.
+    fn seek(&mut self) -> bool {
+        let who = process();
+        self.open_file() == Ok(0)
+            && self.table.offset(&who, 0) == Some(0)
+            && self.table.seek(&who, 0, 3, 5) == Ok(3)
+            && self.table.offset(&who, 0) == Some(3)
+            && self.table.how(&who, 0) == Some(how(true))
+            && self.table.offset(&who, 1).is_none()
+            && self.table.how(&who, 1).is_none()
+    }
+
     // To what the next description comes after so many that were opened and closed.
     fn open_after(&mut self, times: u32) -> Result<Fd, FdError> {
         for _ in 0..times {
@@ -97,6 +109,15 @@ fn opens_32(alloc: Global) -> Result<bool, NoMemory> {
 #[test]
 fn process_has_32_descriptors(rt: HostRuntime) {
     assert!(rt; opens_32(rt.alloc()) == Ok(true));
+}
+
+fn seeks(alloc: Global) -> Result<bool, NoMemory> {
+    Ok(Files::new(alloc)?.seek())
+}
+
+#[test]
+fn descriptor_has_its_offset(rt: HostRuntime) {
+    assert!(rt; seeks(rt.alloc()) == Ok(true));
 }
 
 fn next_description(alloc: Global, after: u32) -> Result<Fd, FdError> {

@@ -23,3 +23,7 @@ mod objects;
 mod pipes;
 #[cfg(test)]
 mod processes;
+#[cfg(test)]
+mod tree;
+#[cfg(test)]
+mod walks;

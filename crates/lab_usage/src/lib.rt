@@ -1,8 +1,19 @@
-//! The command line, as `--help` shows it.
+//! The command line: what its words give, and its help.
 #![tactic(auto)]
 
-use clap::{Arg, Command};
+ghost use Rattle.std.specs.Prelude.{◌≡◌, IfOk, codes, option_map, string_bytes};
+ghost use Rattle.std.specs.List.{list_all};
+ghost use Rattle.clap.specs.Words.{app_of, first_value, found_of};
+ghost use Rattle.lab_usage.specs.CommandLine.{command_line};
+ghost use Rattle.lab_usage.specs.Words.{given_words, is_argument};
+
+mod mistakes;
+
+use clap::error::ErrorKind;
+use clap::{Arg, ArgMatches, Command};
+pub use mistakes::mistake;
 use std::alloc::{AllocError, Global};
+use std::marker::Model;
 
 const ABOUT: &str = "A simulated kernel that plays scripts of system calls";
 
@@ -31,8 +42,59 @@ Exit status:
   6  out of memory
   7  standard input has more than 16777216 bytes";
 
-// The command line.
-fn command_line(alloc: Global) -> Result<Command<'static>, AllocError> {
+/// A command and its argument. A contract sees them as their bytes.
+#[derive(Drop)]
+pub struct GivenWords<'a> {
+    command: &'a str,
+    argument: Option<&'a str>,
+}
+
+impl<'a> Model for GivenWords<'a> {
+    ghost use Rattle.std.specs.Prelude.{option_map};
+    ghost use Rattle.lab_usage.specs.Words.{Given};
+
+    ghost Value = { Given };
+
+    ghost view = { λ given. record {
+      command = given.command.now;
+      argument = option_map (λ argument. argument.now) given.argument;
+    } };
+}
+
+impl<'a> GivenWords<'a> {
+    /// The command.
+    pub fn command(&self) -> &'a str
+        ensures { result.now ≡ self.now.command }
+    {
+        self.command
+    }
+
+    /// Its argument, where there is one.
+    pub fn argument(&self) -> Option<&'a str>
+        ensures { option_map (λ argument. argument.now) result ≡ self.now.argument }
+    {
+        self.argument
+    }
+}
+
+// Whether a word can be an argument: it is not empty, and does not begin with `-`.
+fn is_argument(word: &[u8]) -> bool
+    ensures { result ≡ is_argument word.now }
+{
+    word.first().is_some_and(|first| *first != b'-')
+}
+
+// Whether each word can be an argument.
+fn are_arguments(words: &[String]) -> bool
+    ensures { result ≡ list_all (λ word. is_argument (string_bytes word)) words.now }
+{
+    words.iter().all(|word| is_argument(word.as_bytes()))
+}
+
+// The command line. Its words are those after the program's name.
+fn command_line<'a>(alloc: Global) -> Result<Command<'a>, AllocError>
+    ensures { IfOk result (λ command. app_of command ≡ command_line) }
+{
     let command = Arg::new(alloc, "COMMAND")
         .required(true)
         .help("The command");
@@ -43,10 +105,41 @@ fn command_line(alloc: Global) -> Result<Command<'static>, AllocError> {
             .about(ABOUT)
             .disable_help_flag(true)
             .disable_version_flag(true)
+            .no_binary_name(true)
             .arg(command)?
             .arg(argument)?
             .after_help(DETAILS),
     )
+}
+
+// The command and its argument, as the matches have them.
+fn given_of<'a>(matches: &ArgMatches<'a>) -> Option<GivenWords<'a>>
+    ensures { result ≡ option_map (λ command. record {
+      command = command;
+      argument = first_value (found_of matches.now) (codes "ARGUMENT");
+    }) (first_value (found_of matches.now) (codes "COMMAND")) }
+{
+    Some(GivenWords {
+        command: matches.get_str("COMMAND")?,
+        argument: matches.get_str("ARGUMENT"),
+    })
+}
+
+/// The command and its argument, as the words after the program's name give them.
+pub fn words_given<'a>(
+    alloc: Global,
+    words: &'a [String],
+) -> Result<Option<GivenWords<'a>>, AllocError>
+    ensures { IfOk result (λ given. given ≡ given_words words.now) }
+{
+    if !are_arguments(words) {
+        return Ok(None);
+    }
+    match command_line(alloc)?.try_get_matches_from(words) {
+        Ok(matches) => Ok(given_of(&matches)),
+        Err(error) if error.kind() == ErrorKind::OutOfMemory => Err(AllocError),
+        Err(_) => Ok(None),
+    }
 }
 
 /// The text of the help.

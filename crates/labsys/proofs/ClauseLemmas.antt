@@ -1,7 +1,8 @@
 -- The clauses of the top call, from what a run did.
 use Rattle.std.specs.Prelude.{Result, IfOk, IfSome, Ok, Err, None, Some}
-use Rattle.std.proofs.Common.{◌≡◌, ℕ, ◌+◌, true, List, ◌++◌, refl, sym, ◌∙◌, ap, subst}
-use Rattle.std.proofs.lemmas.List.{append_cancel_right}
+use Rattle.std.proofs.Common.{◌≡◌, ℕ, ◌+◌, true, List, [], ◌∷◌, ◌++◌, refl, sym, ◌∙◌, ap, subst, arith}
+use Rattle.std.proofs.lemmas.List.{append-nil, append_cancel_right}
+use Rattle.std.proofs.KnownBytes.{Appends-nil, Consumes-nil}
 use Rattle.std.specs.declared.option.Option.{Option}
 use Rattle.std.specs.Io.KnownBytes.{Appends, Consumes, IsAtEnd}
 use Rattle.lab_lattice.specs.Label.{Label}
@@ -10,7 +11,7 @@ use Rattle.kern_model.specs.Prefixes.{IsPrefix}
 use Rattle.kern_model.specs.Lineage.{OnlyDrops, GrowsByExec}
 use Rattle.iso_laws.proofs.Laws.{drops_by_records, growth_by_records}
 use Rattle.labsys.specs.declared.command.Command.{Command}
-use Rattle.labsys.specs.declared.command.Command.TheVariants.{Play, View}
+use Rattle.labsys.specs.declared.command.Command.TheVariants.{Play, Check, Gen, Drill, View}
 use Rattle.lab_engine.specs.declared.ending.InputEnd.{InputEnd}
 use Rattle.lab_engine.specs.declared.ending.InputEnd.TheVariants.{Whole, Refused as IsRefused, TooMuch}
 use Rattle.lab_engine.specs.declared.ending.Fault.{Fault}
@@ -20,9 +21,10 @@ use Rattle.labsys.specs.declared.status.Status.TheVariants.{Done, Usage, Refused
 use Rattle.lab_engine.specs.Input.{Accepted, Script, input_of}
 use Rattle.lab_engine.specs.Session.{Session, session_of, bytes_of, replies_of, records_of, head_text, tail_text}
 use Rattle.lab_engine.specs.Order.{Sent, calls_by, out_of, trail_of, session_order, order_by, order_of, order_of_calls, to_out, IsInOrder}
-use Rattle.labsys.specs.Commands.{Due, ends_with, due, reads_source}
+use Rattle.labsys.specs.Commands.{Due, ends_with, due, reads_source, writes_trail}
 use Rattle.lab_engine.specs.Counts.{counted_by}
 use Rattle.labsys.specs.Counts.{counts_after}
+use Rattle.io_ends.specs.Sinks.{sink_view}
 use Rattle.lab_engine.specs.Playing.{Ends, Sends, Writes, faults_of}
 use Rattle.labsys.specs.Playing.{CommandDid}
 use Rattle.lab_engine.specs.Reading.{left_of}
@@ -32,8 +34,8 @@ use Rattle.kern_model.specs.Isolation.{up_to}
 use Rattle.labsys.specs.Viewing.{text_of_view, viewed_text}
 use Rattle.labsys.specs.Lineage.{PrintedByAny}
 use Rattle.labsys.specs.Readable.{InputReadable}
-use Rattle.labsys.specs.Clauses.{status_of, HasAllCalls, OnWhole, PlayedTaken, Reports, reports, Moved, run_of, WhereReported, WhereAccepted, TakesAtMost, Covered, RepliesFirst, Printed, Dropped, Written, Isolated, IsolatedWhole, SameBelow, TwoInputs, TwoWhole}
-use Rattle.lab_engine.proofs.Sending.{out_of-append, out_of-to_out, trail_of-append, prefix_of}
+use Rattle.labsys.specs.Clauses.{status_of, HasAllCalls, OnWhole, PlayedTaken, Reports, reports, if_used, used, Moved, run_of, WhereReported, WhereAccepted, TakesAtMost, Covered, RepliesFirst, Printed, Dropped, Written, Isolated, IsolatedWhole, SameBelow, TwoInputs, TwoWhole}
+use Rattle.lab_engine.proofs.Sending.{out_of-append, out_of-to_out, trail_of-append, trail_of-to_out, prefix_of}
 use Rattle.lab_engine.proofs.ViewLemmas.{view_alone}
 use Rattle.labsys.proofs.Coverage.{records_alone, replies_alone, session_out, session_trail, covered, replies_first, recorded}
 use Rattle.labsys.proofs.AcceptedLemmas.{accepted_input}
@@ -90,6 +92,14 @@ on_whole (Err Read) P f = tt
 on_whole (Err Write) P f = tt
 on_whole (Err Trail) P f = tt
 on_whole (Err Memory) P f = tt
+
+-- ends of which the trail reports that it holds nothing
+abbrev without_trail : Ends → Ends
+without_trail e = record e { trail = sink_view (Some []) e.trail.faults }
+
+-- the ends by what those report that a command uses
+abbrev ends_used : Command → Ends → Ends
+ends_used c e = record e { trail = sink_view (if_used (writes_trail c) e.trail.held) e.trail.faults }
 
 -- what holds of the command that the words name
 pub of_command : (o : Option Command) (c : Command) (P : Command → Type 0) → o ≡ Some c → P c → IfSome o P
@@ -168,6 +178,22 @@ only_read (Err Write) is = absurd (cc)
 only_read (Err Trail) is = absurd (cc)
 only_read (Err Memory) is = absurd (cc)
 
+only_trail : (r : Result InputEnd Fault) → status_of r ≡ TrailFault → r ≡ Err Trail
+only_trail (Ok Whole) is = absurd (cc)
+only_trail (Ok (IsRefused n part why)) is = absurd (cc)
+only_trail (Ok TooMuch) is = absurd (cc)
+only_trail (Err Read) is = absurd (cc)
+only_trail (Err Write) is = absurd (cc)
+only_trail (Err Trail) is = refl
+only_trail (Err Memory) is = absurd (cc)
+
+only_play : (c : Command) → writes_trail c ≡ true → c ≡ Play
+only_play Play is = refl
+only_play Check is = absurd (cc)
+only_play (Gen n) is = absurd (cc)
+only_play (Drill n) is = absurd (cc)
+only_play (View word) is = absurd (cc)
+
 only_done : (r : Result InputEnd Fault) → status_of r ≡ Done → r ≡ Ok Whole
 only_done (Ok Whole) is = refl
 only_done (Ok (IsRefused n part why)) is = absurd (cc)
@@ -200,9 +226,8 @@ module _ (c : Command) (r : Result InputEnd Fault) (l l' : Option (List ℕ)) (e
       moved l l' entry exit x.taken x.took p.sent p.sends P text before above el eo et
       (f text p.sent p.rest (ap (λ (d : Due). d.order) (all_due text el) ∙ p.prefix))
 
-  pub run_order : (o : Option Command) → o ≡ Some c → IfSome o (λ command. WhereReported old now (λ text out trail. IsInOrder (due command text).order out trail))
-  run_order o is = of_command o c (λ command. WhereReported old now (λ text out trail. IsInOrder (due command text).order out trail)) is
-      (where_sent _ (λ text sent rest e. record { sent = sent; rest = rest; order_is = e; out_is = refl; trail_is = refl }))
+  sent_in_order : WhereReported old now (λ text out trail. IsInOrder (due c text).order out trail)
+  sent_in_order = where_sent _ (λ text sent rest e. record { sent = sent; rest = rest; order_is = e; out_is = refl; trail_is = refl })
 
   pub run_counts : (s : Status) → s ≡ status_of r → faults_of exit ≡ counts_after s (faults_of entry)
   run_counts s is = subst (λ (z : Status). faults_of exit ≡ counts_after z (faults_of entry)) (sym is) (counts_by r all.order entry exit x.writes)
@@ -218,22 +243,73 @@ module _ (c : Command) (r : Result InputEnd Fault) (l l' : Option (List ℕ)) (e
       let same = ap (λ (d : Due). d.order) (sym (all_due text el)) in
       moved l l' entry exit x.taken x.took all.order w.sends _ text before above el eo et (ap out_of same, ap trail_of same)))
 
-  pub run_whole : (s : Status) → s ≡ status_of r → (o : Option Command) → o ≡ Some c
-      → IfSome o (λ command. OnWhole s (WhereReported old now (λ text out trail. (out ≡ out_of (due command text).order) × (trail ≡ trail_of (due command text).order))))
-  run_whole s is o named = of_command o c (λ command. OnWhole s (WhereReported old now (λ text out trail. (out ≡ out_of (due command text).order) × (trail ≡ trail_of (due command text).order)))) named (run_all s is)
-
   ends_by : (s : Status) → s ≡ status_of r → OnWhole s ((text : List ℕ) → l ≡ Some text → s ≡ (due c text).status)
   ends_by s is =
       let P : Status → Type 0 = λ z. (text : List ℕ) → l ≡ Some text → z ≡ (due c text).status in
       subst (λ z. OnWhole z (P z)) (sym is) (on_whole r P (λ e ok text el.
       subst (λ (q : Result InputEnd Fault). IfOk q (λ k. ends_with k ≡ all.status)) ok x.status ∙ ap (λ (d : Due). d.status) (sym (all_due text el))))
 
-  pub run_ending : (s : Status) → s ≡ status_of r → (o : Option Command) → o ≡ Some c → IfSome o (λ command. OnWhole s ((text : List ℕ) → l ≡ Some text → s ≡ (due command text).status))
-  run_ending s is o named = of_command o c (λ command. OnWhole s ((text : List ℕ) → l ≡ Some text → s ≡ (due command text).status)) named (ends_by s is)
-
   pub run_to_the_end : (s : Status) → s ≡ status_of r → (o : Option Command) → o ≡ Some c → IfSome o (λ command. reads_source command ≡ true → s ≡ Done → IsAtEnd l')
   run_to_the_end s is o named = of_command o c (λ command. reads_source command ≡ true → s ≡ Done → IsAtEnd l') named (λ reads done.
       subst (λ (q : Result InputEnd Fault). IfOk q (λ e. e ≡ Whole → IsAtEnd l')) (only_done r (sym is ∙ done)) (x.to_the_end reads) refl)
+
+-- ---- the ends that a command uses
+
+module _ (c : Command) (r : Result InputEnd Fault) (s : Status) (is : s ≡ status_of r) (o : Option Command) (named : o ≡ Some c) where
+  pub run_read_fault : (r ≡ Err Read → reads_source c ≡ true) → IfSome o (λ command. s ≡ ReadFault → reads_source command ≡ true)
+  run_read_fault reads = of_command o c (λ command. s ≡ ReadFault → reads_source command ≡ true) named (λ fault. reads (only_read r (sym is ∙ fault)))
+
+  pub run_trail_fault : (r ≡ Err Trail → writes_trail c ≡ true) → s ≡ TrailFault → o ≡ Some Play
+  run_trail_fault writes fault = named ∙ ap (λ (k : Command). Some k) (only_play c (writes (only_trail r (sym is ∙ fault))))
+
+part_of_nothing : (a b : List ℕ) → [] ≡ a ++ b → a ≡ []
+part_of_nothing [] b is = refl
+part_of_nothing (x ∷ a) b is = absurd (cc)
+
+-- where nothing went to the trail, the output got the same whatever the trail reports
+sends_out : (sent rest : List Sent) (bytes : List ℕ) (e e' : Ends) → to_out bytes ≡ sent ++ rest → Sends sent e e' → Sends sent (without_trail e) (without_trail e')
+sends_out sent rest bytes e e' is s = record {
+  to_out = s.to_out;
+  to_trail = subst (λ (z : List ℕ). Appends (Some []) (Some []) z) (sym (part_of_nothing (trail_of sent) (trail_of rest) (sym (trail_of-to_out bytes) ∙ ap trail_of is ∙ trail_of-append sent rest))) (Appends-nil (Some []));
+}
+
+writes_out : (r : Result InputEnd Fault) (bytes : List ℕ) (e e' : Ends) → Writes r (to_out bytes) e e' → Writes r (to_out bytes) (without_trail e) (without_trail e')
+writes_out (Ok x) bytes e e' w = record { sends = sends_out (to_out bytes) [] bytes e e' (sym (append-nil (to_out bytes))) w.sends; no_fault = w.no_fault }
+writes_out (Err x) bytes e e' w = record {
+  sends = record { sent = w.sends.sent; rest = w.sends.rest; prefix = w.sends.prefix; sends = sends_out w.sends.sent w.sends.rest bytes e e' w.sends.prefix w.sends.sends };
+  one_fault = w.one_fault;
+}
+
+-- a command did the same by what the ends report that it uses
+did_used : (c : Command) (r : Result InputEnd Fault) (l l' : Option (List ℕ)) (e e' : Ends) → CommandDid c r l l' e e'
+    → CommandDid c r (if_used (reads_source c) l) (if_used (reads_source c) l') (ends_used c e) (ends_used c e')
+did_used Play r l l' e e' x = x
+did_used Check r l l' e e' x = record { taken = x.taken; took = x.took; few = x.few; writes = writes_out r _ e e' x.writes; status = x.status; to_the_end = x.to_the_end; by_line = λ play. absurd (cc) }
+did_used (View word) r l l' e e' x = record { taken = x.taken; took = x.took; few = x.few; writes = writes_out r _ e e' x.writes; status = x.status; to_the_end = x.to_the_end; by_line = λ play. absurd (cc) }
+did_used (Gen n) r l l' e e' x = record { taken = []; took = Consumes-nil (Some []); few = omega arith; writes = writes_out r _ e e' x.writes; status = x.status; to_the_end = λ reads. absurd (cc); by_line = λ play. absurd (cc) }
+did_used (Drill n) r l l' e e' x = record { taken = []; took = Consumes-nil (Some []); few = omega arith; writes = writes_out r _ e e' x.writes; status = x.status; to_the_end = λ reads. absurd (cc); by_line = λ play. absurd (cc) }
+
+module _ (c : Command) (r : Result InputEnd Fault) (l l' : Option (List ℕ)) (entry exit : Ends) (x : CommandDid c r l l' entry exit) where
+  abbrev old_used : Command → Reports
+  old_used command = used command (reports l entry.out.held entry.trail.held)
+
+  abbrev now_used : Command → Reports
+  now_used command = used command (reports l' exit.out.held exit.trail.held)
+
+  pub run_order : (o : Option Command) → o ≡ Some c → IfSome o (λ command. WhereReported (old_used command) (now_used command) (λ text out trail. IsInOrder (due command text).order out trail))
+  run_order o is = of_command o c (λ command. WhereReported (old_used command) (now_used command) (λ text out trail. IsInOrder (due command text).order out trail)) is
+      (sent_in_order c r _ _ _ _ (did_used c r l l' entry exit x))
+
+  pub run_whole : (s : Status) → s ≡ status_of r → (o : Option Command) → o ≡ Some c
+      → IfSome o (λ command. OnWhole s (WhereReported (old_used command) (now_used command) (λ text out trail. (out ≡ out_of (due command text).order) × (trail ≡ trail_of (due command text).order))))
+  run_whole s is o named =
+      of_command o c (λ command. OnWhole s (WhereReported (old_used command) (now_used command) (λ text out trail. (out ≡ out_of (due command text).order) × (trail ≡ trail_of (due command text).order)))) named
+      (run_all c r _ _ _ _ (did_used c r l l' entry exit x) s is)
+
+  pub run_ending : (s : Status) → s ≡ status_of r → (o : Option Command) → o ≡ Some c → IfSome o (λ command. OnWhole s ((text : List ℕ) → if_used (reads_source command) l ≡ Some text → s ≡ (due command text).status))
+  run_ending s is o named =
+      of_command o c (λ command. OnWhole s ((text : List ℕ) → if_used (reads_source command) l ≡ Some text → s ≡ (due command text).status)) named
+      (ends_by c r _ _ _ _ (did_used c r l l' entry exit x) s is)
 
 -- ---- what `play` did
 
@@ -317,13 +393,13 @@ viewed word text k a is named =
 
 -- where nothing crosses, it is a view of the part below the label alone
 pub run_view_alone : (word : List ℕ) (r : Result InputEnd Fault) (l l' : Option (List ℕ)) (entry exit : Ends) → CommandDid (View word) r l l' entry exit → (s : Status) → s ≡ status_of r → s ≡ Done → (k : Label)
-    → WhereReported (reports l entry.out.held entry.trail.held) (reports l' exit.out.held exit.trail.held)
+    → WhereReported (used (View word) (reports l entry.out.held entry.trail.held)) (used (View word) (reports l' exit.out.held exit.trail.held))
     (λ text out trail. WhereAccepted text (λ a m. parse_label a.policy word ≡ Some k → up_to k (run_of a m) ≡ run_of a m → out ≡ view_text k (session_alone k a m)))
 run_view_alone word r l l' entry exit x s is done k =
-    let old = reports l entry.out.held entry.trail.held in
-    let now = reports l' exit.out.held exit.trail.held in
+    let old = used (View word) (reports l entry.out.held entry.trail.held) in
+    let now = used (View word) (reports l' exit.out.held exit.trail.held) in
     let all : WhereReported old now (λ text out trail. (out ≡ out_of (due (View word) text).order) × (trail ≡ trail_of (due (View word) text).order)) =
-    subst (λ z. OnWhole z (WhereReported old now (λ text out trail. (out ≡ out_of (due (View word) text).order) × (trail ≡ trail_of (due (View word) text).order)))) done (run_all (View word) r l l' entry exit x s is) in
+    subst (λ z. OnWhole z (WhereReported old now (λ text out trail. (out ≡ out_of (due (View word) text).order) × (trail ≡ trail_of (due (View word) text).order)))) done (run_all (View word) r _ _ _ _ (did_used (View word) r l l' entry exit x) s is) in
     reported_gives old now _ _ (λ text out trail w a acc named none.
     let fits = accepted_input text a acc in
     w.0 ∙ viewed word text k a acc named ∙ view_alone k a (input_of text).script fits.world fits.script none) all

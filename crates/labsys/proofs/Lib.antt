@@ -13,3 +13,4 @@ pub mod ViewedLemmas
 pub mod DrillLemmas
 pub mod PerformLemmas
 pub mod ClauseLemmas
+pub mod UntouchedLemmas

@@ -1,14 +1,18 @@
--- What a command did that reads nothing.
+-- What a command did that reads nothing, and which faults a command reports.
 use Rattle.std.proofs.Common.{◌≡◌, ℕ, Bool, true, false, List, [], ◌++◌, refl, sym, ◌∙◌, ap, subst, arith}
 use Rattle.std.proofs.KnownBytes.{Consumes-nil}
-use Rattle.std.specs.Prelude.{Option, Some, Result, Ok, IsErrAnd, IfOk}
+use Rattle.std.specs.Prelude.{Option, Some, None, Result, Ok, Err, IsErrAnd, IfOk}
 use Rattle.gen_world.specs.Text.{gen_text}
+use Rattle.io_ends.specs.Sinks.{SinkView, sink_view}
 use Rattle.lab_engine.specs.declared.ending.Fault.{Fault}
+use Rattle.lab_engine.specs.declared.ending.Fault.TheVariants.{Read, Trail}
 use Rattle.lab_engine.specs.declared.ending.InputEnd.{InputEnd}
 use Rattle.lab_engine.specs.declared.ending.InputEnd.TheVariants.{Whole}
-use Rattle.lab_engine.specs.Order.{to_out}
+use Rattle.lab_engine.specs.Counts.{Counts, counted_by}
+use Rattle.lab_engine.specs.Order.{Sent, to_out}
 use Rattle.lab_engine.specs.Reading.{left_of}
-use Rattle.lab_engine.specs.Playing.{Ends, SendsAll, StopsBy, Writes}
+use Rattle.lab_engine.specs.Playing.{Ends, ends, SendsAll, StopsBy, Writes, faults_of}
+use Rattle.lab_engine.proofs.Progress.{not_a_read}
 use Rattle.lab_engine.proofs.Sending.{in_order, passes_on}
 use Rattle.labsys.specs.declared.command.Command.{Command}
 use Rattle.labsys.specs.declared.command.Command.TheVariants.{Play, Gen, Drill}
@@ -64,3 +68,29 @@ module _ (c : Command) (n : ℕ) where
 
 pub left_alone : (o : Option Command) (c : Command) (source out trail : Type 0) → o ≡ Some c → LeavesAlone (Some c) source out trail → LeavesAlone o source out trail
 left_alone o c source out trail is alone = subst (λ (x : Option Command). LeavesAlone x source out trail) (sym is) alone
+
+-- ---- faults
+
+-- a fault that leaves the count of the trail as it was is no failed write to the trail
+not_of_trail : (fault : Fault) (order : List Sent) (n n' : ℕ) (out out' : SinkView) → StopsBy fault order (ends n out (sink_view None 0)) (ends n' out' (sink_view None 0)) → fault ≡ Trail → ⊥
+unfolding counted_by
+not_of_trail fault order n n' out out' stop is =
+    let once = subst (λ q. faults_of (ends n' out' (sink_view None 0)) ≡ counted_by q (faults_of (ends n out (sink_view None 0)))) is stop.one_fault in
+    let zero : 0 ≡ 1 = ap (λ (c : Counts). c.trail) once in
+    absurd (omega (arith, zero))
+
+-- a command that leaves the count of the trail as it was reports no fault of the trail
+pub no_trail_fault : (r : Result InputEnd Fault) (order : List Sent) (n n' : ℕ) (out out' : SinkView) → Writes r order (ends n out (sink_view None 0)) (ends n' out' (sink_view None 0)) → r ≡ Err Trail → ⊥
+no_trail_fault r order n n' out out' w is =
+    not_of_trail Trail order n n' out out' (subst (λ (q : Result InputEnd Fault). Writes q order (ends n out (sink_view None 0)) (ends n' out' (sink_view None 0))) is w) refl
+
+-- a command that writes to the output alone reports no fault of the other ends
+module _ (r : Result InputEnd Fault) (fault : Fault) (bytes : List ℕ) (out out' : SinkView) (stops : (source : ℕ) (trail : SinkView) → StopsBy fault (to_out bytes) (ends source out trail) (ends source out' trail)) (by : IsErrAnd r (λ q. q ≡ fault)) where
+  failed_by : (why : Fault) → r ≡ Err why → fault ≡ why
+  failed_by why is = sym (subst (λ (q : Result InputEnd Fault). IsErrAnd q (λ k. k ≡ fault)) is by)
+
+  pub no_read_beside : r ≡ Err Read → ⊥
+  no_read_beside is = not_a_read fault (to_out bytes) out out' (sink_view None 0) (sink_view None 0) (stops 0 (sink_view None 0)) (failed_by Read is)
+
+  pub no_trail_beside : r ≡ Err Trail → ⊥
+  no_trail_beside is = not_of_trail fault (to_out bytes) 0 0 out out' (stops 0 (sink_view None 0)) (failed_by Trail is)

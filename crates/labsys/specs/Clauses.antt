@@ -1,5 +1,5 @@
 -- What is promised of a run, by the bytes of its ends.
-use Rattle.std.specs.Prelude.{◌≡◌, ℕ, ◌+◌, ◌≤◌, ◌<◌, List, [], ◌++◌, length, map, take, Result, Ok, Err, Option, None, Some}
+use Rattle.std.specs.Prelude.{◌≡◌, ℕ, ◌+◌, ◌≤◌, ◌<◌, Bool, true, false, List, [], ◌++◌, length, map, take, Result, Ok, Err, Option, None, Some}
 use Rattle.std.specs.List.{flat_map}
 use Rattle.std.specs.Io.KnownBytes.{Consumes}
 use Rattle.std.specs.FinMap as finite
@@ -15,8 +15,10 @@ use Rattle.lab_engine.specs.declared.ending.InputEnd.{InputEnd}
 use Rattle.lab_engine.specs.declared.ending.InputEnd.TheVariants.{Whole, Refused as IsRefused, TooMuch}
 use Rattle.lab_engine.specs.declared.ending.Fault.{Fault}
 use Rattle.lab_engine.specs.declared.ending.Fault.TheVariants.{Read, Write, Trail, NoMemory as Memory}
+use Rattle.labsys.specs.declared.command.Command.{Command}
 use Rattle.labsys.specs.declared.status.Status.{Status}
 use Rattle.labsys.specs.declared.status.Status.TheVariants.{Done, Refused, ReadFault, WriteFault, TrailFault, NoMemory, TooLong}
+use Rattle.labsys.specs.Commands.{reads_source, writes_trail}
 use Rattle.lab_engine.specs.Input.{Accepted, Script, input_of}
 use Rattle.lab_engine.specs.Session.{Session, CallBytes, session_of, bytes_of, replies_of, records_of, head_text, numbered_recs}
 use Rattle.lab_engine.specs.Texts.{end_text, label_in, last_text}
@@ -31,6 +33,15 @@ pub record Reports : Type 0 where
 
 abbrev pub reports : Option (List ℕ) → Option (List ℕ) → Option (List ℕ) → Reports
 reports left out trail = record { left = left; out = out; trail = trail }
+
+-- what an end reports, where one that is not used counts as one that holds nothing
+abbrev pub if_used : Bool → Option (List ℕ) → Option (List ℕ)
+if_used true bytes = bytes
+if_used false bytes = Some []
+
+-- the same of the three ends, by which of them a command uses
+abbrev pub used : Command → Reports → Reports
+used command r = record { left = if_used (reads_source command) r.left; out = r.out; trail = if_used (writes_trail command) r.trail }
 
 -- the first bytes of the text were taken, these were appended to what the output and the trail held, all three report it, and P holds of the text and of what was appended
 pub record Moved (text before above : List ℕ) (now : Reports) (P : List ℕ → List ℕ → List ℕ → Type 0) : Type 0 where

@@ -1,5 +1,5 @@
 -- The commands: which words name one, and what each is to write of the bytes of a source.
-use Rattle.std.specs.Prelude.{ℕ, ◌≤◌, ◌==◌, Bool, true, false, cond, not, List, [], ◌∷◌, Option, Some, None, codes, string_bytes}
+use Rattle.std.specs.Prelude.{ℕ, ◌≤◌, Bool, true, false, cond, List, [], ◌∷◌, Option, Some, None, codes, string_bytes}
 use Rattle.std.specs.Option.{option_map}
 use Rattle.std.specs.declared.string.String.{String}
 use Rattle.std.specs.declared.alloc.Global.{Global}
@@ -8,6 +8,7 @@ use Rattle.fs_path.specs.Values.{numeral}
 use Rattle.gen_world.specs.declared.generator.TheConstants.{MAX_LINES}
 use Rattle.gen_world.specs.Text.{gen_text}
 use Rattle.lab_text.specs.Names.{same_bytes}
+use Rattle.lab_usage.specs.Words.{is_argument}
 use Rattle.labsys.specs.declared.command.Command.{Command}
 use Rattle.labsys.specs.declared.command.Command.TheVariants.{Play, Check, Gen, Drill, View}
 use Rattle.lab_engine.specs.declared.ending.InputEnd.{InputEnd}
@@ -21,11 +22,6 @@ use Rattle.lab_engine.specs.Input.{Input, input_of}
 use Rattle.lab_engine.specs.Order.{Sent, order_of, to_out}
 
 -- ---- words
-
--- a word that can be an argument: it is not empty, and does not begin with `-`
-abbrev pub is_argument : List ℕ → Bool
-is_argument [] = false
-is_argument (b ∷ bytes) = not (b == 45)
 
 -- how many lines a word asks for: 1 to 6 digits, of a value from 1 to 100,000
 abbrev pub lines_of : List ℕ → Option ℕ
@@ -103,6 +99,14 @@ reads_source Check = true
 reads_source (Gen n) = false
 reads_source (Drill n) = false
 reads_source (View word) = true
+
+-- whether a command writes to the trail
+abbrev pub writes_trail : Command → Bool
+writes_trail Play = true
+writes_trail Check = false
+writes_trail (Gen n) = false
+writes_trail (Drill n) = false
+writes_trail (View word) = false
 
 -- which ends a command leaves as they were: without a command all of them
 abbrev pub LeavesAlone : Option Command → (source out trail : Type 0) → Type 0

@@ -1,9 +1,12 @@
 // The commands of the program.
-ghost use Rattle.std.specs.Prelude.{◌≡◌, IfSome};
-ghost use Rattle.labsys.specs.Commands.{FitsCommand, command_alone, command_of, command_of_lines, command_with, is_argument, lines_of};
+ghost use Rattle.std.specs.Prelude.{◌≡◌, true, IfOk, IfSome};
+ghost use Rattle.lab_usage.specs.Words.{is_argument};
+ghost use Rattle.labsys.specs.Commands.{FitsCommand, command_alone, command_of, command_of_lines, command_with, lines_of};
 
 use fs_path::numeral;
 use gen_world::MAX_LINES;
+use lab_usage::words_given;
+use std::alloc::{AllocError, Global};
 use std::marker::Model;
 
 /// The word of a label among the arguments. A contract sees it as its bytes.
@@ -51,13 +54,6 @@ pub enum Command<'a> {
     View(LabelWord<'a>),
 }
 
-// Whether a word can be an argument: it is not empty, and does not begin with `-`.
-fn is_argument(word: &[u8]) -> bool
-    ensures { result ≡ is_argument word.now }
-{
-    word.first().is_some_and(|first| *first != b'-')
-}
-
 // How many lines a word asks for: 1 to 6 digits, of a value from 1 to 100,000.
 fn lines_of(word: &[u8]) -> Option<u32>
     ensures { result ≡ lines_of word.now }
@@ -86,23 +82,27 @@ fn command_of_lines(word: &[u8], argument: &[u8]) -> Option<Command<'static>>
 
 // The command that a word names with an argument.
 fn command_with<'a>(word: &[u8], argument: &'a [u8]) -> Option<Command<'a>>
+    requires { is_argument argument.now ≡ true }
     ensures { result ≡ command_with word.now argument.now }
 {
     match word {
-        b"play" => is_argument(argument).then_some(Command::Play),
-        b"view" => is_argument(argument).then_some(Command::View(LabelWord::new(argument))),
+        b"play" => Some(Command::Play),
+        b"view" => Some(Command::View(LabelWord::new(argument))),
         _ => command_of_lines(word, argument),
     }
 }
 
 /// The command that the arguments name. The file of `play` is not opened.
-pub fn command_of(words: &[String]) -> Option<Command<'_>>
-    ensures command { result ≡ command_of words.now }
-    ensures fits { IfSome result FitsCommand }
+pub fn command_of(alloc: Global, words: &[String]) -> Result<Option<Command<'_>>, AllocError>
+    ensures command { IfOk result (λ command. command ≡ command_of words.now) }
+    ensures fits { IfOk result (λ command. IfSome command FitsCommand) }
 {
-    match words {
-        [word] => command_alone(word.as_bytes()),
-        [word, argument] => command_with(word.as_bytes(), argument.as_bytes()),
-        _ => None,
-    }
+    let Some(given) = words_given(alloc, words)? else {
+        return Ok(None);
+    };
+    let word = given.command().as_bytes();
+    Ok(match given.argument() {
+        Some(argument) => command_with(word, argument.as_bytes()),
+        None => command_alone(word),
+    })
 }

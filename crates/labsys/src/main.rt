@@ -17,7 +17,7 @@ pub use running::run;
 pub use status::Status;
 use std::alloc::{AllocError, Global};
 use std::env;
-use std::io::{self, ErrorKind};
+use std::io::{self, ErrorKind, IsTerminal};
 use std::process::ExitCode;
 use std::rt::Env;
 
@@ -58,16 +58,79 @@ fn print_text(rt: &HostRuntime, text: &str) -> Status {
     }
 }
 
-fn start(rt: &HostRuntime) -> io::Result<Status> {
-    let words = words_of(rt)?;
-    if let Some(text) = text_asked(rt.alloc(), &words)? {
-        return Ok(print_text(rt, &text));
+// Prints a line to standard error. Where that fails there is nobody to hear of it.
+fn print_error(rt: &HostRuntime, line: &str) {
+    let _ = eprintln!(rt; "{line}");
+}
+
+// Prints what a status means, where the last line of the output does not report it.
+fn complain(rt: &HostRuntime, status: Status) {
+    if let Some(complaint) = status.complaint() {
+        let _ = eprintln!(rt; "labsys: {complaint}");
     }
-    let name = trail_name(rt.alloc(), &words)?;
+}
+
+// Prints the usage line.
+fn print_usage(rt: &HostRuntime) {
+    if let Ok(line) = lab_usage::usage(rt.alloc()) {
+        print_error(rt, &line);
+    }
+}
+
+// Prints the usage line, and what is wrong with the words.
+fn explain_usage(rt: &HostRuntime, words: &[String]) {
+    print_usage(rt);
+    if let Ok(line) = lab_usage::mistake(rt.alloc(), words) {
+        print_error(rt, &line);
+    }
+}
+
+// Prints what caused a fault of an end, where the system gave an error.
+fn explain_fault(rt: &HostRuntime, end: &str, cause: Option<io::Error>) {
+    if let Some(cause) = cause {
+        let _ = eprintln!(rt; "labsys: {end}: {cause}");
+    }
+}
+
+// Says that standard input is read, where a terminal waits for it to be typed.
+fn announce_input(rt: &HostRuntime, words: &[String]) {
+    let reads = match words {
+        [word] => word.as_str() == "check",
+        [word, _] => word.as_str() == "play" || word.as_str() == "view",
+        _ => false,
+    };
+    if reads && rt.stdin().is_terminal() {
+        print_error(rt, "labsys: reading standard input");
+    }
+}
+
+// Runs the command that the words name, and prints what its output does not show.
+fn run_words(rt: &HostRuntime, words: &[String]) -> io::Result<Status> {
+    let name = trail_name(rt.alloc(), words)?;
+    announce_input(rt, words);
     let mut source = FileSource::new(rt.reader());
     let mut out = FileSink::stdout(rt.clone()?);
-    let mut trail = FileSink::named(rt.clone()?, name);
-    Ok(run(rt.alloc(), &words, &mut source, &mut out, &mut trail))
+    let mut trail = FileSink::named(rt.clone()?, name.clone()?);
+    let status = run(rt.alloc(), words, &mut source, &mut out, &mut trail);
+    complain(rt, status);
+    match status {
+        Status::Usage => explain_usage(rt, words),
+        Status::ReadFault => explain_fault(rt, "standard input", source.error()),
+        Status::WriteFault => explain_fault(rt, "standard output", out.error()),
+        Status::TrailFault => explain_fault(rt, &name, trail.error()),
+        _ => {}
+    }
+    Ok(status)
+}
+
+fn start(rt: &HostRuntime) -> io::Result<Status> {
+    let words = words_of(rt)?;
+    let Some(text) = text_asked(rt.alloc(), &words)? else {
+        return run_words(rt, &words);
+    };
+    let status = print_text(rt, &text);
+    complain(rt, status);
+    Ok(status)
 }
 
 // The status where the arguments cannot be read. One that is not UTF-8 is no command.
@@ -78,14 +141,19 @@ fn status_of_words(error: &io::Error) -> Status {
     }
 }
 
+// The status of a program whose arguments cannot be read. It is printed.
+fn refuse_words(rt: &HostRuntime, error: &io::Error) -> Status {
+    let status = status_of_words(error);
+    complain(rt, status);
+    if status == Status::Usage {
+        print_usage(rt);
+        print_error(rt, "a word of the command line is not UTF-8");
+    }
+    status
+}
+
 fn main(rt: HostRuntime) -> ExitCode {
-    let status = start(&rt).unwrap_or_else(|e| status_of_words(&e));
-    if let Some(complaint) = status.complaint() {
-        let _ = eprintln!(rt; "labsys: {complaint}");
-    }
-    if let (Status::Usage, Ok(line)) = (status, lab_usage::usage(rt.alloc())) {
-        let _ = eprintln!(rt; "{line}");
-    }
+    let status = start(&rt).unwrap_or_else(|e| refuse_words(&rt, &e));
     ExitCode::from(u8::from(status))
 }
 

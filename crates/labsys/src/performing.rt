@@ -1,9 +1,9 @@
 // What each command does.
-ghost use Rattle.std.specs.Prelude.{◌≡◌, ℕ, List, Some};
+ghost use Rattle.std.specs.Prelude.{◌≡◌, true, ℕ, List, Some, Err};
 ghost use Rattle.io_ends.specs.Sinks.{sink_view};
 ghost use Rattle.lab_engine.specs.Input.{input_of};
 ghost use Rattle.lab_engine.specs.Playing.{ends};
-ghost use Rattle.labsys.specs.Commands.{FitsCommand, LeavesAlone};
+ghost use Rattle.labsys.specs.Commands.{FitsCommand, LeavesAlone, reads_source, writes_trail};
 ghost use Rattle.labsys.specs.Playing.{CommandDid};
 ghost use Rattle.labsys.specs.Readable.{InputReadable};
 
@@ -30,6 +30,9 @@ pub fn perform<S: Source, K: Sink, T: Sink>(
         (ends (S.faults source.old) (sink_view (K.held out.old) (K.faults out.old)) (sink_view (T.held trail.old) (T.faults trail.old)))
         (ends (S.faults source.new) (sink_view (K.held out.new) (K.faults out.new)) (sink_view (T.held trail.new) (T.faults trail.new))) }
     ensures alone { LeavesAlone (Some command.entry) (source.new ≡ source.old) (out.new ≡ out.old) (trail.new ≡ trail.old) }
+    // A fault is one of an end that the command uses.
+    ensures read_fault { result ≡ Err Fault.Read → reads_source command.entry ≡ true }
+    ensures trail_fault { result ≡ Err Fault.Trail → writes_trail command.entry ≡ true }
     ensures readable { command.entry ≡ Command.Play → (text : List ℕ) → S.left source.old ≡ Some text → InputReadable (input_of text)
         (ends (S.faults source.old) (sink_view (K.held out.old) (K.faults out.old)) (sink_view (T.held trail.old) (T.faults trail.old)))
         (ends (S.faults source.new) (sink_view (K.held out.new) (K.faults out.new)) (sink_view (T.held trail.new) (T.faults trail.new))) }

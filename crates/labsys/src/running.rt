@@ -1,5 +1,5 @@
 // The top call.
-ghost use Rattle.std.specs.Prelude.{◌≡◌, ◌↔◌, ◌+◌, true, None, Some, List, ℕ, IfSome};
+ghost use Rattle.std.specs.Prelude.{◌≡◌, ◌≢◌, ◌↔◌, ◌+◌, true, None, Some, List, ℕ, IfSome};
 ghost use Rattle.std.specs.Io.KnownBytes.{IsAtEnd};
 ghost use Rattle.lab_lattice.specs.Label.{Label};
 ghost use Rattle.kern_model.specs.declared.limits.TheConstants.{MAX_INPUT};
@@ -12,7 +12,7 @@ ghost use Rattle.labsys.specs.Commands.{LeavesAlone, command_of, due, reads_sour
 ghost use Rattle.lab_engine.specs.Counts.{counts};
 ghost use Rattle.labsys.specs.Counts.{counts_after};
 ghost use Rattle.labsys.specs.Lineage.{PrintedByAny};
-ghost use Rattle.labsys.specs.Clauses.{status_of, OnWhole, PlayedTaken, TakesAtMost, WhereReported, reports, WhereAccepted, run_of, Covered, RepliesFirst, Printed, Dropped, Isolated, IsolatedWhole, SameBelow, TwoInputs, TwoWhole};
+ghost use Rattle.labsys.specs.Clauses.{status_of, OnWhole, PlayedTaken, TakesAtMost, WhereReported, reports, if_used, used, WhereAccepted, run_of, Covered, RepliesFirst, Printed, Dropped, Isolated, IsolatedWhole, SameBelow, TwoInputs, TwoWhole};
 
 use crate::command::command_of;
 use crate::performing::perform;
@@ -48,21 +48,24 @@ pub fn run<S: Source, K: Sink, T: Sink>(
     out: &mut K,
     trail: &mut T,
 ) -> Status
-    // Status 1 comes exactly where the words name no command.
-    ensures words { (result ≡ Status.Usage) ↔ (command_of words.now ≡ None) }
+    // With any status but 6, status 1 comes exactly where the words name no command.
+    ensures words { result ≢ Status.NoMemory → ((result ≡ Status.Usage) ↔ (command_of words.now ≡ None)) }
     // Without a command nothing is read or written. `gen` and `drill` read nothing, and only `play` writes to the trail.
     ensures left_alone { LeavesAlone (command_of words.now) (source.new ≡ source.old) (out.new ≡ out.old) (trail.new ≡ trail.old) }
     // The first fault ends the run: one is counted with status 3, 4 or 5, by the end that it reports, and none with another.
     ensures counts { counts (S.faults source.new) (K.faults out.new) (T.faults trail.new) ≡ counts_after result (counts (S.faults source.old) (K.faults out.old) (T.faults trail.old)) }
+    // A read fault comes only of a command that reads the source, and a trail fault only of `play`.
+    ensures read_fault { IfSome (command_of words.now) (λ command. result ≡ Status.ReadFault → reads_source command ≡ true) }
+    ensures trail_fault { result ≡ Status.TrailFault → command_of words.now ≡ Some Command.Play }
 
-    // At every exit both sinks have received the bytes of a prefix of the one order.
-    ensures order { IfSome (command_of words.now) (λ command. WhereReported (reports (S.left source.old) (K.held out.old) (T.held trail.old)) (reports (S.left source.new) (K.held out.new) (T.held trail.new))
+    // At every exit both sinks have received the bytes of a prefix of the one order. An end that the command does not use need not report.
+    ensures order { IfSome (command_of words.now) (λ command. WhereReported (used command (reports (S.left source.old) (K.held out.old) (T.held trail.old))) (used command (reports (S.left source.new) (K.held out.new) (T.held trail.new)))
         (λ text o t. IsInOrder (due command text).order o t)) }
     // With status 0, 2 or 7 they have received all of it.
-    ensures whole { IfSome (command_of words.now) (λ command. OnWhole result (WhereReported (reports (S.left source.old) (K.held out.old) (T.held trail.old)) (reports (S.left source.new) (K.held out.new) (T.held trail.new))
+    ensures whole { IfSome (command_of words.now) (λ command. OnWhole result (WhereReported (used command (reports (S.left source.old) (K.held out.old) (T.held trail.old))) (used command (reports (S.left source.new) (K.held out.new) (T.held trail.new)))
         (λ text o t. (o ≡ out_of (due command text).order) × (t ≡ trail_of (due command text).order)))) }
-    // Which of these three it is depends on the source's bytes alone.
-    ensures ending { IfSome (command_of words.now) (λ command. OnWhole result ((text : List ℕ) → S.left source.old ≡ Some text → result ≡ (due command text).status)) }
+    // Which of these three it is depends on the source's bytes alone, and of `gen` and `drill` not on them.
+    ensures ending { IfSome (command_of words.now) (λ command. OnWhole result ((text : List ℕ) → if_used (reads_source command) (S.left source.old) ≡ Some text → result ≡ (due command text).status)) }
 
     // Where a reply was written, the trail has its head and the records of that call and of all before it.
     ensures covered { command_of words.now ≡ Some Command.Play → WhereReported (reports (S.left source.old) (K.held out.old) (T.held trail.old)) (reports (S.left source.new) (K.held out.new) (T.held trail.new))
@@ -99,7 +102,7 @@ pub fn run<S: Source, K: Sink, T: Sink>(
         (λ text o t. WhereAccepted text (λ a script. Dropped (session_of a script) t)) }
 
     // Where no record of the whole run crosses the label, `view` writes what it writes of the part below the label alone.
-    ensures view_alone { (l : Label) (word : List ℕ) → command_of words.now ≡ Some (Command.View word) → result ≡ Status.Done → WhereReported (reports (S.left source.old) (K.held out.old) (T.held trail.old)) (reports (S.left source.new) (K.held out.new) (T.held trail.new))
+    ensures view_alone { (l : Label) (word : List ℕ) → command_of words.now ≡ Some (Command.View word) → result ≡ Status.Done → WhereReported (used (Command.View word) (reports (S.left source.old) (K.held out.old) (T.held trail.old))) (used (Command.View word) (reports (S.left source.new) (K.held out.new) (T.held trail.new)))
         (λ text o t. WhereAccepted text (λ a script. parse_label a.policy word ≡ Some l → up_to l (run_of a script) ≡ run_of a script → o ≡ view_text l (session_alone l a script))) }
 
     // A command that reads the source reads it to its end where the input was accepted whole.
@@ -107,7 +110,10 @@ pub fn run<S: Source, K: Sink, T: Sink>(
     // No more of it is read than the limit and one byte.
     ensures few { TakesAtMost (MAX_INPUT + 1) (S.left source.old) (S.left source.new) }
 {
-    match command_of(words) {
+    let Ok(named) = command_of(alloc, words) else {
+        return Status::NoMemory;
+    };
+    match named {
         Some(command) => status_of(perform(alloc, command, source, out, trail)),
         None => Status::Usage,
     }

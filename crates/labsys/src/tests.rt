@@ -1,4 +1,7 @@
 // Whole runs over ends in memory: what each status leaves in the output and in the trail.
+mod hostile;
+mod other_ends;
+
 use super::*;
 use fs_path::{next_line, number_of};
 use io_ends::{MemSink, MemSource};
@@ -196,10 +199,10 @@ const DAY: &[u8] = b"world 1\n\
     file /bin/login 0755 0 0 public \"login\" \"cap_setuid,cap_setgid,cap_mac_relabel_subj=ep\"\n\
     file /bin/passwd 4755 5 5 public \"passwd\" \"cap_dac_write=p\"\n\
     file /bin/sh 0755 0 0 public \"sh\"\n\
-    dir /users 0755 0 0 public\n\
-    dir /users/ann 0700 100 100 internal:eng\n\
-    dir /users/bob 0700 101 101 secret:fin\n\
-    file /users/bob/pay 0600 101 101 secret:fin \"4200\"\n\
+    dir /home 0755 0 0 public\n\
+    dir /home/ann 0700 100 100 internal:eng\n\
+    dir /home/bob 0700 101 101 secret:fin\n\
+    file /home/bob/pay 0600 101 101 secret:fin \"4200\"\n\
     file /shadow 0600 5 5 public \"ann:x\"\n\
     proc public 0 0 - \"cap_kill,cap_setfcap,cap_mac_upgrade=ep\"\n\
     proc secret:fin 101 101 - \"=\"\n\
@@ -212,12 +215,12 @@ const DAY: &[u8] = b"world 1\n\
     2@public setuid 100\n\
     2@public cap_set_proc \"=\"\n\
     2@public exec /bin/sh\n\
-    2@public chdir /users/ann\n\
+    2@public chdir /home/ann\n\
     2@public open notes rwc 0644\n\
     2@public write 0 \"plan\"\n\
     2@public lseek 0 set 0\n\
     2@public read 0 16\n\
-    2@public open /users/bob/pay r\n\
+    2@public open /home/bob/pay r\n\
     2@public exec /bin/passwd\n\
     2@public getids\n\
     2@public open /shadow w\n\
@@ -226,7 +229,7 @@ const DAY: &[u8] = b"world 1\n\
     1@public mkdir /drop 0755\n\
     1@public setfmac secret /drop\n\
     1@public getfmac /drop /bin\n\
-    1@secret:fin open /users/bob/pay rw\n\
+    1@secret:fin open /home/bob/pay rw\n\
     1@secret:fin read 0 64\n\
     2@public exit 0\n\
     1@public wait\n\
@@ -383,11 +386,13 @@ fn one_byte_over_16_mib_is_too_long(rt: HostRuntime) -> Result<(), Fail> {
 #[test]
 fn words_that_are_no_command_touch_nothing(rt: HostRuntime) -> Result<(), Fail> {
     let alloc = rt.alloc();
-    let rows: [&[&str]; 25] = [
+    let rows: [&[&str]; 33] = [
         &[],
         &["frob", "trail.out"],
         &["play"],
         &["play", ""],
+        &["play", "-"],
+        &["play", "--"],
         &["play", "-x"],
         &["play", "a", "b"],
         &["gen"],
@@ -406,8 +411,14 @@ fn words_that_are_no_command_touch_nothing(rt: HostRuntime) -> Result<(), Fail> 
         &["view", ""],
         &["view", "-unc"],
         &["view", "unc", "conf"],
+        &[""],
+        &["-"],
+        &["--"],
+        &["-x"],
+        &["--", "check"],
         &["-check"],
         &["--help"],
+        &["--help", "x"],
         &["--version"],
     ];
     let mut ends = Ends::new(alloc, &[INPUT], Fails::Nothing)?;

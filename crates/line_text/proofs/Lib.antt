@@ -1,3 +1,3 @@
-pub mod RangeLemmas
+pub mod ResultLemmas
 pub mod ReplyLemmas
 pub mod CapWords

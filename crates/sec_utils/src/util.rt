@@ -1,5 +1,6 @@
 // The utilities by their words, and one use of a utility.
 ghost use Rattle.std.specs.Prelude.{◌≡◌};
+ghost use Rattle.kern_model.specs.Named.{IsFoundBy};
 ghost use Rattle.sec_utils.specs.Tools.{tool_word, tool_named};
 
 use cap_bits::CapState;
@@ -38,7 +39,8 @@ impl Tool {
     /// The utility with this word.
     #[tactic(auto, unfolding(kern_model::specs::Named::named))]
     pub fn from_word(word: &[u8]) -> Option<Tool>
-        ensures { result ≡ tool_named word.now }
+        ensures found { result ≡ tool_named word.now }
+        ensures exact { IsFoundBy tool_word word.now result }
     {
         TOOLS.iter().copied().find(|tool| word == tool.word())
     }

@@ -13,7 +13,7 @@ use chk_rules::{Checks, Stop};
 use kern_model::Place;
 
 impl Caller<'_> {
-    /// Checks, where it is asked, that the caller may read an object.
+    /// The check of [`mac_read`](Caller::mac_read), where it is asked for.
     pub fn mac_read_if(
         &self,
         asked: bool,
@@ -30,7 +30,7 @@ impl Caller<'_> {
         }
     }
 
-    /// Checks, where it is asked, that the caller may write an object.
+    /// The check of [`mac_write`](Caller::mac_write), where it is asked for.
     pub fn mac_write_if(
         &self,
         asked: bool,

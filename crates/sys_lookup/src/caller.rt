@@ -38,7 +38,7 @@ pub fn living<'a>(shared: &'a Shared, who: &Pid) -> &'a Proc
 }
 
 impl Caller<'_> {
-    /// Checks that the caller may read an object.
+    /// Checks that the caller's label dominates that of an object, which is what labels ask of a read.
     pub fn mac_read(&self, checks: &mut Checks, object: &Metadata, place: Place) -> Result<(), Stop>
         ensures { (s : State) (id : Oid) → object.now ≡ metadata_of s id → GoesOn checks.old (λ rest. Need (mac_read s (process_of self.now) id place) (rest tt)) result checks.new }
     {
@@ -47,7 +47,7 @@ impl Caller<'_> {
         must(checks, &check_of(CheckName::MacRead, holds, object, place))
     }
 
-    /// Checks that the caller may write an object.
+    /// Checks that the labels of the caller and of an object are equal, which is what labels ask of a write.
     pub fn mac_write(
         &self,
         checks: &mut Checks,

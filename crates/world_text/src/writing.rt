@@ -160,6 +160,24 @@ fn put_processes(
     Ok(())
 }
 
+// The lines of the objects come before those of the processes.
+#[tactic(auto, using(std::proofs::Common::append_assoc))]
+fn put_objects_and_processes(
+    alloc: Global,
+    line: &mut LineWriter,
+    policy: &Policy,
+    objects: &[WorldObject],
+    processes: &[WorldProc],
+) -> Result<(), NoMemory>
+    ensures text { OnOk result (line.new ≡ line.old ++ (flat_map (λ object. line_of (object_words policy.now object)) objects.now ++ flat_map (λ process. line_of (process_words policy.now process)) processes.now)) }
+    ensures objects_in_range { OnOk result (AllByRecursion IsWrittenObject objects.now) }
+    ensures processes_in_range { OnOk result (AllByRecursion (λ process. IsWrittenIds process.ids) processes.now) }
+{
+    put_objects(alloc, line, policy, objects)?;
+    put_processes(line, policy, processes)?;
+    Ok(())
+}
+
 // Appends the lines of the format, the names and the bound.
 fn put_head(
     alloc: Global,
@@ -189,8 +207,13 @@ impl WorldText {
         let alloc = self.policy.allocator();
         let mut line = LineWriter::new(alloc)?;
         put_head(alloc, &mut line, &self.policy, &self.world.bound)?;
-        put_objects(alloc, &mut line, &self.policy, self.world.objects.items())?;
-        put_processes(&mut line, &self.policy, self.world.procs.items())?;
+        put_objects_and_processes(
+            alloc,
+            &mut line,
+            &self.policy,
+            self.world.objects.items(),
+            self.world.procs.items(),
+        )?;
         line.bytes(b"script\n")?;
         Ok(line.into_text())
     }

@@ -1,5 +1,7 @@
 use Rattle.std.proofs.Common.{refl}
-use Rattle.labsys.proofs.PerformLemmas.{alone_fails, alone_written, drills, generates}
+use Rattle.std.specs.Prelude.{None}
+use Rattle.io_ends.specs.Sinks.{sink_view}
+use Rattle.labsys.proofs.PerformLemmas.{alone_fails, alone_written, drills, generates, no_read_beside, no_trail_beside, no_trail_fault}
 use Rattle.labsys.proofs.performing.perform.Goals as goal
 
 pub returns-in_err-generate-in-Gen-clause-did : goal.returns-in_err-generate-in-Gen-clause-did
@@ -13,3 +15,21 @@ returns-in_err-drill-in-Drill-clause-did g c = alone_fails _ _ (drills _ _ c.in-
 
 pub returns-in_ok-drill-in-Drill-clause-did : goal.returns-in_ok-drill-in-Drill-clause-did
 returns-in_ok-drill-in-Drill-clause-did g c = alone_written _ _ (drills _ _ c.in-Drill.is) _ _ _ _ refl (c.in_ok-drill-in-Drill.ensures _ _)
+
+pub returns-in-Check-clause-trail_fault : goal.returns-in-Check-clause-trail_fault
+returns-in-Check-clause-trail_fault g c = λ is. absurd (no_trail_fault c.check.result _ _ _ _ _ (c.check.ensures (sink_view None 0)).writes is)
+
+pub returns-in-View-clause-trail_fault : goal.returns-in-View-clause-trail_fault
+returns-in-View-clause-trail_fault g c = λ is. absurd (no_trail_fault c.view.result _ _ _ _ _ (c.view.ensures (sink_view None 0)).writes is)
+
+pub returns-in_err-generate-in-Gen-clause-read_fault : goal.returns-in_err-generate-in-Gen-clause-read_fault
+returns-in_err-generate-in-Gen-clause-read_fault g c = λ is. absurd (no_read_beside _ _ _ _ _ c.in_err-generate-in-Gen.ensures c.from_residual.ensures.1 is)
+
+pub returns-in_err-generate-in-Gen-clause-trail_fault : goal.returns-in_err-generate-in-Gen-clause-trail_fault
+returns-in_err-generate-in-Gen-clause-trail_fault g c = λ is. absurd (no_trail_beside _ _ _ _ _ c.in_err-generate-in-Gen.ensures c.from_residual.ensures.1 is)
+
+pub returns-in_err-drill-in-Drill-clause-read_fault : goal.returns-in_err-drill-in-Drill-clause-read_fault
+returns-in_err-drill-in-Drill-clause-read_fault g c = λ is. absurd (no_read_beside _ _ _ _ _ c.in_err-drill-in-Drill.ensures c.from_residual-in_err-drill-in-Drill.ensures.1 is)
+
+pub returns-in_err-drill-in-Drill-clause-trail_fault : goal.returns-in_err-drill-in-Drill-clause-trail_fault
+returns-in_err-drill-in-Drill-clause-trail_fault g c = λ is. absurd (no_trail_beside _ _ _ _ _ c.in_err-drill-in-Drill.ensures c.from_residual-in_err-drill-in-Drill.ensures.1 is)

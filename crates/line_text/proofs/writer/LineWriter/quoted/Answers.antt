@@ -1,5 +1,6 @@
 use Rattle.std.proofs.Common.{arith}
-use Rattle.line_text.proofs.RangeLemmas.{bytes_from, on_ok}
+use Rattle.fs_path.proofs.ValueRanges.{bytes_from}
+use Rattle.line_text.proofs.ResultLemmas.{on_ok}
 use Rattle.line_text.proofs.writer.LineWriter.quoted.Goals as goal
 
 pub returns-clause-in_range : goal.returns-clause-in_range

@@ -15,15 +15,14 @@ parts head f os g ps end =
     flat_map-append line_of head (map f os ++ (map g ps ++ end ∷ [])) ∙ ap (λ t. flat_map line_of head ++ t) (
     flat_map-append line_of (map f os) (map g ps ++ end ∷ []) ∙ (λ i. flat_map-map line_of f os i ++ (flat_map-append line_of (map g ps) (end ∷ []) ∙ (λ j. flat_map-map line_of g ps j ++ append-nil (line_of end) j)) i))
 
-gathered : (a b d e : List ℕ) (head objects procs end : List ℕ) → a ≡ [] → b ≡ a ++ head → d ≡ b ++ objects → e ≡ d ++ procs → (e ++ end) ≡ head ++ (objects ++ (procs ++ end))
-gathered a b d e head objects procs end s1 s2 s3 s4 = rw (s4, s3, s2, s1) (simp append_assoc)
+gathered : (a b d : List ℕ) (head objects procs end : List ℕ) → a ≡ [] → b ≡ a ++ head → d ≡ b ++ (objects ++ procs) → (d ++ end) ≡ head ++ (objects ++ (procs ++ end))
+gathered a b d head objects procs end s1 s2 s3 = rw (s3, s2, s1) (simp append_assoc)
 
 pub returns-clause-text : goal.returns-clause-text
 unfolding line_of written
 returns-clause-text c =
-    let objects = rw c.items.ensures at c.in_ok-put_objects.ensures.text in
-    let procs = rw c.items-2.ensures at c.in_ok-put_processes.ensures.text in
-    c.into_text.ensures ∙ c.in_ok-bytes.ensures ∙ gathered _ _ _ _ _ _ _ _ c.in_ok-line.ensures c.in_ok-put_head.ensures objects procs
+    let lines = rw (c.items.ensures, c.items-2.ensures) at c.in_ok-put_objects_and_processes.ensures.text in
+    c.into_text.ensures ∙ c.in_ok-bytes.ensures ∙ gathered _ _ _ _ _ _ _ c.in_ok-line.ensures c.in_ok-put_head.ensures lines
     ∙ sym (parts (head_words c.args.self.now.policy c.args.self.now.world.bound) (object_words c.args.self.now.policy) c.args.self.now.world.objects (process_words c.args.self.now.policy) c.args.self.now.world.procs script_words)
 
 pub returns-clause-round_trip : goal.returns-clause-round_trip
@@ -33,6 +32,6 @@ returns-clause-round_trip c = λ is short.
       is = is;
       lines = short;
       policy = c.levels-names.ensures.policy;
-      objects = rw c.items.ensures at c.in_ok-put_objects.ensures.in_range;
-      procs = rw c.items-2.ensures at c.in_ok-put_processes.ensures.in_range;
+      objects = rw c.items.ensures at c.in_ok-put_objects_and_processes.ensures.objects_in_range;
+      procs = rw c.items-2.ensures at c.in_ok-put_objects_and_processes.ensures.processes_in_range;
     })

@@ -1,0 +1,99 @@
+// What is wrong with words that name no command.
+
+use std::alloc::{AllocError, Global};
+
+// A command, as a line of help shows it.
+struct CommandHelp {
+    // Its word.
+    word: &'static str,
+    // Its whole line.
+    usage: &'static str,
+    // Its argument and what that is, where it takes one.
+    argument: Option<&'static str>,
+    // What the argument may be.
+    form: &'static str,
+    // What it does.
+    about: &'static str,
+}
+
+const NOT_EMPTY: &str = "is a word that is not empty and does not begin with -";
+
+const LINES: &str = "is a number from 1 to 100000";
+
+static COMMANDS: [CommandHelp; 5] = [
+    CommandHelp {
+        word: "play",
+        usage: "labsys play FILE < WORLD",
+        argument: Some("FILE, where the trail goes"),
+        form: NOT_EMPTY,
+        about: "plays WORLD; the replies go to standard output, and the trail to FILE",
+    },
+    CommandHelp {
+        word: "view",
+        usage: "labsys view LABEL < WORLD",
+        argument: Some("LABEL, which sees the replies"),
+        form: NOT_EMPTY,
+        about: "plays WORLD; what LABEL sees of the replies goes to standard output",
+    },
+    CommandHelp {
+        word: "check",
+        usage: "labsys check < WORLD",
+        argument: None,
+        form: "",
+        about: "counts the objects, processes and calls of WORLD",
+    },
+    CommandHelp {
+        word: "gen",
+        usage: "labsys gen N",
+        argument: Some("N, the number of calls"),
+        form: LINES,
+        about: "writes a generated world with a script of N calls",
+    },
+    CommandHelp {
+        word: "drill",
+        usage: "labsys drill N",
+        argument: Some("N, the number of calls"),
+        form: LINES,
+        about: "plays the world that gen N writes, and counts the answers",
+    },
+];
+
+// Whether a word asks for help.
+fn asks_for_help(word: &str) -> bool {
+    word == "--help" || word == "-h"
+}
+
+impl CommandHelp {
+    // What is wrong with the words after that of the command.
+    fn mistake(&self, alloc: Global, words: &[String]) -> Result<String, AllocError> {
+        let usage = self.usage;
+        match (words, self.argument) {
+            ([word], _) if asks_for_help(word.as_str()) => {
+                format!(in alloc; "{usage}\n{}", self.about)
+            }
+            ([], Some(argument)) => format!(in alloc; "{} needs {argument}: {usage}", self.word),
+            ([_], Some(argument)) => {
+                let name = argument.split(',').next().unwrap_or(argument);
+                format!(in alloc; "{name} {}", self.form)
+            }
+            (_, _) => format!(in alloc; "{} has a word too many: {usage}", self.word),
+        }
+    }
+}
+
+// The command with a word, as help shows it.
+fn named(word: &str) -> Option<&'static CommandHelp> {
+    COMMANDS.iter().find(|command| command.word == word)
+}
+
+/// What is wrong with words that name no command, in a line without its end. Where the word of a command and `--help` or `-h` are
+/// given, it is the help of that command.
+pub fn mistake(alloc: Global, words: &[String]) -> Result<String, AllocError> {
+    let [word, more @ ..] = words else {
+        return String::from_str(alloc, "a command is missing; try labsys --help");
+    };
+    match named(word.as_str()) {
+        Some(command) => command.mistake(alloc, more),
+        None => format!(in alloc; "{:?} is no command; try labsys --help", word.as_str()),
+    }
+}

@@ -1,0 +1,87 @@
+-- The clauses of the top call where memory runs out before a command is known.
+use Rattle.std.proofs.Common.{◌≡◌, ◌+◌, ℕ, List, [], refl, inr, arith}
+use Rattle.std.proofs.KnownBytes.{Consumes-nil}
+use Rattle.std.specs.Prelude.{true, IfSome, Option, None, Some, Err}
+use Rattle.io_ends.specs.Sinks.{sink_view}
+use Rattle.lab_lattice.specs.Label.{Label}
+use Rattle.kern_model.specs.declared.limits.TheConstants.{MAX_INPUT}
+use Rattle.lab_engine.specs.declared.ending.Fault.TheVariants.{NoMemory}
+use Rattle.lab_engine.specs.Order.{IsInOrder}
+use Rattle.lab_engine.specs.Playing.{Ends, ends}
+use Rattle.lab_engine.specs.Session.{session_of}
+use Rattle.lab_engine.proofs.Sending.{prefix_nothing, stops_at_once}
+use Rattle.labsys.specs.declared.command.Command.{Command}
+use Rattle.labsys.specs.declared.command.Command.TheVariants.{Play, Check, Gen, Drill, View}
+use Rattle.labsys.specs.declared.status.Status.TheVariants as status
+use Rattle.labsys.specs.Clauses.{Covered, Dropped, Isolated, Printed, RepliesFirst, SameBelow, TakesAtMost, TwoInputs, WhereAccepted, WhereReported, reports, used}
+use Rattle.labsys.specs.Commands.{LeavesAlone, due, reads_source}
+use Rattle.labsys.specs.Lineage.{PrintedByAny}
+use Rattle.labsys.specs.Playing.{CommandDid}
+use Rattle.labsys.proofs.ClauseLemmas.{run_covered, run_dropped, run_isolated, run_order, run_printed, run_printed_by_any, run_replies_first, run_two_inputs}
+
+-- what holds of each command holds of that which the words name
+pub where_named : (o : Option Command) (P : Command → Type 0) → ((c : Command) → P c) → IfSome o P
+where_named None P f = tt
+where_named (Some c) P f = f c
+
+-- all ends are as they were
+pub untouched_alone : (o : Option Command) (source out trail : Type 0) → source → out → trail → LeavesAlone o source out trail
+untouched_alone None source out trail s o t = (s, o, t)
+untouched_alone (Some Play) source out trail s o t = tt
+untouched_alone (Some Check) source out trail s o t = t
+untouched_alone (Some (Gen n)) source out trail s o t = (s, t)
+untouched_alone (Some (Drill n)) source out trail s o t = (s, t)
+untouched_alone (Some (View word)) source out trail s o t = t
+
+-- a command for which memory runs out at once does nothing
+did_nothing : (c : Command) (l : Option (List ℕ)) (e : Ends) → CommandDid c (Err NoMemory) l l e e
+did_nothing c l e = record {
+  taken = [];
+  took = Consumes-nil l;
+  few = omega arith;
+  writes = stops_at_once _ e;
+  status = tt;
+  to_the_end = λ reads. tt;
+  by_line = λ play read. absurd (cc);
+}
+
+-- status 6 is not that of a whole input
+pub untouched_to_the_end : (o : Option Command) (Q : Type 0) → IfSome o (λ command. reads_source command ≡ true → status.NoMemory ≡ status.Done → Q)
+untouched_to_the_end o Q = where_named o (λ command. reads_source command ≡ true → status.NoMemory ≡ status.Done → Q) (λ command reads done. cc)
+
+-- nor is it that of a fault
+pub untouched_read_fault : (o : Option Command) → IfSome o (λ command. status.NoMemory ≡ status.ReadFault → reads_source command ≡ true)
+untouched_read_fault o = where_named o (λ command. status.NoMemory ≡ status.ReadFault → reads_source command ≡ true) (λ command fault. cc)
+
+pub untouched_few : (l : Option (List ℕ)) → TakesAtMost (MAX_INPUT + 1) l l
+untouched_few l = record { taken = []; took = Consumes-nil l; few = omega arith }
+
+module _ (l out trail : Option (List ℕ)) where
+  abbrev still : Ends
+  still = ends 0 (sink_view out 0) (sink_view trail 0)
+
+  pub untouched_order : (o : Option Command) → IfSome o (λ command. WhereReported (used command (reports l out trail)) (used command (reports l out trail)) (λ text out trail. IsInOrder (due command text).order out trail))
+  untouched_order None = tt
+  untouched_order (Some c) = run_order c (Err NoMemory) l l still still (did_nothing c l still) (Some c) refl
+
+  pub untouched_covered : WhereReported (reports l out trail) (reports l out trail) (λ text out trail. WhereAccepted text (λ a m. Covered (session_of a m) out trail))
+  untouched_covered = run_covered (Err NoMemory) l l still still (did_nothing Play l still)
+
+  pub untouched_replies_first : WhereReported (reports l out trail) (reports l out trail) (λ text out trail. WhereAccepted text (λ a m. RepliesFirst (session_of a m) out trail))
+  untouched_replies_first = run_replies_first (Err NoMemory) l l still still (did_nothing Play l still)
+
+  pub untouched_isolated : (k : Label) → WhereReported (reports l out trail) (reports l out trail) (λ text out trail. WhereAccepted text (λ a m. Isolated k a m out))
+  untouched_isolated = run_isolated (Err NoMemory) l l still still (did_nothing Play l still)
+
+  pub untouched_two_inputs : (k : Label) (other : List ℕ) → WhereReported (reports l out trail) (reports l out trail)
+      (λ text out trail. WhereAccepted text (λ a m. WhereAccepted other (λ b m'. SameBelow k a m b m' → TwoInputs k a m b m' out)))
+  untouched_two_inputs = run_two_inputs (Err NoMemory) l l still still (did_nothing Play l still)
+
+  pub untouched_printed : WhereReported (reports l out trail) (reports l out trail) (λ text out trail. WhereAccepted text (λ a m. Printed (session_of a m) out trail))
+  untouched_printed = run_printed (Err NoMemory) l l still still (did_nothing Play l still)
+
+  pub untouched_printed_by_any : WhereReported (reports l out trail) (reports l out trail) (λ text out trail. WhereAccepted text (λ a m. PrintedByAny (session_of a m) out trail))
+  untouched_printed_by_any = run_printed_by_any (Err NoMemory) l l still still (did_nothing Play l still) (λ text is a accepted. inr (prefix_nothing _ still.source still.source still.out still.trail))
+
+  pub untouched_dropped : WhereReported (reports l out trail) (reports l out trail) (λ text out trail. WhereAccepted text (λ a m. Dropped (session_of a m) trail))
+  untouched_dropped = run_dropped (Err NoMemory) l l still still (did_nothing Play l still)
