@@ -1,12 +1,14 @@
 #!/usr/bin/env python3
 """Refuses each allocation of a run in turn, and reports how the runs ended.
 
-    bench/allocations.py [--cmd PROGRAM] INPUT..
+    bench/allocations.py [--cmd PROGRAM] [INPUT..]
 
 An input is played once whole, and then once for each of its allocations, of which that one finds no memory. A run is as it should
 be where it ends with status 6, and its output and its trail are each a prefix of the whole run's. Where the refused one is not
-needed, as where a buffer would only have grown early, it may also end as the whole run does. It needs a C compiler, for a
-library that is loaded before the C library and refuses the allocation.
+needed, as where a buffer would only have grown early, it may also end as the whole run does. It prints the rows of the table in
+README.md, and fails where a run ends otherwise. An input is a file, or a case, of which the section `input` is taken; without
+inputs it takes those of README.md. PROGRAM is the built one where none is given; the script `labsys` would run commands that
+allocate themselves. It needs a C compiler, for a library that is loaded before the C library and refuses the allocation.
 """
 import argparse
 import os
@@ -16,6 +18,11 @@ import sys
 import tempfile
 
 TOP = pathlib.Path(__file__).resolve().parent.parent
+BUILT = TOP / "crates" / "labsys" / "out" / "labsys"
+INPUTS = ["examples/read_by_capability.txt", "tests/cases/utilities/day_of_logins_and_relabelling.case"]
+
+sys.path.insert(0, str(TOP / "tests"))
+from run_cases import read_case  # noqa: E402
 
 # Counts the calls that ask for memory, and refuses the one whose number is in the environment. At the end it writes how many there were.
 REFUSING = r"""
@@ -82,18 +89,31 @@ def tried(command, text, room):
     return count, ended, wrong
 
 
+def text_of(path):
+    """The bytes of an input, also of one that stands in a case."""
+    return read_case(path)["input"] if path.suffix == ".case" else path.read_bytes()
+
+
 def main():
     arguments = argparse.ArgumentParser(description=__doc__, formatter_class=argparse.RawDescriptionHelpFormatter)
-    arguments.add_argument("--cmd", default=str(TOP / "labsys"))
-    arguments.add_argument("inputs", nargs="+", type=pathlib.Path)
+    arguments.add_argument("--cmd", default=BUILT, help="the program; without it, that of the checkout", metavar="PROGRAM")
+    arguments.add_argument("inputs", nargs="*", type=pathlib.Path, default=[TOP / name for name in INPUTS], metavar="INPUT")
     given = arguments.parse_args()
+    if not os.access(given.cmd, os.X_OK):
+        sys.exit(f"there is no program {given.cmd}: `make` builds that of the checkout")
+    is_well = True
+    print("| Input | Allocations | End with status 6 | Can do without |\n|---|---|---|---|")
     with tempfile.TemporaryDirectory() as name:
         room = pathlib.Path(name)
         (room / "refusing.c").write_text(REFUSING)
         subprocess.run(["cc", "-shared", "-fPIC", "-O1", "-o", room / "refusing.so", room / "refusing.c"], check=True)
         for path in given.inputs:
-            count, ended, wrong = tried(given.cmd, path.read_bytes(), room)
-            print(f"{path.name}: {count} allocations; refused one at a time, {ended} end the run with status 6, {count - ended - len(wrong)} are not needed, {len(wrong)} end it otherwise {wrong[:10] or ''}")
+            count, ended, wrong = tried(given.cmd, text_of(path), room)
+            print(f"| `{path.name}` | {count} | {ended} | {count - ended - len(wrong)} |", flush=True)
+            if wrong:
+                is_well = False
+                print(f"{path.name}: {len(wrong)} runs end otherwise, as where these allocations are refused: {wrong[:10]}", file=sys.stderr)
+    sys.exit(0 if is_well else 1)
 
 
 if __name__ == "__main__":

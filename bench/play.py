@@ -1,24 +1,26 @@
 #!/usr/bin/env python3
 """Times runs over inputs of doubling size: the time should double with the size.
 
-    bench/play.py [PART..]
+    bench/play.py [--cmd PROGRAM] [PART..]
 
-First scripts of doubling length on a world of one file and one process, up to the limit of an input, of one call and of
-three; then worlds of doubling size, up to the limits of a label, with one call for each file; then worlds that fill an input
-up to its limit, all files in one directory or 32 names deep; then scripts of short lines, and on directories, descriptors, processes
-and attributes; then each command.
-It prints the rows of the tables in README.md: wall time, and the most memory that the run held at a time. Names of these parts
-as arguments, as in `bench/play.py directories descriptors`, print the rows of these parts alone.
+It prints the tables of README.md: wall time, and the most memory that the run held at a time. A part is what one section of that
+page has: `inputs`, which are scripts and worlds up to the limits of an input and of a label, `lines`, `directories`, `objects`,
+`descriptors`, `processes`, `attributes` and `commands`. Without parts it prints all. PROGRAM is the built one where none is given;
+the script `labsys` would add its own time.
 """
 import argparse
 import os
 import pathlib
 import random
 import subprocess
+import sys
 import tempfile
 import time
 
+from started import compiled, taken
+
 TOP = pathlib.Path(__file__).resolve().parent.parent
+BUILT = TOP / "crates" / "labsys" / "out" / "labsys"
 HEAD = b"world 1\nlevels unc conf sec\ncategories a b\nbound all\ndir / 0777 0 0 unc\n"
 LIMIT = 16_777_216
 
@@ -51,6 +53,13 @@ def large_world(files, procs):
     lines += [b"script\n"]
     lines += [b"%d@unc mac_get_file /f%d\n" % (i % procs + 1, i) for i in range(files)]
     return HEAD + b"".join(lines)
+
+
+def filled_by_threes():
+    """400,000 files of 3 bytes each in one directory, of twelve labels, with one process and one call."""
+    labels = [level + cats for level in (b"unc", b"conf", b"sec") for cats in (b"", b":a", b":b", b":a,b")]
+    files = b"".join(b'file /d/f%06d 0644 10 10 %s "xyz"\n' % (n, labels[n % 12]) for n in range(400_000))
+    return HEAD + b"dir /d 0777 0 0 unc\n" + files + b'proc unc 10 10 - "="\nscript\n1@unc mac_get_file /d/f000000\n'
 
 
 def filled_world(size, depth):
@@ -97,6 +106,12 @@ def listed(calls):
     """A directory of 10,000 names that is listed this often."""
     names = b"".join(b"file /d/f%05d 0644 10 10 unc \"x\"\n" % n for n in range(10_000))
     return OPEN + names + CALLER + b"1@unc readdir /d\n" * calls
+
+
+def spread(call, objects):
+    """This many calls on as many names in 60 directories in turn. `%b` in the call is the path."""
+    world = [b"dir /d%02d 0777 10 10 unc\n" % n for n in range(60)]
+    return HEAD + b"".join(world) + CALLER + b"".join(call % (b"/d%02d/n%05d" % (n % 60, n)) for n in range(objects))
 
 
 def rewritten(cycles, files, size):
@@ -184,118 +199,140 @@ def write_input(path, make, args, counted):
 PLAY = ("play", "trail.out")
 
 
-def run(folder, words=PLAY):
+def run(program, folder, words=PLAY):
     """The status, the seconds and the MiB of one run on the input."""
     with open(pathlib.Path(folder) / "input", "rb") as source:
         begin = time.monotonic()
-        child = subprocess.Popen([TOP / "labsys", *words], stdin=source, stdout=subprocess.DEVNULL, cwd=folder)
+        child = subprocess.Popen([program, *words], stdin=source, stdout=subprocess.DEVNULL, cwd=folder)
         _, status, used = os.wait4(child.pid, 0)
         child.returncode = os.waitstatus_to_exitcode(status)
         return child.returncode, time.monotonic() - begin, used.ru_maxrss / 1024
 
 
-def show(folder, title, make, *args, counted=b"\n", words=PLAY):
+def show(run_of, title, make, *args, counted=b"\n", words=PLAY):
     """Prints the row of one input. `{}` in its title is how often the input has the bytes that are counted."""
+    program, folder = run_of
     path = pathlib.Path(folder) / "input"
     count = write_input(path, make, args, counted)
-    status, seconds, resident = run(folder, words)
+    status, seconds, resident = run(program, folder, words)
     ended = "" if status == 0 else f" status {status}"
     print(f"| {title.format(count)} | {path.stat().st_size:,} | {seconds:.2f} | {resident:,.0f} MiB |{ended}", flush=True)
 
 
-def lines(folder):
+def inputs(run_of):
+    """The rows of scripts of one call and of three, and of worlds up to the limits of a label and of an input."""
+    for part in (32, 16, 8, 4, 2, 1):
+        show(run_of, "{:,} calls", long_script, LIMIT // part, counted=b"mac_get_file")
+    for part in (32, 16, 8, 4, 2, 1):
+        show(run_of, "{:,} calls of three kinds", mixed_script, LIMIT // part, counted=b"1@unc ")
+    for part in (8, 4, 2, 1):
+        files, procs = 65_534 // part, 4_095 // part
+        show(run_of, f"{files:,} files, {procs:,} processes", large_world, files, procs)
+    for depth in (2, 32):
+        for part in (8, 4, 2, 1):
+            show(run_of, f"{{:,}} files, {depth} names deep", filled_world, LIMIT // part, depth, counted=b"file ")
+    show(run_of, "{:,} files, 2 names deep, of 3 bytes each", filled_by_threes, counted=b"file ")
+
+
+def lines(run_of):
     """The rows of scripts of short lines that change nothing."""
     for part in (32, 16, 8, 4, 2, 1):
-        show(folder, "{:,} calls of `mac_get_file`, `getpid` and `cap_get_proc`", asking_script, LIMIT // part, counted=b"1@sec ")
+        show(run_of, "{:,} calls of `mac_get_file`, `getpid` and `cap_get_proc`", asking_script, LIMIT // part, counted=b"1@sec ")
 
 
-def directories(folder):
+def directories(run_of):
     """The rows of scripts on directories."""
     for shuffled in (False, True):
         for names in (7_500, 15_000, 30_000, 60_000):
             order = "in random order" if shuffled else "in order"
-            show(folder, f"{names:,} names in one directory, {order}", changed_names, names, shuffled)
+            show(run_of, f"{names:,} names in one directory, {order}", changed_names, names, shuffled)
     for calls in (10_000, 20_000, 40_000):
-        show(folder, f"{calls:,} calls on paths of 32 names", deep_paths, calls)
+        show(run_of, f"{calls:,} calls on paths of 32 names", deep_paths, calls)
     for depth in (7_500, 15_000, 30_000, 60_000):
-        show(folder, f"a chain of {depth:,} directories, and as many moves to its end", moved_below, depth, depth)
+        show(run_of, f"a chain of {depth:,} directories, and as many moves to its end", moved_below, depth, depth)
     for calls in (50, 100, 200):
-        show(folder, f"a directory of 10,000 names, listed {calls} times", listed, calls)
+        show(run_of, f"a directory of 10,000 names, listed {calls} times", listed, calls)
 
 
-def descriptors(folder):
+def objects(run_of):
+    """The rows of scripts that make objects in 60 directories, and of as many calls that fail, without the memory of this program."""
+    program, folder = run_of
+    starter, path = compiled("start", folder), pathlib.Path(folder) / "input"
+    scripts = {
+        "60,000 files, made by `open`": b"1@unc open %b wc 0644\n1@unc close 0\n",
+        "60,000 calls of `open` that fail": b"1@unc open %b w\n1@unc close 0\n",
+        "60,000 directories, made by `mkdir`": b"1@unc mkdir %b 0755\n",
+        "60,000 calls of `rmdir` that fail": b"1@unc rmdir %b\n",
+    }
+    for title, call in scripts.items():
+        write_input(path, spread, (call, 60_000), b"")
+        took = taken(starter, [program, *PLAY], path, os.devnull, folder)
+        print(f"| {title} | {path.stat().st_size:,} | {took.seconds:.2f} | {took.mib:.1f} MiB |", flush=True)
+
+
+def descriptors(run_of):
     """The rows of scripts on descriptors."""
     for files in (1, 1_000):
         for calls in (62_500, 125_000, 250_000, 500_000):
-            show(folder, f"{calls:,} calls on {files:,} files, 1 byte a write", rewritten, calls // 11, files, 1)
+            show(run_of, f"{calls:,} calls on {files:,} files, 1 byte a write", rewritten, calls // 11, files, 1)
         for calls in (12_500, 25_000, 50_000):
-            show(folder, f"{calls:,} calls on {files:,} files, 1,000 bytes a write", rewritten, calls // 11, files, 1_000)
+            show(run_of, f"{calls:,} calls on {files:,} files, 1,000 bytes a write", rewritten, calls // 11, files, 1_000)
     for count in (8_191, 16_383, 32_767, 65_535):
-        show(folder, f"{count:,} descriptions of one label", drawn_descriptions, count)
+        show(run_of, f"{count:,} descriptions of one label", drawn_descriptions, count)
     for size in (8_192, 16_384, 32_768, 65_536):
-        show(folder, f"a file filled to {size:,} bytes, one by one", filled_file, size)
+        show(run_of, f"a file filled to {size:,} bytes, one by one", filled_file, size)
     for calls in (62_500, 125_000, 250_000, 500_000):
-        show(folder, f"{calls:,} calls on a pipe, 1 byte each", piped, calls, 1)
+        show(run_of, f"{calls:,} calls on a pipe, 1 byte each", piped, calls, 1)
     for calls in (4_000, 8_000, 16_000):
-        show(folder, f"{calls:,} calls on a pipe, 2,000 bytes each", piped, calls, 2_000)
+        show(run_of, f"{calls:,} calls on a pipe, 2,000 bytes each", piped, calls, 2_000)
     for calls in (3_500, 7_000, 14_000):
-        show(folder, f"{calls:,} calls on a pipe, which is filled and emptied", filled_pipe, calls)
+        show(run_of, f"{calls:,} calls on a pipe, which is filled and emptied", filled_pipe, calls)
 
 
-def processes(folder):
+def processes(run_of):
     """The rows of scripts on processes."""
     for forks in (500, 1_000, 2_000, 4_000):
-        show(folder, f"{forks:,} children that end and are awaited in turn", awaited, forks)
+        show(run_of, f"{forks:,} children that end and are awaited in turn", awaited, forks)
     for forks in (500, 1_000, 2_000, 4_000):
-        show(folder, f"a chain of {forks:,} forks", chained, forks)
+        show(run_of, f"a chain of {forks:,} forks", chained, forks)
     for calls in (62_500, 125_000, 250_000, 500_000):
-        show(folder, f"{calls:,} calls of getpid by 4,000 processes", asked, calls)
+        show(run_of, f"{calls:,} calls of getpid by 4,000 processes", asked, calls)
     for procs in (500, 1_000, 2_000, 4_000):
-        show(folder, f"{procs:,} processes execute one file", executed, procs)
+        show(run_of, f"{procs:,} processes execute one file", executed, procs)
 
 
-def attributes(folder):
+def attributes(run_of):
     """The rows of scripts on attributes of objects."""
     for files in (7_500, 15_000, 30_000, 60_000):
-        show(folder, f"{files:,} files get a mode, an owner, capability sets and a label", attributed, files)
+        show(run_of, f"{files:,} files get a mode, an owner, capability sets and a label", attributed, files)
 
 
-def commands(folder):
+def commands(run_of):
     """The rows of each command, on the script of short lines and on the generated input."""
     for words in (PLAY, ("view", "sec"), ("view", "unc"), ("check",)):
-        show(folder, f"`{' '.join(words)}` of {{:,}} calls", asking_script, LIMIT, counted=b"1@sec ", words=words)
+        show(run_of, f"`{' '.join(words)}` of {{:,}} calls", asking_script, LIMIT, counted=b"1@sec ", words=words)
     for count in (12_500, 25_000, 50_000, 100_000):
-        show(folder, f"`gen {count}`", started, 0, words=("gen", str(count)))
-        show(folder, f"`drill {count}`", started, 0, words=("drill", str(count)))
+        show(run_of, f"`gen {count}`", started, 0, words=("gen", str(count)))
+        show(run_of, f"`drill {count}`", started, 0, words=("drill", str(count)))
 
 
-PARTS = {"lines": lines, "directories": directories, "descriptors": descriptors, "processes": processes, "attributes": attributes, "commands": commands}
+PARTS = [inputs, lines, directories, objects, descriptors, processes, attributes, commands]
 
 
 def main():
-    words = argparse.ArgumentParser(description="Times runs over inputs of doubling size.")
-    words.add_argument("parts", nargs="*", choices=[[], *PARTS], help="the rows of these scripts alone")
-    parts = words.parse_args().parts
+    names = [part.__name__ for part in PARTS]
+    arguments = argparse.ArgumentParser(description=__doc__, formatter_class=argparse.RawDescriptionHelpFormatter)
+    arguments.add_argument("--cmd", default=BUILT, type=pathlib.Path, help="the program; without it, that of the checkout", metavar="PROGRAM")
+    arguments.add_argument("parts", nargs="*", choices=[[], *names], metavar="PART", help=", ".join(names))
+    given = arguments.parse_args()
+    program = given.cmd.resolve()
+    if not os.access(program, os.X_OK):
+        sys.exit(f"there is no program {program}: `make` builds that of the checkout")
     with tempfile.TemporaryDirectory() as folder:
-        write_input(pathlib.Path(folder) / "input", long_script, [1_000], b"\n")
-        run(folder)  # builds the program, if it is not built
-        print("| Input | Bytes | Seconds | Resident |\n|---|---|---|---|")
-        if parts:
-            for part in parts:
-                PARTS[part](folder)
-            return
-        for part in (32, 16, 8, 4, 2, 1):
-            show(folder, "{:,} calls", long_script, LIMIT // part, counted=b"mac_get_file")
-        for part in (32, 16, 8, 4, 2, 1):
-            show(folder, "{:,} calls of three kinds", mixed_script, LIMIT // part, counted=b"1@unc ")
-        for part in (8, 4, 2, 1):
-            files, procs = 65_534 // part, 4_095 // part
-            show(folder, f"{files:,} files, {procs:,} processes", large_world, files, procs)
-        for depth in (2, 32):
-            for part in (8, 4, 2, 1):
-                show(folder, f"{{:,}} files, {depth} names deep", filled_world, LIMIT // part, depth, counted=b"file ")
-        for part in PARTS.values():
-            part(folder)
+        for part in PARTS:
+            if not given.parts or part.__name__ in given.parts:
+                print(f"\n{part.__name__}:\n\n| Input | Bytes | Seconds | Resident |\n|---|---|---|---|")
+                part((program, folder))
 
 
 if __name__ == "__main__":

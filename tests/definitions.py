@@ -3,7 +3,7 @@
 
     definitions.py            prints the files that have such definitions, and how many lines these take
     definitions.py --print    prints the definitions
-    definitions.py --check    prints nothing, and fails where the README lists other files
+    definitions.py --check    prints nothing, and fails where docs/THEOREMS.md lists other files
 
 A definition is used where the file of `run` imports it, or a definition that is used names it.
 """
@@ -102,7 +102,7 @@ def used():
 
 
 def rows_of(definitions):
-    """A row of the README's table for each folder."""
+    """A row of the table in docs/THEOREMS.md for each folder."""
     folders = {}
     for path in definitions:
         folders.setdefault(path.parent.relative_to(CRATES), []).append(f"`{path.stem}`")
@@ -120,9 +120,9 @@ def main():
     definitions = used()
     rows = rows_of(definitions)
     if sys.argv[1:] == ["--check"]:
-        listed = [line for line in (TOP / "README.md").read_text(encoding="utf-8").splitlines() if line.startswith("| `crates/")]
+        listed = [line for line in (TOP / "docs" / "THEOREMS.md").read_text(encoding="utf-8").splitlines() if line.startswith("| `crates/")]
         if listed != rows:
-            sys.exit("README.md lists other files than those of the definitions that run uses; tests/definitions.py prints the list")
+            sys.exit("docs/THEOREMS.md lists other files than those of the definitions that run uses; tests/definitions.py prints the list")
     elif sys.argv[1:] == ["--print"]:
         print_definitions(definitions)
     else:

@@ -1,9 +1,10 @@
 #!/usr/bin/env python3
 """Runs a command on cases, and compares its exit status and each byte of its output and its trail.
 
-    run_cases.py --cmd COMMAND [FOLDER or FILE ...]
+    run_cases.py --cmd COMMAND [--out-only] [FOLDER or FILE ...]
 
-Without a folder or file it runs every case below the folder of this script.
+Without a folder or file it runs every case below the folder of this script. With --out-only
+status and output are compared, and neither the trail nor which files are made.
 
 A case is a text file. It has these sections, in this order, each after a line `== NAME`:
 
@@ -100,7 +101,19 @@ def first_difference(want, got):
     return []
 
 
-def run_case(cmd, path, timeout):
+def trail_faults(case, folder):
+    """Lines that say what is wrong with the files that a run made in its folder."""
+    made = sorted(os.listdir(folder))
+    want = [case["words"][1]] if "trail" in case else []
+    if made != want:
+        return ["    files wanted %s, made %s" % (want or "none", made or "none")]
+    if not want:
+        return []
+    with open(os.path.join(folder, want[0]), "rb") as f:
+        return diff("trail", case["trail"], f.read())
+
+
+def run_case(cmd, path, timeout, out_only=False):
     """Lines that say what is wrong; none where the case passed."""
     try:
         case = read_case(path)
@@ -114,17 +127,12 @@ def run_case(cmd, path, timeout):
             return ["    no end within %d seconds" % timeout]
         except OSError as e:
             return ["    %s" % e]
-        made = sorted(os.listdir(folder))
         wrong = []
         if done.returncode != case["status"]:
             wrong.append("    status wanted %d, got %d" % (case["status"], done.returncode))
         wrong += diff("out", case["out"], done.stdout)
-        want = [case["words"][1]] if "trail" in case else []
-        if made != want:
-            wrong.append("    files wanted %s, made %s" % (want or "none", made or "none"))
-        elif want:
-            with open(os.path.join(folder, want[0]), "rb") as f:
-                wrong += diff("trail", case["trail"], f.read())
+        if not out_only:
+            wrong += trail_faults(case, folder)
         if wrong and done.stderr:
             wrong.append("    standard error: " + done.stderr.decode("latin-1").strip().split("\n")[-1][:200])
         return wrong
@@ -146,6 +154,7 @@ def main():
     ap = argparse.ArgumentParser(description="Runs cases against a command.")
     ap.add_argument("--cmd", required=True, help="the command and its first words, as a shell would split them")
     ap.add_argument("--timeout", type=int, default=120, help="the most seconds for one case")
+    ap.add_argument("--out-only", action="store_true", help="compare status and output alone")
     ap.add_argument("--jobs", type=int, default=os.cpu_count() or 1)
     ap.add_argument("paths", nargs="*")
     a = ap.parse_args()
@@ -154,7 +163,7 @@ def main():
     paths = find(a.paths or [here])
     passed = failed = 0
     with concurrent.futures.ThreadPoolExecutor(a.jobs) as pool:
-        for path, wrong in zip(paths, pool.map(lambda p: run_case(cmd, p, a.timeout), paths)):
+        for path, wrong in zip(paths, pool.map(lambda p: run_case(cmd, p, a.timeout, a.out_only), paths)):
             if wrong:
                 failed += 1
                 print("FAILED " + os.path.relpath(path))
