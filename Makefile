@@ -1,0 +1,33 @@
+# Installs the program, its man page, and completions below PREFIX. DESTDIR is put before each path, as packages need it.
+#
+#     make install [PREFIX=/usr/local] [DESTDIR=]
+#     make uninstall [PREFIX=/usr/local] [DESTDIR=]
+#
+# `make` builds the program first, where it is not built; so does `make install`. The program goes below libexec/, and the script
+# that starts it, below bin/.
+PREFIX = /usr/local
+DESTDIR =
+bindir = $(PREFIX)/bin
+libexecdir = $(PREFIX)/libexec
+mandir = $(PREFIX)/share/man
+bashdir = $(PREFIX)/share/bash-completion/completions
+zshdir = $(PREFIX)/share/zsh/site-functions
+vimdir = $(PREFIX)/share/vim/vimfiles/syntax
+
+all:
+	./labsys check <examples/read_by_capability.txt >/dev/null
+
+install: all
+	install -d '$(DESTDIR)$(bindir)' '$(DESTDIR)$(libexecdir)' '$(DESTDIR)$(mandir)/man1' '$(DESTDIR)$(bashdir)' '$(DESTDIR)$(zshdir)' '$(DESTDIR)$(vimdir)'
+	install -m 755 labsys '$(DESTDIR)$(bindir)/labsys'
+	install -m 755 crates/labsys/out/labsys '$(DESTDIR)$(libexecdir)/labsys'
+	install -m 644 docs/labsys.1 '$(DESTDIR)$(mandir)/man1/labsys.1'
+	install -m 644 completion/labsys.bash '$(DESTDIR)$(bashdir)/labsys'
+	install -m 644 completion/_labsys '$(DESTDIR)$(zshdir)/_labsys'
+	install -m 644 editor/labsys.vim '$(DESTDIR)$(vimdir)/labsys.vim'
+
+uninstall:
+	rm -f '$(DESTDIR)$(bindir)/labsys' '$(DESTDIR)$(libexecdir)/labsys' '$(DESTDIR)$(mandir)/man1/labsys.1'
+	rm -f '$(DESTDIR)$(bashdir)/labsys' '$(DESTDIR)$(zshdir)/_labsys' '$(DESTDIR)$(vimdir)/labsys.vim'
+
+.PHONY: all install uninstall

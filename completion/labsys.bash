@@ -1,0 +1,13 @@
+# Completion of labsys for bash.
+_labsys() {
+    local word=${COMP_WORDS[COMP_CWORD]}
+    COMPREPLY=()
+    if [ "$COMP_CWORD" -eq 1 ]; then
+        mapfile -t COMPREPLY < <(compgen -W "play view check gen drill --help --version" -- "$word")
+    elif [ "$COMP_CWORD" -eq 2 ] && [ "${COMP_WORDS[1]}" = play ]; then
+        compopt -o filenames
+        mapfile -t COMPREPLY < <(compgen -f -- "$word")
+    fi
+}
+# Elsewhere, as in `labsys check < FILE`, the names of files are completed.
+complete -o default -F _labsys labsys
