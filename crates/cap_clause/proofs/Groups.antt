@@ -176,7 +176,7 @@ pub every_cap : (cap : Cap) → list_any (same_cap cap) all_caps ≡ true
 unfolding all_of_caps
 every_cap cap = sym (set.contains-from_list cap_cmp_total all_caps cap) ∙ has-all_of_caps cap
 
-any_kept : (keep p : Cap → Bool) (cap : Cap) (caps : List Cap) → list_any (same_cap cap) caps ≡ true → keep cap ≡ true → p cap ≡ true → list_any p (filter keep caps) ≡ true
+pub any_kept : (keep p : Cap → Bool) (cap : Cap) (caps : List Cap) → list_any (same_cap cap) caps ≡ true → keep cap ≡ true → p cap ≡ true → list_any p (filter keep caps) ≡ true
 any_kept keep p cap [] there kept passes = absurd (cc)
 any_kept keep p cap (x ∷ xs) there kept passes = elim (same_cap cap x) as (λ v. same_cap cap x ≡ v → (v || list_any (same_cap cap) xs) ≡ true → list_any p (filter keep (x ∷ xs)) ≡ true)
     [ true ↦ λ same _. here ((same_cap-decides cap x).0 same) | false ↦ λ _ later. after (any_kept keep p cap xs later kept passes) ] refl there
@@ -191,7 +191,7 @@ any_kept keep p cap (x ∷ xs) there kept passes = elim (same_cap cap x) as (λ 
     after rest = elim (keep x) as (λ v. list_any p (cond v (x ∷ filter keep xs) (filter keep xs)) ≡ true) [ true ↦ or_right (p x) (list_any p (filter keep xs)) rest | false ↦ rest ]
 
 -- whether a capability with a lower number has equal flags
-abbrev earlier : CapState → Cap → Cap → Bool
+abbrev pub earlier : CapState → Cap → Cap → Bool
 earlier s cap other = nat_lt (cap_number other) (cap_number cap) && same_flags s cap other
 
 some_flag : (s : CapState) (cap : Cap) (f : Flag) → has_flag s cap f ≡ true → list_any (has_flag s cap) all_flags ≡ true
@@ -199,7 +199,7 @@ some_flag s cap Effective has = or_left (has_flag s cap Effective) _ has
 some_flag s cap Inheritable has = or_right (has_flag s cap Effective) _ (or_left (has_flag s cap Inheritable) _ has)
 some_flag s cap Permitted has = or_right (has_flag s cap Effective) _ (or_right (has_flag s cap Inheritable) _ (or_left (has_flag s cap Permitted) _ has))
 
-is_first_from : (s : CapState) (q : Cap) → list_any (has_flag s q) all_flags ≡ true → list_any (earlier s q) all_caps ≡ false → is_first s q ≡ true
+pub is_first_from : (s : CapState) (q : Cap) → list_any (has_flag s q) all_flags ≡ true → list_any (earlier s q) all_caps ≡ false → is_first s q ≡ true
 unfolding is_first
 is_first_from s q flagged none = and_from (list_any (has_flag s q) all_flags) _ flagged (ap not none)
 

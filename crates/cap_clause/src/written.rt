@@ -1,9 +1,9 @@
 // The texts that are written.
-ghost use Rattle.std.specs.Prelude.{◌≡◌, ◌++◌, ◌∷◌, map, OnOk, IfOk, Ok};
+ghost use Rattle.std.specs.Prelude.{◌≡◌, ◌++◌, ◌∷◌, ◌<◌, true, false, map, OnOk, IfOk, MatchOption, Ok};
 ghost use Rattle.std.specs.Bool.{beq};
 ghost use Rattle.std.specs.List.{filter, join_with_byte};
-ghost use Rattle.cap_bits.specs.Cap.{cap_name};
-ghost use Rattle.cap_bits.specs.CapSet.{has};
+ghost use Rattle.cap_bits.specs.Cap.{cap_name, cap_number};
+ghost use Rattle.cap_bits.specs.CapSet.{has, no_caps};
 ghost use Rattle.cap_bits.specs.State.{has_flag};
 ghost use Rattle.cap_clause.specs.Clauses.{all_flags};
 ghost use Rattle.cap_clause.specs.Parsed.{parse_caps, parse_set};
@@ -123,24 +123,29 @@ fn put_group(text: &mut Vec<u8>, state: &CapState, cap: Cap) -> Result<(), NoMem
     put_flags(text, state, cap)
 }
 
+// The capability with the lowest number in a set.
+fn first_of(caps: &CapSet) -> Option<Cap>
+    ensures { MatchOption result (caps.now ≡ no_caps) (λ cap. (has caps.now cap ≡ true) × ((q : Cap) → cap_number q < cap_number cap → has caps.now q ≡ false)) }
+{
+    if *caps == CapSet::none() {
+        return None;
+    }
+    (0..18)
+        .filter_map(Cap::from_number)
+        .find(|cap| caps.has(*cap))
+}
+
 // Writes the clauses of all groups with spaces between them.
 fn put_groups(text: &mut Vec<u8>, state: &CapState) -> Result<(), NoMemory>
     ensures { OnOk result (text.new.items ≡ text.old.items ++ join_with_byte 32 (map (group_text state.now) (firsts_of state.now))) }
 {
     let mut left = state.e.union(state.i).union(state.p);
     let mut mark: &[u8] = b"";
-    let mut candidate = 0;
-    while let Some(cap) = Cap::from_number(candidate) {
-        if left == CapSet::none() {
-            return Ok(());
-        }
-        if left.has(cap) {
-            text.extend_from_slice(mark)?;
-            put_group(text, state, cap)?;
-            left = left.minus(group_of(state, cap));
-            mark = b" ";
-        }
-        candidate += 1;
+    while let Some(cap) = first_of(&left) {
+        text.extend_from_slice(mark)?;
+        put_group(text, state, cap)?;
+        left = left.minus(group_of(state, cap));
+        mark = b" ";
     }
     Ok(())
 }
