@@ -1,11 +1,10 @@
 -- Properties of the changes of a row: one holds of each row where it holds of each kind of effect.
-use Rattle.std.specs.Prelude.{◌≡◌, ◌⊎◌, ℕ, ◌+◌, ◌<◌, ◌≤◌, ◌&&◌, ◌||◌, ◌++◌, length, Bool, true, false, not, List, [], ◌∷◌, Option, None, Some, cond}
+use Rattle.std.specs.Prelude.{◌≡◌, ◌⊎◌, ℕ, ◌+◌, ◌<◌, ◌≤◌, ◌&&◌, ◌||◌, ◌++◌, length, Bool, true, false, not, List, [], ◌∷◌, None, Some, cond}
 use Rattle.std.specs.FinMap as map
 use Rattle.cap_bits.specs.CapSet.{is_within}
 use Rattle.cap_bits.specs.State.{no_flags}
 use Rattle.cap_bits.specs.declared.state.CapState.{CapState}
 use Rattle.fs_path.specs.Name.{Name, is_name}
-use Rattle.fs_path.specs.Path.{PathValue}
 use Rattle.lab_lattice.specs.Label.{Label, dominates}
 use Rattle.kern_model.specs.declared.calls.Ending.{Ending}
 use Rattle.kern_model.specs.declared.calls.OpenFlags.{OpenFlags}
@@ -14,32 +13,31 @@ use Rattle.kern_model.specs.declared.numbers.Ids.{Ids}
 use Rattle.kern_model.specs.declared.numbers.Oid.{Oid}
 use Rattle.kern_model.specs.declared.numbers.Pid.{Pid}
 use Rattle.kern_model.specs.declared.checks.Place.{Place}
-use Rattle.kern_model.specs.declared.checks.Place.TheVariants.{First, Handle}
+use Rattle.kern_model.specs.declared.checks.Place.TheVariants.{Handle}
 use Rattle.kern_model.specs.declared.objects.Attr.{Attr}
 use Rattle.kern_model.specs.declared.objects.Kind.TheVariants as kind
 use Rattle.kern_model.specs.declared.objects.Object.{Object}
 use Rattle.kern_model.specs.declared.records.Rec.{Rec}
 use Rattle.kern_model.specs.Create.{made, has_object_number}
 use Rattle.kern_model.specs.Descriptors.{Opened, closing, open_count, with_descriptor}
-use Rattle.kern_model.specs.FileRows.{open_object, opening, moved, with_bytes, piped}
+use Rattle.kern_model.specs.FileRows.{open_object, opening, moved, with_bytes, piped, rewritten}
 use Rattle.kern_model.specs.Keys.{same_oid}
 use Rattle.kern_model.specs.Entries.{is_empty, is_removed, link_count}
 use Rattle.kern_model.specs.Kinds.{is_dir as dir_kind, is_file, is_fifo, is_mode, is_permission, is_stream}
 use Rattle.kern_model.specs.ProcessRows.{child_of, ending_of}
 use Rattle.kern_model.specs.Rules.{same_label, is_above_holders, mac_downgrade, mac_read, mac_subject, mac_upgrade, mac_write, mac_write_process}
-use Rattle.kern_model.specs.Row.{Row}
 use Rattle.kern_model.specs.State.{State, Process, Change, SetObject, SetProcess, SetEntry, DropEntry, DrawProcess, drawn, next_object, next_process, object_at, look, root}
 use Rattle.kern_model.specs.Step.{subject}
-use Rattle.kern_model.specs.Walk.{on_path, read_object, last_place}
-use Rattle.kern_model.specs.Valid.{IsValid, IsDir}
-use Rattle.iso_laws.proofs.Rows.{Ends, Passes, Gives, ends_given}
-use Rattle.iso_laws.proofs.Sight.{IsNamed, IsOpen, ends_reach}
+use Rattle.kern_model.specs.Valid.{IsDir}
+use Rattle.iso_laws.proofs.Rows.{Passes}
+use Rattle.iso_laws.proofs.Sight.{IsNamed, IsOpen}
 use Rattle.iso_laws.proofs.files.Closed.{has_fd, without_fd}
 use Rattle.iso_laws.proofs.tree.Changes.{IsFresh}
 use Rattle.iso_laws.proofs.tree.Moves.{IsMove}
 
 -- an object may be made, where none was, in a directory whose mac_write passed and that is not removed
-pub record IsMaking (bad : Rec → Bool) (s : State) (who : Pid) (p : Process) (fit : Type 0) (dir : Oid) (name : Name) (o : Object) (place : Place) : Type 0 where
+pub record IsMaking (bad : Rec → Bool) (s : State) (who : Pid) (p : Process) (fit : Type 0) (dir : Oid) (name : Name) (o : Object)
+    (place : Place) : Type 0 where
   pub written : Passes bad (subject who p) (mac_write s p dir place)
   pub is_dir : IsDir s.objects dir
   pub free : look s dir name ≡ None
@@ -76,19 +74,26 @@ pub record IsRelabelling (bad : Rec → Bool) (s : State) (who : Pid) (p : Proce
 pub record Cases (bad : Rec → Bool) (s : State) (who : Pid) (p : Process) (fit : Type 0) (P : List Change → Type 0) : Type 0 where
   pub none : P []
   -- the caller gets other ids, capability sets, umask or audit switch
-  pub self : (ids : Ids) (caps : CapState) (umask : ℕ) (audited : Bool) → ids.groups ≡ p.ids.groups → is_within caps.e caps.p ≡ true → (fit → is_permission umask ≡ true)
+  pub self : (ids : Ids) (caps : CapState) (umask : ℕ) (audited : Bool) → ids.groups ≡ p.ids.groups → is_within caps.e caps.p ≡ true
+      → (fit → is_permission umask ≡ true)
       → P (SetProcess who (record p { ids = ids; caps = caps; umask = umask; audited = audited }) ∷ [])
   -- the caller gets another label, which a check allowed
-  pub label : (new : Label) → (not (same_label new p.label) ≡ true → Passes bad (subject who p) (mac_subject who p new)) → (fit → dominates s.top new ≡ true) → P (SetProcess who (record p { label = new }) ∷ [])
+  pub label : (new : Label) → (not (same_label new p.label) ≡ true → Passes bad (subject who p) (mac_subject who p new)) → (fit → dominates s.top new ≡ true)
+      → P (SetProcess who (record p { label = new }) ∷ [])
   -- the caller gets another current directory, whose mac_read passed
-  pub cwd : (id : Oid) (place : Place) → Passes bad (subject who p) (mac_read s p id place) → IsDir s.objects id → P (SetProcess who (record p { cwd = id }) ∷ [])
+  pub cwd : (id : Oid) (place : Place) → Passes bad (subject who p) (mac_read s p id place) → IsDir s.objects id
+      → P (SetProcess who (record p { cwd = id }) ∷ [])
   -- an entry is removed from a directory whose mac_write passed; what it leads to has no entries
-  pub leave : (dir : Oid) (name : Name) (id : Oid) (place : Place) → Passes bad (subject who p) (mac_write s p dir place) → IsDir s.objects dir → look s dir name ≡ Some id → is_empty s id ≡ true → P (DropEntry (dir, name) ∷ [])
+  pub leave : (dir : Oid) (name : Name) (id : Oid) (place : Place) → Passes bad (subject who p) (mac_write s p dir place) → IsDir s.objects dir
+      → look s dir name ≡ Some id → is_empty s id ≡ true → P (DropEntry (dir, name) ∷ [])
   -- an entry of a file is added, where none was, to a directory whose mac_write passed and that is not removed
-  pub enter : (dir : Oid) (name : Name) (id : Oid) (place : Place) → Passes bad (subject who p) (mac_write s p dir place) → (is_dir : IsDir s.objects dir) → look s dir name ≡ None → is_removed s dir ≡ false
-      → (named : IsNamed s id) → not (dir_kind named.object.kind) ≡ true → link_count s id + 1 ≤ MAX_LINKS → dominates named.object.label is_dir.object.label ≡ true → (fit → is_name name ≡ true) → P (SetEntry (dir, name) id ∷ [])
+  pub enter : (dir : Oid) (name : Name) (id : Oid) (place : Place) → Passes bad (subject who p) (mac_write s p dir place) → (is_dir : IsDir s.objects dir)
+      → look s dir name ≡ None → is_removed s dir ≡ false
+      → (named : IsNamed s id) → not (dir_kind named.object.kind) ≡ true → link_count s id + 1 ≤ MAX_LINKS
+      → dominates named.object.label is_dir.object.label ≡ true → (fit → is_name name ≡ true) → P (SetEntry (dir, name) id ∷ [])
   -- an entry moves to a spot of a directory, and the mac_write of both directories passed
-  pub move : (dir : Oid) (name : Name) (id into : Oid) (new : Name) (place there_place : Place) → Passes bad (subject who p) (mac_write s p dir place) → IsDir s.objects dir → Passes bad (subject who p) (mac_write s p into there_place)
+  pub move : (dir : Oid) (name : Name) (id into : Oid) (new : Name) (place there_place : Place) → Passes bad (subject who p) (mac_write s p dir place)
+      → IsDir s.objects dir → Passes bad (subject who p) (mac_write s p into there_place)
       → IsMove s dir name id into new → (fit → is_name new ≡ true) → P (DropEntry (dir, name) ∷ SetEntry (into, new) id ∷ [])
   -- an object is made
   pub make : (dir : Oid) (name : Name) (o : Object) (place : Place) → IsMaking bad s who p fit dir name o place → P (made s p dir name o)
@@ -97,51 +102,39 @@ pub record Cases (bad : Rec → Bool) (s : State) (who : Pid) (p : Process) (fit
   -- a descriptor of the caller gets another offset
   pub seek : (fd : ℕ) (f : Opened) (offset : ℕ) → IsOpen s p fd f → P (moved f offset ∷ [])
   -- a pipe or FIFO of a descriptor, whose mac_write passed, gets other bytes
-  pub pass : (fd : ℕ) (f : Opened) (bytes : List ℕ) → IsOpen s p fd f → Passes bad (subject who p) (mac_write s p f.description.object Handle) → is_stream (open_object s f).kind ≡ true → length bytes ≤ MAX_PIPE_BYTES → P (with_bytes s f.description.object bytes ∷ [])
+  pub pass : (fd : ℕ) (f : Opened) (bytes : List ℕ) → IsOpen s p fd f → Passes bad (subject who p) (mac_write s p f.description.object Handle)
+      → is_stream (open_object s f).kind ≡ true → length bytes ≤ MAX_PIPE_BYTES → P (with_bytes s f.description.object bytes ∷ [])
   -- a file of a descriptor, whose mac_write passed, gets other bytes and attributes, and the descriptor another offset
-  pub write : (fd : ℕ) (f : Opened) (attr : Attr) (bytes : List ℕ) (offset : ℕ) → IsOpen s p fd f → Passes bad (subject who p) (mac_write s p f.description.object Handle) → (open_object s f).kind ≡ kind.File → is_mode attr.mode ≡ true → length bytes ≤ MAX_FILE_BYTES
-      → P (SetObject f.description.object (record (open_object s f) { attr = attr; bytes = bytes }) ∷ moved f offset ∷ [])
+  pub write : (fd : ℕ) (f : Opened) (attr : Attr) (bytes : List ℕ) (offset : ℕ) → IsOpen s p fd f
+      → Passes bad (subject who p) (mac_write s p f.description.object Handle) → (open_object s f).kind ≡ kind.File → is_mode attr.mode ≡ true
+      → length bytes ≤ MAX_FILE_BYTES
+      → P (rewritten f.description.object (open_object s f) bytes attr ∷ moved f offset ∷ [])
   -- an object is opened
   pub open_existing : (id : Oid) (flags : OpenFlags) (place : Place) → IsOpening bad s who p id flags place → P (opening s who p id flags)
   -- a file that may be written loses its bytes, gets other attributes, and is opened
-  pub open_emptied : (id : Oid) (flags : OpenFlags) (place : Place) (attr : Attr) → (may : IsOpening bad s who p id flags place) → flags.w ≡ true → may.named.object.kind ≡ kind.File → is_mode attr.mode ≡ true → P (SetObject id (record (object_at s id) { attr = attr; bytes = [] }) ∷ opening s who p id flags)
+  pub open_emptied : (id : Oid) (flags : OpenFlags) (place : Place) (attr : Attr) → (may : IsOpening bad s who p id flags place) → flags.w ≡ true
+      → may.named.object.kind ≡ kind.File → is_mode attr.mode ≡ true
+      → P (rewritten id (object_at s id) [] attr ∷ opening s who p id flags)
   -- a file is made and opened
-  pub open_made : (dir : Oid) (name : Name) (o : Object) (place : Place) (flags : OpenFlags) → IsMaking bad s who p fit dir name o place → o.kind ≡ kind.File → HasRoom s p → P (made s p dir name o ++ opening s who p (next_object s p.label) flags)
+  pub open_made : (dir : Oid) (name : Name) (o : Object) (place : Place) (flags : OpenFlags) → IsMaking bad s who p fit dir name o place → o.kind ≡ kind.File
+      → HasRoom s p → P (made s p dir name o ++ opening s who p (next_object s p.label) flags)
   -- a pipe is made and opened at both ends
   pub pipe : has_object_number s p ≡ true → open_count p + 2 ≤ MAX_DESCRIPTORS → drawn s.description_numbers p.label + 2 ≤ MAX_DESCRIPTIONS → P (piped s who p)
   -- a descriptor of the caller closes
   pub close : (fd : ℕ) → P (SetProcess who (without_fd p fd) ∷ closing s (has_fd who fd))
   -- an object whose mac_write passed gets other attributes
-  pub attributes : (id : Oid) (o : Object) (attr : Attr) (place : Place) → map.get s.objects id ≡ Some o → Passes bad (subject who p) (mac_write s p id place) → (fit → is_mode attr.mode ≡ true) → (is_file o.kind ≡ false → attr.caps ≡ no_flags)
+  pub attributes : (id : Oid) (o : Object) (attr : Attr) (place : Place) → map.get s.objects id ≡ Some o → Passes bad (subject who p) (mac_write s p id place)
+      → (fit → is_mode attr.mode ≡ true) → (is_file o.kind ≡ false → attr.caps ≡ no_flags)
       → P (SetObject id (record o { attr = attr }) ∷ [])
   -- an object whose mac_write passed gets another label, which a check allowed
-  pub relabel : (id : Oid) (o : Object) (new : Label) (place : Place) → map.get s.objects id ≡ Some o → Passes bad (subject who p) (mac_write s p id place) → IsRelabelling bad s who p id o new place → (fit → dominates s.top new ≡ true)
+  pub relabel : (id : Oid) (o : Object) (new : Label) (place : Place) → map.get s.objects id ≡ Some o → Passes bad (subject who p) (mac_write s p id place)
+      → IsRelabelling bad s who p id o new place → (fit → dominates s.top new ≡ true)
       → P (SetObject id (record o { label = new }) ∷ [])
   -- the caller forks
-  pub fork : drawn s.process_numbers p.label < MAX_PROCS → P (DrawProcess p.label (drawn s.process_numbers p.label + 1) ∷ SetProcess (next_process s p.label) (child_of who p) ∷ [])
+  pub fork : drawn s.process_numbers p.label < MAX_PROCS
+      → P (DrawProcess p.label (drawn s.process_numbers p.label + 1) ∷ SetProcess (next_process s p.label) (child_of who p) ∷ [])
   -- the caller has awaited the first of its children that ended
   pub await : (e : Pid × Ending) (es : List (Pid × Ending)) → p.ended ≡ e ∷ es → P (SetProcess who (record p { ended = es }) ∷ [])
   -- a process ends: the caller, or one whose mac_write passed
-  pub finish : (q : Pid) (x : Process) (how : Ending) → map.get s.procs q ≡ Some x → (q ≡ who) ⊎ Passes bad (subject who p) (mac_write_process p q q.label) → P (ending_of s q x how)
-
--- ---- what the rows of every process share
--- a property of changes, whatever the own record is
-abbrev pub OfChanges : (List Change → Type 0) → List Change → Option Rec → Type 0
-OfChanges P cs own = P cs
-
--- the changes of the row satisfy a property, unless an exercise is bad
-abbrev pub Meets : (Rec → Bool) → Pid → Process → (List Change → Type 0) → Row → Type 0
-Meets bad who p P r = Ends bad (subject who p) P r
-
-module _ (bad : Rec → Bool) (s : State) (valid : IsValid s) (who : Pid) (p : Process) (is : map.get s.procs who ≡ Some p) (fit : Type 0) (P : List Change → Type 0) (cases : Cases bad s who p fit P) where
-  -- a row whose checks do not matter
-  pub meets_given : (r : Row) → Gives (OfChanges P) r → Meets bad who p P r
-  meets_given r h = ends_given bad (subject who p) P cases.none r h
-
-  -- the row of a call on an object that a path leads to
-  pub meets_path : (path : PathValue) (k : Oid → Place → Row) → ((id : Oid) (place : Place) → Meets bad who p P (k id place)) → Meets bad who p P (on_path s p path k)
-  meets_path path k h = ends_reach bad s valid who p P cases.none is (λ n. First n) path _ (λ id _. h id (last_place (λ n. First n) path))
-
-  -- the row of a call that reads the object that a path leads to, whose label does not matter
-  pub meets_read : (path : PathValue) (k : Oid → Place → Object → Row) → ((id : Oid) (place : Place) → Gives (OfChanges P) (k id place (object_at s id))) → Meets bad who p P (on_path s p path (λ id place. read_object s p id place (k id place)))
-  meets_read path k gives = meets_path path (λ id place. read_object s p id place (k id place)) (λ id place. meets_given _ (gives id place))
+  pub finish : (q : Pid) (x : Process) (how : Ending) → map.get s.procs q ≡ Some x → (q ≡ who) ⊎ Passes bad (subject who p) (mac_write_process p q q.label)
+      → P (ending_of s q x how)

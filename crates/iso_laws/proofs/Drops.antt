@@ -4,10 +4,8 @@ use Rattle.std.specs.List.{flat_map}
 use Rattle.std.specs.Option.{option_to_list}
 use Rattle.std.proofs.Common.{sym, ◌∙◌, ap, subst}
 use Rattle.std.proofs.lemmas.Bool.{and_parts}
-use Rattle.std.proofs.lemmas.Cmp.{eq_by_cmp_equiv}
 use Rattle.std.specs.FinMap as map
 use Rattle.cap_bits.specs.CapSet.{CapSet, is_within}
-use Rattle.cap_bits.specs.Laws.{has-within}
 use Rattle.cap_bits.specs.declared.cap.Cap.{Cap}
 use Rattle.cap_bits.specs.declared.state.CapState.{CapState}
 use Rattle.cap_bits.specs.State.{no_flags}
@@ -15,10 +13,7 @@ use Rattle.kern_model.specs.declared.numbers.Pid.{Pid}
 use Rattle.kern_model.specs.declared.checks.Check.{Check}
 use Rattle.kern_model.specs.declared.checks.CheckName.{CheckName}
 use Rattle.kern_model.specs.declared.checks.Place.{Place}
-use Rattle.kern_model.specs.declared.checks.Place.TheVariants.{First}
-use Rattle.kern_model.specs.declared.checks.Verdict.TheVariants.{Passed, Denied}
 use Rattle.kern_model.specs.declared.calls.Call.{Call}
-use Rattle.kern_model.specs.declared.calls.Call.TheVariants as call
 use Rattle.kern_model.specs.declared.calls.CallName.{CallName}
 use Rattle.kern_model.specs.declared.records.Rec.{Rec}
 use Rattle.kern_model.specs.declared.records.Rec.TheVariants as rec
@@ -26,26 +21,25 @@ use Rattle.kern_model.specs.declared.world.World.{World}
 use Rattle.kern_model.specs.declared.world.WorldProc.{WorldProc}
 use Rattle.kern_model.specs.declared.world.ScriptItem.{ScriptItem}
 use Rattle.kern_model.specs.Boot.{boot, boot_recs, boot_process, started, furnished}
-use Rattle.kern_model.proofs.KeyLaws.{pid_cmp_total}
 use Rattle.kern_model.specs.Lineage.{caps_after_one, caps_after, caps_of, all_recs}
 use Rattle.kern_model.specs.Names.{name_of}
-use Rattle.kern_model.specs.Row.{Row, Subject, End, judge, verdict_of, is_denied, exercise_with}
-use Rattle.kern_model.specs.Rules.{cap_of, denial_of, may_become, cap_grow}
+use Rattle.kern_model.specs.Row.{Row, Subject, judge, exercise_with}
+use Rattle.kern_model.specs.Rules.{cap_of, denial_of, cap_grow}
 use Rattle.kern_model.specs.Run.{CallRecord, run}
 use Rattle.kern_model.specs.State.{State, Process, Change}
 use Rattle.kern_model.specs.Step.{step, step_by, settled, subject, own_of}
 use Rattle.kern_model.specs.Table.{row}
 use Rattle.iso_laws.specs.Laws.{DropsByRecords}
 use Rattle.iso_laws.proofs.Part.{bound-changed}
-use Rattle.iso_laws.proofs.Rows.{when, Gives, used_is, end_is}
+use Rattle.iso_laws.proofs.Rows.{Passes, never, none_never, used_is}
 use Rattle.iso_laws.proofs.Steps.{fixed_after}
 use Rattle.iso_laws.proofs.Booting.{fixed_booted}
 use Rattle.iso_laws.proofs.CapsLemmas.{HaveCaps, have_same, have_booted}
 use Rattle.iso_laws.proofs.Lineage.{used_leave, have_after_step}
-use Rattle.iso_laws.proofs.CalmRows.{Calm}
-use Rattle.iso_laws.proofs.DrawingLemmas.{Anything, lead_anywhere}
-use Rattle.iso_laws.proofs.Records.{row_calm}
-use Rattle.iso_laws.proofs.WalkLemmas.{gives_reach}
+use Rattle.iso_laws.proofs.Along.{along_end}
+use Rattle.iso_laws.proofs.Effects.{Premise, Holds, Effect, Note, SetSwitch, SetCaps, Execute, SetLabel, SetFileCaps, KeepLabel, Relabel, MakeChild, Finish}
+use Rattle.iso_laws.proofs.RowKinds.{row_kinds}
+use Rattle.iso_laws.proofs.Sight.{met_rule}
 
 -- ---- records
 -- what a record of `cap_set_proc` makes permitted was permitted
@@ -63,17 +57,10 @@ module _ (bound : CapSet) where
   drop-append f [] ys h g = g
   drop-append f (x ∷ xs) ys h g = (h.0, drop-append (caps_after_one bound f x) xs ys h.1 g)
 
-  drop_between : (f : Pid → CapState) (before : List Rec) (r : Rec) (after : List Rec) → AllDrop bound f (before ++ r ∷ after) → Drops (caps_after bound f before) r
+  drop_between : (f : Pid → CapState) (before : List Rec) (r : Rec) (after : List Rec) → AllDrop bound f (before ++ r ∷ after)
+      → Drops (caps_after bound f before) r
   drop_between f [] r after h = h.0
   drop_between f (b ∷ before) r after h = drop_between (caps_after_one bound f b) before r after h.1
-
-  -- a record that leaves the sets as they are satisfies `Drops`
-  calm_drops : (f : Pid → CapState) (own : Option Rec) → ((q : Pid) → caps_after bound f (option_to_list own) q ≡ f q) → AllDrop bound f (option_to_list own)
-  calm_drops f None same = tt
-  calm_drops f (Some (rec.CapSetProc who caps)) same =
-      let kept : caps ≡ f who = ap (λ b. cond b caps (f who)) (sym ((eq_by_cmp_equiv pid_cmp_total).refl who)) ∙ same who in
-      (ap (λ (c : CapState). is_within caps.p c.p) (sym kept) ∙ has-within caps.p caps.p (λ cap h. h), tt)
-  calm_drops f (Some r) same = (tt, tt)
 
   -- exercises and a deny record are none of `cap_set_proc`
   exercise_drops : (a : Subject) (f : Pid → CapState) (c : Check) (with : Option Cap) → AllDrop bound f (exercise_with a c with)
@@ -83,46 +70,45 @@ module _ (bound : CapSet) where
   used_drops : (a : Subject) (f : Pid → CapState) (r : Row) → AllDrop bound f (judge a [] r).used
   used_drops a f r = used_is (AllDrop bound f) a (λ c used h. drop-append f used _ h (exercise_drops a (caps_after bound f used) c (cap_of c.name))) [] r tt
 
-  denied_drops : (f : Pid → CapState) (b : Bool) (who : Pid) (name : CallName) (check : CheckName) (place : Place) → AllDrop bound f (cond b (rec.Deny who name (denial_of check) check place ∷ []) [])
+  denied_drops : (f : Pid → CapState) (b : Bool) (who : Pid) (name : CallName) (check : CheckName) (place : Place)
+      → AllDrop bound f (cond b (rec.Deny who name (denial_of check) check place ∷ []) [])
   denied_drops f true who name check place = (tt, tt)
   denied_drops f false who name check place = tt
 
 -- ---- a step
--- the check of `cap_set_proc` lets it go on only where its rule holds
-only_passed : (b : Bool) → is_denied (cond b Passed Denied) ≡ false → b ≡ true
-only_passed true h = refl
-only_passed false h = sym h
-
-granted_grow : (a : Subject) (who : Pid) (p : Process) (caps : CapState) → is_denied (verdict_of a (cap_grow who p caps)) ≡ false → may_become p.caps caps ≡ true
-unfolding verdict_of
-granted_grow a who p caps h = only_passed (may_become p.caps caps) h
-
 module _ (s : State) (f : Pid → CapState) (has : HaveCaps s f) (who : Pid) (p : Process) (is : map.get s.procs who ≡ Some p) (a : Subject) where
-  -- the records that an end leaves after the exercises
-  abbrev OwnDrops : CallName → End → Type 0
-  OwnDrops name e = AllDrop s.bound f (own_of who p name e)
+  -- the own record of each kind of effect satisfies `Drops`, where checks pass
+  drops_effect : (Given : Premise → Type 0) (cs : List Change) (own : Option Rec) → Effect (Passes never a) (λ b. b ≡ false) Given s who p cs own
+      → AllDrop s.bound f (option_to_list own)
+  drops_effect Given cs own (SetCaps caps passes) =
+      let grow = met_rule never a (cap_grow who p caps) refl passes in
+      (ap (λ (c : CapState). is_within caps.p c.p) (sym (has who p is)) ∙ (and_parts _ _ (and_parts _ _ grow).0).0, tt)
+  drops_effect Given cs own (Note bytes) = (tt, tt)
+  drops_effect Given cs own (SetSwitch on) = (tt, tt)
+  drops_effect Given cs own (Execute id walked) = (tt, tt)
+  drops_effect Given cs own (SetLabel new allowed args) = (tt, tt)
+  drops_effect Given cs own (SetFileCaps id caps place reaches written file) = (tt, tt)
+  drops_effect Given cs own (KeepLabel id new place reaches written equal args) = (tt, tt)
+  drops_effect Given cs own (Relabel id new place reaches written relabel args) = (tt, tt)
+  drops_effect Given cs own (MakeChild left) = (tt, tt)
+  drops_effect Given cs own (Finish q x how at may) = (tt, tt)
+  drops_effect Given cs own e = tt
 
-  end_drops : (Q : List Change → Option Rec → Type 0) → ((cs : List Change) (own : Option Rec) → Q cs own → AllDrop s.bound f (option_to_list own)) → (name : CallName) (r : Row) → Gives Q r → OwnDrops name (judge a [] r).end
-  end_drops Q drops name r = end_is (OwnDrops name) Q (denied_drops s.bound f p.audited who name) (λ e _. tt) (λ cs answer own. drops cs own) a [] r
-
-  own_drops : (c : Call) → OwnDrops (name_of c) (judge a [] (row s who p c)).end
-  unfolding judge
-  own_drops call.Fork = end_drops (λ cs own. AllDrop s.bound f (option_to_list own)) (λ cs own h. h) (name_of call.Fork) (row s who p call.Fork) (refl, (tt, tt))
-  own_drops (call.Exec path) =
-      end_drops (λ cs own. AllDrop s.bound f (option_to_list own)) (λ cs own h. h) (name_of (call.Exec path)) (row s who p (call.Exec path)) (gives_reach Anything s (lead_anywhere s) who p is (λ cs own. AllDrop s.bound f (option_to_list own)) (λ n. First n) path _ (λ id _. (tt, tt)))
-  own_drops (call.CapSetProc caps) =
-      let name : CallName = name_of (call.CapSetProc caps) in
-      let grow : Check = cap_grow who p caps in
-      when (λ j. OwnDrops name j.end) (is_denied (verdict_of a grow)) _ _ (λ _. denied_drops s.bound f p.audited who name grow.name grow.place)
-      (λ granted. (ap (λ (c : CapState). is_within caps.p c.p) (sym (has who p is)) ∙ (and_parts _ _ (and_parts _ _ (granted_grow a who p caps granted)).0).0, tt))
-  own_drops c = end_drops (Calm s f) (λ cs own calm. calm_drops s.bound f own calm.1) (name_of c) (row s who p c) (row_calm s f has who p is c refl)
+  -- and so do the records that the end of a row leaves after the exercises
+  own_drops : (c : Call) → AllDrop s.bound f (own_of who p (name_of c) (judge a [] (row s who p c)).end)
+  own_drops c =
+      along_end never a _ _ (λ e. AllDrop s.bound f (own_of who p (name_of c) e)) (denied_drops s.bound f p.audited who (name_of c)) (λ e _. tt)
+      (λ cs answer own. drops_effect (Holds s c) cs own) [] (row s who p c)
+      (row_kinds (Passes never a) (λ b. b ≡ false) (Holds s c) s who p is c (λ x h. h)) (none_never (judge a [] (row s who p c)).used)
 
 module _ (s : State) (who : Pid) (c : Call) (f : Pid → CapState) (has : HaveCaps s f) where
   settled_drops : (p : Process) → map.get s.procs who ≡ Some p → AllDrop s.bound f (settled s who p (name_of c) (judge (subject who p) [] (row s who p c))).recs
   settled_drops p is =
       let used : List Rec = (judge (subject who p) [] (row s who p c)).used in
-      let has' : HaveCaps s (caps_after s.bound f used) = have_same s f (caps_after s.bound f used) (λ q. sym (used_leave (subject who p) s.bound f q (row s who p c))) has in
-      drop-append s.bound f used _ (used_drops s.bound (subject who p) f (row s who p c)) (own_drops s (caps_after s.bound f used) has' who p is (subject who p) c)
+      let has' : HaveCaps s (caps_after s.bound f used) =
+      have_same s f (caps_after s.bound f used) (λ q. sym (used_leave (subject who p) s.bound f q (row s who p c))) has in
+      drop-append s.bound f used _ (used_drops s.bound (subject who p) f (row s who p c))
+      (own_drops s (caps_after s.bound f used) has' who p is (subject who p) c)
 
   step_drops : AllDrop s.bound f (step s who c).recs
   unfolding step
@@ -133,12 +119,14 @@ module _ (s : State) (who : Pid) (c : Call) (f : Pid → CapState) (has : HaveCa
       ] refl
 
 -- ---- a run
-run_drops : (items : List ScriptItem) (s : State) (bound : CapSet) (f : Pid → CapState) → s.bound ≡ bound → HaveCaps s f → AllDrop bound f (flat_map (λ (p : CallRecord). p.recs) (run s items))
+run_drops : (items : List ScriptItem) (s : State) (bound : CapSet) (f : Pid → CapState) → s.bound ≡ bound → HaveCaps s f
+    → AllDrop bound f (flat_map (λ (p : CallRecord). p.recs) (run s items))
 run_drops [] s bound f same has = tt
 run_drops (i ∷ is) s bound f same has =
     let next : State = (step s i.who i.call).state in
     let recs : List Rec = (step s i.who i.call).recs in
-    let has' : HaveCaps next (caps_after bound f recs) = have_same next (caps_after s.bound f recs) (caps_after bound f recs) (λ q. ap (λ b. caps_after b f recs q) same) (have_after_step s i.who i.call f has) in
+    let has' : HaveCaps next (caps_after bound f recs) =
+    have_same next (caps_after s.bound f recs) (caps_after bound f recs) (λ q. ap (λ b. caps_after b f recs q) same) (have_after_step s i.who i.call f has) in
     drop-append bound f recs _ (subst (λ b. AllDrop b f recs) same (step_drops s i.who i.call f has))
     (run_drops is next bound (caps_after bound f recs) (fixed_after s i.who i.call (λ t. t.bound) bound-changed ∙ same) has')
 
@@ -154,4 +142,5 @@ all_drop w items =
     (run_drops items (boot w) w.bound (caps_of w.bound (boot_recs w)) (fixed_booted (λ s. s.bound) bound-changed w) (have_booted w))
 
 pub drops_by_records : DropsByRecords
-drops_by_records w items before after who caps e = drop_between w.bound (λ _. no_flags) before (rec.CapSetProc who caps) after (subst (AllDrop w.bound (λ _. no_flags)) e (all_drop w items))
+drops_by_records w items before after who caps e =
+    drop_between w.bound (λ _. no_flags) before (rec.CapSetProc who caps) after (subst (AllDrop w.bound (λ _. no_flags)) e (all_drop w items))

@@ -20,23 +20,34 @@ use Rattle.kern_model.specs.Step.{step, subject, reply_of, state_after}
 use Rattle.kern_model.specs.Table.{row}
 use Rattle.kern_model.specs.Valid.{IsThere}
 use Rattle.iso_laws.specs.Laws.{RefusalsAreNamed, DrawnStep, NumbersStep, NumbersRun, GoneRun}
-use Rattle.iso_laws.proofs.Rows.{end_is}
+use Rattle.iso_laws.proofs.Rows.{Gives, end_is}
 use Rattle.iso_laws.proofs.Steps.{by_process, judged_row}
 use Rattle.iso_laws.proofs.ValidBoot.{valid_boot}
 use Rattle.iso_laws.proofs.DrawingLemmas.{LeadsTo, Anything, lead_anywhere, IsClosed, stay_all, stay_itself, closed_valid, GoesOn, goes_all, goes_itself, on_itself, on_over, nothing_back}
-use Rattle.iso_laws.proofs.FitRows.{Fitting}
-use Rattle.iso_laws.proofs.Numbers.{row_fits}
+use Rattle.iso_laws.proofs.Along.{Nothing_known, along_gives}
+use Rattle.iso_laws.proofs.EffectLaws.{Fitting, fits_effect}
+use Rattle.iso_laws.proofs.Effects.{Holds}
+use Rattle.iso_laws.proofs.RowKinds.{row_kinds}
 
 -- ---- the end of a row
+-- the changes of each row fit, its own record is of the caller, and it refuses by no denial
+row_fits : (There : Oid → Type 0) (s : State) → LeadsTo There s → (who : Pid) (p : Process) → map.get s.procs who ≡ Some p → (c : Call)
+    → Gives (Fitting There s who) (row s who p c)
+row_fits There s leads who p is c =
+    along_gives _ _ _ (fits_effect There s leads who p is Nothing_known Nothing_known (Holds s c)) (row s who p c)
+    (row_kinds Nothing_known Nothing_known (Holds s c) s who p is c (λ x h. h))
+
 -- a refusal at the end of a row is no denial, and changes and an own record at the end satisfy a property
 abbrev pub EndGives : (List Change → Option Rec → Type 0) → End → Type 0
 EndGives P (Stopped name place) = ⊤
 EndGives P (Refused e) = is_denial e ≡ false
 EndGives P (Done cs answer own) = P cs own
 
-pub row_ends : (There : Oid → Type 0) (s : State) → LeadsTo There s → (who : Pid) (p : Process) → map.get s.procs who ≡ Some p → (c : Call) → EndGives (Fitting There s who) (judged_row s who c p).end
+pub row_ends : (There : Oid → Type 0) (s : State) → LeadsTo There s → (who : Pid) (p : Process) → map.get s.procs who ≡ Some p → (c : Call)
+    → EndGives (Fitting There s who) (judged_row s who c p).end
 row_ends There s leads who p is c =
-    end_is (EndGives (Fitting There s who)) (Fitting There s who) (λ name place. tt) (λ e h. h) (λ cs answer own h. h) (subject who p) [] (row s who p c) (row_fits There s leads who p is c)
+    end_is (EndGives (Fitting There s who)) (Fitting There s who) (λ name place. tt) (λ e h. h) (λ cs answer own h. h) (subject who p) [] (row s who p c)
+    (row_fits There s leads who p is c)
 
 -- ---- in every state
 -- what a check denies is EACCES or EPERM
@@ -58,7 +69,8 @@ stay_at_end s who (Refused e) h = stay_itself s
 stay_at_end s who (Done cs answer own) h = stay_all Anything _ s cs s h.0 (stay_itself s)
 
 pub drawn_step : DrawnStep
-drawn_step s who c = by_process s who c (λ o. StayDrawn s o.state) (λ _. stay_itself s) (λ p is. stay_at_end s who _ (row_ends Anything s (lead_anywhere s) who p is c))
+drawn_step s who c =
+    by_process s who c (λ o. StayDrawn s o.state) (λ _. stay_itself s) (λ p is. stay_at_end s who _ (row_ends Anything s (lead_anywhere s) who p is c))
 
 -- ---- in a state in which what leads to an object leads to one that is there
 goes_at_end : (s : State) → IsClosed s → (who : Pid) (e : End) → EndGives (Fitting (λ id. IsThere s.objects id) s who) e → GoesOn s (state_after s e)
@@ -67,7 +79,9 @@ goes_at_end s closed who (Refused e) h = goes_itself s closed
 goes_at_end s closed who (Done cs answer own) h = goes_all _ s cs s h.0 (goes_itself s closed)
 
 pub goes_after : (s : State) (who : Pid) (c : Call) → IsClosed s → GoesOn s (step s who c).state
-goes_after s who c closed = by_process s who c (λ o. GoesOn s o.state) (λ _. goes_itself s closed) (λ p is. goes_at_end s closed who _ (row_ends (λ id. IsThere s.objects id) s closed who p is c))
+goes_after s who c closed =
+    by_process s who c (λ o. GoesOn s o.state) (λ _. goes_itself s closed)
+    (λ p is. goes_at_end s closed who _ (row_ends (λ id. IsThere s.objects id) s closed who p is c))
 
 pub numbers_step : NumbersStep
 numbers_step s who c valid = (goes_after s who c (closed_valid s valid)).on

@@ -1,5 +1,5 @@
 -- The row of each call with laws, for a Low process in the state and in its part, and what its changes satisfy.
-use Rattle.std.specs.Prelude.{◌≡◌, Bool, true, List, Some}
+use Rattle.std.specs.Prelude.{◌≡◌, Bool, true, false, List, Some}
 use Rattle.std.specs.FinMap as map
 use Rattle.lab_lattice.specs.Label.{Label}
 use Rattle.kern_model.specs.declared.calls.Call.{Call}
@@ -9,12 +9,18 @@ use Rattle.kern_model.specs.declared.records.Rec.{Rec}
 use Rattle.kern_model.specs.Arguments.{has_names, is_call}
 use Rattle.kern_model.specs.Isolation.{low, Kept}
 use Rattle.kern_model.specs.State.{State, Process, Change}
+use Rattle.kern_model.specs.Step.{subject}
 use Rattle.kern_model.specs.Table.{row}
 use Rattle.kern_model.specs.Valid.{IsValid}
 use Rattle.iso_laws.proofs.PlayableCalls.{has_flags}
-use Rattle.iso_laws.proofs.Cases.{Cases, Meets}
+use Rattle.iso_laws.proofs.Along.{along_ends}
+use Rattle.iso_laws.proofs.Cases.{Cases}
+use Rattle.iso_laws.proofs.EffectMeets.{meets_effect}
+use Rattle.iso_laws.proofs.Effects.{Holds}
 use Rattle.iso_laws.proofs.LowRows.{Same}
 use Rattle.iso_laws.proofs.Part.{by_number}
+use Rattle.iso_laws.proofs.RowKinds.{row_kinds}
+use Rattle.iso_laws.proofs.Rows.{Ends, Passes}
 use Rattle.iso_laws.proofs.files.Isolation as files
 use Rattle.iso_laws.proofs.tree.Isolation as tree
 use Rattle.iso_laws.proofs.attributes.Isolation as attributes
@@ -22,7 +28,8 @@ use Rattle.iso_laws.proofs.processes.Isolation as processes
 use Rattle.iso_laws.proofs.audit.Isolation as audit
 
 -- each row of a Low process ends in the part as in the state
-module _ (l : Label) (s : State) (kept : Kept l s) (valid : IsValid s) (who : Pid) (p : Process) (is : map.get s.procs who ≡ Some p) (is_low : low l p.label ≡ true) where
+module _ (l : Label) (s : State) (kept : Kept l s) (valid : IsValid s) (who : Pid) (p : Process) (is : map.get s.procs who ≡ Some p)
+    (is_low : low l p.label ≡ true) where
   pub low_row : (c : Call) → has_flags c ≡ true → Same l s who p (row s who p c) (row (by_number l s) who p c)
   low_row (call.OpenPath path flags mode) args = files.open_low l s kept valid who p is is_low path flags mode args
   low_row (call.Close fd) _ = files.close_low l s kept valid who p is is_low fd
@@ -70,50 +77,9 @@ module _ (l : Label) (s : State) (kept : Kept l s) (valid : IsValid s) (who : Pi
   low_row (call.AudSwitch on) _ = audit.aud_switch_low l s kept valid who p is is_low on
 
 -- the changes of each row satisfy what those of each kind of effect satisfy
-module _ (bad : Rec → Bool) (s : State) (valid : IsValid s) (who : Pid) (p : Process) (is : map.get s.procs who ≡ Some p) (fit : Type 0) (P : List Change → Type 0) (cases : Cases bad s who p fit P) where
-  pub row_meets : (c : Call) → (fit → is_call s.top c ≡ true) → (fit → has_names c ≡ true) → has_flags c ≡ true → Meets bad who p P (row s who p c)
-  unfolding is_call has_names
-  row_meets (call.OpenPath path flags mode) _ names args = files.open_meets bad s valid who p is fit P cases path flags mode args names
-  row_meets (call.Close fd) _ _ _ = files.close_meets bad s valid who p is fit P cases fd
-  row_meets (call.Read fd n) _ _ _ = files.read_meets bad s valid who p is fit P cases fd n
-  row_meets (call.Write fd bytes) _ _ _ = files.write_meets bad s valid who p is fit P cases fd bytes
-  row_meets (call.Lseek fd from offset) _ _ _ = files.lseek_meets bad s valid who p is fit P cases fd from offset
-  row_meets (call.Dup fd) _ _ _ = files.dup_meets bad s valid who p is fit P cases fd
-  row_meets call.Pipe _ _ _ = files.pipe_meets bad s valid who p is fit P cases
-  row_meets (call.Fstat fd) _ _ _ = files.fstat_meets bad s valid who p is fit P cases fd
-  row_meets (call.Mkfifo path mode) _ names _ = tree.mkfifo_meets bad s valid who p is fit P cases path mode names
-  row_meets (call.Mkdir path mode) _ names _ = tree.mkdir_meets bad s valid who p is fit P cases path mode names
-  row_meets (call.Link path to) _ names _ = tree.link_meets bad s valid who p is fit P cases path to names
-  row_meets (call.Rmdir path) _ _ _ = tree.rmdir_meets bad s valid who p is fit P cases path
-  row_meets (call.Unlink path) _ _ _ = tree.unlink_meets bad s valid who p is fit P cases path
-  row_meets (call.Rename path to) _ names _ = tree.rename_meets bad s valid who p is fit P cases path to names
-  row_meets (call.Readdir path) _ _ _ = tree.readdir_meets bad s valid who p is fit P cases path
-  row_meets (call.Stat path) _ _ _ = tree.stat_meets bad s valid who p is fit P cases path
-  row_meets (call.Chdir path) _ _ _ = tree.chdir_meets bad s valid who p is fit P cases path
-  row_meets (call.Umask mode) args _ _ = processes.umask_meets bad s valid who p is fit P cases mode args
-  row_meets (call.Chmod path mode) args _ _ = attributes.chmod_meets bad s valid who p is fit P cases path mode args
-  row_meets (call.Chown path user group) _ _ _ = attributes.chown_meets bad s valid who p is fit P cases path user group
-  row_meets (call.CapSetFile path caps) _ _ _ = attributes.cap_set_file_meets bad s valid who p is fit P cases path caps
-  row_meets (call.CapSetFd fd caps) _ _ _ = attributes.cap_set_fd_meets bad s valid who p is fit P cases fd caps
-  row_meets (call.MacSetFile path new) args _ _ = attributes.mac_set_file_meets bad s valid who p is fit P cases path new args
-  row_meets (call.MacSetFd fd new) args _ _ = attributes.mac_set_fd_meets bad s valid who p is fit P cases fd new args
-  row_meets (call.CapGetFile path) _ _ _ = attributes.cap_get_file_meets bad s valid who p is fit P cases path
-  row_meets (call.CapGetFd fd) _ _ _ = attributes.cap_get_fd_meets bad s valid who p is fit P cases fd
-  row_meets (call.MacGetFile path) _ _ _ = attributes.mac_get_file_meets bad s valid who p is fit P cases path
-  row_meets (call.MacGetFd fd) _ _ _ = attributes.mac_get_fd_meets bad s valid who p is fit P cases fd
-  row_meets call.Fork _ _ _ = processes.fork_meets bad s valid who p is fit P cases
-  row_meets (call.Exit code) _ _ _ = processes.exit_meets bad s valid who p is fit P cases code
-  row_meets call.Wait _ _ _ = processes.wait_meets bad s valid who p is fit P cases
-  row_meets (call.Kill target sig) _ _ _ = processes.kill_meets bad s valid who p is fit P cases target sig
-  row_meets (call.Exec path) _ _ _ = processes.exec_meets bad s valid who p is fit P cases path
-  row_meets call.Getpid _ _ _ = processes.getpid_meets bad s valid who p is fit P cases
-  row_meets call.Getppid _ _ _ = processes.getppid_meets bad s valid who p is fit P cases
-  row_meets call.Getids _ _ _ = processes.getids_meets bad s valid who p is fit P cases
-  row_meets (call.Setuid user) _ _ _ = processes.setuid_meets bad s valid who p is fit P cases user
-  row_meets (call.Setgid group) _ _ _ = processes.setgid_meets bad s valid who p is fit P cases group
-  row_meets call.CapGetProc _ _ _ = processes.cap_get_proc_meets bad s valid who p is fit P cases
-  row_meets (call.CapSetProc caps) _ _ _ = processes.cap_set_proc_meets bad s valid who p is fit P cases caps
-  row_meets call.MacGetProc _ _ _ = processes.mac_get_proc_meets bad s valid who p is fit P cases
-  row_meets (call.MacSetProc new) args _ _ = processes.mac_set_proc_meets bad s valid who p is fit P cases new args
-  row_meets (call.AudWrite bytes) _ _ _ = audit.aud_write_meets bad s valid who p is fit P cases bytes
-  row_meets (call.AudSwitch on) _ _ _ = audit.aud_switch_meets bad s valid who p is fit P cases on
+module _ (bad : Rec → Bool) (s : State) (valid : IsValid s) (who : Pid) (p : Process) (is : map.get s.procs who ≡ Some p) (fit : Type 0)
+    (P : List Change → Type 0) (cases : Cases bad s who p fit P) where
+  pub row_meets : (c : Call) → (fit → is_call s.top c ≡ true) → (fit → has_names c ≡ true) → has_flags c ≡ true → Ends bad (subject who p) P (row s who p c)
+  row_meets c ranges names flags =
+      along_ends bad (subject who p) _ _ P cases.none (meets_effect bad s valid who p is (Holds s c) fit P cases ranges names flags) (row s who p c)
+      (row_kinds (Passes bad (subject who p)) (λ b. b ≡ false) (Holds s c) s who p is c (λ x h. h))

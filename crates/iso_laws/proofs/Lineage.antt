@@ -31,11 +31,14 @@ use Rattle.iso_laws.proofs.Rows.{Gives, used_is, end_is}
 use Rattle.iso_laws.proofs.Steps.{fixed_after}
 use Rattle.iso_laws.proofs.Booting.{fixed_booted}
 use Rattle.iso_laws.proofs.CapsLemmas.{HaveCaps, caps_after-append, have_same, have_booted}
-use Rattle.iso_laws.proofs.CalmRows.{MatchesRecord}
-use Rattle.iso_laws.proofs.Records.{row_reports}
+use Rattle.iso_laws.proofs.Along.{Nothing_known, along_gives}
+use Rattle.iso_laws.proofs.EffectLaws.{MatchesRecord, reports_effect}
+use Rattle.iso_laws.proofs.Effects.{Holds}
+use Rattle.iso_laws.proofs.RowKinds.{row_kinds}
 
 -- ---- a step
-exercise_leaves : (a : Subject) (bound : CapSet) (f : Pid → CapState) (q : Pid) (c : Check) (with : Option Cap) → caps_after bound f (exercise_with a c with) q ≡ f q
+exercise_leaves : (a : Subject) (bound : CapSet) (f : Pid → CapState) (q : Pid) (c : Check) (with : Option Cap)
+    → caps_after bound f (exercise_with a c with) q ≡ f q
 exercise_leaves a bound f q c None = refl
 exercise_leaves a bound f q c (Some cap) = refl
 
@@ -43,22 +46,35 @@ exercise_leaves a bound f q c (Some cap) = refl
 pub used_leave : (a : Subject) (bound : CapSet) (f : Pid → CapState) (q : Pid) (r : Row) → caps_after bound f (judge a [] r).used q ≡ f q
 used_leave a bound f q r =
     used_is (λ used. caps_after bound f used q ≡ f q) a
-    (λ c used h. caps_after-append bound f used (exercise_with a c (cap_of c.name)) q ∙ exercise_leaves a bound (caps_after bound f used) q c (cap_of c.name) ∙ h) [] r refl
+    (λ c used h.
+    caps_after-append bound f used (exercise_with a c (cap_of c.name)) q ∙ exercise_leaves a bound (caps_after bound f used) q c (cap_of c.name) ∙ h)
+    [] r refl
 
 -- a deny record leaves the capability sets that records give
-pub denial_leaves : (bound : CapSet) (f : Pid → CapState) (b : Bool) (who : Pid) (name : CallName) (check : CheckName) (place : Place) (q : Pid) → caps_after bound f (cond b (rec.Deny who name (denial_of check) check place ∷ []) []) q ≡ f q
+pub denial_leaves : (bound : CapSet) (f : Pid → CapState) (b : Bool) (who : Pid) (name : CallName) (check : CheckName) (place : Place) (q : Pid)
+    → caps_after bound f (cond b (rec.Deny who name (denial_of check) check place ∷ []) []) q ≡ f q
 denial_leaves bound f true who name check place q = refl
 denial_leaves bound f false who name check place q = refl
 
+-- the own record of each row gives the sets after its changes
+row_reports : (s : State) (f : Pid → CapState) → HaveCaps s f → (who : Pid) (p : Process) → map.get s.procs who ≡ Some p → (c : Call)
+    → Gives (MatchesRecord s f) (row s who p c)
+row_reports s f has who p is c =
+    along_gives _ _ _ (reports_effect s f has who p is Nothing_known Nothing_known (Holds s c)) (row s who p c)
+    (row_kinds Nothing_known Nothing_known (Holds s c) s who p is c (λ x h. h))
+
 -- the records that an end leaves after the exercises give the sets in the state after it
-end_reports : (s : State) (who : Pid) (p : Process) (name : CallName) (f : Pid → CapState) → HaveCaps s f → (a : Subject) (r : Row) → Gives (MatchesRecord s f) r
+end_reports : (s : State) (who : Pid) (p : Process) (name : CallName) (f : Pid → CapState) → HaveCaps s f → (a : Subject) (r : Row)
+    → Gives (MatchesRecord s f) r
     → HaveCaps (state_after s (judge a [] r).end) (caps_after s.bound f (own_of who p name (judge a [] r).end))
 end_reports s who p name f has a r h =
     end_is (λ e. HaveCaps (state_after s e) (caps_after s.bound f (own_of who p name e))) (MatchesRecord s f)
     (λ check place. have_same s f _ (λ q. sym (denial_leaves s.bound f p.audited who name check place q)) has) (λ e _. has) (λ cs answer own h. h) a [] r h
 
 module _ (s : State) (who : Pid) (c : Call) (f : Pid → CapState) (has : HaveCaps s f) where
-  settled_reports : (p : Process) → map.get s.procs who ≡ Some p → HaveCaps (settled s who p (name_of c) (judge (subject who p) [] (row s who p c))).state (caps_after s.bound f (settled s who p (name_of c) (judge (subject who p) [] (row s who p c))).recs)
+  settled_reports : (p : Process) → map.get s.procs who ≡ Some p
+      → HaveCaps (settled s who p (name_of c) (judge (subject who p) [] (row s who p c))).state
+      (caps_after s.bound f (settled s who p (name_of c) (judge (subject who p) [] (row s who p c))).recs)
   settled_reports p is =
       let j : CheckOutcome = judge (subject who p) [] (row s who p c) in
       let own : List Rec = own_of who p (name_of c) j.end in
@@ -79,7 +95,8 @@ module _ (s : State) (who : Pid) (c : Call) (f : Pid → CapState) (has : HaveCa
 
 -- ---- a run
 -- the records of a run give the sets after it
-have_after_run : (items : List ScriptItem) (s : State) (bound : CapSet) (f : Pid → CapState) → s.bound ≡ bound → HaveCaps s f → HaveCaps (state_after_run s items) (caps_after bound f (flat_map (λ (p : CallRecord). p.recs) (run s items)))
+have_after_run : (items : List ScriptItem) (s : State) (bound : CapSet) (f : Pid → CapState) → s.bound ≡ bound → HaveCaps s f
+    → HaveCaps (state_after_run s items) (caps_after bound f (flat_map (λ (p : CallRecord). p.recs) (run s items)))
 have_after_run [] s bound f is has = has
 have_after_run (i ∷ is) s bound f same has =
     let next : State = (step s i.who i.call).state in

@@ -52,17 +52,17 @@ module _ (l : Label) (s : State) (kept : Kept l s) (valid : IsValid s) (who : Pi
   low_by id h r gives = subst (λ o. Same l s who p (r (object_at s id)) (r o)) (sym (object_low l s id h)) (low_itself (r (object_at s id)) gives)
 
   -- the row of a call that reads what a path leads to
-  pub low_read : (path : PathValue) (r r' : Oid → Place → Object → Row) → ((id : Oid) (place : Place) → low l id.label ≡ true → Same l s who p (r id place (object_at s id)) (r' id place (object_at part_s id)))
+  pub low_read : (path : PathValue) (r r' : Oid → Place → Object → Row) → ((id : Oid) (place : Place) → IsThere s.objects id → low l id.label ≡ true → Same l s who p (r id place (object_at s id)) (r' id place (object_at part_s id)))
       → Same l s who p (on_path s p path (λ id place. read_object s p id place (r id place))) (on_path part_s p path (λ id place. read_object part_s p id place (r' id place)))
   low_read path r r' h =
       let place : Place = last_place (λ n. First n) path in
       alike_reach l s kept valid who p is_low is (λ n. First n) path _ _
-      (λ id there. alike_mac_read l s kept valid who p is_low id there place (r id place (object_at s id)) (λ d. r' d place (object_at part_s d)) (h id place))
+      (λ id there. alike_mac_read l s kept valid who p is_low id there place (r id place (object_at s id)) (λ d. r' d place (object_at part_s d)) (h id place there))
 
   -- the row of a call that reads what a path leads to, and depends on that alone
   pub low_read_by : (path : PathValue) (r : Oid → Place → Object → Row) → ((id : Oid) (place : Place) (o : Object) → Gives (AreSeen l s) (r id place o))
       → Same l s who p (on_path s p path (λ id place. read_object s p id place (r id place))) (on_path part_s p path (λ id place. read_object part_s p id place (r id place)))
-  low_read_by path r gives = low_read path r r (λ id place h. low_by id h (r id place) (gives id place (object_at s id)))
+  low_read_by path r gives = low_read path r r (λ id place _ h. low_by id h (r id place) (gives id place (object_at s id)))
 
   -- the row of a call that writes what a path leads to
   pub low_write : (path : PathValue) (r r' : Oid → Place → Object → Row) → ((id : Oid) (place : Place) → IsThere s.objects id → low l id.label ≡ true → Same l s who p (r id place (object_at s id)) (r' id place (object_at part_s id)))

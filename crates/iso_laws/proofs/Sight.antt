@@ -1,13 +1,13 @@
 -- What a Low process reads of a state and of its part.
 use Rattle.std.specs.Prelude.{◌≡◌, ℕ, ◌+◌, Bool, true, false, not, ◌&&◌, ◌||◌, List, [], ◌∷◌, Option, Some, None, refl, cond}
 use Rattle.std.specs.Option.{option_map, option_and_then}
-use Rattle.std.specs.List.{list_all, list_any}
+use Rattle.std.specs.List.{list_any}
 use Rattle.std.proofs.Common.{sym, ◌∙◌, ap, subst}
 use Rattle.std.proofs.lemmas.Bool.{and_parts, not-false, false_from_ne_true}
 use Rattle.std.specs.FinMap as map
 use Rattle.cap_bits.specs.declared.cap.Cap.{Cap}
 use Rattle.cap_bits.specs.declared.cap.Cap.TheVariants as cap
-use Rattle.fs_path.specs.Name.{Name, is_name}
+use Rattle.fs_path.specs.Name.{Name}
 use Rattle.fs_path.specs.Path.{PathValue}
 use Rattle.lab_lattice.specs.Label.{Label, dominates}
 use Rattle.lab_lattice.proofs.Labels.{dominates_through, dominates_bottom, label_cmp_total, label_cmp_exact}
@@ -27,7 +27,7 @@ use Rattle.kern_model.specs.Maps.{get_or}
 use Rattle.kern_model.proofs.KeyLaws.{oid_cmp_total, oid_cmp_exact, pid_cmp_total, pid_cmp_exact, did_cmp_total, did_cmp_exact, spot_cmp_total, spot_cmp_exact}
 use Rattle.kern_model.specs.Descriptors.{Opened, opened}
 use Rattle.kern_model.specs.Kinds.{is_dir}
-use Rattle.kern_model.specs.State.{State, Process, Description, Change, drawn, object_at, look, stub, stub_object, root}
+use Rattle.kern_model.specs.State.{State, Process, Description, drawn, object_at, look, stub, stub_object, root}
 use Rattle.kern_model.specs.Rules.{cap_of, same_label, mode_allows, of_object, mac_read, mac_write, dac_search}
 use Rattle.kern_model.specs.Row.{Row, Need, Refuse, Subject, verdict_of, is_denied, noted, exercise_with, may}
 use Rattle.kern_model.specs.Walk.{Found, Start, Entry, walk_from, walk, reach, start_of, enter, or_missing, to_object}
@@ -37,7 +37,7 @@ use Rattle.kern_model.specs.Valid.{IsValid, IsThere, IsDir}
 use Rattle.kern_model.proofs.MapLemmas.{get-select_kept, get-select_dropped, get_or-found, get_or-absent, get_or-same, never_some, some_same}
 use Rattle.iso_laws.proofs.Part.{by_number, shown, low_oid, low_pid, low_did, low_spot, same}
 use Rattle.kern_model.proofs.StateLemmas.{dir_there}
-use Rattle.iso_laws.proofs.Rows.{Alike, Ends, Passes, alike_same, alike_hidden, alike_refuse, alike_missing, ends_need, ends_refuse, ends_missing}
+use Rattle.iso_laws.proofs.Rows.{Alike, Passes, alike_same, alike_hidden, alike_refuse, alike_missing}
 
 -- a check whose rule fails is exercised or denied
 pub failed_verdict : (a : Subject) (c : Check) → c.holds ≡ false → verdict_of a c ≡ cond (may a.effective (cap_of c.name)) Exercised Denied
@@ -53,11 +53,13 @@ or_left true b p = refl
 or_left false b p = cc
 
 -- a check whose rule fails passes only by crossing, where the two labels are on different sides
-pub crossed : (l : Label) (a : Subject) (c : Check) (with : Cap) → c.holds ≡ false → cap_of c.name ≡ Some with → is_mac with ≡ true → differ (low l a.label) (low l c.thing_label) ≡ true → Passes (crosses l) a c → ⊥
+pub crossed : (l : Label) (a : Subject) (c : Check) (with : Cap) → c.holds ≡ false → cap_of c.name ≡ Some with → is_mac with ≡ true
+    → differ (low l a.label) (low l c.thing_label) ≡ true → Passes (crosses l) a c → ⊥
 crossed l a c with fails named mac apart passes =
     elim (may a.effective (cap_of c.name)) as (λ b. verdict_of a c ≡ cond b Exercised Denied → ⊥) [
       | true ↦ λ v.
-          let inside : list_any (crosses l) (exercise_with a c (Some with)) ≡ false = ap (λ o. list_any (crosses l) (exercise_with a c o)) (sym named) ∙ ap (λ w. list_any (crosses l) (noted a c w [])) (sym v) ∙ passes.inside in
+          let inside : list_any (crosses l) (exercise_with a c (Some with)) ≡ false =
+          ap (λ o. list_any (crosses l) (exercise_with a c o)) (sym named) ∙ ap (λ w. list_any (crosses l) (noted a c w [])) (sym v) ∙ passes.inside in
           let is : list_any (crosses l) (exercise_with a c (Some with)) ≡ true = or_left _ _ (both_true (is_mac with) _ mac (or_left _ _ apart)) in
           let no : true ≡ false = sym is ∙ inside in
           cc
@@ -101,12 +103,16 @@ inner true false false p e = refl
 inner false b d p e = cc
 
 -- a new label that only a capability allows is on the caller's side, unless giving it crosses
-pub new_side : (l : Label) (a : Subject) (c : Check) (with : Cap) (new : Label) → cap_of c.name ≡ Some with → is_mac with ≡ true → c.new_label ≡ Some new → c.holds ≡ false → Passes (crosses l) a c → low l a.label ≡ low l new
+pub new_side : (l : Label) (a : Subject) (c : Check) (with : Cap) (new : Label) → cap_of c.name ≡ Some with → is_mac with ≡ true → c.new_label ≡ Some new
+    → c.holds ≡ false → Passes (crosses l) a c → low l a.label ≡ low l new
 new_side l a c with new named mac is_new fails passes =
     elim (may a.effective (cap_of c.name)) as (λ b. verdict_of a c ≡ cond b Exercised Denied → low l a.label ≡ low l new) [
       | true ↦ λ v.
-          let inside : list_any (crosses l) (exercise_with a c (Some with)) ≡ false = ap (λ o. list_any (crosses l) (exercise_with a c o)) (sym named) ∙ ap (λ w. list_any (crosses l) (noted a c w [])) (sym v) ∙ passes.inside in
-          differ_false _ _ (inner (is_mac with) (differ (low l a.label) (low l c.thing_label)) _ mac (ap (λ n. (is_mac with && (differ (low l a.label) (low l c.thing_label) || differs_from l (low l a.label) n)) || false) (sym is_new) ∙ inside))
+          let inside : list_any (crosses l) (exercise_with a c (Some with)) ≡ false =
+          ap (λ o. list_any (crosses l) (exercise_with a c o)) (sym named) ∙ ap (λ w. list_any (crosses l) (noted a c w [])) (sym v) ∙ passes.inside in
+          differ_false _ _
+          (inner (is_mac with) (differ (low l a.label) (low l c.thing_label)) _ mac
+          (ap (λ n. (is_mac with && (differ (low l a.label) (low l c.thing_label) || differs_from l (low l a.label) n)) || false) (sym is_new) ∙ inside))
       | false ↦ λ v. let no : true ≡ false = ap is_denied (sym v) ∙ passes.granted in cc
     ] (failed_verdict a c fails)
 
@@ -131,16 +137,6 @@ pub record IsNamed (s : State) (id : Oid) : Type 0 where
   pub is : map.get s.objects id ≡ Some object
   pub no_pipe : object.kind ≡ kind.Pipe → ⊥
 
--- what a walk finds is there
-abbrev pub FoundIn : State → List Name → Found → Type 0
-FoundIn s names (Start id) = IsNamed s id
-FoundIn s names (Entry dir name object) = IsDir s.objects dir × (object ≡ look s dir name) × (list_all is_name names ≡ true → is_name name ≡ true)
-
--- what a walk of the names after the first one finds
-found_after : (s : State) (name : Name) (names : List Name) (found : Found) → FoundIn s names found → FoundIn s (name ∷ names) found
-found_after s name names (Start id) f = f
-found_after s name names (Entry dir last object) f = (f.0, f.1, λ h. f.2 (and_parts (is_name name) (list_all is_name names) h).1)
-
 -- what an entry leads to is there
 pub led_there : (s : State) → IsValid s → (dir : Oid) (name : Name) (id : Oid) → look s dir name ≡ Some id → IsThere s.objects id
 led_there s valid dir name id e = let entry = valid.entries (dir, name) id e in record { value = entry.object; is = entry.object_is }
@@ -148,7 +144,7 @@ led_there s valid dir name id e = let entry = valid.entries (dir, name) id e in 
 pub led_named : (s : State) → IsValid s → (dir : Oid) (name : Name) (id : Oid) → look s dir name ≡ Some id → IsNamed s id
 led_named s valid dir name id e = let entry = valid.entries (dir, name) id e in record { object = entry.object; is = entry.object_is; no_pipe = entry.no_pipe }
 
-dir_named : (s : State) (id : Oid) → IsDir s.objects id → IsNamed s id
+pub dir_named : (s : State) (id : Oid) → IsDir s.objects id → IsNamed s id
 dir_named s id dir = record { object = dir.object; is = dir.is; no_pipe = λ pipe. let no : kind.Dir ≡ kind.Pipe = sym dir.dir ∙ pipe in cc }
 
 -- the root is there
@@ -160,36 +156,6 @@ start_there : (s : State) → IsValid s → (who : Pid) (p : Process) (path : Pa
 start_there s valid who p path is =
     let cwd = (valid.procs who p is).cwd in
     elim path.absolute as (λ b. IsThere s.objects (cond b root p.cwd)) [ true ↦ root_there s valid | false ↦ record { value = cwd.object; is = cwd.is } ]
-
-start_named : (s : State) → IsValid s → (who : Pid) (p : Process) (path : PathValue) → map.get s.procs who ≡ Some p → IsNamed s (start_of p path)
-start_named s valid who p path is =
-    let r = valid.root_is in
-    elim path.absolute as (λ b. IsNamed s (cond b root p.cwd)) [ true ↦ dir_named s root (record { object = r.object; is = r.is; dir = r.root_dir }) | false ↦ dir_named s p.cwd (valid.procs who p is).cwd ]
-
--- ---- any process
-module _ (bad : Rec → Bool) (s : State) (valid : IsValid s) (who : Pid) (p : Process) (P : List Change → Type 0) (none : P []) where
-  abbrev Meets : Row → Type 0
-  Meets r = Ends bad (subject who p) P r
-
-  pub ends_enter : (dir : Oid) (place : Place) (r : Row) → (Passes bad (subject who p) (mac_read s p dir place) → IsDir s.objects dir → Meets r) → Meets (enter s p dir place r)
-  ends_enter dir place r h = ends_need bad (subject who p) P none _ _ (λ read. ends_refuse bad (subject who p) P none _ _ _ (λ is. ends_need bad (subject who p) P none _ _ (λ _. h read (dir_there s dir (not-false _ is)))))
-
-  pub ends_walk_from : (place : ℕ → Place) (at : ℕ) (dir : Oid) (names : List Name) (k : Found → Row) → IsNamed s dir → ((found : Found) → FoundIn s names found → Meets (k found)) → Meets (walk_from s p place at dir names k)
-  ends_walk_from place at dir [] k there h = h (Start dir) there
-  ends_walk_from place at dir (name ∷ []) k there h = ends_enter dir (place at) _ (λ _ is. h (Entry dir name (look s dir name)) (is, refl, λ named. (and_parts (is_name name) true named).0))
-  ends_walk_from place at dir (name ∷ next ∷ names) k there h =
-      ends_enter dir (place at) _ (λ _ _. ends_missing bad (subject who p) P none (look s dir name) _ (λ id e. ends_walk_from place (at + 1) id (next ∷ names) k (led_named s valid dir name id e) (λ found f. h found (found_after s name (next ∷ names) found f))))
-
-  pub ends_walk : map.get s.procs who ≡ Some p → (place : ℕ → Place) (path : PathValue) (k : Found → Row) → ((found : Found) → FoundIn s path.names found → Meets (k found)) → Meets (walk s p place path k)
-  ends_walk is place path k h = ends_walk_from place 0 (start_of p path) path.names k (start_named s valid who p path is) h
-
-  ends_to_object : (k : Oid → Row) → ((id : Oid) → IsNamed s id → Meets (k id)) → (names : List Name) (found : Found) → FoundIn s names found → Meets (to_object found k)
-  ends_to_object k h names (Start id) there = h id there
-  ends_to_object k h names (Entry dir name object) f = ends_missing bad (subject who p) P none object k (λ id e. h id (led_named s valid dir name id (sym f.1 ∙ e)))
-
-  -- a walk to an object, which is there
-  pub ends_reach : map.get s.procs who ≡ Some p → (place : ℕ → Place) (path : PathValue) (k : Oid → Row) → ((id : Oid) → IsNamed s id → Meets (k id)) → Meets (reach s p place path k)
-  ends_reach is place path k h = ends_walk is place path _ (ends_to_object k h path.names)
 
 -- ---- a Low process and the part
 same_map : {X : Type 0} (w : Option X) → option_map (same {X = X}) w ≡ w
@@ -208,7 +174,8 @@ module _ (l : Label) (s : State) where
 
   pub descriptions_drawn_low : (label : Label) → low l label ≡ true → drawn (by_number l s).description_numbers label ≡ drawn s.description_numbers label
   unfolding by_number
-  descriptions_drawn_low label h = get_or-same _ _ label 0 (get-select_kept label_cmp_total label_cmp_exact (low l) same s.description_numbers label h ∙ same_map _)
+  descriptions_drawn_low label h =
+      get_or-same _ _ label 0 (get-select_kept label_cmp_total label_cmp_exact (low l) same s.description_numbers label h ∙ same_map _)
 
   pub processes_drawn_low : (label : Label) → low l label ≡ true → drawn (by_number l s).process_numbers label ≡ drawn s.process_numbers label
   unfolding by_number
@@ -248,7 +215,8 @@ module _ (l : Label) (s : State) where
   shown_low id h = ap (λ b. cond b id (stub s.top)) h
 
 -- an object that is not Low cannot be read by a Low process
-module _ (l : Label) (s : State) (kept : Kept l s) (who : Pid) (p : Process) (is_low : low l p.label ≡ true) (id : Oid) (there : IsThere s.objects id) (high : low l id.label ≡ false) where
+module _ (l : Label) (s : State) (kept : Kept l s) (who : Pid) (p : Process) (is_low : low l p.label ≡ true) (id : Oid) (there : IsThere s.objects id)
+    (high : low l id.label ≡ false) where
   label_at : (object_at s id).label ≡ there.value.label
   label_at = ap (λ o. o.label) (get_or-found _ _ _ _ there.is)
 
@@ -276,7 +244,8 @@ module _ (l : Label) (s : State) (kept : Kept l s) (who : Pid) (p : Process) (is
   top_high valid = top_hidden l s.top there.value.label (valid.objects id there.value there.is).below hidden_label
 
 -- what passes the mac_read of a Low process is Low
-pub read_low : (l : Label) (s : State) → Kept l s → (who : Pid) (p : Process) → low l p.label ≡ true → (id : Oid) → IsThere s.objects id → (place : Place) → Passes (crosses l) (subject who p) (mac_read s p id place) → low l id.label ≡ true
+pub read_low : (l : Label) (s : State) → Kept l s → (who : Pid) (p : Process) → low l p.label ≡ true → (id : Oid) → IsThere s.objects id → (place : Place)
+    → Passes (crosses l) (subject who p) (mac_read s p id place) → low l id.label ≡ true
 read_low l s kept who p is_low id there place passes =
     elim (low l id.label) as (λ b. low l id.label ≡ b → b ≡ true) [
       | true ↦ λ _. refl
@@ -284,15 +253,19 @@ read_low l s kept who p is_low id there place passes =
     ] refl
 
 -- what passes a check of the same label is on the side of the process
-pub equal_side : (l : Label) (a : Subject) (c : Check) → cap_of c.name ≡ Some cap.MacWrite → c.holds ≡ same_label a.label c.thing_label → Passes (crosses l) a c → low l a.label ≡ low l c.thing_label
+pub equal_side : (l : Label) (a : Subject) (c : Check) → cap_of c.name ≡ Some cap.MacWrite → c.holds ≡ same_label a.label c.thing_label → Passes (crosses l) a c
+    → low l a.label ≡ low l c.thing_label
 equal_side l a c named rule passes =
     elim (same_label a.label c.thing_label) as (λ b. same_label a.label c.thing_label ≡ b → low l a.label ≡ low l c.thing_label) [
       | true ↦ λ same. same_side l a.label c.thing_label same
-      | false ↦ λ other. differ_false _ _ (false_from_ne_true (differ (low l a.label) (low l c.thing_label)) (λ apart. crossed l a c cap.MacWrite (rule ∙ other) named refl apart passes))
+      | false ↦ λ other.
+          differ_false _ _
+          (false_from_ne_true (differ (low l a.label) (low l c.thing_label)) (λ apart. crossed l a c cap.MacWrite (rule ∙ other) named refl apart passes))
     ] refl
 
 -- what passes the mac_write of a process is on its side
-pub write_side : (l : Label) (s : State) → Kept l s → (who : Pid) (p : Process) (id : Oid) → IsThere s.objects id → (place : Place) → Passes (crosses l) (subject who p) (mac_write s p id place) → low l p.label ≡ low l id.label
+pub write_side : (l : Label) (s : State) → Kept l s → (who : Pid) (p : Process) (id : Oid) → IsThere s.objects id → (place : Place)
+    → Passes (crosses l) (subject who p) (mac_write s p id place) → low l p.label ≡ low l id.label
 write_side l s kept who p id there place passes =
     equal_side l (subject who p) (mac_write s p id place) refl refl passes
     ∙ ap (λ (o : Object). low l o.label) (get_or-found _ _ _ _ there.is) ∙ sym (kept.objects id there.value there.is)
@@ -302,42 +275,59 @@ module _ (l : Label) (s : State) (kept : Kept l s) (valid : IsValid s) (who : Pi
   Same r r' = Alike (crosses l) l s.top (subject who p) r r'
 
   -- the mac_read of a Low process ends in the part as in the state, and what passes it is Low
-  pub alike_mac_read : (id : Oid) → IsThere s.objects id → (place : Place) (r : Row) (r' : Oid → Row) → (low l id.label ≡ true → Same r (r' id)) → Same (Need (mac_read s p id place) r) (Need (mac_read (by_number l s) p (shown l s.top id) place) (r' (shown l s.top id)))
+  pub alike_mac_read : (id : Oid) → IsThere s.objects id → (place : Place) (r : Row) (r' : Oid → Row) → (low l id.label ≡ true → Same r (r' id))
+      → Same (Need (mac_read s p id place) r) (Need (mac_read (by_number l s) p (shown l s.top id) place) (r' (shown l s.top id)))
   alike_mac_read id there place r r' rest =
-      elim (low l id.label) as (λ b. low l id.label ≡ b → Same (Need (mac_read s p id place) r) (Need (mac_read (by_number l s) p (cond b id (stub s.top)) place) (r' (cond b id (stub s.top))))) [
-        | true ↦ λ h. alike_same (crosses l) l s.top (subject who p) _ _ r (r' id) (ap (λ o. of_object check.MacRead (dominates p.label o.label) None id o place) (object_low l s id h)) (λ _. rest h)
+      elim (low l id.label) as (λ b. low l id.label ≡ b → Same (Need (mac_read s p id place) r)
+      (Need (mac_read (by_number l s) p (cond b id (stub s.top)) place) (r' (cond b id (stub s.top))))) [
+        | true ↦ λ h.
+            alike_same (crosses l) l s.top (subject who p) _ _ r (r' id)
+            (ap (λ o. of_object check.MacRead (dominates p.label o.label) None id o place) (object_low l s id h)) (λ _. rest h)
         | false ↦ λ h.
             let top : low l s.top ≡ false = top_high l s kept who p is_low id there h valid in
             let stub_label : (object_at (by_number l s) (stub s.top)).label ≡ s.top = ap (λ o. o.label) (object_stub l s top) in
-            let fails' : dominates p.label (object_at (by_number l s) (stub s.top)).label ≡ false = ap (dominates p.label) stub_label ∙ not_below l p.label s.top is_low top in
-            alike_hidden (crosses l) l s.top (subject who p) (mac_read s p id place) (mac_read (by_number l s) p (stub s.top) place) r (r' (stub s.top)) refl refl
-            (failed_verdict (subject who p) (mac_read (by_number l s) p (stub s.top) place) fails' ∙ sym (failed_verdict (subject who p) (mac_read s p id place) (read_fails l s kept who p is_low id there h)))
+            let fails' : dominates p.label (object_at (by_number l s) (stub s.top)).label ≡ false =
+            ap (dominates p.label) stub_label ∙ not_below l p.label s.top is_low top in
+            alike_hidden (crosses l) l s.top (subject who p) (mac_read s p id place) (mac_read (by_number l s) p (stub s.top) place) r
+            (r' (stub s.top)) refl refl
+            (failed_verdict (subject who p) (mac_read (by_number l s) p (stub s.top) place) fails'
+            ∙ sym (failed_verdict (subject who p) (mac_read s p id place) (read_fails l s kept who p is_low id there h)))
             (read_crosses l s kept who p is_low id there h place)
       ] refl
 
   -- the mac_write of a Low process ends in the part as in the state, and what passes it is Low
-  pub alike_mac_write : (id : Oid) → IsThere s.objects id → (place : Place) (r : Row) (r' : Oid → Row) → (low l id.label ≡ true → Same r (r' id)) → Same (Need (mac_write s p id place) r) (Need (mac_write (by_number l s) p (shown l s.top id) place) (r' (shown l s.top id)))
+  pub alike_mac_write : (id : Oid) → IsThere s.objects id → (place : Place) (r : Row) (r' : Oid → Row) → (low l id.label ≡ true → Same r (r' id))
+      → Same (Need (mac_write s p id place) r) (Need (mac_write (by_number l s) p (shown l s.top id) place) (r' (shown l s.top id)))
   alike_mac_write id there place r r' rest =
-      elim (low l id.label) as (λ b. low l id.label ≡ b → Same (Need (mac_write s p id place) r) (Need (mac_write (by_number l s) p (cond b id (stub s.top)) place) (r' (cond b id (stub s.top))))) [
-        | true ↦ λ h. alike_same (crosses l) l s.top (subject who p) _ _ r (r' id) (ap (λ o. of_object check.MacWrite (same_label p.label o.label) None id o place) (object_low l s id h)) (λ _. rest h)
+      elim (low l id.label) as (λ b. low l id.label ≡ b → Same (Need (mac_write s p id place) r)
+      (Need (mac_write (by_number l s) p (cond b id (stub s.top)) place) (r' (cond b id (stub s.top))))) [
+        | true ↦ λ h.
+            alike_same (crosses l) l s.top (subject who p) _ _ r (r' id)
+            (ap (λ o. of_object check.MacWrite (same_label p.label o.label) None id o place) (object_low l s id h)) (λ _. rest h)
         | false ↦ λ h.
             let top : low l s.top ≡ false = top_high l s kept who p is_low id there h valid in
             let stub_label : (object_at (by_number l s) (stub s.top)).label ≡ s.top = ap (λ o. o.label) (object_stub l s top) in
             let fails' : same_label p.label (object_at (by_number l s) (stub s.top)).label ≡ false =
-            ap (same_label p.label) stub_label ∙ false_from_ne_true _ (λ same. let side : true ≡ false = sym is_low ∙ same_side l p.label s.top same ∙ top in cc) in
-            alike_hidden (crosses l) l s.top (subject who p) (mac_write s p id place) (mac_write (by_number l s) p (stub s.top) place) r (r' (stub s.top)) refl refl
-            (failed_verdict (subject who p) (mac_write (by_number l s) p (stub s.top) place) fails' ∙ sym (failed_verdict (subject who p) (mac_write s p id place) (write_fails l s kept who p is_low id there h)))
+            ap (same_label p.label) stub_label
+            ∙ false_from_ne_true _ (λ same. let side : true ≡ false = sym is_low ∙ same_side l p.label s.top same ∙ top in cc) in
+            alike_hidden (crosses l) l s.top (subject who p) (mac_write s p id place) (mac_write (by_number l s) p (stub s.top) place) r
+            (r' (stub s.top)) refl refl
+            (failed_verdict (subject who p) (mac_write (by_number l s) p (stub s.top) place) fails'
+            ∙ sym (failed_verdict (subject who p) (mac_write s p id place) (write_fails l s kept who p is_low id there h)))
             (write_crosses l s kept who p is_low id there h place)
       ] refl
 
-  pub alike_enter : (dir : Oid) → IsThere s.objects dir → (place : Place) (r : Row) (r' : Oid → Row) → (low l dir.label ≡ true → IsDir s.objects dir → Same r (r' dir)) → Same (enter s p dir place r) (enter (by_number l s) p (shown l s.top dir) place (r' (shown l s.top dir)))
+  pub alike_enter : (dir : Oid) → IsThere s.objects dir → (place : Place) (r : Row) (r' : Oid → Row)
+      → (low l dir.label ≡ true → IsDir s.objects dir → Same r (r' dir))
+      → Same (enter s p dir place r) (enter (by_number l s) p (shown l s.top dir) place (r' (shown l s.top dir)))
   alike_enter dir there place r r' rest =
       alike_mac_read dir there place
       (Refuse errno.ENOTDIR (not (is_dir (object_at s dir).kind)) (Need (dac_search s p dir place) r))
       (λ d. Refuse errno.ENOTDIR (not (is_dir (object_at (by_number l s) d).kind)) (Need (dac_search (by_number l s) p d place) (r' d)))
       (λ h. alike_refuse (crosses l) l s.top (subject who p) errno.ENOTDIR _ _ _ _ (ap (λ o. not (is_dir o.kind)) (object_low l s dir h))
       (λ is. alike_same (crosses l) l s.top (subject who p) (dac_search s p dir place) (dac_search (by_number l s) p dir place) r (r' dir)
-      (ap (λ o. of_object check.DacSearch (mode_allows o.attr p.ids want.Execute) None dir o place) (object_low l s dir h)) (λ _. rest h (dir_there s dir (not-false _ is)))))
+      (ap (λ o. of_object check.DacSearch (mode_allows o.attr p.ids want.Execute) None dir o place) (object_low l s dir h))
+      (λ _. rest h (dir_there s dir (not-false _ is)))))
 
   -- what a walk found, in the part
   abbrev pub part_found : Found → Found
@@ -349,7 +339,9 @@ module _ (l : Label) (s : State) (kept : Kept l s) (valid : IsValid s) (who : Pi
   Seen (Start id) = IsThere s.objects id
   Seen (Entry dir name object) = (low l dir.label ≡ true) × IsDir s.objects dir × (object ≡ look s dir name)
 
-  pub alike_walk_from : (place : ℕ → Place) (at : ℕ) (dir : Oid) (names : List Name) (k k' : Found → Row) → IsThere s.objects dir → ((found : Found) → Seen found → Same (k found) (k' (part_found found))) → Same (walk_from s p place at dir names k) (walk_from (by_number l s) p place at (shown l s.top dir) names k')
+  pub alike_walk_from : (place : ℕ → Place) (at : ℕ) (dir : Oid) (names : List Name) (k k' : Found → Row) → IsThere s.objects dir
+      → ((found : Found) → Seen found → Same (k found) (k' (part_found found)))
+      → Same (walk_from s p place at dir names k) (walk_from (by_number l s) p place at (shown l s.top dir) names k')
   alike_walk_from place at dir [] k k' there h = h (Start dir) there
   alike_walk_from place at dir (name ∷ []) k k' there h =
       alike_enter dir there (place at) (k (Entry dir name (look s dir name))) (λ d. k' (Entry d name (look (by_number l s) d name)))
@@ -358,7 +350,11 @@ module _ (l : Label) (s : State) (kept : Kept l s) (valid : IsValid s) (who : Pi
   alike_walk_from place at dir (name ∷ next ∷ names) k k' there h =
       alike_enter dir there (place at) (or_missing (look s dir name) (λ id. walk_from s p place (at + 1) id (next ∷ names) k))
       (λ d. or_missing (look (by_number l s) d name) (λ id. walk_from (by_number l s) p place (at + 1) id (next ∷ names) k'))
-      (λ is_low_dir _. subst (λ w. Same (or_missing (look s dir name) (λ id. walk_from s p place (at + 1) id (next ∷ names) k)) (or_missing w (λ id. walk_from (by_number l s) p place (at + 1) id (next ∷ names) k'))) (sym (look_low l s dir name is_low_dir))
+      (λ is_low_dir _.
+      subst
+      (λ w. Same (or_missing (look s dir name) (λ id. walk_from s p place (at + 1) id (next ∷ names) k))
+      (or_missing w (λ id. walk_from (by_number l s) p place (at + 1) id (next ∷ names) k')))
+      (sym (look_low l s dir name is_low_dir))
       (alike_missing (crosses l) l s.top (subject who p) (look s dir name) _ _ (shown l s.top)
       (λ id e. alike_walk_from place (at + 1) id (next ∷ names) k k' (led_there s valid dir name id e) h)))
 
@@ -366,18 +362,22 @@ module _ (l : Label) (s : State) (kept : Kept l s) (valid : IsValid s) (who : Pi
   start_low path is = elim path.absolute as (λ b. low l (cond b root p.cwd).label ≡ true) [ true ↦ root_low l | false ↦ kept.cwd who p is is_low ]
 
   -- the walk of a path, in the state and in its part
-  pub alike_walk : map.get s.procs who ≡ Some p → (place : ℕ → Place) (path : PathValue) (k k' : Found → Row) → ((found : Found) → Seen found → Same (k found) (k' (part_found found))) → Same (walk s p place path k) (walk (by_number l s) p place path k')
+  pub alike_walk : map.get s.procs who ≡ Some p → (place : ℕ → Place) (path : PathValue) (k k' : Found → Row)
+      → ((found : Found) → Seen found → Same (k found) (k' (part_found found))) → Same (walk s p place path k) (walk (by_number l s) p place path k')
   alike_walk is place path k k' h =
       let start : low l (start_of p path).label ≡ true = start_low path is in
       subst (λ d. Same (walk s p place path k) (walk_from (by_number l s) p place 0 d path.names k')) (shown_low l s (start_of p path) start)
       (alike_walk_from place 0 (start_of p path) path.names k k' (start_there s valid who p path is) h)
 
-  alike_to_object : (k k' : Oid → Row) → ((id : Oid) → IsThere s.objects id → Same (k id) (k' (shown l s.top id))) → (found : Found) → Seen found → Same (to_object found k) (to_object (part_found found) k')
+  alike_to_object : (k k' : Oid → Row) → ((id : Oid) → IsThere s.objects id → Same (k id) (k' (shown l s.top id))) → (found : Found) → Seen found
+      → Same (to_object found k) (to_object (part_found found) k')
   alike_to_object k k' h (Start id) there = h id there
-  alike_to_object k k' h (Entry dir name object) seen = alike_missing (crosses l) l s.top (subject who p) object k k' (shown l s.top) (λ id e. h id (led_there s valid dir name id (sym seen.2 ∙ e)))
+  alike_to_object k k' h (Entry dir name object) seen =
+      alike_missing (crosses l) l s.top (subject who p) object k k' (shown l s.top) (λ id e. h id (led_there s valid dir name id (sym seen.2 ∙ e)))
 
   -- a walk to an object, in the state and in its part
-  pub alike_reach : map.get s.procs who ≡ Some p → (place : ℕ → Place) (path : PathValue) (k k' : Oid → Row) → ((id : Oid) → IsThere s.objects id → Same (k id) (k' (shown l s.top id))) → Same (reach s p place path k) (reach (by_number l s) p place path k')
+  pub alike_reach : map.get s.procs who ≡ Some p → (place : ℕ → Place) (path : PathValue) (k k' : Oid → Row)
+      → ((id : Oid) → IsThere s.objects id → Same (k id) (k' (shown l s.top id))) → Same (reach s p place path k) (reach (by_number l s) p place path k')
   alike_reach is place path k k' h = alike_walk is place path _ _ (alike_to_object k k' h)
 
 -- ---- what a descriptor refers to
@@ -386,14 +386,16 @@ pub record IsOpen (s : State) (p : Process) (fd : ℕ) (f : Opened) : Type 0 whe
   pub fd_is : map.get p.fds fd ≡ Some f.did
   pub is : map.get s.descriptions f.did ≡ Some f.description
 
-described : (s : State) (p : Process) (fd : ℕ) (did : Did) (f : Opened) (w : Option Description) → map.get p.fds fd ≡ Some did → map.get s.descriptions did ≡ w → option_map (λ d. record { did = did; description = d }) w ≡ Some f → IsOpen s p fd f
+described : (s : State) (p : Process) (fd : ℕ) (did : Did) (f : Opened) (w : Option Description) → map.get p.fds fd ≡ Some did → map.get s.descriptions did ≡ w
+    → option_map (λ d. record { did = did; description = d }) w ≡ Some f → IsOpen s p fd f
 described s p fd did f None at is e = absurd (never_some None f refl e)
 described s p fd did f (Some d) at is e = subst (IsOpen s p fd) (some_same (record { did = did; description = d }) f e) (record { fd_is = at; is = is })
 
 pub is_open : (s : State) (p : Process) (fd : ℕ) (f : Opened) → opened s p fd ≡ Some f → IsOpen s p fd f
 unfolding opened
 is_open s p fd f =
-    elim (map.get p.fds fd) as (λ w. map.get p.fds fd ≡ w → option_and_then (λ did. option_map (λ d. record { did = did; description = d }) (map.get s.descriptions did)) w ≡ Some f → IsOpen s p fd f) [
+    elim (map.get p.fds fd) as (λ w. map.get p.fds fd ≡ w
+    → option_and_then (λ did. option_map (λ d. record { did = did; description = d }) (map.get s.descriptions did)) w ≡ Some f → IsOpen s p fd f) [
       | None ↦ λ _ e. absurd (never_some None f refl e)
       | Some did ↦ λ at e. described s p fd did f (map.get s.descriptions did) at refl e
     ] refl
@@ -421,12 +423,15 @@ module _ (l : Label) (s : State) (kept : Kept l s) (who : Pid) (p : Process) (is
   open_object_low f e = let held = is_open s p fd f e in kept.descriptions f.did f.description held.is (fd_low f.did held.fd_is)
 
 -- what an open descriptor refers to is there, and is no directory
-pub open_object_is : (s : State) → IsValid s → (p : Process) (fd : ℕ) (f : Opened) → IsOpen s p fd f → map.get s.objects f.description.object ≡ Some (object_at s f.description.object)
+pub open_object_is : (s : State) → IsValid s → (p : Process) (fd : ℕ) (f : Opened) → IsOpen s p fd f
+    → map.get s.objects f.description.object ≡ Some (object_at s f.description.object)
 open_object_is s valid p fd f is =
     let described = valid.descriptions f.did f.description is.is in
-    described.object_is ∙ ap (λ (o : Object). Some o) (sym (get_or-found s.objects f.description.object (stub_object s.top) described.object described.object_is))
+    described.object_is
+    ∙ ap (λ (o : Object). Some o) (sym (get_or-found s.objects f.description.object (stub_object s.top) described.object described.object_is))
 
 pub open_no_dir : (s : State) → IsValid s → (p : Process) (fd : ℕ) (f : Opened) → IsOpen s p fd f → (object_at s f.description.object).kind ≡ kind.Dir → ⊥
 open_no_dir s valid p fd f is dir =
     let described = valid.descriptions f.did f.description is.is in
-    described.no_dir (ap (λ (o : Object). o.kind) (sym (get_or-found s.objects f.description.object (stub_object s.top) described.object described.object_is)) ∙ dir)
+    described.no_dir
+    (ap (λ (o : Object). o.kind) (sym (get_or-found s.objects f.description.object (stub_object s.top) described.object described.object_is)) ∙ dir)

@@ -47,7 +47,7 @@ use Rattle.iso_laws.proofs.Booting.{fixed_booted}
 use Rattle.iso_laws.proofs.CapsLemmas.{caps_after-append}
 use Rattle.iso_laws.proofs.Lineage.{used_leave, denial_leaves}
 use Rattle.iso_laws.proofs.DrawingLemmas.{born_all, Anything, lead_anywhere}
-use Rattle.iso_laws.proofs.FitRows.{ReportsOwn, Fitting}
+use Rattle.iso_laws.proofs.EffectLaws.{ReportsOwn, Fitting}
 use Rattle.iso_laws.proofs.GoingOn.{EndGives, row_ends}
 use Rattle.iso_laws.proofs.StartLemmas.{ancestor-append}
 

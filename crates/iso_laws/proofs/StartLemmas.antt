@@ -37,7 +37,7 @@ use Rattle.iso_laws.proofs.Rows.{used_is}
 use Rattle.iso_laws.proofs.Steps.{by_process, judged_row}
 use Rattle.iso_laws.proofs.DrawingLemmas.{falls_nowhere, Anything, lead_anywhere}
 use Rattle.iso_laws.proofs.AllLemmas.{all-append}
-use Rattle.iso_laws.proofs.FitRows.{IsOwn, ReportsOwn, Fitting}
+use Rattle.iso_laws.proofs.EffectLaws.{IsOwn, ReportsOwn, Fitting}
 use Rattle.iso_laws.proofs.GoingOn.{EndGives, row_ends}
 
 -- ---- no call leaves a record of a start

@@ -20,7 +20,7 @@ use Rattle.kern_model.proofs.MapLemmas.{get-select}
 use Rattle.iso_laws.proofs.PlayableCalls.{has_flags, flags_of_call}
 use Rattle.iso_laws.specs.Laws.{IsLowStep, LowStepReply, LowStepRecords, LowStepState, OtherStep, KeptStep, ValidStep, TopStep}
 use Rattle.iso_laws.proofs.Part.{by_number, top-changed, low_pid, same, part_changes, part_by_number, by_number-changed_by, fixed_by}
-use Rattle.iso_laws.proofs.Rows.{part_end, part_judged, bad_prefix, never, none_never}
+use Rattle.iso_laws.proofs.Rows.{alike_is, bad_prefix, never, none_never, part_end, part_judged}
 use Rattle.iso_laws.proofs.Sight.{get_process}
 use Rattle.iso_laws.proofs.Cases.{Cases}
 use Rattle.iso_laws.proofs.HiddenCases.{hidden_cases}
@@ -98,7 +98,7 @@ module _ (l : Label) (s : State) (who : Pid) (c : Call) where
       (λ p is k h.
       let p_low : low l p.label ≡ true = sym (kept.procs who p is) ∙ low_step_is.is_low in
       ap (step_by (by_number l s) who c) (get_process l s who low_step_is.is_low ∙ is)
-      ∙ ap (settled (by_number l s) who p (name_of c)) ((low_row l s kept low_step_is.valid who p is p_low c (flags_of_call s.top c low_step_is.arguments)).ends [] (bad_prefix (crosses l) (judged_row s who c p).used (own_of who p (name_of c) (judged_row s who c p).end) h))
+      ∙ ap (settled (by_number l s) who p (name_of c)) (alike_is l s.top _ _ ((low_row l s kept low_step_is.valid who p is p_low c (flags_of_call s.top c low_step_is.arguments)).ends [] (bad_prefix (crosses l) (judged_row s who c p).used (own_of who p (name_of c) (judged_row s who c p).end) h)))
       ∙ settled_part kept p (judged_row s who c p) (k h))
       (kept_step l s who c low_step_is.arguments low_step_is.valid kept) low_step_is.inside
 

@@ -1,5 +1,3 @@
 pub mod Labels
 pub mod Isolation
-pub mod Records
-pub mod Numbers
-pub mod Below
+pub mod Rows

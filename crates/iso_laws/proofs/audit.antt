@@ -1,4 +1,2 @@
 pub mod Isolation
-pub mod Records
-pub mod Numbers
-pub mod Below
+pub mod Rows

@@ -5,6 +5,4 @@ pub mod Closed
 pub mod Opening
 pub mod Pipes
 pub mod Isolation
-pub mod Records
-pub mod Numbers
-pub mod Below
+pub mod Rows

@@ -1,6 +1,4 @@
 pub mod Ending
 pub mod Forking
 pub mod Isolation
-pub mod Records
-pub mod Numbers
-pub mod Below
+pub mod Rows

@@ -3,6 +3,4 @@ pub mod Entries
 pub mod Holders
 pub mod Moves
 pub mod Isolation
-pub mod Records
-pub mod Numbers
-pub mod Below
+pub mod Rows

@@ -1,16 +1,19 @@
 -- The laws, each by its name.
-use Rattle.std.specs.Prelude.{◌≡◌, ℕ, true, false, List, ◌++◌, Some, take}
-use Rattle.std.specs.List.{AllByRecursion}
+use Rattle.std.specs.Prelude.{◌≡◌, ℕ, Bool, true, false, List, ◌++◌, Some, take}
+use Rattle.std.specs.List.{AllByRecursion, list_any}
 use Rattle.std.specs.FinMap as map
 use Rattle.lab_lattice.specs.Label.{Label}
 use Rattle.kern_model.specs.declared.numbers.Pid.{Pid}
 use Rattle.kern_model.specs.declared.calls.Call.{Call}
+use Rattle.kern_model.specs.declared.records.Rec.{Rec}
+use Rattle.kern_model.specs.declared.records.Rec.TheVariants as rec
 use Rattle.kern_model.specs.declared.world.World.{World}
 use Rattle.kern_model.specs.declared.world.ScriptItem.{ScriptItem}
 use Rattle.kern_model.specs.Arguments.{has_names, is_call, is_script}
 use Rattle.kern_model.specs.Boot.{boot}
 use Rattle.kern_model.specs.Drawing.{StayDrawn, NumbersGoOn, NothingComesBack}
 use Rattle.kern_model.specs.Isolation.{low, crossing, part, part_script, answers, alone, up_to, Kept}
+use Rattle.kern_model.specs.Keys.{same_pid}
 use Rattle.kern_model.specs.Lineage.{caps_of, all_recs, OnlyDrops, GrowsByExec}
 use Rattle.kern_model.specs.Prefixes.{IsPrefix, Agree}
 use Rattle.kern_model.specs.Refusals.{IsNamed}
@@ -20,6 +23,7 @@ use Rattle.kern_model.specs.Step.{step}
 use Rattle.kern_model.specs.Valid.{IsValid}
 use Rattle.kern_model.specs.World.{IsWorld}
 use Rattle.iso_laws.specs.Labels.{HasLabelsBelow}
+use Rattle.iso_laws.specs.Unnamed.{NeedsOnlyNamed}
 
 -- ---- a step, by a call whose arguments are in their ranges
 
@@ -120,6 +124,19 @@ DropsByRecords = (w : World) (items : List ScriptItem) → OnlyDrops w.bound (al
 abbrev pub GrowthByRecords : Type 0
 GrowthByRecords = (w : World) (items : List ScriptItem) → GrowsByExec w.bound (all_recs w items)
 
+-- whether a record gives a process its capability sets: that of its start, of the fork that made it, or of `exec` or `cap_set_proc` by it
+abbrev pub gives_sets : Pid → Rec → Bool
+gives_sets q (rec.Boot who label caps) = same_pid q who
+gives_sets q (rec.Fork who child) = same_pid q child
+gives_sets q (rec.Exec who file file_caps caps) = same_pid q who
+gives_sets q (rec.CapSetProc who caps) = same_pid q who
+gives_sets q _ = false
+
+-- a process that lives before and after a step keeps its capability sets, where no record of the step gives it others
+abbrev pub CapsStay : Type 0
+CapsStay = (s : State) (who : Pid) (c : Call) (q : Pid) (old new : Process) → map.get s.procs q ≡ Some old → map.get (step s who c).state.procs q ≡ Some new
+    → list_any (gives_sets q) (step s who c).recs ≡ false → new.caps ≡ old.caps
+
 -- ---- refusals and numbers, for every call
 
 -- a reply that a check denied holds EACCES or EPERM, and no other refusal holds one of them
@@ -141,6 +158,12 @@ NumbersRun = (w : World) (items more : List ScriptItem) → IsWorld w → Number
 -- what has a number that was drawn, and is not there, does not come back
 abbrev pub GoneRun : Type 0
 GoneRun = (w : World) (items more : List ScriptItem) → IsWorld w → NothingComesBack (state_after_run (boot w) items) (state_after_run (boot w) (items ++ more))
+
+-- ---- capabilities that are not needed, for every call
+
+-- a step needs no capability that no exercise of it names
+abbrev pub UnnamedCapability : Type 0
+UnnamedCapability = (s : State) (who : Pid) (c : Call) → NeedsOnlyNamed s who c (step s who c).reply (step s who c).recs (step s who c).state
 
 -- ---- the highest label, for every call
 

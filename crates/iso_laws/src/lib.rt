@@ -7,8 +7,9 @@
 ghost use Rattle.iso_laws.specs.Laws.{LowStepReply, LowStepRecords, LowStepState, OtherStep, KeptStep, ValidStep};
 ghost use Rattle.iso_laws.specs.Laws.{KeptBoot, ValidBoot, IsolatedPrefix, IsolatedWhole, IsolatedEnd, IsolatedInside, TwoWorldsAgree, TwoWorldsSame};
 ghost use Rattle.iso_laws.specs.Laws.{LabelsBelow};
-ghost use Rattle.iso_laws.specs.Laws.{CapsByRecords, DropsByRecords, GrowthByRecords};
+ghost use Rattle.iso_laws.specs.Laws.{CapsByRecords, CapsStay, DropsByRecords, GrowthByRecords};
 ghost use Rattle.iso_laws.specs.Laws.{RefusalsAreNamed, DrawnStep, NumbersStep, NumbersRun, GoneRun};
+ghost use Rattle.iso_laws.specs.Laws.{UnnamedCapability};
 
 /// A step of a Low process that crosses nothing gives in the part the same reply, the same records, and the
 /// part of the new state. The same holds for a Low tag that names no living process.
@@ -75,6 +76,12 @@ pub fn growth_by_records()
     ensures { GrowthByRecords }
 {}
 
+/// A process that lives before and after a step keeps its capability sets, unless a record of the step gives it others: of
+/// `exec` or `cap_set_proc` by it, or of the fork that made it. For every call.
+pub fn caps_stay()
+    ensures { CapsStay }
+{}
+
 /// Refusals are named: a reply that a check denied holds EACCES or EPERM, and no other refusal holds one of them. For every
 /// call.
 pub fn refusals_are_named()
@@ -89,4 +96,11 @@ pub fn numbers_go_on()
     ensures step { NumbersStep }
     ensures run { NumbersRun }
     ensures gone { GoneRun }
+{}
+
+/// A capability that no exercise of a step names is not needed for it. Where it is taken from the caller's effective set
+/// before, the reply and the records are the same, and so are the new states once it is taken, in both, from the caller and
+/// for `fork` from its child. Excepted is the reply of `cap_get_proc`, which reports the set. For every call.
+pub fn unnamed_capability()
+    ensures { UnnamedCapability }
 {}

@@ -30,7 +30,8 @@ use Rattle.kern_model.specs.Keys.{pid_cmp}
 use Rattle.fd_table.specs.Rows.{AllFds}
 use Rattle.sys_lookup.specs.Shared.{with_fds}
 use Rattle.sys_lookup.proofs.FdLemmas.{field-with_fds}
-use Rattle.iso_laws.proofs.Laws.{numbers_step, refusals_are_named, valid_boot, valid_step}
+use Rattle.iso_laws.specs.Unnamed.{NeedsOnlyNamed}
+use Rattle.iso_laws.proofs.Laws.{numbers_step, refusals_are_named, unnamed_capability, valid_boot, valid_step}
 use Rattle.kern_core.specs.Kernel.{IsStopped}
 use Rattle.kern_core.proofs.StepLemmas.{no_process}
 
@@ -60,6 +61,10 @@ module _ {E : Type 0} (s t : State) (who : Pid) (c : Call) (r : Result reported.
   -- names what refused it
   pub named_played : IfOk r (λ o. IsNamed o.reply)
   named_played = IfOk-weaker r _ _ (λ o e. subst IsNamed (ap (λ (u : StepResult). u.reply) e) (refusals_are_named s who c)) is
+
+  -- needs no capability that no exercise of it names
+  pub needs_only_named : IfOk r (λ o. NeedsOnlyNamed s who c o.reply o.recs t)
+  needs_only_named = IfOk-weaker r _ _ (λ o e. subst (λ (u : StepResult). NeedsOnlyNamed s who c u.reply u.recs u.state) e (unnamed_capability s who c)) is
 
   -- leaves a valid state valid
   pub valid_played : is_call s.top c ≡ true → (IsSome (map.get s.procs who) → has_names c ≡ true) → ∥ IsValid s ∥₁ → OnOk r (∥ IsValid t ∥₁)

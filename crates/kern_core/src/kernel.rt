@@ -10,6 +10,7 @@ ghost use Rattle.kern_model.specs.Step.{IsPlayed};
 ghost use Rattle.kern_model.specs.Valid.{IsValid};
 ghost use Rattle.kern_model.specs.World.{IsWorld};
 ghost use Rattle.fd_table.specs.Files.{no_files};
+ghost use Rattle.iso_laws.specs.Unnamed.{NeedsOnlyNamed};
 ghost use Rattle.sys_lookup.specs.Shared as held;
 ghost use Rattle.kern_core.specs.Starts.{CanStart};
 
@@ -105,6 +106,7 @@ impl Kernel {
         ensures valid { OnOk result (∥ IsValid (state_of self.new) ∥₁) }
         ensures named { IfOk result (λ outcome. IsNamed outcome.reply) }
         ensures numbers { OnOk result (NumbersGoOn (state_of self.old) (state_of self.new)) }
+        ensures unnamed { IfOk result (λ outcome. NeedsOnlyNamed (state_of self.old) who.now call.now outcome.reply outcome.recs (state_of self.new)) }
         ensures sound { OnOk result ((has_failed self.new ≡ false) × (has_failed self.old ≡ false)) }
         ensures failed { OnErr result (has_failed self.new ≡ true) }
         ensures for_good { has_failed self.old ≡ true → IsErr result }

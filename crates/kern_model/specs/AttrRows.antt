@@ -1,8 +1,8 @@
 -- The rows of the calls on modes, owners, capability sets of files, and labels of objects.
-use Rattle.std.specs.Prelude.{ℕ, ◌&&◌, ◌||◌, not, cond, [], ◌∷◌, None, Some}
+use Rattle.std.specs.Prelude.{ℕ, ◌&&◌, ◌||◌, not, Bool, cond, [], ◌∷◌, None, Some}
 use Rattle.cap_bits.specs.declared.state.CapState.{CapState}
 use Rattle.fs_path.specs.Path.{PathValue}
-use Rattle.lab_lattice.specs.Label.{Label, dominates}
+use Rattle.lab_lattice.specs.Label.{Label}
 use Rattle.kern_model.specs.declared.calls.Answer.TheVariants as answer
 use Rattle.kern_model.specs.declared.calls.Errno.TheVariants as errno
 use Rattle.kern_model.specs.declared.checks.Place.{Place}
@@ -15,7 +15,7 @@ use Rattle.kern_model.specs.declared.records.Rec.TheVariants as rec
 use Rattle.kern_model.specs.Entries.{is_empty}
 use Rattle.kern_model.specs.FileRows.{on_descriptor}
 use Rattle.kern_model.specs.Kinds.{is_dir, is_file, has_set_id, permissions}
-use Rattle.kern_model.specs.Rules.{same_label, mac_upgrade, mac_downgrade, relabelled_order, is_owner, owner, chown_rule, setfcap, cap_within, fsetid}
+use Rattle.kern_model.specs.Rules.{same_label, mac_change_of, relabelled_order, is_owner_of, owner_of, chown_of, setfcap_of, cap_within, fsetid_of}
 use Rattle.kern_model.specs.Row.{Row, Need, Soft, Refuse, Commit}
 use Rattle.kern_model.specs.State.{State, Process, Change, SetObject, object_at}
 use Rattle.kern_model.specs.Walk.{on_path, read_object, write_object}
@@ -28,29 +28,61 @@ on_open_object s p fd k = on_descriptor s p fd (λ f. k f.description.object Han
 abbrev pub with_attr : Oid → Object → Attr → Change
 with_attr id o attr = SetObject id (record o { attr = attr })
 
+-- an object gets another label
+abbrev pub with_label : Oid → Object → Label → Change
+with_label id o label = SetObject id (record o { label = label })
+
+-- ---- steps on an object that is written
+
+-- an object is written, by label, and the row of it goes on
+abbrev pub written : State → Process → (Oid → Place → Object → Row) → Oid → Place → Row
+written s p k id place = write_object s p id place (k id place)
+
+-- the caller owns the object
+abbrev pub owns : Process → Oid → Place → Object → Row → Row
+owns p id place o rest = Need (owner_of p id o place) rest
+
+-- a mode, of which the set-id bits stay away where the caller may not keep them
+abbrev pub keeps_mode : Bool → ℕ → Oid → Place → Object → (ℕ → Row) → Row
+keeps_mode plain mode id place o rest = Soft (fsetid_of plain id o place) (rest mode) (rest (permissions mode))
+
 -- ---- modes and owners
 
--- an object gets a mode; its set-id bits stay away where the caller is not the owner and has not the capability
+-- an object gets a mode
 abbrev pub set_mode : Oid → Object → ℕ → Row
 set_mode id o mode = Commit (with_attr id o (record o.attr { mode = mode }) ∷ []) answer.Nothing None
 
+-- whether an object gets all of a mode without a capability of the caller: it has no set-id bit, or the caller is the owner
+abbrev pub is_kept_by_right : Process → ℕ → Object → Bool
+is_kept_by_right p mode o = not (has_set_id mode) || is_owner_of p o
+
+-- a mode is asked for, and the row goes on with what the object gets of it
+abbrev pub asks_mode : Process → ℕ → Oid → Place → Object → (ℕ → Row) → Row
+asks_mode p mode id place o rest = owns p id place o (keeps_mode (is_kept_by_right p mode o) mode id place o rest)
+
+-- an object that is written gets a mode
+abbrev pub change_mode : Process → ℕ → Oid → Place → Object → Row
+change_mode p mode id place o = asks_mode p mode id place o (set_mode id o)
+
 -- `chmod PATH MODE`
 abbrev pub chmod_row : State → Pid → Process → PathValue → ℕ → Row
-chmod_row s who p path mode = on_path s p path (λ id place.
-    write_object s p id place (λ o.
-    Need (owner s p id place)
-    (Soft (fsetid s (not (has_set_id mode) || is_owner s p id) id place) (set_mode id o mode) (set_mode id o (permissions mode)))))
+chmod_row s who p path mode = on_path s p path (written s p (change_mode p mode))
 
 -- an object gets an owner, a group and a mode
 abbrev pub set_owner : Oid → Object → ℕ → ℕ → ℕ → Row
 set_owner id o user group mode = Commit (with_attr id o (record o.attr { owner = user; group = group; mode = mode }) ∷ []) answer.Nothing None
 
+-- an owner and a group are asked for, and the row goes on with the mode that the object keeps
+abbrev pub asks_owner : Process → ℕ → ℕ → Oid → Place → Object → (ℕ → Row) → Row
+asks_owner p user group id place o rest = Need (chown_of p user group id o place) (keeps_mode (not (has_set_id o.attr.mode)) o.attr.mode id place o rest)
+
+-- an object that is written gets an owner and a group
+abbrev pub change_owner : Process → ℕ → ℕ → Oid → Place → Object → Row
+change_owner p user group id place o = asks_owner p user group id place o (set_owner id o user group)
+
 -- `chown PATH UID GID`
 abbrev pub chown_row : State → Pid → Process → PathValue → ℕ → ℕ → Row
-chown_row s who p path user group = on_path s p path (λ id place.
-    write_object s p id place (λ o.
-    Need (chown_rule s p id user group place)
-    (Soft (fsetid s (not (has_set_id o.attr.mode)) id place) (set_owner id o user group o.attr.mode) (set_owner id o user group (permissions o.attr.mode)))))
+chown_row s who p path user group = on_path s p path (written s p (change_owner p user group))
 
 -- ---- capability sets of files
 
@@ -62,15 +94,25 @@ report_caps o = Refuse errno.EINVAL (not (is_file o.kind)) (Commit [] (answer.Ca
 abbrev pub get_caps : State → Process → Oid → Place → Row
 get_caps s p id place = read_object s p id place report_caps
 
+-- a file gets capability sets
+abbrev pub give_caps : Pid → CapState → Oid → Object → Row
+give_caps who caps id o = Commit (with_attr id o (record o.attr { caps = caps }) ∷ []) answer.Nothing (Some (rec.CapSetFile who id caps))
+
+-- capability sets of a file are asked for
+abbrev pub asks_caps : Pid → Process → CapState → Oid → Place → Object → Row → Row
+asks_caps who p caps id place o rest =
+    Refuse errno.EINVAL (not (is_file o.kind))
+    (owns p id place o
+    (Need (setfcap_of id o place)
+    (Need (cap_within who p caps) rest)))
+
+-- a file that is written gets capability sets
+abbrev pub change_caps : Pid → Process → CapState → Oid → Place → Object → Row
+change_caps who p caps id place o = asks_caps who p caps id place o (give_caps who caps id o)
+
 -- the sets of a file are set
 abbrev pub set_caps : State → Pid → Process → CapState → Oid → Place → Row
-set_caps s who p caps id place =
-    write_object s p id place (λ o.
-    Refuse errno.EINVAL (not (is_file o.kind))
-    (Need (owner s p id place)
-    (Need (setfcap s id place)
-    (Need (cap_within who p caps)
-    (Commit (with_attr id o (record o.attr { caps = caps }) ∷ []) answer.Nothing (Some (rec.CapSetFile who id caps)))))))
+set_caps s who p caps = written s p (change_caps who p caps)
 
 -- `cap_get_file PATH`
 abbrev pub cap_get_file_row : State → Pid → Process → PathValue → Row
@@ -100,21 +142,26 @@ get_label s p id place = read_object s p id place report_label
 
 -- an object gets a label
 abbrev pub give_label : Pid → Label → Oid → Object → Row
-give_label who new id o = Commit (SetObject id (record o { label = new }) ∷ []) answer.Nothing (Some (rec.MacSetFile who id o.label new))
+give_label who new id o = Commit (with_label id o new ∷ []) answer.Nothing (Some (rec.MacSetFile who id o.label new))
 
 -- a label that is another one: it goes up or down by a capability, keeps the order of labels, and no directory with entries gets one
 abbrev pub change_label : State → Label → Oid → Place → Row → Row
 change_label s new id place rest =
-    Need (cond (dominates new (object_at s id).label) (mac_upgrade s id new place) (mac_downgrade s id new place))
+    Need (mac_change_of new id (object_at s id) place)
     (Need (relabelled_order s id new place)
     (Refuse errno.ENOTEMPTY (is_dir (object_at s id).kind && not (is_empty s id)) rest))
 
+-- a label is asked for, of an object that the caller owns; nothing else is asked of a label that the object has
+abbrev pub asks_label : State → Process → Label → Oid → Place → Object → Row → Row
+asks_label s p new id place o rest = owns p id place o (cond (same_label new o.label) rest (change_label s new id place rest))
+
+-- an object that is written gets a label
+abbrev pub relabel : State → Pid → Process → Label → Oid → Place → Object → Row
+relabel s who p new id place o = asks_label s p new id place o (give_label who new id o)
+
 -- a label is set, where the caller writes the object and owns it
 abbrev pub set_label : State → Pid → Process → Label → Oid → Place → Row
-set_label s who p new id place =
-    write_object s p id place (λ o.
-    Need (owner s p id place)
-    (cond (same_label new o.label) (give_label who new id o) (change_label s new id place (give_label who new id o))))
+set_label s who p new = written s p (relabel s who p new)
 
 -- `mac_get_file PATH`
 abbrev pub mac_get_file_row : State → Pid → Process → PathValue → Row

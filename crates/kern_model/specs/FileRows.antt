@@ -1,17 +1,17 @@
--- The rows of the calls on descriptors, and of open.
-use Rattle.std.specs.Prelude.{ℕ, ◌+◌, ◌==◌, ◌&&◌, ◌||◌, not, nat_le, nat_lt, int_lt, Bool, true, false, cond, List, [], ◌∷◌, ◌++◌, length, take, drop, Option, None, Some, unwrap_or, ℤ, pos, ◌+ℤ◌, unsigned_abs}
+-- The rows of the calls on descriptors.
+use Rattle.std.specs.Prelude.{ℕ, ◌+◌, ◌==◌, ◌&&◌, ◌||◌, not, nat_le, nat_lt, int_lt, Bool, true, false, cond, List, [], ◌∷◌, ◌++◌, length, take, drop, Option, None, Some, ℤ, pos, ◌+ℤ◌, unsigned_abs}
 use Rattle.std.specs.FinMap as map
 use Rattle.cap_bits.specs.State.{no_flags}
-use Rattle.fs_path.specs.Name.{Name}
-use Rattle.fs_path.specs.Path.{PathValue}
 use Rattle.kern_model.specs.declared.limits.TheConstants.{MAX_DESCRIPTIONS, MAX_DESCRIPTORS, MAX_FILE_BYTES, MAX_PIPE_BYTES}
+use Rattle.kern_model.specs.declared.calls.Answer.{Answer}
 use Rattle.kern_model.specs.declared.calls.Answer.TheVariants as answer
 use Rattle.kern_model.specs.declared.calls.Errno.TheVariants as errno
 use Rattle.kern_model.specs.declared.calls.OpenFlags.{OpenFlags}
 use Rattle.kern_model.specs.declared.calls.Whence.{Whence}
 use Rattle.kern_model.specs.declared.calls.Whence.TheVariants as whence
+use Rattle.kern_model.specs.declared.checks.CheckName.TheVariants as check
 use Rattle.kern_model.specs.declared.checks.Place.{Place}
-use Rattle.kern_model.specs.declared.checks.Place.TheVariants.{First, Handle}
+use Rattle.kern_model.specs.declared.checks.Place.TheVariants.{Handle}
 use Rattle.kern_model.specs.declared.numbers.Oid.{Oid}
 use Rattle.kern_model.specs.declared.numbers.Did.{Did}
 use Rattle.kern_model.specs.declared.numbers.Pid.{Pid}
@@ -19,13 +19,13 @@ use Rattle.kern_model.specs.declared.objects.Attr.{Attr}
 use Rattle.kern_model.specs.declared.objects.Body.TheVariants as body
 use Rattle.kern_model.specs.declared.objects.Object.{Object}
 use Rattle.kern_model.specs.Keys.{same_pid}
-use Rattle.kern_model.specs.Kinds.{is_dir, is_file, is_fifo, is_stream, object_with, permissions, masked}
+use Rattle.kern_model.specs.Kinds.{is_stream, object_with, permissions}
 use Rattle.kern_model.specs.State.{State, Process, Description, Change, SetObject, SetProcess, SetDescription, DrawDescription, object_at, drawn, next_object, next_description}
 use Rattle.kern_model.specs.Descriptors.{Opened, Descriptor, opened, open_count, lowest_free, with_descriptor, any_open, closing}
-use Rattle.kern_model.specs.Rules.{mac_read, mac_write, dac_read, dac_write, fsetid, is_plain}
-use Rattle.kern_model.specs.Row.{Row, Need, Soft, Refuse, Fail, Commit, need_if}
-use Rattle.kern_model.specs.Walk.{Found, Start, Entry, walk, last_place, dir_place}
-use Rattle.kern_model.specs.Create.{make_in, attr_of, drawing, made, has_object_number}
+use Rattle.kern_model.specs.Rules.{of_object, mac_write, is_plain}
+use Rattle.kern_model.specs.Row.{Row, Soft, Refuse, Fail, Commit, need_if}
+use Rattle.kern_model.specs.Walk.{read_object, write_object}
+use Rattle.kern_model.specs.Create.{attr_of, drawing, has_object_number}
 use Rattle.kern_model.specs.Stat.{stat_of}
 
 -- ---- what rows of descriptors share
@@ -49,6 +49,14 @@ has_free_descriptors p n = nat_le (open_count p + n) MAX_DESCRIPTORS
 abbrev pub has_descriptions : State → Process → ℕ → Bool
 has_descriptions s p n = nat_le (drawn s.description_numbers p.label + n) MAX_DESCRIPTIONS
 
+-- n more descriptors of the caller are free
+abbrev pub has_free : Process → ℕ → Row → Row
+has_free p n rest = Refuse errno.EMFILE (not (has_free_descriptors p n)) rest
+
+-- the caller may make n more descriptions, each with a descriptor
+abbrev pub may_describe : State → Process → ℕ → Row → Row
+may_describe s p n rest = has_free p n (Refuse errno.ENFILE (not (has_descriptions s p n)) rest)
+
 -- a description with another offset
 abbrev pub moved : Opened → ℕ → Change
 moved f offset = SetDescription f.did (record f.description { offset = offset })
@@ -61,15 +69,17 @@ with_bytes s id bytes = SetObject id (record (object_at s id) { bytes = bytes })
 abbrev pub cleared : Attr → Attr
 cleared attr = record attr { mode = permissions attr.mode; caps = no_flags }
 
--- a file with other bytes, and without set-id bits and capabilities
-abbrev pub with_bytes_cleared : State → Oid → List ℕ → Change
-with_bytes_cleared s id bytes = SetObject id (record (object_at s id) { bytes = bytes; attr = cleared (object_at s id).attr })
+-- soft fsetid of a file whose content changes: its attributes stay, or are cleared where that is denied
+abbrev pub keeps_attr : Oid → Place → Object → (Attr → Row) → Row
+keeps_attr id place o rest = Soft (of_object check.Fsetid (is_plain o.attr) None id o place) (rest o.attr) (rest (cleared o.attr))
 
--- soft fsetid of a file whose content changes
-abbrev pub rewritten : State → Oid → Place → (Change → Row) → List ℕ → Row
-rewritten s id place k bytes = Soft (fsetid s (is_plain (object_at s id).attr) id place) (k (with_bytes s id bytes)) (k (with_bytes_cleared s id bytes))
+-- a file that was read gets other bytes and attributes
+abbrev pub rewritten : Oid → Object → List ℕ → Attr → Change
+rewritten id o bytes attr = SetObject id (record o { bytes = bytes; attr = attr })
 
--- ---- open
+-- a number of an object is left at the caller's label, and the row goes on with the next one
+abbrev pub to_number : State → Process → (Oid → Row) → Row
+to_number s p rest = Refuse errno.ENOSPC (not (has_object_number s p)) (rest (next_object s p.label))
 
 -- a description of the caller is made, with its lowest free descriptor
 abbrev pub opening : State → Pid → Process → Oid → OpenFlags → List Change
@@ -78,62 +88,36 @@ opening s who p id flags =
     ∷ SetDescription (next_description s p.label) (record { object = id; reads = flags.r; writes = flags.w; appends = flags.a; offset = 0 })
     ∷ SetProcess who (with_descriptor p (next_description s p.label)) ∷ []
 
--- what was done before, and then the description
-abbrev pub opens : State → Pid → Process → Oid → OpenFlags → List Change → Row
-opens s who p id flags before = Commit (before ++ opening s who p id flags) (answer.Number (lowest_free p.fds)) None
+-- ---- close, dup and fstat
 
--- where nothing has the name a file is made, if that is asked for
-abbrev pub open_absent : State → Pid → Process → OpenFlags → ℕ → Oid → Name → Place → Row
-open_absent s who p flags mode dir name place =
-    Refuse errno.ENOENT (not flags.c)
-    (make_in s p dir place
-    (Refuse errno.ENOSPC (not (has_object_number s p))
-    (opens s who p (next_object s p.label) flags (made s p dir name (object_with p.label (attr_of p (masked mode p.umask)) (body.File []))))))
+-- a descriptor of the caller closes
+abbrev pub closes : State → Pid → Process → ℕ → List Change
+closes s who p fd = SetProcess who (record p { fds = map.remove p.fds fd }) ∷ closing s (λ (d : Descriptor). same_pid d.who who && d.fd == fd)
 
--- with `t` a file is emptied
-abbrev pub open_emptying : State → Pid → Process → OpenFlags → Oid → Place → Row
-open_emptying s who p flags id place =
-    cond (flags.t && is_file (object_at s id).kind)
-    (rewritten s id place (λ change. opens s who p id flags (change ∷ [])) [])
-    (opens s who p id flags [])
-
--- where an object has the name it is opened, if the caller may
-abbrev pub open_present : State → Pid → Process → OpenFlags → Oid → Place → Row
-open_present s who p flags id place =
-    Refuse errno.EEXIST (flags.c && flags.x)
-    (need_if flags.r (mac_read s p id place)
-    (need_if flags.w (mac_write s p id place)
-    (Refuse errno.EISDIR (is_dir (object_at s id).kind)
-    (Refuse errno.EINVAL (is_fifo (object_at s id).kind && flags.r && flags.w)
-    (need_if (is_fifo (object_at s id).kind && flags.r) (mac_write s p id place)
-    (need_if flags.r (dac_read s p id place)
-    (need_if flags.w (dac_write s p id place)
-    (open_emptying s who p flags id place))))))))
-
-abbrev pub open_found : State → Pid → Process → PathValue → OpenFlags → ℕ → Found → Row
-open_found s who p path flags mode (Start id) = open_present s who p flags id (last_place (λ n. First n) path)
-open_found s who p path flags mode (Entry dir name None) = open_absent s who p flags mode dir name (dir_place (λ n. First n) path)
-open_found s who p path flags mode (Entry dir name (Some id)) = open_present s who p flags id (last_place (λ n. First n) path)
-
--- `open PATH FLAGS [MODE]`
-abbrev pub open_row : State → Pid → Process → PathValue → OpenFlags → Option ℕ → Row
-open_row s who p path flags mode =
-    Refuse errno.EMFILE (not (has_free_descriptors p 1))
-    (Refuse errno.ENFILE (not (has_descriptions s p 1))
-    (walk s p (λ n. First n) path (open_found s who p path flags (unwrap_or mode 0))))
-
--- ---- descriptors
+abbrev pub close_opened : State → Pid → Process → ℕ → Row
+close_opened s who p fd = Commit (closes s who p fd) answer.Nothing None
 
 -- `close FD`
 abbrev pub close_row : State → Pid → Process → ℕ → Row
-close_row s who p fd = on_descriptor s p fd (λ f.
-    Commit (SetProcess who (record p { fds = map.remove p.fds fd }) ∷ closing s (λ (d : Descriptor). same_pid d.who who && d.fd == fd)) answer.Nothing None)
+close_row s who p fd = on_descriptor s p fd (λ _. close_opened s who p fd)
+
+-- the caller's lowest free descriptor refers to the same description
+abbrev pub repeat : Pid → Process → Opened → Row
+repeat who p f = has_free p 1 (Commit (SetProcess who (with_descriptor p f.did) ∷ []) (answer.Number (lowest_free p.fds)) None)
 
 -- `dup FD`
 abbrev pub dup_row : State → Pid → Process → ℕ → Row
-dup_row s who p fd = on_descriptor s p fd (λ f.
-    Refuse errno.EMFILE (not (has_free_descriptors p 1))
-    (Commit (SetProcess who (with_descriptor p f.did) ∷ []) (answer.Number (lowest_free p.fds)) None))
+dup_row s who p fd = on_descriptor s p fd (repeat who p)
+
+-- what a descriptor refers to is reported, where the caller reads it by label
+abbrev pub report_opened : State → Process → Opened → Row
+report_opened s p f = read_object s p f.description.object Handle (λ _. Commit [] (answer.Stat (stat_of s f.description.object)) None)
+
+-- `fstat FD`
+abbrev pub fstat_row : State → Pid → Process → ℕ → Row
+fstat_row s who p fd = on_descriptor s p fd (report_opened s p)
+
+-- ---- pipe
 
 -- octal 0600
 abbrev pub pipe_mode : ℕ
@@ -147,77 +131,142 @@ on_pipe s p reads = record { object = next_object s p.label; reads = reads; writ
 abbrev pub second_description : State → Process → Did
 second_description s p = record { label = p.label; n = drawn s.description_numbers p.label + 2 }
 
+-- a pipe of the caller is made
+abbrev pub drawing_pipe : State → Process → List Change
+drawing_pipe s p = drawing s p (object_with p.label (attr_of p pipe_mode) body.Pipe)
+
 -- a pipe is made, with a description for reading, and one for writing
 abbrev pub piped : State → Pid → Process → List Change
 piped s who p =
-    drawing s p (object_with p.label (attr_of p pipe_mode) body.Pipe)
+    drawing_pipe s p
     ++ (DrawDescription p.label (drawn s.description_numbers p.label + 2)
     ∷ SetDescription (next_description s p.label) (on_pipe s p true)
     ∷ SetDescription (second_description s p) (on_pipe s p false)
     ∷ SetProcess who (with_descriptor (with_descriptor p (next_description s p.label)) (second_description s p)) ∷ [])
 
+-- the caller's two lowest free descriptors
+abbrev pub both_ends : State → Process → Answer
+both_ends s p = answer.Two (lowest_free p.fds) (lowest_free (with_descriptor p (next_description s p.label)).fds)
+
+abbrev pub make_pipe : State → Pid → Process → Row
+make_pipe s who p = Commit (piped s who p) (both_ends s p) None
+
 -- `pipe`
 abbrev pub pipe_row : State → Pid → Process → Row
-pipe_row s who p =
-    Refuse errno.EMFILE (not (has_free_descriptors p 2))
-    (Refuse errno.ENFILE (not (has_descriptions s p 2))
-    (Refuse errno.ENOSPC (not (has_object_number s p))
-    (Commit (piped s who p) (answer.Two (lowest_free p.fds) (lowest_free (with_descriptor p (next_description s p.label)).fds)) None)))
+pipe_row s who p = may_describe s p 2 (to_number s p (λ _. make_pipe s who p))
+
+-- ---- read
+
+-- a descriptor is open for reading, on an object that the caller reads by label
+abbrev pub to_read : State → Process → Opened → (Opened → Row) → Row
+to_read s p f rest = Refuse errno.EBADF (not f.description.reads) (read_object s p f.description.object Handle (λ _. rest f))
+
+abbrev pub opened_to_read : State → Process → ℕ → (Opened → Row) → Row
+opened_to_read s p fd rest = on_descriptor s p fd (λ f. to_read s p f rest)
 
 -- up to n bytes of a file from the offset on
 abbrev pub taken_from : Object → Opened → ℕ → List ℕ
 taken_from o f n = take n (drop f.description.offset o.bytes)
 
--- bytes come out: of a file from the offset, which moves after them, of a pipe or FIFO from the start
-abbrev pub reading : State → Opened → ℕ → Row
-reading s f n =
-    cond (is_stream (open_object s f).kind)
-    (Commit (with_bytes s f.description.object (drop n (open_object s f).bytes) ∷ []) (answer.Bytes (take n (open_object s f).bytes)) None)
-    (Commit (moved f (f.description.offset + length (taken_from (open_object s f) f n)) ∷ []) (answer.Bytes (taken_from (open_object s f) f n)) None)
+-- bytes come out of a file, whose offset moves after them
+abbrev pub from_file : Opened → List ℕ → Row
+from_file f bytes = Commit (moved f (f.description.offset + length bytes) ∷ []) (answer.Bytes bytes) None
+
+-- bytes come out of a pipe or FIFO from the start, which loses them
+abbrev pub from_stream : ℕ → Oid → Object → Row
+from_stream n id o = Commit (SetObject id (record o { bytes = drop n o.bytes }) ∷ []) (answer.Bytes (take n o.bytes)) None
+
+-- bytes come out of a pipe or FIFO where `stream` holds, and else of a file
+abbrev pub taking : Bool → ℕ → Opened → Object → Row
+taking stream n f o = cond stream (from_stream n f.description.object o) (from_file f (taken_from o f n))
+
+-- the same, unless it is a pipe or FIFO that is empty and has a description for writing
+abbrev pub comes_out : Bool → State → ℕ → Opened → Object → Row
+comes_out stream s n f o =
+    Refuse errno.EAGAIN (stream && length o.bytes == 0 && any_open s (λ d. d.writes) f.description.object) (taking stream n f o)
+
+-- the same, where the caller writes the pipe or FIFO, by label
+abbrev pub read_as : Bool → State → Process → ℕ → Opened → Row
+read_as stream s p n f = need_if stream (mac_write s p f.description.object Handle) (comes_out stream s n f (open_object s f))
+
+abbrev pub read_opened : State → Process → ℕ → Opened → Row
+read_opened s p n f = read_as (is_stream (open_object s f).kind) s p n f
 
 -- `read FD N`
 abbrev pub read_row : State → Pid → Process → ℕ → ℕ → Row
-read_row s who p fd n = on_descriptor s p fd (λ f.
-    Refuse errno.EBADF (not f.description.reads)
-    (Need (mac_read s p f.description.object Handle)
-    (need_if (is_stream (open_object s f).kind) (mac_write s p f.description.object Handle)
-    (Refuse errno.EAGAIN (is_stream (open_object s f).kind && length (open_object s f).bytes == 0 && any_open s (λ d. d.writes) f.description.object)
-    (reading s f n)))))
+read_row s who p fd n = opened_to_read s p fd (read_opened s p n)
+
+-- ---- write
+
+-- a descriptor is open for writing, on an object that the caller writes by label
+abbrev pub to_write : State → Process → Opened → (Opened → Row) → Row
+to_write s p f rest = Refuse errno.EBADF (not f.description.writes) (write_object s p f.description.object Handle (λ _. rest f))
+
+abbrev pub opened_to_write : State → Process → ℕ → (Opened → Row) → Row
+opened_to_write s p fd rest = on_descriptor s p fd (λ f. to_write s p f rest)
 
 -- bytes go in at the end of a pipe or FIFO
-abbrev pub putting : State → Opened → List ℕ → Row
-putting s f bytes =
+abbrev pub into_stream : State → List ℕ → Opened → Object → Row
+into_stream s bytes f o =
     Refuse errno.EPIPE (not (any_open s (λ d. d.reads) f.description.object))
-    (Refuse errno.EAGAIN (nat_lt MAX_PIPE_BYTES (length (open_object s f).bytes + length bytes))
-    (Commit (with_bytes s f.description.object ((open_object s f).bytes ++ bytes) ∷ []) (answer.Number (length bytes)) None))
+    (Refuse errno.EAGAIN (nat_lt MAX_PIPE_BYTES (length o.bytes + length bytes))
+    (Commit (SetObject f.description.object (record o { bytes = o.bytes ++ bytes }) ∷ []) (answer.Number (length bytes)) None))
 
 -- where a piece goes into a file: at the offset, or at the end
 abbrev pub place_in : Object → Opened → ℕ
 place_in o f = cond f.description.appends (length o.bytes) f.description.offset
 
+-- a piece may go there, and the row goes on with the place
+abbrev pub to_place : List ℕ → Opened → Object → (ℕ → Row) → Row
+to_place bytes f o rest =
+    Refuse errno.EINVAL (nat_lt (length o.bytes) (place_in o f))
+    (Refuse errno.EFBIG (nat_lt MAX_FILE_BYTES (place_in o f + length bytes)) (rest (place_in o f)))
+
 -- a file's bytes with a piece written over them from a place on
 abbrev pub written_over : List ℕ → ℕ → List ℕ → List ℕ
 written_over old at bytes = take at old ++ (bytes ++ drop (at + length bytes) old)
 
--- soft fsetid, unless no byte is written
-abbrev pub rewriting : State → Opened → List ℕ → (List Change → Row) → Row
-rewriting s f bytes k =
-    cond (length bytes == 0) (k [])
-    (rewritten s f.description.object Handle (λ change. k (change ∷ [])) (written_over (open_object s f).bytes (place_in (open_object s f) f) bytes))
+-- a file gets a piece at a place, and these attributes
+abbrev pub put_in : List ℕ → Opened → Object → ℕ → Attr → Change
+put_in bytes f o at attr = rewritten f.description.object o (written_over o.bytes at bytes) attr
 
--- a piece goes into a file, and the offset moves after it
+-- what changes of a file where a piece goes in, with soft fsetid, unless no byte is written
+abbrev pub rewrites : List ℕ → Opened → Object → ℕ → (List Change → Row) → Row
+rewrites bytes f o at rest =
+    cond (length bytes == 0) (rest []) (keeps_attr f.description.object Handle o (λ attr. rest (put_in bytes f o at attr ∷ [])))
+
+-- the offset moves after a piece, and the number of its bytes is answered
+abbrev pub move_after : List ℕ → Opened → ℕ → List Change → Row
+move_after bytes f at changes = Commit (changes ++ moved f (at + length bytes) ∷ []) (answer.Number (length bytes)) None
+
+-- a piece goes into a file at a place
+abbrev pub writes_at : List ℕ → Opened → Object → ℕ → Row
+writes_at bytes f o at = rewrites bytes f o at (move_after bytes f at)
+
+abbrev pub into_file : List ℕ → Opened → Object → Row
+into_file bytes f o = to_place bytes f o (writes_at bytes f o)
+
+abbrev pub putting : State → Opened → List ℕ → Row
+putting s f bytes = into_stream s bytes f (open_object s f)
+
 abbrev pub writing : State → Opened → List ℕ → Row
-writing s f bytes =
-    Refuse errno.EINVAL (nat_lt (length (open_object s f).bytes) (place_in (open_object s f) f))
-    (Refuse errno.EFBIG (nat_lt MAX_FILE_BYTES (place_in (open_object s f) f + length bytes))
-    (rewriting s f bytes (λ changes. Commit (changes ++ moved f (place_in (open_object s f) f + length bytes) ∷ []) (answer.Number (length bytes)) None)))
+writing s f bytes = into_file bytes f (open_object s f)
+
+abbrev pub write_opened : State → List ℕ → Opened → Row
+write_opened s bytes f = cond (is_stream (open_object s f).kind) (putting s f bytes) (writing s f bytes)
 
 -- `write FD BYTES`
 abbrev pub write_row : State → Pid → Process → ℕ → List ℕ → Row
-write_row s who p fd bytes = on_descriptor s p fd (λ f.
-    Refuse errno.EBADF (not f.description.writes)
-    (Need (mac_write s p f.description.object Handle)
-    (cond (is_stream (open_object s f).kind) (putting s f bytes) (writing s f bytes))))
+write_row s who p fd bytes = opened_to_write s p fd (write_opened s bytes)
+
+-- ---- lseek
+
+-- the caller reads what a descriptor refers to, by label, and it has offsets
+abbrev pub to_seek : State → Process → Opened → (Opened → Row) → Row
+to_seek s p f rest = read_object s p f.description.object Handle (λ o. Refuse errno.ESPIPE (is_stream o.kind) (rest f))
+
+abbrev pub opened_to_seek : State → Process → ℕ → (Opened → Row) → Row
+opened_to_seek s p fd rest = on_descriptor s p fd (λ f. to_seek s p f rest)
 
 -- from where an offset is counted
 abbrev pub base_of : State → Opened → Whence → ℕ
@@ -225,15 +274,15 @@ base_of s f whence.Set = 0
 base_of s f whence.Cur = f.description.offset
 base_of s f whence.End = length (open_object s f).bytes
 
+-- an offset moves in a file of so many bytes
+abbrev pub moves : Opened → ℤ → ℕ → Row
+moves f to size =
+    Refuse errno.EINVAL (int_lt to (pos 0) || int_lt (pos size) to)
+    (Commit (moved f (unsigned_abs to) ∷ []) (answer.Number (unsigned_abs to)) None)
+
+abbrev pub seek_opened : State → Whence → ℤ → Opened → Row
+seek_opened s from offset f = moves f (pos (base_of s f from) +ℤ offset) (length (open_object s f).bytes)
+
 -- `lseek FD set|cur|end OFFSET`
 abbrev pub lseek_row : State → Pid → Process → ℕ → Whence → ℤ → Row
-lseek_row s who p fd from offset = on_descriptor s p fd (λ f.
-    Need (mac_read s p f.description.object Handle)
-    (Refuse errno.ESPIPE (is_stream (open_object s f).kind)
-    (Refuse errno.EINVAL (int_lt (pos (base_of s f from) +ℤ offset) (pos 0) || int_lt (pos (length (open_object s f).bytes)) (pos (base_of s f from) +ℤ offset))
-    (Commit (moved f (unsigned_abs (pos (base_of s f from) +ℤ offset)) ∷ []) (answer.Number (unsigned_abs (pos (base_of s f from) +ℤ offset))) None))))
-
--- `fstat FD`
-abbrev pub fstat_row : State → Pid → Process → ℕ → Row
-fstat_row s who p fd = on_descriptor s p fd (λ f.
-    Need (mac_read s p f.description.object Handle) (Commit [] (answer.Stat (stat_of s f.description.object)) None))
+lseek_row s who p fd from offset = opened_to_seek s p fd (seek_opened s from offset)

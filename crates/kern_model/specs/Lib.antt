@@ -16,6 +16,7 @@ pub mod Create
 pub mod Stat
 pub mod Exec
 pub mod FileRows
+pub mod OpenRows
 pub mod TreeRows
 pub mod AttrRows
 pub mod ProcessRows

@@ -148,12 +148,22 @@ abbrev pub relabelled_order : State → Oid → Label → Place → Check
 relabelled_order s id new place = on_object s check.LabelOrder (is_above_holders s id new && not (same_oid id root)) None id place
 
 -- an object gets a label that dominates its own
+abbrev pub mac_upgrade_of : Label → Oid → Object → Place → Check
+mac_upgrade_of new id o place = of_object check.MacUpgrade false (Some new) id o place
+
 abbrev pub mac_upgrade : State → Oid → Label → Place → Check
-mac_upgrade s id new place = on_object s check.MacUpgrade false (Some new) id place
+mac_upgrade s id new place = mac_upgrade_of new id (object_at s id) place
 
 -- an object gets a label that does not dominate its own
+abbrev pub mac_downgrade_of : Label → Oid → Object → Place → Check
+mac_downgrade_of new id o place = of_object check.MacDowngrade false (Some new) id o place
+
 abbrev pub mac_downgrade : State → Oid → Label → Place → Check
-mac_downgrade s id new place = on_object s check.MacDowngrade false (Some new) id place
+mac_downgrade s id new place = mac_downgrade_of new id (object_at s id) place
+
+-- an object gets a label that is not its own
+abbrev pub mac_change_of : Label → Oid → Object → Place → Check
+mac_change_of new id o place = cond (dominates new o.label) (mac_upgrade_of new id o place) (mac_downgrade_of new id o place)
 
 -- the class has the read bit
 abbrev pub dac_read : State → Process → Oid → Place → Check
@@ -176,19 +186,31 @@ abbrev pub exec_kind : Oid → Object → Place → Check
 exec_kind id o place = of_object check.ExecKind (is_file o.kind) None id o place
 
 -- the effective user is the owner
+abbrev pub is_owner_of : Process → Object → Bool
+is_owner_of p o = p.ids.euid == o.attr.owner
+
 abbrev pub is_owner : State → Process → Oid → Bool
-is_owner s p id = p.ids.euid == (object_at s id).attr.owner
+is_owner s p id = is_owner_of p (object_at s id)
+
+abbrev pub owner_of : Process → Oid → Object → Place → Check
+owner_of p id o place = of_object check.Owner (is_owner_of p o) None id o place
 
 abbrev pub owner : State → Process → Oid → Place → Check
-owner s p id place = on_object s check.Owner (is_owner s p id) None id place
+owner s p id place = owner_of p id (object_at s id) place
 
 -- the owner stays, the effective user is the owner, and the new group is the effective or a supplementary one
+abbrev pub chown_of : Process → ℕ → ℕ → Oid → Object → Place → Check
+chown_of p user group id o place = of_object check.Chown (user == o.attr.owner && is_owner_of p o && is_member p.ids group) None id o place
+
 abbrev pub chown_rule : State → Process → Oid → ℕ → ℕ → Place → Check
-chown_rule s p id user group place = on_object s check.Chown (user == (object_at s id).attr.owner && is_owner s p id && is_member p.ids group) None id place
+chown_rule s p id user group place = chown_of p user group id (object_at s id) place
 
 -- the sets of a file are set
+abbrev pub setfcap_of : Oid → Object → Place → Check
+setfcap_of id o place = of_object check.Setfcap false None id o place
+
 abbrev pub setfcap : State → Oid → Place → Check
-setfcap s id place = on_object s check.Setfcap false None id place
+setfcap s id place = setfcap_of id (object_at s id) place
 
 -- the object is no directory
 abbrev pub link_dir : State → Oid → Place → Check
@@ -199,8 +221,11 @@ unlink_dir s id place = on_object s check.UnlinkDir (not (is_dir (object_at s id
 
 -- ---- soft checks of an object: whether nothing has to be cleared
 
+abbrev pub fsetid_of : Bool → Oid → Object → Place → Check
+fsetid_of holds id o place = of_object check.Fsetid holds None id o place
+
 abbrev pub fsetid : State → Bool → Oid → Place → Check
-fsetid s holds id place = on_object s check.Fsetid holds None id place
+fsetid s holds id place = fsetid_of holds id (object_at s id) place
 
 -- whether a capability state has no capability in any set
 abbrev pub has_no_caps : CapState → Bool

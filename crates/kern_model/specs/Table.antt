@@ -4,7 +4,8 @@ use Rattle.kern_model.specs.declared.calls.Call.{Call}
 use Rattle.kern_model.specs.declared.calls.Call.TheVariants as call
 use Rattle.kern_model.specs.State.{State, Process}
 use Rattle.kern_model.specs.Row.{Row}
-use Rattle.kern_model.specs.FileRows.{open_row, close_row, read_row, write_row, lseek_row, dup_row, pipe_row, fstat_row}
+use Rattle.kern_model.specs.OpenRows.{open_row}
+use Rattle.kern_model.specs.FileRows.{close_row, read_row, write_row, lseek_row, dup_row, pipe_row, fstat_row}
 use Rattle.kern_model.specs.TreeRows.{mkfifo_row, mkdir_row, rmdir_row, link_row, unlink_row, rename_row, readdir_row, stat_row, chdir_row}
 use Rattle.kern_model.specs.AttrRows.{chmod_row, chown_row, cap_get_file_row, cap_set_file_row, cap_get_fd_row, cap_set_fd_row, mac_get_file_row, mac_set_file_row, mac_get_fd_row, mac_set_fd_row}
 use Rattle.kern_model.specs.ProcessRows.{umask_row, fork_row, exec_row, exit_row, wait_row, kill_row, getpid_row, getppid_row, getids_row, setuid_row, setgid_row, cap_get_proc_row, cap_set_proc_row, mac_get_proc_row, mac_set_proc_row}

@@ -2,8 +2,9 @@
 ghost use Rattle.std.specs.Prelude.{◌≡◌, ◌||◌, true, false, IfOk, OnOk, OnErr};
 ghost use Rattle.cap_bits.specs.CapSet.{is_within};
 ghost use Rattle.kern_model.specs.Exec.{exec_caps};
+ghost use Rattle.kern_model.specs.ProcessRows.{with_group, with_user};
 ghost use Rattle.kern_model.specs.Rules.{may_become};
-ghost use Rattle.proc_creds.specs.Credentials.{may_be_group, may_be_user, taken_on, with_group, with_user};
+ghost use Rattle.proc_creds.specs.Credentials.{may_be_group, may_be_user, taken_on};
 
 use cap_bits::{CapSet, CapState};
 use kern_model::{Gid, Ids, Mode, NoMemory, Uid};

@@ -2,8 +2,9 @@
 use Rattle.kern_model.specs.AttrRows.{on_open_object}
 use Rattle.kern_model.specs.declared.checks.Place.{Place}
 use Rattle.kern_model.specs.declared.numbers.Oid.{Oid}
+use Rattle.kern_model.specs.declared.objects.Object.{Object}
 use Rattle.kern_model.specs.Row.{Row}
-use Rattle.kern_model.specs.State.{State, Process}
+use Rattle.kern_model.specs.State.{State, Process, object_at}
 use Rattle.kern_model.specs.Walk.{on_path, read_object, write_object}
 use Rattle.sys_lookup.specs.Shared.{metadata_of}
 use Rattle.sys_lookup.specs.declared.shared.Metadata.{Metadata}
@@ -15,10 +16,30 @@ abbrev pub on_argument : State → Process → ObjectArgument → (Oid → Place
 on_argument s p (argument.Path path) k = on_path s p path.now k
 on_argument s p (argument.Descriptor fd) k = on_open_object s p fd k
 
--- the object that an argument names is read, by label, and the row goes on with its metadata
-abbrev pub reading : State → Process → ObjectArgument → (Metadata → Row) → Row
-reading s p object rest = on_argument s p object (λ id place. read_object s p id place (λ o. rest (metadata_of s id)))
+-- the object that an argument names is found, and the row goes on with it and its place
+abbrev pub finding : State → Process → ObjectArgument → (Oid × Place → Row) → Row
+finding s p object rest = on_argument s p object (λ id place. rest (id, place))
 
--- the object that an argument names is written, by label, and the row goes on with its metadata and its place
+-- an object that was found is read, by label, and the row goes on with its metadata
+abbrev pub read_found : State → Process → Oid × Place → (Metadata → Row) → Row
+read_found s p r rest = read_object s p r.0 r.1 (λ o. rest (metadata_of s r.0))
+
+-- an object that was found is written, by label, and the row goes on with its metadata and its place
+abbrev pub write_found : State → Process → Oid × Place → (Metadata × Place → Row) → Row
+write_found s p r rest = write_object s p r.0 r.1 (λ o. rest (metadata_of s r.0, r.1))
+
+-- the object that an argument names is read, and the row goes on with its metadata
+abbrev pub reading : State → Process → ObjectArgument → (Metadata → Row) → Row
+reading s p object rest = finding s p object (λ r. read_found s p r rest)
+
+-- the object that an argument names is written, and the row goes on with its metadata and its place
 abbrev pub writing : State → Process → ObjectArgument → (Metadata × Place → Row) → Row
-writing s p object rest = on_argument s p object (λ id place. write_object s p id place (λ o. rest (metadata_of s id, place)))
+writing s p object rest = finding s p object (λ r. write_found s p r rest)
+
+-- the row of an object that was read
+abbrev pub on_read : State → (Object → Row) → Metadata → Row
+on_read s k m = k (object_at s m.id)
+
+-- the row of an object that was written
+abbrev pub on_written : State → (Oid → Place → Object → Row) → Metadata × Place → Row
+on_written s k r = k r.0.id r.1 (object_at s r.0.id)

@@ -1,7 +1,7 @@
 // Changes of an object.
 ghost use Rattle.std.specs.Prelude.{◌≡◌};
-ghost use Rattle.kern_model.specs.AttrRows.{with_attr};
-ghost use Rattle.kern_model.specs.State.{SetObject, changed, object_at};
+ghost use Rattle.kern_model.specs.AttrRows.{with_attr, with_label};
+ghost use Rattle.kern_model.specs.State.{changed, object_at};
 ghost use Rattle.kern_model.specs.Valid.{IsThere};
 ghost use Rattle.sys_lookup.specs.Shared.{state_of};
 
@@ -20,7 +20,7 @@ pub fn give_attr(shared: &mut Shared, id: &Oid, attr: Attr)
 /// Gives an object that is there another label.
 pub fn give_label(shared: &mut Shared, id: &Oid, label: Label)
     requires { IsThere (state_of shared.old).objects id.now }
-    ensures { state_of shared.new ≡ changed (state_of shared.old) (SetObject id.now (record (object_at (state_of shared.old) id.now) { label = label })) }
+    ensures { state_of shared.new ≡ changed (state_of shared.old) (with_label id.now (object_at (state_of shared.old) id.now) label) }
 {
     shared.tree.set_label(id, label);
 }

@@ -1,16 +1,14 @@
 // The calls `mac_get_file`, `mac_set_file`, `mac_get_fd` and `mac_set_fd`.
-ghost use Rattle.std.specs.Prelude.{◌≡◌, Some, IfOk, IsSome, cond};
+ghost use Rattle.std.specs.Prelude.{◌≡◌, Some, IsSome};
 ghost use Rattle.std.specs.FinMap as map;
 ghost use Rattle.kern_model.specs.declared.numbers.Oid.{Oid};
-ghost use Rattle.kern_model.specs.AttrRows.{change_label, get_label, set_label};
-ghost use Rattle.kern_model.specs.Row.{Need};
-ghost use Rattle.kern_model.specs.Rules.{owner, same_label};
-ghost use Rattle.kern_model.specs.State.{Process};
-ghost use Rattle.kern_model.specs.Valid.{IsThere, IsValid};
+ghost use Rattle.kern_model.specs.AttrRows.{asks_label, change_label, get_label, set_label};
+ghost use Rattle.kern_model.specs.State.{Process, object_at};
+ghost use Rattle.kern_model.specs.Valid.{IsValid};
 ghost use Rattle.chk_rules.specs.Ends.{GoesOn};
 ghost use Rattle.sys_lookup.specs.PlaysRow.{PlaysRow};
 ghost use Rattle.sys_lookup.specs.Shared.{metadata_of, process_of, state_of};
-ghost use Rattle.sys_attr.specs.Objects.{on_argument, writing};
+ghost use Rattle.sys_attr.specs.Objects.{on_argument};
 
 use crate::changing::give_label;
 use crate::objects::{ObjectArgument, read_named, write_named};
@@ -60,7 +58,8 @@ pub fn mac_set(
         who: *who,
         process,
     };
-    let object = object_to_label(&caller, checks, object, &label)?;
+    let (object, place) = write_named(&caller, checks, object)?;
+    ask_label(&caller, checks, &object, &label, place)?;
     give_label(shared, &object.id, label);
     Ok(Effect {
         answer: Answer::Nothing,
@@ -68,35 +67,17 @@ pub fn mac_set(
     })
 }
 
-// The object that gets this label.
-fn object_to_label(
-    caller: &Caller<'_>,
-    checks: &mut Checks,
-    object: ObjectArgument<'_>,
-    label: &Label,
-) -> Result<Metadata, Stop>
-    requires valid { ∥ IsValid (state_of caller.now.shared.now) ∥₁ }
-    requires living { Some (process_of caller.now) ≡ map.get (state_of caller.now.shared.now).procs caller.now.who }
-    ensures step { GoesOn checks.old (λ rest. writing (state_of caller.now.shared.now) (process_of caller.now) object.entry (λ r. Need (owner (state_of caller.now.shared.now) (process_of caller.now) r.0.id r.1) (cond (same_label label.now r.0.label) (rest r.0) (change_label (state_of caller.now.shared.now) label.now r.0.id r.1 (rest r.0))))) result checks.new }
-    ensures object { IfOk result (λ object. object ≡ metadata_of (state_of caller.now.shared.now) object.id) }
-    ensures there { IfOk result (λ object. IsThere (state_of caller.now.shared.now).objects object.id) }
-{
-    let (object, place) = write_named(caller, checks, object)?;
-    caller.owner(checks, &object, place)?;
-    may_get(caller, checks, &object, label, place)?;
-    Ok(object)
-}
-
-// Checks that the caller may give an object this label, where it is another one.
-fn may_get(
+// Asks for a label of an object that the caller owns.
+fn ask_label(
     caller: &Caller<'_>,
     checks: &mut Checks,
     object: &Metadata,
     label: &Label,
     place: Place,
 ) -> Result<(), Stop>
-    ensures { (id : Oid) → object.now ≡ metadata_of (state_of caller.now.shared.now) id → GoesOn checks.old (λ rest. cond (same_label label.now object.now.label) (rest tt) (change_label (state_of caller.now.shared.now) label.now id place (rest tt))) result checks.new }
+    ensures { (id : Oid) → object.now ≡ metadata_of (state_of caller.now.shared.now) id → GoesOn checks.old (λ rest. asks_label (state_of caller.now.shared.now) (process_of caller.now) label.now id place (object_at (state_of caller.now.shared.now) id) (rest tt)) result checks.new }
 {
+    caller.owner(checks, object, place)?;
     if label.equal(&object.label) {
         return Ok(());
     }

@@ -1,19 +1,14 @@
 // The calls `chmod` and `umask`.
-ghost use Rattle.std.specs.Prelude.{◌≡◌, ◌||◌, Some, IfOk, IsSome, not};
+ghost use Rattle.std.specs.Prelude.{◌≡◌, Some, IsSome};
 ghost use Rattle.std.specs.FinMap as map;
-ghost use Rattle.kern_model.specs.AttrRows.{chmod_row};
-ghost use Rattle.kern_model.specs.Kinds.{has_set_id as mode_has_set_id, permissions};
+ghost use Rattle.kern_model.specs.AttrRows.{asks_mode, chmod_row, is_kept_by_right, keeps_mode};
 ghost use Rattle.kern_model.specs.ProcessRows.{umask_row};
-ghost use Rattle.kern_model.specs.Row.{Need, Soft};
-ghost use Rattle.kern_model.specs.Rules.{fsetid, is_owner, owner};
-ghost use Rattle.kern_model.specs.State.{Process, State};
-ghost use Rattle.kern_model.specs.Valid.{IsThere, IsValid};
+ghost use Rattle.kern_model.specs.State.{Process, State, object_at};
+ghost use Rattle.kern_model.specs.Valid.{IsValid};
 ghost use Rattle.kern_model.specs.declared.numbers.Oid.{Oid};
 ghost use Rattle.chk_rules.specs.Ends.{GoesOn};
 ghost use Rattle.sys_lookup.specs.PlaysRow.{LeavesNothing, PlaysRow};
 ghost use Rattle.sys_lookup.specs.Shared.{metadata_of, process_of, state_of};
-ghost use Rattle.sys_attr.specs.Objects.{writing};
-ghost use Rattle.sys_attr.specs.declared.objects.ObjectArgument.TheVariants as argument;
 
 use crate::changing::give_attr;
 use crate::objects::{ObjectArgument, write_named};
@@ -40,7 +35,8 @@ pub fn chmod(
         who: *who,
         process,
     };
-    let (object, mode) = mode_to_set(&caller, checks, path, mode)?;
+    let (object, place) = write_named(&caller, checks, ObjectArgument::Path(path))?;
+    let mode = ask_mode(&caller, checks, &object, mode, place)?;
     give_attr(
         shared,
         &object.id,
@@ -55,29 +51,24 @@ pub fn chmod(
     })
 }
 
-// The object that gets a mode, and that mode.
-fn mode_to_set(
+// Asks for a mode, and returns what the object gets of it.
+fn ask_mode(
     caller: &Caller<'_>,
     checks: &mut Checks,
-    path: &Path,
+    object: &Metadata,
     mode: Mode,
-) -> Result<(Metadata, Mode), Stop>
-    requires valid { ∥ IsValid (state_of caller.now.shared.now) ∥₁ }
-    requires living { Some (process_of caller.now) ≡ map.get (state_of caller.now.shared.now).procs caller.now.who }
-    ensures step { GoesOn checks.old (λ rest. writing (state_of caller.now.shared.now) (process_of caller.now) (argument.Path path.entry) (λ r. Need (owner (state_of caller.now.shared.now) (process_of caller.now) r.0.id r.1) (Soft (fsetid (state_of caller.now.shared.now) (not (mode_has_set_id mode) || is_owner (state_of caller.now.shared.now) (process_of caller.now) r.0.id) r.0.id r.1) (rest (r.0, mode)) (rest (r.0, permissions mode))))) result checks.new }
-    ensures object { IfOk result (λ r. r.0 ≡ metadata_of (state_of caller.now.shared.now) r.0.id) }
-    ensures there { IfOk result (λ r. IsThere (state_of caller.now.shared.now).objects r.0.id) }
+    place: Place,
+) -> Result<Mode, Stop>
+    ensures { (s : State) (id : Oid) → object.now ≡ metadata_of s id → GoesOn checks.old (asks_mode (process_of caller.now) mode id place (object_at s id)) result checks.new }
 {
-    let (object, place) = write_named(caller, checks, ObjectArgument::Path(path))?;
-    caller.owner(checks, &object, place)?;
-    let plain = keeps_by_right(caller, &object, mode);
-    let mode = mode_kept(caller, checks, &object, mode, plain, place)?;
-    Ok((object, mode))
+    caller.owner(checks, object, place)?;
+    let plain = keeps_by_right(caller, object, mode);
+    mode_kept(caller, checks, object, mode, plain, place)
 }
 
 // Whether the caller may set this mode in full without a capability: it has no set-id bit, or the caller owns the object.
 fn keeps_by_right(caller: &Caller<'_>, object: &Metadata, mode: Mode) -> bool
-    ensures { (s : State) (id : Oid) → object.now ≡ metadata_of s id → result ≡ not (mode_has_set_id mode) || is_owner s (process_of caller.now) id }
+    ensures { (s : State) (id : Oid) → object.now ≡ metadata_of s id → result ≡ is_kept_by_right (process_of caller.now) mode (object_at s id) }
 {
     !has_set_id(mode) || caller.is_owner(object)
 }
@@ -92,7 +83,7 @@ pub fn mode_kept(
     plain: bool,
     place: Place,
 ) -> Result<Mode, Stop>
-    ensures { (s : State) (id : Oid) → object.now ≡ metadata_of s id → GoesOn checks.old (λ rest. Soft (fsetid s plain id place) (rest mode) (rest (permissions mode))) result checks.new }
+    ensures { (s : State) (id : Oid) → object.now ≡ metadata_of s id → GoesOn checks.old (keeps_mode plain mode id place (object_at s id)) result checks.new }
 {
     let keeps = caller.fsetid(checks, object, plain, place)?;
     if keeps {

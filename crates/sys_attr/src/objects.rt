@@ -4,7 +4,7 @@ ghost use Rattle.std.specs.FinMap as map;
 ghost use Rattle.kern_model.specs.Valid.{IsThere, IsValid};
 ghost use Rattle.chk_rules.specs.Ends.{GoesOn};
 ghost use Rattle.sys_lookup.specs.Shared.{metadata_of, process_of, state_of};
-ghost use Rattle.sys_attr.specs.Objects.{on_argument, reading, writing};
+ghost use Rattle.sys_attr.specs.Objects.{finding, reading, writing};
 
 use chk_rules::{Checks, Stop};
 use kern_model::{Fd, Oid, Path, Place};
@@ -25,7 +25,8 @@ pub fn read_named(
     checks: &mut Checks,
     object: ObjectArgument<'_>,
 ) -> Result<Metadata, Stop>
-    ensures { GoesOn checks.old (reading (state_of caller.now.shared.now) (process_of caller.now) object.entry) result checks.new }
+    ensures step { GoesOn checks.old (reading (state_of caller.now.shared.now) (process_of caller.now) object.entry) result checks.new }
+    ensures object { IfOk result (λ object. object ≡ metadata_of (state_of caller.now.shared.now) object.id) }
 {
     let (id, place) = find(caller, checks, object)?;
     caller.read_object(checks, &id, place)
@@ -54,7 +55,7 @@ fn find(
     checks: &mut Checks,
     object: ObjectArgument<'_>,
 ) -> Result<(Oid, Place), Stop>
-    ensures step { GoesOn checks.old (λ rest. on_argument (state_of caller.now.shared.now) (process_of caller.now) object.entry (λ id place. rest (id, place))) result checks.new }
+    ensures step { GoesOn checks.old (finding (state_of caller.now.shared.now) (process_of caller.now) object.entry) result checks.new }
     ensures there { ∥ IsValid (state_of caller.now.shared.now) ∥₁ → Some (process_of caller.now) ≡ map.get (state_of caller.now.shared.now).procs caller.now.who → IfOk result (λ r. IsThere (state_of caller.now.shared.now).objects r.0) }
 {
     match object {

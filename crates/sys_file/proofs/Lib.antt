@@ -1,3 +1,4 @@
+pub mod BranchLemmas
 pub mod ObjectLemmas
 pub mod OpenLemmas
 pub mod PipeLemmas

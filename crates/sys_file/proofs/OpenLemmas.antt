@@ -1,11 +1,12 @@
 -- Objects are opened.
-use Rattle.std.specs.Prelude.{◌≡◌, true, false, None, Some, cond, refl}
+use Rattle.std.specs.Prelude.{◌≡◌, true, false, Option, None, Some, cond, refl}
 use Rattle.std.specs.FinMap as map
 use Rattle.std.proofs.Common.{ap, sym, ◌∙◌, subst, inl, inr}
 use Rattle.std.proofs.Math.Logic.{∥∥₁_elim}
 use Rattle.fs_path.specs.Path.{PathValue}
 use Rattle.kern_model.specs.declared.numbers.Oid.{Oid}
 use Rattle.kern_model.specs.declared.numbers.Pid.{Pid}
+use Rattle.kern_model.specs.declared.objects.Attr.{Attr}
 use Rattle.kern_model.specs.declared.objects.Kind.{Kind}
 use Rattle.kern_model.specs.declared.objects.Kind.TheVariants as kind
 use Rattle.kern_model.specs.declared.objects.Object.{Object}
@@ -18,8 +19,6 @@ use Rattle.fs_nodes.specs.Nodes.{IsFile}
 use Rattle.sys_lookup.specs.Walks.{IsLedTo}
 use Rattle.sys_file.proofs.ObjectLemmas.{object_is}
 use Rattle.sys_file.specs.Opening.{CanBeEmptied, EmptiesFiles}
-use Rattle.sys_file.specs.declared.opening.Content.{Content}
-use Rattle.sys_file.specs.declared.opening.Content.TheVariants as content
 
 file_of : (k : Kind) → is_file k ≡ true → k ≡ kind.File
 file_of kind.File is = refl
@@ -48,6 +47,6 @@ led_to_file s valid who p there path id led file =
     ] refl
 
 -- what a path leads to can be emptied where only a file is
-pub can_be_emptied : (s : State) → ∥ IsValid s ∥₁ → (who : Pid) (p : Process) → map.get s.procs who ≡ Some p → (path : PathValue) (id : Oid) → IsLedTo s (start_of p path) id → (kept : Content) → EmptiesFiles s id kept → CanBeEmptied s id kept
-can_be_emptied s valid who p there path id led content.Kept files = tt
-can_be_emptied s valid who p there path id led (content.Emptied attr) files = led_to_file s valid who p there path id led files
+pub can_be_emptied : (s : State) → ∥ IsValid s ∥₁ → (who : Pid) (p : Process) → map.get s.procs who ≡ Some p → (path : PathValue) (id : Oid) → IsLedTo s (start_of p path) id → (emptied : Option Attr) → EmptiesFiles s id emptied → CanBeEmptied s id emptied
+can_be_emptied s valid who p there path id led None files = tt
+can_be_emptied s valid who p there path id led (Some attr) files = led_to_file s valid who p there path id led files

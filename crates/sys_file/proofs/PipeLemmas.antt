@@ -10,11 +10,8 @@ use Rattle.lab_lattice.proofs.Labels.{label_cmp_total, label_cmp_exact}
 use Rattle.kern_model.specs.declared.numbers.Did.{Did}
 use Rattle.kern_model.specs.declared.numbers.Oid.{Oid}
 use Rattle.kern_model.specs.declared.numbers.Pid.{Pid}
-use Rattle.kern_model.specs.declared.objects.Body.TheVariants as body
-use Rattle.kern_model.specs.Create.{attr_of, drawing}
 use Rattle.kern_model.specs.Descriptors.{lowest_free, with_descriptor}
-use Rattle.kern_model.specs.FileRows.{has_free_descriptors, on_pipe, opening, pipe_mode, piped, second_description}
-use Rattle.kern_model.specs.Kinds.{object_with}
+use Rattle.kern_model.specs.FileRows.{drawing_pipe, has_free_descriptors, on_pipe, opening, piped, second_description}
 use Rattle.kern_model.specs.State.{State, Process, changed_by, drawn, next_description, next_object}
 use Rattle.kern_model.proofs.KeyLaws.{pid_cmp_total, pid_cmp_exact}
 use Rattle.kern_model.proofs.MapLemmas.{get-insert_same, get_or-found}
@@ -55,7 +52,7 @@ one_less n most fits = let few = leb-true _ _ fits in le-leb _ _ (omega (arith, 
 module _ (s : State) (who : Pid) (p : Process) (id : Oid) where
   -- the state with the pipe, and then with the description for reading
   abbrev pub with_pipe : State
-  with_pipe = changed_by s (drawing s p (object_with p.label (attr_of p pipe_mode) body.Pipe))
+  with_pipe = changed_by s (drawing_pipe s p)
 
   abbrev pub first : Did
   first = next_description s p.label

@@ -3,31 +3,21 @@ use Rattle.std.specs.Prelude.{◌≡◌, ◌+◌, ◌==◌, ◌&&◌, ◌++◌, 
 use Rattle.std.specs.FinMap as map
 use Rattle.std.proofs.Common.{ap, sym, subst}
 use Rattle.kern_model.specs.declared.calls.Answer.TheVariants as answer
-use Rattle.kern_model.specs.declared.calls.Errno.{Errno}
 use Rattle.kern_model.specs.declared.calls.Errno.TheVariants.{EAGAIN, EPIPE}
 use Rattle.kern_model.specs.declared.limits.TheConstants.{MAX_PIPE_BYTES}
 use Rattle.kern_model.specs.declared.objects.Object.{Object}
 use Rattle.kern_model.specs.Descriptors.{Opened, any_open}
-use Rattle.kern_model.specs.FileRows.{putting}
-use Rattle.kern_model.specs.Row.{Row, Commit, Refuse, judge}
+use Rattle.kern_model.specs.FileRows.{comes_out, into_stream, open_object, putting}
 use Rattle.kern_model.specs.State.{State, SetObject, changed}
 use Rattle.chk_rules.specs.CheckLog.{CheckLog}
-use Rattle.chk_rules.specs.Ends.{EndsBy, GoesOn}
 use Rattle.chk_rules.specs.declared.stop.Stop.TheVariants as stop
-use Rattle.chk_rules.proofs.Steps.{equal_refusal}
 use Rattle.fd_table.specs.Pipes.{is_no_memory}
 use Rattle.fd_table.specs.declared.pipes.PipeError.{PipeError}
 use Rattle.fd_table.specs.declared.pipes.PipeError.TheVariants as error
 use Rattle.sys_lookup.specs.PlaysRow.{PlaysRow}
 use Rattle.sys_lookup.proofs.PlayLemmas.{refuse_plays, refuse_stops_row, commits, equal_answer}
-use Rattle.sys_file.specs.Streams.{taking}
+use Rattle.sys_lookup.proofs.RefuseLemmas.{lets_on, refuses}
 use Rattle.sys_file.proofs.ObjectLemmas.{object_is}
-use Rattle.sys_file.proofs.ReadLemmas.{passes}
-
--- a refusal whose condition holds stops the row
-stops : (a : CheckLog) (e : Errno) → GoesOn a (λ (rest : ⊤ → Row). Refuse e true (rest tt)) (Err (stop.Refused e)) a
-unfolding judge EndsBy
-stops a e = record { continues = tt; stops = λ rest. refl; subject = refl }
 
 -- ---- which case it is, by how a call on a stream ended
 
@@ -80,20 +70,15 @@ module _ (s : State) (log : CheckLog) (f : Opened) (o : Object) (there : map.get
   abbrev is_empty : Bool
   is_empty = length o.bytes == 0 && any_open s (λ d. d.writes) f.description.object
 
-  abbrev taking_of : ℕ → Object → Row
-  taking_of n x =
-      Refuse EAGAIN (length x.bytes == 0 && any_open s (λ d. d.writes) f.description.object)
-      (Commit (SetObject f.description.object (record x { bytes = drop n x.bytes }) ∷ []) (answer.Bytes (take n x.bytes)) None)
-
-  pub taken : (n : ℕ) (bytes : List ℕ) (t : State) → is_empty ≡ false → bytes ≡ take n o.bytes → t ≡ bytes_set (drop n o.bytes) → PlaysRow s log (taking s f n) (Ok (record { answer = answer.Bytes bytes; own = None })) t log
+  pub taken : (n : ℕ) (bytes : List ℕ) (t : State) → is_empty ≡ false → bytes ≡ take n o.bytes → t ≡ bytes_set (drop n o.bytes) → PlaysRow s log (comes_out true s n f (open_object s f)) (Ok (record { answer = answer.Bytes bytes; own = None })) t log
   taken n bytes t more is made =
-      subst (λ x. PlaysRow s log (taking_of n x) (Ok (record { answer = answer.Bytes bytes; own = None })) t log) (sym (object_is s f.description.object o there))
-      (refuse_plays (equal_refusal (sym more) (passes log EAGAIN)) (equal_answer (ap answer.Bytes is) (commits s t log (SetObject f.description.object (record o { bytes = drop n o.bytes }) ∷ []) (answer.Bytes bytes) None made)))
+      subst (λ x. PlaysRow s log (comes_out true s n f x) (Ok (record { answer = answer.Bytes bytes; own = None })) t log) (sym (object_is s f.description.object o there))
+      (refuse_plays (lets_on more) (equal_answer (ap answer.Bytes is) (commits s t log (SetObject f.description.object (record o { bytes = drop n o.bytes }) ∷ []) (answer.Bytes bytes) None made)))
 
-  pub waits : (n : ℕ) (t : State) → is_empty ≡ true → t ≡ s → PlaysRow s log (taking s f n) (Err (stop.Refused EAGAIN)) t log
+  pub waits : (n : ℕ) (t : State) → is_empty ≡ true → t ≡ s → PlaysRow s log (comes_out true s n f (open_object s f)) (Err (stop.Refused EAGAIN)) t log
   waits n t empty same =
-      subst (λ x. PlaysRow s log (taking_of n x) (Err (stop.Refused EAGAIN)) t log) (sym (object_is s f.description.object o there))
-      (refuse_stops_row (Err (stop.Refused EAGAIN)) refl same (equal_refusal (sym empty) (stops log EAGAIN)))
+      subst (λ x. PlaysRow s log (comes_out true s n f x) (Err (stop.Refused EAGAIN)) t log) (sym (object_is s f.description.object o there))
+      (refuse_stops_row (Err (stop.Refused EAGAIN)) refl same (refuses empty))
 
   -- ---- bytes go in
 
@@ -103,24 +88,18 @@ module _ (s : State) (log : CheckLog) (f : Opened) (o : Object) (there : map.get
   abbrev is_over : List ℕ → Bool
   is_over bytes = nat_lt MAX_PIPE_BYTES (length o.bytes + length bytes)
 
-  abbrev putting_of : List ℕ → Object → Row
-  putting_of bytes x =
-      Refuse EPIPE (not is_read)
-      (Refuse EAGAIN (nat_lt MAX_PIPE_BYTES (length x.bytes + length bytes))
-      (Commit (SetObject f.description.object (record x { bytes = x.bytes ++ bytes }) ∷ []) (answer.Number (length bytes)) None))
-
   pub put : (bytes : List ℕ) (t : State) → is_read ≡ true → is_over bytes ≡ false → t ≡ bytes_set (o.bytes ++ bytes) → PlaysRow s log (putting s f bytes) (Ok (record { answer = answer.Number (length bytes); own = None })) t log
   put bytes t reads fits made =
-      subst (λ x. PlaysRow s log (putting_of bytes x) (Ok (record { answer = answer.Number (length bytes); own = None })) t log) (sym (object_is s f.description.object o there))
-      (refuse_plays (equal_refusal (ap not (sym reads)) (passes log EPIPE))
-      (refuse_plays (equal_refusal (sym fits) (passes log EAGAIN))
+      subst (λ x. PlaysRow s log (into_stream s bytes f x) (Ok (record { answer = answer.Number (length bytes); own = None })) t log) (sym (object_is s f.description.object o there))
+      (refuse_plays (lets_on (ap not reads))
+      (refuse_plays (lets_on fits)
       (commits s t log (SetObject f.description.object (record o { bytes = o.bytes ++ bytes }) ∷ []) (answer.Number (length bytes)) None made)))
 
   pub breaks : (bytes : List ℕ) (t : State) → is_read ≡ false → t ≡ s → PlaysRow s log (putting s f bytes) (Err (stop.Refused EPIPE)) t log
-  breaks bytes t reads same = refuse_stops_row (Err (stop.Refused EPIPE)) refl same (equal_refusal (ap not (sym reads)) (stops log EPIPE))
+  breaks bytes t reads same = refuse_stops_row (Err (stop.Refused EPIPE)) refl same (refuses (ap not reads))
 
   pub full : (bytes : List ℕ) (t : State) → is_read ≡ true → is_over bytes ≡ true → t ≡ s → PlaysRow s log (putting s f bytes) (Err (stop.Refused EAGAIN)) t log
   full bytes t reads over same =
-      subst (λ x. PlaysRow s log (putting_of bytes x) (Err (stop.Refused EAGAIN)) t log) (sym (object_is s f.description.object o there))
-      (refuse_plays (equal_refusal (ap not (sym reads)) (passes log EPIPE))
-      (refuse_stops_row (Err (stop.Refused EAGAIN)) refl same (equal_refusal (sym over) (stops log EAGAIN))))
+      subst (λ x. PlaysRow s log (into_stream s bytes f x) (Err (stop.Refused EAGAIN)) t log) (sym (object_is s f.description.object o there))
+      (refuse_plays (lets_on (ap not reads))
+      (refuse_stops_row (Err (stop.Refused EAGAIN)) refl same (refuses over)))

@@ -2,20 +2,15 @@
 ghost use Rattle.std.specs.Prelude.{◌≡◌, ◌≤◌, ◌+ℤ◌, ℕ, ℤ, pos, None, Some, IfOk, IsSome, false, true, length};
 ghost use Rattle.std.specs.FinMap as map;
 ghost use Rattle.kern_model.specs.Descriptors.{Opened as Open, opened};
-ghost use Rattle.kern_model.specs.FileRows.{base_of, close_row, dup_row, fstat_row, lseek_row, on_descriptor, open_object};
+ghost use Rattle.kern_model.specs.FileRows.{base_of, close_row, dup_row, fstat_row, lseek_row, moves, open_object, opened_to_seek};
 ghost use Rattle.kern_model.specs.Kinds.{is_stream};
-ghost use Rattle.kern_model.specs.Row.{Need, Refuse};
-ghost use Rattle.kern_model.specs.Rules.{mac_read};
 ghost use Rattle.kern_model.specs.State.{Process, State, object_at};
 ghost use Rattle.kern_model.specs.Valid.{IsValid};
-ghost use Rattle.kern_model.specs.declared.calls.Errno.TheVariants as errno;
-ghost use Rattle.kern_model.specs.declared.checks.Place.TheVariants as place;
 ghost use Rattle.kern_model.specs.declared.limits.TheConstants.{MAX_FILE_BYTES};
 ghost use Rattle.kern_model.specs.declared.numbers.Pid.{Pid as Number};
 ghost use Rattle.chk_rules.specs.CheckLog.{CheckLog};
 ghost use Rattle.chk_rules.specs.Ends.{GoesOn};
 ghost use Rattle.fd_table.specs.Files.{is_past, opened_at};
-ghost use Rattle.sys_file.specs.Seeking.{moves};
 ghost use Rattle.sys_lookup.specs.PlaysRow.{LeavesNothing, PlaysRow};
 ghost use Rattle.sys_lookup.specs.Shared.{process_of, state_of};
 
@@ -133,7 +128,7 @@ fn sum(base: u32, offset: i64) -> Option<i64>
 
 // What `lseek` moves in: a descriptor on an object that the caller may read by label, and that has offsets.
 fn opened_to_seek(caller: &Caller<'_>, checks: &mut Checks, fd: Fd) -> Result<Opened, Stop>
-    ensures step { GoesOn checks.old (λ rest. on_descriptor (state_of caller.now.shared.now) (process_of caller.now) fd (λ f. Need (mac_read (state_of caller.now.shared.now) (process_of caller.now) f.description.object place.Handle) (Refuse errno.ESPIPE (is_stream (open_object (state_of caller.now.shared.now) f).kind) (rest f)))) result checks.new }
+    ensures step { GoesOn checks.old (opened_to_seek (state_of caller.now.shared.now) (process_of caller.now) fd) result checks.new }
     ensures found { IfOk result (λ f. opened (state_of caller.now.shared.now) (process_of caller.now) fd ≡ Some f) }
     ensures no_stream { IfOk result (λ f. is_stream (open_object (state_of caller.now.shared.now) f).kind ≡ false) }
 {

@@ -4,11 +4,11 @@ ghost use Rattle.std.specs.FinMap as map;
 ghost use Rattle.kern_model.specs.Arguments.{are_names};
 ghost use Rattle.kern_model.specs.Descriptors.{lowest_free};
 ghost use Rattle.kern_model.specs.Entries.{is_removed};
-ghost use Rattle.kern_model.specs.FileRows.{has_descriptions, has_free_descriptors, open_row, opening};
+ghost use Rattle.kern_model.specs.FileRows.{has_descriptions, has_free_descriptors, opening, rewritten};
 ghost use Rattle.kern_model.specs.Kinds.{is_fifo, is_file};
-ghost use Rattle.kern_model.specs.State.{Process, SetObject, State, changed, changed_by, look};
-ghost use Rattle.kern_model.specs.Valid.{IsDir, IsThere, IsValid};
-ghost use Rattle.kern_model.specs.Walk.{last_place, start_of, walk};
+ghost use Rattle.kern_model.specs.OpenRows.{allowed_by_kind, allowed_by_label, allowed_by_mode, emptying, open_row, opens_new, opens_present, to_absent, to_emptied, to_present};
+ghost use Rattle.kern_model.specs.State.{Process, State, changed, changed_by, look, object_at};
+ghost use Rattle.kern_model.specs.Valid.{IsDir, IsValid};
 ghost use Rattle.kern_model.specs.declared.numbers.Oid.{Oid as Number};
 ghost use Rattle.kern_model.specs.declared.objects.Object.{Object};
 ghost use Rattle.chk_rules.specs.CheckLog.{CheckLog};
@@ -17,10 +17,7 @@ ghost use Rattle.fd_table.specs.Files.{is_no_memory};
 ghost use Rattle.fs_nodes.specs.Nodes.{IsFile};
 ghost use Rattle.sys_lookup.specs.PlaysRow.{PlaysRow};
 ghost use Rattle.sys_lookup.specs.Shared.{metadata_of, process_of, state_of};
-ghost use Rattle.sys_lookup.specs.Walks.{IsLedTo, place_in};
-ghost use Rattle.sys_lookup.specs.declared.argument.PathArgument.TheVariants as argument;
-ghost use Rattle.sys_file.specs.declared.opening.Target.TheVariants as target;
-ghost use Rattle.sys_file.specs.Opening.{CanBeEmptied, EmptiesFiles, IsTarget, allowed_by_kind, allowed_by_label, allowed_by_mode, emptying, opens_new, opens_present, to_absent, to_content, to_present, to_target};
+ghost use Rattle.sys_file.specs.Opening.{CanBeEmptied, EmptiesFiles};
 
 use chk_rules::{Checks, Stop, refuse_if};
 use fd_table::{FdError, How};
@@ -30,24 +27,6 @@ use kern_model::{
 };
 use std::alloc::Global;
 use sys_lookup::{Caller, Effect, Found, Metadata, PathArgument, Shared, create, living};
-
-/// What becomes of the content of an object that is opened.
-#[derive(Clone, Copy)]
-enum Content {
-    /// It stays.
-    Kept,
-    /// It goes, and the file has these attributes then.
-    Emptied(Attr),
-}
-
-/// What is opened.
-#[derive(Drop)]
-enum Target {
-    /// An object that is there, and what becomes of its content.
-    Present(Oid, Content),
-    /// A new file, under this name in a directory.
-    Absent(Oid, Name),
-}
 
 /// `open`: an object is opened at the caller's lowest free descriptor. With `c` a file is made where nothing has the name.
 pub fn open(
@@ -72,52 +51,26 @@ pub fn open(
         process,
     };
     caller.may_open(1)?;
-    match find_target(&caller, checks, path, flags)? {
-        Target::Present(id, content) => open_present(shared, who, &id, flags, content),
-        Target::Absent(dir, name) => {
-            let mode = mode.unwrap_or(0);
-            open_new(alloc, shared, who, &dir, &name, flags, mode)
-        }
-    }
-}
-
-// What a path leads to, where the caller may open it.
-fn find_target(
-    caller: &Caller<'_>,
-    checks: &mut Checks,
-    path: &Path,
-    flags: OpenFlags,
-) -> Result<Target, Stop>
-    ensures step { GoesOn checks.old (λ rest. walk (state_of caller.now.shared.now) (process_of caller.now) (place_in argument.First) path.now (λ found. to_target (state_of caller.now.shared.now) (process_of caller.now) path.now flags found rest)) result checks.new }
-    ensures target { IfOk result (IsTarget (state_of caller.now.shared.now) (start_of (process_of caller.now) path.now)) }
-{
     match caller.walk(checks, PathArgument::First, path)? {
-        Found::Start(id) => present(caller, checks, path, flags, id),
+        Found::Start(id) => {
+            let place = PathArgument::First.last_place(path);
+            let emptied = may_open(&caller, checks, flags, &id, place)?;
+            open_present(shared, who, &id, flags, emptied)
+        }
         Found::Entry(dir, name, object) => match object {
-            Some(id) => present(caller, checks, path, flags, id),
+            Some(id) => {
+                let place = PathArgument::First.last_place(path);
+                let emptied = may_open(&caller, checks, flags, &id, place)?;
+                open_present(shared, who, &id, flags, emptied)
+            }
             None => {
                 let place = PathArgument::First.dir_place(path);
-                may_make(caller, checks, flags, &dir, place)?;
-                Ok(Target::Absent(dir, name))
+                may_make(&caller, checks, flags, &dir, place)?;
+                let mode = mode.unwrap_or(0);
+                open_new(alloc, shared, who, &dir, &name, flags, mode)
             }
         },
     }
-}
-
-// An object at the end of a path, where the caller may open it.
-fn present(
-    caller: &Caller<'_>,
-    checks: &mut Checks,
-    path: &Path,
-    flags: OpenFlags,
-    id: Oid,
-) -> Result<Target, Stop>
-    ensures step { GoesOn checks.old (λ rest. to_present (state_of caller.now.shared.now) (process_of caller.now) flags id (last_place (place_in argument.First) path.now) (λ kept. rest (target.Present id kept))) result checks.new }
-    ensures target { (start : Number) → IsLedTo (state_of caller.now.shared.now) start id → IfOk result (IsTarget (state_of caller.now.shared.now) start) }
-{
-    let place = PathArgument::First.last_place(path);
-    let content = may_open(caller, checks, flags, &id, place)?;
-    Ok(Target::Present(id, content))
 }
 
 // Refuses that a file is made in a directory, unless it is asked for and the caller may.
@@ -135,15 +88,15 @@ fn may_make(
     caller.make_in(checks, dir, place)
 }
 
-// What becomes of the content of an object that is there, where the caller may open it.
+// The attributes with which an object that is there is emptied, if it is, where the caller may open it.
 fn may_open(
     caller: &Caller<'_>,
     checks: &mut Checks,
     flags: OpenFlags,
     id: &Oid,
     place: Place,
-) -> Result<Content, Stop>
-    ensures step { GoesOn checks.old (to_present (state_of caller.now.shared.now) (process_of caller.now) flags id.now place) result checks.new }
+) -> Result<Option<Attr>, Stop>
+    ensures step { GoesOn checks.old (to_present (process_of caller.now) flags id.now place (object_at (state_of caller.now.shared.now) id.now)) result checks.new }
     ensures files { IfOk result (EmptiesFiles (state_of caller.now.shared.now) id.now) }
 {
     let object = caller.shared.metadata(id);
@@ -151,7 +104,7 @@ fn may_open(
     label_allows(caller, checks, flags, &object, place)?;
     kind_allows(caller, checks, flags, &object, place)?;
     mode_allows(caller, checks, flags, &object, place)?;
-    content_after(caller, checks, flags, &object, place)
+    emptied_attr(caller, checks, flags, &object, place)
 }
 
 // Checks that the caller may open an object by its label.
@@ -162,7 +115,7 @@ fn label_allows(
     object: &Metadata,
     place: Place,
 ) -> Result<(), Stop>
-    ensures { (s : State) (id : Number) → object.now ≡ metadata_of s id → GoesOn checks.old (λ rest. allowed_by_label s (process_of caller.now) flags id place (rest tt)) result checks.new }
+    ensures { (s : State) (id : Number) → object.now ≡ metadata_of s id → GoesOn checks.old (λ rest. allowed_by_label (process_of caller.now) flags id place (object_at s id) (rest tt)) result checks.new }
 {
     caller.mac_read_if(flags.r, checks, object, place)?;
     caller.mac_write_if(flags.w, checks, object, place)
@@ -176,7 +129,7 @@ fn kind_allows(
     object: &Metadata,
     place: Place,
 ) -> Result<(), Stop>
-    ensures { (s : State) (id : Number) → object.now ≡ metadata_of s id → GoesOn checks.old (λ rest. allowed_by_kind s (process_of caller.now) flags id place (rest tt)) result checks.new }
+    ensures { (s : State) (id : Number) → object.now ≡ metadata_of s id → GoesOn checks.old (λ rest. allowed_by_kind (process_of caller.now) flags id place (object_at s id) (rest tt)) result checks.new }
 {
     refuse_if(object.is_directory(), Errno::EISDIR)?;
     let drains = both(is_fifo(object.kind), flags.r);
@@ -192,28 +145,28 @@ fn mode_allows(
     object: &Metadata,
     place: Place,
 ) -> Result<(), Stop>
-    ensures { (s : State) (id : Number) → object.now ≡ metadata_of s id → GoesOn checks.old (λ rest. allowed_by_mode s (process_of caller.now) flags id place (rest tt)) result checks.new }
+    ensures { (s : State) (id : Number) → object.now ≡ metadata_of s id → GoesOn checks.old (λ rest. allowed_by_mode (process_of caller.now) flags id place (object_at s id) (rest tt)) result checks.new }
 {
     caller.dac_read_if(flags.r, checks, object, place)?;
     caller.dac_write_if(flags.w, checks, object, place)
 }
 
-// What becomes of the content of an object.
-fn content_after(
+// The attributes with which a file is emptied, if it is.
+fn emptied_attr(
     caller: &Caller<'_>,
     checks: &mut Checks,
     flags: OpenFlags,
     object: &Metadata,
     place: Place,
-) -> Result<Content, Stop>
-    ensures step { (s : State) (id : Number) → object.now ≡ metadata_of s id → GoesOn checks.old (to_content s flags id place) result checks.new }
+) -> Result<Option<Attr>, Stop>
+    ensures step { (s : State) (id : Number) → object.now ≡ metadata_of s id → GoesOn checks.old (to_emptied flags id place (object_at s id)) result checks.new }
     ensures files { (s : State) (id : Number) → object.now ≡ metadata_of s id → IfOk result (EmptiesFiles s id) }
 {
     if both(flags.t, is_file(object.kind)) {
         let attr = caller.kept_attr(checks, object, place)?;
-        Ok(Content::Emptied(attr))
+        Ok(Some(attr))
     } else {
-        Ok(Content::Kept)
+        Ok(None)
     }
 }
 
@@ -244,16 +197,16 @@ fn open_present(
     who: &Pid,
     id: &Oid,
     flags: OpenFlags,
-    content: Content,
+    emptied: Option<Attr>,
 ) -> Result<Effect, Stop>
     requires living { IsSome (map.get (state_of shared.old).procs who.now) }
     requires free { (p : Process) → map.get (state_of shared.old).procs who.now ≡ Some p → has_free_descriptors p 1 ≡ true }
     requires left { (p : Process) → map.get (state_of shared.old).procs who.now ≡ Some p → has_descriptions (state_of shared.old) p 1 ≡ true }
-    requires file { CanBeEmptied (state_of shared.old) id.now content }
-    ensures { (p : Process) (log : CheckLog) → map.get (state_of shared.old).procs who.now ≡ Some p → PlaysRow (state_of shared.old) log (opens_present (state_of shared.old) who.now p flags id.now content) result (state_of shared.new) log }
+    requires file { CanBeEmptied (state_of shared.old) id.now emptied }
+    ensures { (p : Process) (log : CheckLog) → map.get (state_of shared.old).procs who.now ≡ Some p → PlaysRow (state_of shared.old) log (opens_present (state_of shared.old) who.now p flags id.now (object_at (state_of shared.old) id.now) emptied) result (state_of shared.new) log }
 {
     let fd = describe(shared, who, id, flags)?;
-    set_content(shared, id, content);
+    set_content(shared, id, emptied);
     Ok(Effect {
         answer: Answer::Number(fd),
         own: None,
@@ -335,21 +288,21 @@ fn how(flags: OpenFlags) -> How
     }
 }
 
-// Does to an object's content what becomes of it. It takes no memory.
-fn set_content(shared: &mut Shared, id: &Oid, content: Content)
-    requires { CanBeEmptied (state_of shared.old) id.now content }
-    ensures { state_of shared.new ≡ changed_by (state_of shared.old) (emptying (state_of shared.old) id.now content) }
+// Empties an object with these attributes, if it is to be emptied. It takes no memory.
+fn set_content(shared: &mut Shared, id: &Oid, emptied: Option<Attr>)
+    requires { CanBeEmptied (state_of shared.old) id.now emptied }
+    ensures { state_of shared.new ≡ changed_by (state_of shared.old) (emptying id.now (object_at (state_of shared.old) id.now) emptied) }
 {
-    match content {
-        Content::Kept => (),
-        Content::Emptied(attr) => empty(shared, id, attr),
+    match emptied {
+        None => (),
+        Some(attr) => empty(shared, id, attr),
     }
 }
 
 // Empties a file, and gives it other attributes. It takes no memory.
 fn empty(shared: &mut Shared, id: &Oid, attr: Attr)
     requires { IsFile (state_of shared.old).objects id.now }
-    ensures { (o : Object) → map.get (state_of shared.old).objects id.now ≡ Some o → state_of shared.new ≡ changed (state_of shared.old) (SetObject id.now (record o { bytes = []; attr = attr })) }
+    ensures { (o : Object) → map.get (state_of shared.old).objects id.now ≡ Some o → state_of shared.new ≡ changed (state_of shared.old) (rewritten id.now o [] attr) }
 {
     shared.tree.truncate(id);
     shared.tree.set_attr(id, attr);

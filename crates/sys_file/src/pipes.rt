@@ -2,15 +2,11 @@
 ghost use Rattle.std.specs.Prelude.{◌≡◌, None, Some, IfOk, IsSome, OnOk, true};
 ghost use Rattle.std.specs.FinMap as map;
 ghost use Rattle.kern_model.specs.Arguments.{are_names};
-ghost use Rattle.kern_model.specs.Create.{attr_of, drawing, has_object_number};
-ghost use Rattle.kern_model.specs.Descriptors.{lowest_free, with_descriptor};
-ghost use Rattle.kern_model.specs.FileRows.{has_descriptions, has_free_descriptors, pipe_mode, pipe_row, piped};
-ghost use Rattle.kern_model.specs.Kinds.{object_with};
-ghost use Rattle.kern_model.specs.State.{Process, changed_by, next_description, next_object};
+ghost use Rattle.kern_model.specs.Create.{has_object_number};
+ghost use Rattle.kern_model.specs.FileRows.{both_ends, drawing_pipe, has_descriptions, has_free_descriptors, pipe_row, piped};
+ghost use Rattle.kern_model.specs.State.{Process, changed_by, next_object};
 ghost use Rattle.kern_model.specs.TreeRows.{mkfifo_row};
 ghost use Rattle.kern_model.specs.Valid.{IsValid};
-ghost use Rattle.kern_model.specs.declared.calls.Answer.TheVariants as answer;
-ghost use Rattle.kern_model.specs.declared.objects.Body.TheVariants as body;
 ghost use Rattle.chk_rules.specs.CheckLog.{CheckLog};
 ghost use Rattle.sys_lookup.specs.PlaysRow.{PlaysRow};
 ghost use Rattle.sys_lookup.specs.Shared.{state_of};
@@ -63,7 +59,7 @@ fn make_pipe(shared: &mut Shared, who: &Pid) -> Result<Effect, NoMemory>
     requires number { (p : Process) → map.get (state_of shared.old).procs who.now ≡ Some p → has_object_number (state_of shared.old) p ≡ true }
     requires free { (p : Process) → map.get (state_of shared.old).procs who.now ≡ Some p → has_free_descriptors p 2 ≡ true }
     requires left { (p : Process) → map.get (state_of shared.old).procs who.now ≡ Some p → has_descriptions (state_of shared.old) p 2 ≡ true }
-    ensures answer { (p : Process) → map.get (state_of shared.old).procs who.now ≡ Some p → IfOk result (λ effect. effect ≡ record { answer = answer.Two (lowest_free p.fds) (lowest_free (with_descriptor p (next_description (state_of shared.old) p.label)).fds); own = None }) }
+    ensures answer { (p : Process) → map.get (state_of shared.old).procs who.now ≡ Some p → IfOk result (λ effect. effect ≡ record { answer = both_ends (state_of shared.old) p; own = None }) }
     ensures piped { (p : Process) → map.get (state_of shared.old).procs who.now ≡ Some p → OnOk result (state_of shared.new ≡ changed_by (state_of shared.old) (piped (state_of shared.old) who.now p)) }
 {
     let id = create_pipe(shared, who)?;
@@ -80,7 +76,7 @@ fn create_pipe(shared: &mut Shared, who: &Pid) -> Result<Oid, NoMemory>
     requires living { IsSome (map.get (state_of shared.old).procs who.now) }
     requires number { (p : Process) → map.get (state_of shared.old).procs who.now ≡ Some p → has_object_number (state_of shared.old) p ≡ true }
     ensures id { (p : Process) → map.get (state_of shared.old).procs who.now ≡ Some p → IfOk result (λ id. id ≡ next_object (state_of shared.old) p.label) }
-    ensures made { (p : Process) → map.get (state_of shared.old).procs who.now ≡ Some p → OnOk result (state_of shared.new ≡ changed_by (state_of shared.old) (drawing (state_of shared.old) p (object_with p.label (attr_of p pipe_mode) body.Pipe))) }
+    ensures made { (p : Process) → map.get (state_of shared.old).procs who.now ≡ Some p → OnOk result (state_of shared.new ≡ changed_by (state_of shared.old) (drawing_pipe (state_of shared.old) p)) }
 {
     let process = living(shared, who);
     let creds = &process.creds;

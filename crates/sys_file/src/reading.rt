@@ -1,21 +1,16 @@
 // The call `read`.
-ghost use Rattle.std.specs.Prelude.{◌≡◌, Some, IfOk, IsSome, not};
+ghost use Rattle.std.specs.Prelude.{◌≡◌, Some, IfOk, IsSome, false, true};
 ghost use Rattle.std.specs.FinMap as map;
 ghost use Rattle.kern_model.specs.Descriptors.{opened};
-ghost use Rattle.kern_model.specs.FileRows.{on_descriptor, read_row, reading};
-ghost use Rattle.kern_model.specs.Row.{Need, Refuse};
-ghost use Rattle.kern_model.specs.Rules.{mac_read};
+ghost use Rattle.kern_model.specs.FileRows.{comes_out, open_object, opened_to_read, read_row};
 ghost use Rattle.kern_model.specs.State.{Process};
 ghost use Rattle.kern_model.specs.Valid.{IsValid};
-ghost use Rattle.kern_model.specs.declared.calls.Errno.TheVariants as errno;
-ghost use Rattle.kern_model.specs.declared.checks.Place.TheVariants as place;
 ghost use Rattle.chk_rules.specs.CheckLog.{CheckLog};
 ghost use Rattle.chk_rules.specs.Ends.{GoesOn};
 ghost use Rattle.fd_table.specs.Files.{opened_at};
 ghost use Rattle.fs_nodes.specs.Nodes.{IsFile, IsStream};
 ghost use Rattle.sys_lookup.specs.PlaysRow.{PlaysRow};
 ghost use Rattle.sys_lookup.specs.Shared.{process_of, state_of};
-ghost use Rattle.sys_file.specs.Streams.{taking};
 
 use crate::offsets::set_offset;
 use chk_rules::{Checks, Stop, refuse_if};
@@ -53,7 +48,7 @@ pub fn read(
 
 // A descriptor that is open for reading, on an object that the caller may read by label.
 fn opened_to_read(caller: &Caller<'_>, checks: &mut Checks, fd: Fd) -> Result<Opened, Stop>
-    ensures step { GoesOn checks.old (λ rest. on_descriptor (state_of caller.now.shared.now) (process_of caller.now) fd (λ f. Refuse errno.EBADF (not f.description.reads) (Need (mac_read (state_of caller.now.shared.now) (process_of caller.now) f.description.object place.Handle) (rest f)))) result checks.new }
+    ensures step { GoesOn checks.old (opened_to_read (state_of caller.now.shared.now) (process_of caller.now) fd) result checks.new }
     ensures found { IfOk result (λ f. opened (state_of caller.now.shared.now) (process_of caller.now) fd ≡ Some f) }
 {
     let opened = caller.opened(fd)?;
@@ -73,7 +68,7 @@ fn read_file(
     requires valid { ∥ IsValid (state_of shared.old) ∥₁ }
     requires open { opened_at shared.old.fds who.now fd ≡ Some opened.now }
     requires file { IsFile (state_of shared.old).objects opened.now.description.object }
-    ensures { (log : CheckLog) → PlaysRow (state_of shared.old) log (reading (state_of shared.old) opened.now n) result (state_of shared.new) log }
+    ensures { (log : CheckLog) → PlaysRow (state_of shared.old) log (comes_out false (state_of shared.old) n opened.now (open_object (state_of shared.old) opened.now)) result (state_of shared.new) log }
 {
     let bytes = shared
         .tree
@@ -91,7 +86,7 @@ fn read_file(
 fn read_stream(shared: &mut Shared, opened: &Opened, n: u32) -> Result<Effect, Stop>
     requires valid { ∥ IsValid (state_of shared.old) ∥₁ }
     requires stream { IsStream (state_of shared.old).objects opened.now.description.object }
-    ensures { (log : CheckLog) → PlaysRow (state_of shared.old) log (taking (state_of shared.old) opened.now n) result (state_of shared.new) log }
+    ensures { (log : CheckLog) → PlaysRow (state_of shared.old) log (comes_out true (state_of shared.old) n opened.now (open_object (state_of shared.old) opened.now)) result (state_of shared.new) log }
 {
     let bytes = shared.tree.nodes().read_at(&opened.object, 0, n)?;
     let mut buffer = [0; MAX_PIPE_BYTES];

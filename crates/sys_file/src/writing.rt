@@ -1,15 +1,11 @@
 // The call `write`.
-ghost use Rattle.std.specs.Prelude.{◌≡◌, ◌+◌, ◌≤◌, None, Some, IfOk, IsSome, OnOk, length, nat_lt, not};
+ghost use Rattle.std.specs.Prelude.{◌≡◌, ◌+◌, ◌≤◌, None, Some, IfOk, IsSome, OnOk, length};
 ghost use Rattle.std.specs.FinMap as map;
 ghost use Rattle.kern_model.specs.Descriptors.{Opened as Description, opened};
-ghost use Rattle.kern_model.specs.FileRows.{moved, on_descriptor, open_object, place_in, putting, write_row, written_over};
-ghost use Rattle.kern_model.specs.Row.{Need, Refuse};
-ghost use Rattle.kern_model.specs.Rules.{mac_write};
-ghost use Rattle.kern_model.specs.State.{Process, SetObject, changed, object_at};
+ghost use Rattle.kern_model.specs.FileRows.{moved, open_object, opened_to_write, place_in, putting, rewritten, to_place, write_row, written_over};
+ghost use Rattle.kern_model.specs.State.{Process, changed, object_at};
 ghost use Rattle.kern_model.specs.Valid.{IsValid};
 ghost use Rattle.kern_model.specs.declared.calls.Answer.TheVariants as answer;
-ghost use Rattle.kern_model.specs.declared.calls.Errno.TheVariants as errno;
-ghost use Rattle.kern_model.specs.declared.checks.Place.TheVariants as place;
 ghost use Rattle.kern_model.specs.declared.limits.TheConstants.{MAX_FILE_BYTES};
 ghost use Rattle.kern_model.specs.declared.objects.Object.{Object};
 ghost use Rattle.chk_rules.specs.CheckLog.{CheckLog};
@@ -61,7 +57,7 @@ pub fn write(
 
 // A descriptor that is open for writing, on an object that the caller may write by label.
 fn opened_to_write(caller: &Caller<'_>, checks: &mut Checks, fd: Fd) -> Result<Opened, Stop>
-    ensures step { GoesOn checks.old (λ rest. on_descriptor (state_of caller.now.shared.now) (process_of caller.now) fd (λ f. Refuse errno.EBADF (not f.description.writes) (Need (mac_write (state_of caller.now.shared.now) (process_of caller.now) f.description.object place.Handle) (rest f)))) result checks.new }
+    ensures step { GoesOn checks.old (opened_to_write (state_of caller.now.shared.now) (process_of caller.now) fd) result checks.new }
     ensures found { IfOk result (λ f. opened (state_of caller.now.shared.now) (process_of caller.now) fd ≡ Some f) }
 {
     let opened = caller.opened(fd)?;
@@ -90,7 +86,7 @@ fn write_stream(shared: &mut Shared, opened: &Opened, bytes: &[u8]) -> Result<Ef
 fn place_to_write(shared: &Shared, opened: &Opened, bytes: &[u8]) -> Result<u32, Stop>
     requires valid { ∥ IsValid (state_of shared.now) ∥₁ }
     requires file { IsFile (state_of shared.now).objects opened.now.description.object }
-    ensures step { (log : CheckLog) → GoesOn log (λ rest. Refuse errno.EINVAL (nat_lt (length (open_object (state_of shared.now) opened.now).bytes) (place_in (open_object (state_of shared.now) opened.now) opened.now)) (Refuse errno.EFBIG (nat_lt MAX_FILE_BYTES (place_in (open_object (state_of shared.now) opened.now) opened.now + length bytes.now)) (rest (place_in (open_object (state_of shared.now) opened.now) opened.now)))) result log }
+    ensures step { (log : CheckLog) → GoesOn log (to_place bytes.now opened.now (open_object (state_of shared.now) opened.now)) result log }
     ensures within { IfOk result (λ at. at ≤ length (open_object (state_of shared.now) opened.now).bytes) }
     ensures few { IfOk result (λ at. at + length bytes.now ≤ MAX_FILE_BYTES) }
 {
@@ -124,7 +120,7 @@ fn overwrite(
     requires within { at ≤ length (object_at (state_of shared.old) id.now).bytes }
     requires few { at + length bytes.now ≤ MAX_FILE_BYTES }
     ensures files { shared.new.fds ≡ shared.old.fds }
-    ensures written { OnOk result (state_of shared.new ≡ changed (state_of shared.old) (SetObject id.now (record (object_at (state_of shared.old) id.now) { attr = attr; bytes = written_over (object_at (state_of shared.old) id.now).bytes at bytes.now }))) }
+    ensures written { OnOk result (state_of shared.new ≡ changed (state_of shared.old) (rewritten id.now (object_at (state_of shared.old) id.now) (written_over (object_at (state_of shared.old) id.now).bytes at bytes.now) attr)) }
 {
     match shared.tree.write_at(id, at, bytes) {
         Ok(()) => {

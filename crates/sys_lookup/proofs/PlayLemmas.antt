@@ -111,6 +111,10 @@ commits s t log changes answer own made = record {
 pub equal_answer : {s t : State} {a b : CheckLog} {r : Result Effect Stop} {changes : List Change} {own : Option Rec} {given answer : Answer} → given ≡ answer → PlaysRow s a (Commit changes given own) r t b → PlaysRow s a (Commit changes answer own) r t b
 equal_answer {s = s} {t = t} {a = a} {b = b} {r = r} {changes = changes} {own = own} same plays = subst (λ x. PlaysRow s a (Commit changes x own) r t b) same plays
 
+-- the same with an equal record
+pub equal_record : {s t : State} {a b : CheckLog} {r : Result Effect Stop} {changes : List Change} {answer : Answer} {given own : Option Rec} → given ≡ own → PlaysRow s a (Commit changes answer given) r t b → PlaysRow s a (Commit changes answer own) r t b
+equal_record {s = s} {t = t} {a = a} {b = b} {r = r} {changes = changes} {answer = answer} same plays = subst (λ x. PlaysRow s a (Commit changes answer x) r t b) same plays
+
 -- the row of the living process that was found is that of the caller
 pub caller_plays : {s t : State} {a b : CheckLog} {r : Result Effect Stop} (row : Process → Row) (who : Pid) (q p : Process) → Some q ≡ map.get s.procs who → map.get s.procs who ≡ Some p → PlaysRow s a (row q) r t b → PlaysRow s a (row p) r t b
 caller_plays {s = s} {t = t} {a = a} {b = b} {r = r} row who q p found there plays = subst (λ x. PlaysRow s a (row x) r t b) (some_same q p (found ∙ there)) plays

@@ -1,12 +1,11 @@
 // What rows ask of an object that gets another label.
-ghost use Rattle.std.specs.Prelude.{◌≡◌, ◌&&◌, Some, cond, false, not};
-ghost use Rattle.lab_lattice.specs.Label.{dominates};
+ghost use Rattle.std.specs.Prelude.{◌≡◌, ◌&&◌, Some, false, not};
 ghost use Rattle.kern_model.specs.declared.numbers.Oid.{Oid};
 ghost use Rattle.kern_model.specs.declared.checks.Thing.TheVariants as thing;
 ghost use Rattle.kern_model.specs.Entries.{is_empty};
 ghost use Rattle.kern_model.specs.Kinds.{is_dir};
 ghost use Rattle.kern_model.specs.Row.{Need};
-ghost use Rattle.kern_model.specs.Rules.{is_above_holders, mac_downgrade, mac_upgrade, relabelled_order};
+ghost use Rattle.kern_model.specs.Rules.{is_above_holders, mac_change_of, relabelled_order};
 ghost use Rattle.kern_model.specs.State.{State, object_at, root};
 ghost use Rattle.kern_model.specs.Keys.{same_oid};
 ghost use Rattle.chk_rules.specs.Ends.{GoesOn};
@@ -31,7 +30,7 @@ fn change_to(name: CheckName, label: &Label, object: &Metadata, place: Place) ->
 
 // The check that an object gets this label: one for the way up, and one for all others.
 fn change_of(label: &Label, object: &Metadata, place: Place) -> Check
-    ensures { (s : State) (id : Oid) → object.now ≡ metadata_of s id → result ≡ cond (dominates label.now (object_at s id).label) (mac_upgrade s id label.now place) (mac_downgrade s id label.now place) }
+    ensures { (s : State) (id : Oid) → object.now ≡ metadata_of s id → result ≡ mac_change_of label.now id (object_at s id) place }
 {
     if label.dominates(&object.label) {
         change_to(CheckName::MacUpgrade, label, object, place)
@@ -50,7 +49,7 @@ impl Caller<'_> {
         label: &Label,
         place: Place,
     ) -> Result<(), Stop>
-        ensures { (s : State) (id : Oid) → object.now ≡ metadata_of s id → GoesOn checks.old (λ rest. Need (cond (dominates label.now (object_at s id).label) (mac_upgrade s id label.now place) (mac_downgrade s id label.now place)) (rest tt)) result checks.new }
+        ensures { (s : State) (id : Oid) → object.now ≡ metadata_of s id → GoesOn checks.old (λ rest. Need (mac_change_of label.now id (object_at s id) place) (rest tt)) result checks.new }
     {
         must(checks, &change_of(label, object, place))
     }

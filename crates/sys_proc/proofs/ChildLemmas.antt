@@ -14,8 +14,7 @@ use Rattle.kern_model.specs.declared.limits.TheConstants.{MAX_PROCS}
 use Rattle.kern_model.specs.declared.numbers.Pid.{Pid}
 use Rattle.kern_model.specs.declared.records.Rec.TheVariants as rec
 use Rattle.kern_model.specs.Keys.{pid_cmp}
-use Rattle.kern_model.specs.ProcessRows.{child_of, fork_row, has_child, take_ended}
-use Rattle.kern_model.specs.Row.{Refuse, Commit}
+use Rattle.kern_model.specs.ProcessRows.{await_child, child_of, fork_row, give_child, has_child}
 use Rattle.kern_model.specs.State.{State, Process, Change, DrawProcess, SetProcess, drawn}
 use Rattle.kern_model.specs.Valid.{IsThere, IsValid}
 use Rattle.kern_model.proofs.KeyLaws.{pid_cmp_total, pid_cmp_exact}
@@ -75,7 +74,7 @@ forks h log who q child procs fds left is made copied =
     let numbers = map.insert h.procs.numbers q.label (drawn h.procs.numbers q.label + 1) in
     let changes : List Change = DrawProcess q.label (drawn h.procs.numbers q.label + 1) ∷ SetProcess next (child_of who (holding h.fds.rows who q)) ∷ [] in
     refuse_plays (lets_on left)
-    (subst (λ (k : Pid). PlaysRow s log (Commit changes (answer.Process next) (Some (rec.Fork who next))) (Ok (record { answer = answer.Process k; own = Some (rec.Fork who k) })) t log) (sym is)
+    (subst (λ (k : Pid). PlaysRow s log (give_child who (holding h.fds.rows who q) (drawn h.procs.numbers q.label)) (Ok (record { answer = answer.Process k; own = Some (rec.Fork who k) })) t log) (sym is)
     (commits s t log changes (answer.Process next) (Some (rec.Fork who next))
     ((λ i. record s { procs = with_fds (made i).procs (copied i).rows; descriptions = (copied i).descriptions; process_numbers = (made i).numbers; description_numbers = (copied i).numbers })
     ∙ (λ i. record s { procs = with_fds all (map.insert h.fds.rows (is i) (row_of h.fds.rows who)); process_numbers = numbers })
@@ -120,7 +119,7 @@ none_living true is = let no : ◌≡◌ {A = Result (Pid × Ending) ReapError} 
 module _ (s t : State) (log : CheckLog) (who : Pid) (p : Process) (living : Bool) where
   -- the first one is taken
   pub takes : (ended : List (Pid × Ending)) (e : Pid × Ending) → Ok e ≡ reaped ended living → t ≡ record s { procs = map.insert s.procs who (record p { ended = drop 1 ended }) }
-      → PlaysRow s log (Refuse errno.ECHILD (length ended == 0 && not living) (take_ended who p ended)) (Ok (record { answer = answer.Ended e.0 e.1; own = None })) t log
+      → PlaysRow s log (await_child living who p ended) (Ok (record { answer = answer.Ended e.0 e.1; own = None })) t log
   takes [] e is made = absurd (nothing_taken living e is)
   takes (x ∷ es) e is made =
       let taken : ◌≡◌ {A = Result (Pid × Ending) ReapError} (Ok e) (Ok x) = is in
@@ -132,12 +131,12 @@ module _ (s t : State) (log : CheckLog) (who : Pid) (p : Process) (living : Bool
 
   -- there is none yet
   pub takes_none : (ended : List (Pid × Ending)) → Err reap.NoneEnded ≡ reaped ended living → t ≡ s
-      → PlaysRow s log (Refuse errno.ECHILD (length ended == 0 && not living) (take_ended who p ended)) (Err (stop.Refused errno.EAGAIN)) t log
+      → PlaysRow s log (await_child living who p ended) (Err (stop.Refused errno.EAGAIN)) t log
   takes_none [] is same = refuse_plays (lets_on (ap not (some_living living is))) (fails_row s t log errno.EAGAIN same)
   takes_none (x ∷ es) is same = let no : ◌≡◌ {A = Result (Pid × Ending) ReapError} (Err reap.NoneEnded) (Ok x) = is in absurd cc
 
   -- there is no child
   pub has_none : (ended : List (Pid × Ending)) → Err reap.NoChild ≡ reaped ended living → t ≡ s
-      → PlaysRow s log (Refuse errno.ECHILD (length ended == 0 && not living) (take_ended who p ended)) (Err (stop.Refused errno.ECHILD)) t log
+      → PlaysRow s log (await_child living who p ended) (Err (stop.Refused errno.ECHILD)) t log
   has_none [] is same = refuse_stops_row (Err (stop.Refused errno.ECHILD)) refl same (refuses (ap not (none_living living is)))
   has_none (x ∷ es) is same = let no : ◌≡◌ {A = Result (Pid × Ending) ReapError} (Err reap.NoChild) (Ok x) = is in absurd cc

@@ -1,9 +1,8 @@
 // The calls `exit` and `kill`.
-ghost use Rattle.std.specs.Prelude.{◌≡◌, IsSome, Ok, Some, not};
+ghost use Rattle.std.specs.Prelude.{◌≡◌, IsSome, Ok, Some};
 ghost use Rattle.std.specs.FinMap as map;
-ghost use Rattle.kern_model.specs.ProcessRows.{exit_row, kill_row, kill_with, signalled as signalled_row};
-ghost use Rattle.kern_model.specs.Row.{Need, need_if};
-ghost use Rattle.kern_model.specs.Rules.{kill_rule as kill_check, mac_write_process, same_label};
+ghost use Rattle.kern_model.specs.ProcessRows.{asks_signal, exit_row, kill_row, kill_with, signalled as signalled_row, writes_present};
+ghost use Rattle.kern_model.specs.Rules.{kill_rule as kill_check, mac_write_process};
 ghost use Rattle.kern_model.specs.State.{Process};
 ghost use Rattle.kern_model.specs.Valid.{IsValid};
 ghost use Rattle.chk_rules.specs.CheckLog.{CheckLog};
@@ -49,7 +48,7 @@ pub fn kill(
 
 // Checks that a process may send a signal to a living one, whose present label may be another than that of its number.
 fn may_signal(sender: &Proc, checks: &mut Checks, target: &Pid, receiver: &Proc) -> Result<(), Stop>
-    ensures { GoesOn checks.old (λ rest. need_if (not (same_label receiver.now.label target.now.label)) (mac_write_process sender.now target.now receiver.now.label) (Need (kill_check sender.now target.now receiver.now) (rest tt))) result checks.new }
+    ensures { GoesOn checks.old (λ rest. asks_signal sender.now target.now receiver.now (rest tt)) result checks.new }
 {
     mac_write_present(sender, checks, target, receiver)?;
     must(checks, &kill_rule(sender, target, receiver))
@@ -62,7 +61,7 @@ fn mac_write_present(
     target: &Pid,
     receiver: &Proc,
 ) -> Result<(), Stop>
-    ensures { GoesOn checks.old (λ rest. need_if (not (same_label receiver.now.label target.now.label)) (mac_write_process sender.now target.now receiver.now.label) (rest tt)) result checks.new }
+    ensures { GoesOn checks.old (λ rest. writes_present sender.now target.now receiver.now (rest tt)) result checks.new }
 {
     let present = &receiver.creds.label;
     if mac_write_ok(present, &target.label) {

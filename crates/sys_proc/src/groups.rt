@@ -1,8 +1,7 @@
 // The call `setgid`.
-ghost use Rattle.std.specs.Prelude.{◌≡◌, ◌==◌, ◌&&◌, ◌||◌, false, true, IfOk, IsSome, Some};
+ghost use Rattle.std.specs.Prelude.{◌≡◌, ◌==◌, ◌&&◌, ◌||◌, true, IfOk, IsSome, Some};
 ghost use Rattle.std.specs.FinMap as map;
-ghost use Rattle.kern_model.specs.ProcessRows.{setgid_row};
-ghost use Rattle.kern_model.specs.Row.{Need, Soft};
+ghost use Rattle.kern_model.specs.ProcessRows.{asks_group, setgid_row};
 ghost use Rattle.kern_model.specs.Rules.{setgid_all, setgid_rule};
 ghost use Rattle.kern_model.specs.State.{Process};
 ghost use Rattle.chk_rules.specs.Ends.{GoesOn};
@@ -42,7 +41,7 @@ pub fn setgid(
 
 // Whether a caller with these credentials gets the group as its real, effective and saved one, and not as its effective one alone.
 fn sets_all(checks: &mut Checks, who: &Pid, creds: &Creds, group: Gid) -> Result<bool, Stop>
-    ensures step { (p : Process) → creds_of p ≡ creds.now → GoesOn checks.old (λ rest. Soft (setgid_all who.now p group) (rest true) (Need (setgid_rule who.now p group) (rest false))) result checks.new }
+    ensures step { (p : Process) → creds_of p ≡ creds.now → GoesOn checks.old (asks_group who.now p group) result checks.new }
     ensures allowed { IfOk result (λ all. all || may_be_group creds.now.ids group ≡ true) }
 {
     let all = prefer(checks, &setgid_all(who, creds, group))?;

@@ -1,9 +1,8 @@
 // The call `mac_set_proc`.
-ghost use Rattle.std.specs.Prelude.{◌≡◌, IsSome, Some, not};
+ghost use Rattle.std.specs.Prelude.{◌≡◌, IsSome, Some};
 ghost use Rattle.std.specs.FinMap as map;
-ghost use Rattle.kern_model.specs.ProcessRows.{mac_set_proc_row};
-ghost use Rattle.kern_model.specs.Row.{need_if};
-ghost use Rattle.kern_model.specs.Rules.{mac_subject, same_label};
+ghost use Rattle.kern_model.specs.ProcessRows.{asks_own_label, mac_set_proc_row};
+ghost use Rattle.kern_model.specs.Rules.{mac_subject};
 ghost use Rattle.kern_model.specs.State.{Process};
 ghost use Rattle.chk_rules.specs.Ends.{GoesOn};
 ghost use Rattle.proc_table.specs.Procs.{creds_of};
@@ -41,7 +40,7 @@ pub fn mac_set_proc(
 
 // Checks that a caller with these credentials may get a label: it has it already, or has the capability.
 fn may_get(checks: &mut Checks, who: &Pid, creds: &Creds, label: &Label) -> Result<(), Stop>
-    ensures { (p : Process) → creds_of p ≡ creds.now → GoesOn checks.old (λ rest. need_if (not (same_label label.now p.label)) (mac_subject who.now p label.now) (rest tt)) result checks.new }
+    ensures { (p : Process) → creds_of p ≡ creds.now → GoesOn checks.old (λ rest. asks_own_label who.now p label.now (rest tt)) result checks.new }
 {
     if mac_write_ok(label, &creds.label) {
         Ok(())

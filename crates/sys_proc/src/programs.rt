@@ -2,19 +2,16 @@
 ghost use Rattle.std.specs.Prelude.{◌≡◌, Ok, IsSome, None, Some, cond};
 ghost use Rattle.std.specs.FinMap as map;
 ghost use Rattle.kern_model.specs.Kinds.{sets_group as mode_sets_group, sets_user as mode_sets_user};
-ghost use Rattle.kern_model.specs.ProcessRows.{exec_row};
-ghost use Rattle.kern_model.specs.Row.{Need};
-ghost use Rattle.kern_model.specs.Rules.{dac_execute, exec_kind};
-ghost use Rattle.kern_model.specs.State.{Process, object_at};
-ghost use Rattle.kern_model.specs.Walk.{on_path, read_object};
+ghost use Rattle.kern_model.specs.ProcessRows.{asks_program, exec_row, run};
+ghost use Rattle.kern_model.specs.State.{Process, State, object_at};
+ghost use Rattle.kern_model.specs.declared.numbers.Oid.{Oid};
 ghost use Rattle.chk_rules.specs.CheckLog.{CheckLog};
 ghost use Rattle.chk_rules.specs.Ends.{GoesOn};
 ghost use Rattle.sys_lookup.specs.PlaysRow.{PlaysRow};
 ghost use Rattle.sys_lookup.specs.Shared.{metadata_of, process_of, state_of};
-ghost use Rattle.sys_proc.specs.Programs.{run};
 
 use chk_rules::{Checks, Stop};
-use kern_model::{Answer, Attr, Gid, Path, Pid, Rec, Uid};
+use kern_model::{Answer, Attr, Gid, Path, Pid, Place, Rec, Uid};
 use sys_lookup::{Caller, Effect, Metadata, PathArgument, Shared, living, sets_group, sets_user};
 
 /// `exec`: the caller takes on the credentials that a program gives.
@@ -33,25 +30,29 @@ pub fn exec(
         who: *who,
         process,
     };
-    let program = program_to_run(&caller, checks, path)?;
+    let (id, place) = caller.reach(checks, PathArgument::First, path)?;
+    let program = caller.read_object(checks, &id, place)?;
+    ask_program(&caller, checks, &program, place)?;
     Ok(run(shared, who, &program))
 }
 
-// The program that the caller may execute.
-fn program_to_run(caller: &Caller<'_>, checks: &mut Checks, path: &Path) -> Result<Metadata, Stop>
-    ensures { GoesOn checks.old (λ rest. on_path (state_of caller.now.shared.now) (process_of caller.now) path.now (λ id place. read_object (state_of caller.now.shared.now) (process_of caller.now) id place (λ o. Need (exec_kind id o place) (Need (dac_execute (process_of caller.now) id o place) (rest (metadata_of (state_of caller.now.shared.now) id)))))) result checks.new }
+// Checks that the caller may execute a program that was read.
+fn ask_program(
+    caller: &Caller<'_>,
+    checks: &mut Checks,
+    program: &Metadata,
+    place: Place,
+) -> Result<(), Stop>
+    ensures { (s : State) (id : Oid) → program.now ≡ metadata_of s id → GoesOn checks.old (λ rest. asks_program (process_of caller.now) id place (object_at s id) (rest tt)) result checks.new }
 {
-    let (id, place) = caller.reach(checks, PathArgument::First, path)?;
-    let program = caller.read_object(checks, &id, place)?;
-    caller.exec_kind(checks, &program, place)?;
-    caller.dac_execute(checks, &program, place)?;
-    Ok(program)
+    caller.exec_kind(checks, program, place)?;
+    caller.dac_execute(checks, program, place)
 }
 
 // A process takes on the credentials that a program gives. No memory is taken.
 fn run(shared: &mut Shared, who: &Pid, program: &Metadata) -> Effect
     requires living { IsSome (map.get (state_of shared.old).procs who.now) }
-    ensures { (log : CheckLog) (p : Process) → map.get (state_of shared.old).procs who.now ≡ Some p → PlaysRow (state_of shared.old) log (run (state_of shared.old).bound who.now p program.now) (Ok result) (state_of shared.new) log }
+    ensures { (log : CheckLog) (p : Process) → map.get (state_of shared.old).procs who.now ≡ Some p → PlaysRow (state_of shared.old) log (run (state_of shared.old).bound who.now p program.now.id program.now.attr) (Ok result) (state_of shared.new) log }
 {
     let bound = shared.bound;
     let Some(creds) = shared.procs.creds_mut(who) else {

@@ -1,7 +1,7 @@
 // The calls `getpid`, `getppid`, `getids`, `cap_get_proc` and `mac_get_proc`.
-ghost use Rattle.std.specs.Prelude.{◌≡◌, [], None, IfOk, IsOk, true};
+ghost use Rattle.std.specs.Prelude.{◌≡◌, IfOk, IsOk, true};
 ghost use Rattle.kern_model.specs.Arguments.{has_names};
-ghost use Rattle.kern_model.specs.Row.{Commit};
+ghost use Rattle.kern_model.specs.ProcessRows.{reports};
 ghost use Rattle.kern_model.specs.State.{State};
 ghost use Rattle.kern_model.specs.Table.{row};
 ghost use Rattle.chk_rules.specs.CheckLog.{CheckLog};
@@ -31,7 +31,7 @@ pub fn report(process: &Proc, who: &Pid, call: &Call) -> Result<Effect, Stop>
 // What the row of a call answers that asks what its caller is.
 fn own_answer(process: &Proc, who: &Pid, call: &Call) -> Result<Answer, NoMemory>
     requires { is_own_call call.now ≡ true }
-    ensures answer { (s : State) (rows : AllFds) → IfOk result (λ answer. row s who.now (holding rows who.now process.now) call.now ≡ Commit [] answer None) }
+    ensures answer { (s : State) (rows : AllFds) → IfOk result (λ answer. row s who.now (holding rows who.now process.now) call.now ≡ reports answer) }
     ensures ready { takes_no_memory call.now ≡ true → IsOk result }
 {
     let creds = &process.creds;

@@ -1,8 +1,7 @@
 // The call `setuid`.
-ghost use Rattle.std.specs.Prelude.{◌≡◌, ◌==◌, ◌&&◌, ◌||◌, false, true, IfOk, IsSome, Some};
+ghost use Rattle.std.specs.Prelude.{◌≡◌, ◌==◌, ◌&&◌, ◌||◌, true, IfOk, IsSome, Some};
 ghost use Rattle.std.specs.FinMap as map;
-ghost use Rattle.kern_model.specs.ProcessRows.{setuid_row};
-ghost use Rattle.kern_model.specs.Row.{Need, Soft};
+ghost use Rattle.kern_model.specs.ProcessRows.{asks_user, setuid_row};
 ghost use Rattle.kern_model.specs.Rules.{setuid_all, setuid_rule};
 ghost use Rattle.kern_model.specs.State.{Process};
 ghost use Rattle.chk_rules.specs.Ends.{GoesOn};
@@ -42,7 +41,7 @@ pub fn setuid(
 
 // Whether a caller with these credentials gets the user as its real, effective and saved one, and not as its effective one alone.
 fn sets_all(checks: &mut Checks, who: &Pid, creds: &Creds, user: Uid) -> Result<bool, Stop>
-    ensures step { (p : Process) → creds_of p ≡ creds.now → GoesOn checks.old (λ rest. Soft (setuid_all who.now p user) (rest true) (Need (setuid_rule who.now p user) (rest false))) result checks.new }
+    ensures step { (p : Process) → creds_of p ≡ creds.now → GoesOn checks.old (asks_user who.now p user) result checks.new }
     ensures allowed { IfOk result (λ all. all || may_be_user creds.now.ids user ≡ true) }
 {
     let all = prefer(checks, &setuid_all(who, creds, user))?;

@@ -1,14 +1,13 @@
 -- What the rows that make and move entries ask beside their checks.
-use Rattle.std.specs.Prelude.{◌≡◌, ⊤, ℕ, ◌&&◌, ◌<◌, Bool, true, false, nat_le, [], Option, None, Some, Result, Ok, Err, cond, refl}
+use Rattle.std.specs.Prelude.{◌≡◌, ⊤, ℕ, ◌&&◌, ◌<◌, Bool, true, false, nat_le, Option, None, Some, Result, Ok, Err, cond, refl}
 use Rattle.std.specs.FinMap as map
 use Rattle.std.specs.FinMap.{FinMap}
-use Rattle.std.specs.Result.{IsErrAnd}
 use Rattle.std.proofs.Common.{ap, sym, ◌∙◌, subst, inl, inr, arith, leb-false}
 use Rattle.std.proofs.Math.Logic.{∥∥₁_map, ∥∥₁_elim}
+use Rattle.fs_path.specs.Name.{Name}
 use Rattle.fs_path.specs.Path.{PathValue}
 use Rattle.lab_lattice.specs.Label.{Label}
 use Rattle.kern_model.specs.declared.limits.TheConstants.{MAX_LINKS}
-use Rattle.kern_model.specs.declared.calls.Answer.TheVariants.{Nothing}
 use Rattle.kern_model.specs.declared.calls.Errno.{Errno}
 use Rattle.kern_model.specs.declared.checks.Check.{Check}
 use Rattle.kern_model.specs.declared.checks.Place.{Place}
@@ -19,10 +18,9 @@ use Rattle.kern_model.specs.Entries.{is_under, link_count}
 use Rattle.kern_model.specs.Keys.{oid_cmp}
 use Rattle.kern_model.specs.Kinds.{is_dir}
 use Rattle.kern_model.specs.Maps.{get_or}
-use Rattle.kern_model.specs.Row.{Row, Refuse, Commit, judge}
+use Rattle.kern_model.specs.Row.{Row, Refuse, judge}
 use Rattle.kern_model.specs.Rules.{held_order}
 use Rattle.kern_model.specs.State.{State, Process, object_at, root, stub_object}
-use Rattle.kern_model.specs.TreeRows.{give_way}
 use Rattle.kern_model.specs.Valid.{IsDir, IsValid}
 use Rattle.kern_model.specs.Walk.{start_of}
 use Rattle.kern_model.proofs.MapLemmas.{get_or-found, never_some, some_same}
@@ -32,19 +30,22 @@ use Rattle.chk_rules.specs.declared.stop.Stop.{Stop}
 use Rattle.chk_rules.specs.declared.stop.Stop.TheVariants as stop
 use Rattle.fs_dirs.specs.Tree.{MayBeAdded, TreeView, state_of_tree, would_loop}
 use Rattle.fs_dirs.proofs.SameEntries.{is_under-same}
-use Rattle.sys_lookup.specs.declared.effect.Effect.{Effect}
+use Rattle.sys_lookup.specs.declared.shared.Metadata.{Metadata}
 use Rattle.sys_lookup.specs.declared.shared.Shared.{Shared}
-use Rattle.sys_lookup.specs.PlaysRow.{PlaysRow}
 use Rattle.sys_lookup.specs.Shared.{state_of}
 use Rattle.sys_lookup.specs.Walks.{IsLedTo}
-use Rattle.sys_lookup.proofs.PlayLemmas.{then_plays, stops_row}
-use Rattle.sys_tree.specs.Targets.{giving}
-use Rattle.sys_tree.specs.declared.renaming.Way.{Way}
-use Rattle.sys_tree.specs.declared.renaming.Way.TheVariants as way
 
 -- the state with the objects and entries of a tree
 abbrev pub with_tree : State → TreeView → State
 with_tree s t = record s { objects = t.nodes.table.objects; entries = t.entries; object_numbers = t.nodes.table.numbers }
+
+-- the row of an entry whose object's metadata are known
+abbrev pub on_entry : (Oid × Name × Oid → Row) → Oid × Name × Metadata → Row
+on_entry row (dir, name, object) = row (dir, name, object.id)
+
+-- the row of what a path leads to
+abbrev pub on_reached : (Oid → Place → Row) → Oid × Place → Row
+on_reached row (id, place) = row id place
 
 -- ---- refusals that the tree makes
 
@@ -141,26 +142,3 @@ loops_same h id into =
     let s = state_of h in
     let t = state_of_tree h.tree in
     ap (λ b. b && is_under s into id) (dir_whatever_stub s.objects id s.top t.top) ∙ ap (λ b. is_dir (object_at t id).kind && b) (is_under-same s t refl into id)
-
--- the row after what is at the target gave way or stays
-abbrev pub along : Row → Way → Row
-along row way.Stays = Commit [] Nothing None
-along row way.Moves = row
-
-give_way_along : (s : State) (p : Process) (id : Oid) (target : Option Oid) (place : Place) (row : Row) → give_way s p id target place row ≡ giving s p id target place (along row)
-give_way_along s p id None place row = refl
-give_way_along s p id (Some t) place row = refl
-
-module _ (s : State) (p : Process) (id : Oid) (target : Option Oid) {at place : Place} (row : Row) (same : at ≡ place) where
-  placed : {a c : CheckLog} {u t : State} {r : Result Effect Stop} → PlaysRow u a (giving s p id target at (along row)) r t c → PlaysRow u a (give_way s p id target place row) r t c
-  placed {a = a} {c = c} {u = u} {t = t} {r = r} plays =
-      subst (λ (x : Row). PlaysRow u a x r t c) (sym (give_way_along s p id target place row))
-      (subst (λ (x : Place). PlaysRow u a (giving s p id target x (along row)) r t c) same plays)
-
-  -- the row goes on from what became of the target
-  pub way_plays : {a b c : CheckLog} {u t : State} {w v : Way} {r : Result Effect Stop} → GoesOn a (giving s p id target at) (Ok w) b → w ≡ v → PlaysRow u b (along row v) r t c → PlaysRow u a (give_way s p id target place row) r t c
-  way_plays {b = b} {c = c} {u = u} {t = t} {r = r} step is plays = placed (then_plays {rest = along row} step (subst (λ (w : Way). PlaysRow u b (along row w) r t c) (sym is) plays))
-
-  -- the row ends there
-  pub way_stops : {a b : CheckLog} {u t : State} {how : Stop} (r : Result Effect Stop) → IsErrAnd r (λ e. e ≡ how) → t ≡ u → GoesOn a (giving s p id target at) (Err how) b → PlaysRow u a (give_way s p id target place row) r t b
-  way_stops r is still step = placed (stops_row {rest = along row} r is still step)

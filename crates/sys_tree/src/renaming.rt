@@ -1,35 +1,24 @@
 // The call `rename`.
-ghost use Rattle.std.specs.Prelude.{◌≡◌, ◌&&◌, None, Some, IfOk, IsSome, not, true};
+ghost use Rattle.std.specs.Prelude.{◌≡◌, ◌&&◌, Some, IfOk, IsSome, not, true};
 ghost use Rattle.std.specs.FinMap as map;
 ghost use Rattle.kern_model.specs.Arguments.{are_names};
-ghost use Rattle.kern_model.specs.Create.{write_directory};
-ghost use Rattle.kern_model.specs.Rules.{held_order};
 ghost use Rattle.kern_model.specs.State.{Process, look};
-ghost use Rattle.kern_model.specs.TreeRows.{leave_from, move_row, rename_row};
+ghost use Rattle.kern_model.specs.TreeRows.{gives_way, may_replace, move_row, rename_row, target_entry};
 ghost use Rattle.kern_model.specs.Valid.{IsDir};
-ghost use Rattle.kern_model.specs.Walk.{dir_place, to_entry, to_entry_of_object, walk};
+ghost use Rattle.kern_model.specs.Walk.{last_place};
 ghost use Rattle.kern_model.specs.declared.numbers.Oid.{Oid as Number};
 ghost use Rattle.chk_rules.specs.CheckLog.{CheckLog};
 ghost use Rattle.chk_rules.specs.Ends.{GoesOn};
 ghost use Rattle.sys_lookup.specs.PlaysRow.{PlaysRow};
-ghost use Rattle.sys_lookup.specs.Shared.{process_of, state_of};
+ghost use Rattle.sys_lookup.specs.Shared.{metadata_of, process_of, state_of};
 ghost use Rattle.sys_lookup.specs.Walks.{IsEntry, place_in};
 ghost use Rattle.sys_lookup.specs.declared.argument.PathArgument.TheVariants as argument;
-ghost use Rattle.sys_tree.specs.Targets.{giving, replacing};
 
+use crate::removing::old_entry;
 use chk_rules::{Checks, Stop, refuse_if};
 use fs_dirs::MoveError;
-use kern_model::{Answer, Errno, Name, Oid, Path, Pid, Place};
-use sys_lookup::{Caller, Effect, PathArgument, Shared, living};
-
-/// What becomes of the entry that is to move.
-#[derive(Clone, Copy)]
-enum Way {
-    /// It stays, since the target is the object itself.
-    Stays,
-    /// It moves, and what the target leads to gives way.
-    Moves,
-}
+use kern_model::{Answer, Errno, Name, Oid, Path, Pid};
+use sys_lookup::{Caller, Effect, Metadata, PathArgument, Shared, living};
 
 /// `rename`: an entry moves to another name, in place of what is there.
 pub fn rename(
@@ -50,33 +39,17 @@ pub fn rename(
         who: *who,
         process,
     };
-    let (dir, name, id) = entry_to_move(&caller, checks, path)?;
-    let (into, new, target) = target_entry(&caller, checks, &id, to)?;
-    let place = PathArgument::Second.last_place(to);
-    let way = give_way(&caller, checks, &id, target, place)?;
-    match way {
-        Way::Stays => Ok(Effect {
+    let (dir, name, object) = old_entry(&caller, checks, path)?;
+    let (into, new, target) = target_entry(&caller, checks, &object.id, to)?;
+    let moves = give_way(&caller, checks, &object, target, to)?;
+    if moves {
+        move_entry(shared, &dir, &name, &into, &new)
+    } else {
+        Ok(Effect {
             answer: Answer::Nothing,
             own: None,
-        }),
-        Way::Moves => move_entry(shared, &dir, &name, &into, &new),
+        })
     }
-}
-
-// The entry that is to move: its directory, its name and its object.
-fn entry_to_move(
-    caller: &Caller<'_>,
-    checks: &mut Checks,
-    path: &Path,
-) -> Result<(Oid, Name, Oid), Stop>
-    ensures step { GoesOn checks.old (λ rest. walk (state_of caller.now.shared.now) (process_of caller.now) (place_in argument.First) path.now (λ found. to_entry_of_object found (λ dir name id. leave_from (state_of caller.now.shared.now) (process_of caller.now) path.now dir id (rest (dir, name, id))))) result checks.new }
-    ensures entry { IfOk result (λ e. IsEntry (state_of caller.now.shared.now) e.0 e.1 (Some e.2)) }
-{
-    let (dir, name, id) = caller
-        .walk(checks, PathArgument::First, path)?
-        .into_entry_of_object()?;
-    caller.leave_from(checks, path, &dir, &id)?;
-    Ok((dir, name, id))
 }
 
 // The entry to which an object is to move: its directory, its name, and what has it, if something does.
@@ -86,7 +59,7 @@ fn target_entry(
     id: &Oid,
     to: &Path,
 ) -> Result<(Oid, Name, Option<Oid>), Stop>
-    ensures step { GoesOn checks.old (λ rest. walk (state_of caller.now.shared.now) (process_of caller.now) (place_in argument.Second) to.now (λ found. to_entry found (λ dir name at. write_directory (state_of caller.now.shared.now) (process_of caller.now) dir (dir_place (place_in argument.Second) to.now) (held_order (state_of caller.now.shared.now) id.now dir (dir_place (place_in argument.Second) to.now)) (rest (dir, name, at))))) result checks.new }
+    ensures step { GoesOn checks.old (target_entry (state_of caller.now.shared.now) (process_of caller.now) to.now id.now) result checks.new }
     ensures entry { IfOk result (λ e. IsEntry (state_of caller.now.shared.now) e.0 e.1 e.2) }
 {
     let (dir, name, target) = caller.walk(checks, PathArgument::Second, to)?.into_entry()?;
@@ -95,36 +68,37 @@ fn target_entry(
     Ok((dir, name, target))
 }
 
-// Has what is at the target, if something is, give way to an object.
+// Has what is at the target, if something is, give way to an object, and returns whether the object moves: not where that is the
+// object itself.
 fn give_way(
     caller: &Caller<'_>,
     checks: &mut Checks,
-    id: &Oid,
+    object: &Metadata,
     target: Option<Oid>,
-    place: Place,
-) -> Result<Way, Stop>
-    ensures { GoesOn checks.old (giving (state_of caller.now.shared.now) (process_of caller.now) id.now target place) result checks.new }
+    to: &Path,
+) -> Result<bool, Stop>
+    ensures { object.now ≡ metadata_of (state_of caller.now.shared.now) object.now.id → GoesOn checks.old (gives_way (state_of caller.now.shared.now) (process_of caller.now) object.now.id target (last_place (place_in argument.Second) to.now)) result checks.new }
 {
-    let Some(target) = target else {
-        return Ok(Way::Moves);
+    let Some(id) = target else {
+        return Ok(true);
     };
-    caller.write_object(checks, &target, place)?;
-    if target.is_same(id) {
-        return Ok(Way::Stays);
+    let target = caller.write_object(checks, &id, PathArgument::Second.last_place(to))?;
+    if id.is_same(&object.id) {
+        return Ok(false);
     }
-    replace(caller.shared, id, &target)?;
-    Ok(Way::Moves)
+    may_replace(caller.shared, object, &target)?;
+    Ok(true)
 }
 
 // Refuses that an object takes the place of another one that is of another sort, or is a directory with entries.
-fn replace(shared: &Shared, id: &Oid, target: &Oid) -> Result<(), Stop>
-    ensures { (log : CheckLog) → GoesOn log (λ rest. replacing (state_of shared.now) id.now target.now (rest tt)) result log }
+fn may_replace(shared: &Shared, object: &Metadata, target: &Metadata) -> Result<(), Stop>
+    ensures { (id t : Number) (log : CheckLog) → object.now ≡ metadata_of (state_of shared.now) id → target.now ≡ metadata_of (state_of shared.now) t → GoesOn log (λ rest. may_replace (state_of shared.now) id t (rest tt)) result log }
 {
-    let moves = shared.metadata(id).is_directory();
-    let goes = shared.metadata(target).is_directory();
+    let moves = object.is_directory();
+    let goes = target.is_directory();
     refuse_if(only_first(moves, goes), Errno::ENOTDIR)?;
     refuse_if(only_first(goes, moves), Errno::EISDIR)?;
-    let empty = shared.tree.is_empty(target);
+    let empty = shared.tree.is_empty(&target.id);
     refuse_if(only_first(goes, empty), Errno::ENOTEMPTY)
 }
 

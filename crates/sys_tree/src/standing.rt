@@ -3,13 +3,11 @@ ghost use Rattle.std.specs.Prelude.{◌≡◌, Some, IsSome};
 ghost use Rattle.std.specs.FinMap as map;
 ghost use Rattle.kern_model.specs.State.{Process};
 ghost use Rattle.kern_model.specs.TreeRows.{chdir_row};
-ghost use Rattle.kern_model.specs.Walk.{enter, on_path};
-ghost use Rattle.chk_rules.specs.Ends.{GoesOn};
 ghost use Rattle.sys_lookup.specs.PlaysRow.{PlaysRow};
-ghost use Rattle.sys_lookup.specs.Shared.{process_of, state_of};
+ghost use Rattle.sys_lookup.specs.Shared.{state_of};
 
 use chk_rules::{Checks, Stop};
-use kern_model::{Answer, Oid, Path, Pid};
+use kern_model::{Answer, Path, Pid};
 use sys_lookup::{Caller, Effect, PathArgument, Shared, living};
 
 /// `chdir`: a directory becomes the caller's current one.
@@ -28,19 +26,11 @@ pub fn chdir(
         who: *who,
         process,
     };
-    let dir = directory_to_enter(&caller, checks, path)?;
-    shared.procs.set_cwd(who, dir);
+    let (id, place) = caller.reach(checks, PathArgument::First, path)?;
+    caller.enter(checks, &id, place)?;
+    shared.procs.set_cwd(who, id);
     Ok(Effect {
         answer: Answer::Nothing,
         own: None,
     })
-}
-
-// The directory that becomes the current one.
-fn directory_to_enter(caller: &Caller<'_>, checks: &mut Checks, path: &Path) -> Result<Oid, Stop>
-    ensures { GoesOn checks.old (λ rest. on_path (state_of caller.now.shared.now) (process_of caller.now) path.now (λ id place. enter (state_of caller.now.shared.now) (process_of caller.now) id place (rest id))) result checks.new }
-{
-    let (id, place) = caller.reach(checks, PathArgument::First, path)?;
-    caller.enter(checks, &id, place)?;
-    Ok(id)
 }

@@ -1,14 +1,11 @@
--- The calls on processes: a Low process in the state and in its part, and what the changes satisfy.
+-- The calls on processes: a Low process in the state and in its part.
 use Rattle.std.specs.Prelude.{◌≡◌, ℕ, ◌+◌, ◌==◌, ◌&&◌, not, nat_le, length, Bool, true, false, List, [], ◌∷◌, Option, None, Some, refl, cond}
-use Rattle.std.proofs.Common.{sym, ◌∙◌, ap, subst, arith, inl, inr}
-use Rattle.std.proofs.lemmas.Bool.{and_parts, leb-false, true≢false, false_from_ne_true}
+use Rattle.std.proofs.Common.{sym, ◌∙◌, ap, subst}
+use Rattle.std.proofs.lemmas.Bool.{true≢false, false_from_ne_true}
 use Rattle.std.specs.FinMap as map
-use Rattle.std.specs.FinSet.{contains-is_subset, contains-intersection}
-use Rattle.cap_bits.specs.Laws.{cap_cmp_total}
-use Rattle.cap_bits.specs.CapSet.{CapSet, is_within, meet_of}
 use Rattle.cap_bits.specs.declared.state.CapState.{CapState}
 use Rattle.fs_path.specs.Path.{PathValue}
-use Rattle.lab_lattice.specs.Label.{Label, dominates}
+use Rattle.lab_lattice.specs.Label.{Label}
 use Rattle.kern_model.specs.declared.calls.Answer.TheVariants as answer
 use Rattle.kern_model.specs.declared.calls.Ending.{Ending}
 use Rattle.kern_model.specs.declared.calls.Ending.TheVariants as ending
@@ -18,29 +15,26 @@ use Rattle.kern_model.specs.declared.calls.Signal.TheVariants as signal
 use Rattle.kern_model.specs.declared.checks.Check.{Check}
 use Rattle.kern_model.specs.declared.limits.TheConstants.{MAX_PROCS}
 use Rattle.kern_model.specs.declared.records.Rec.TheVariants as rec
-use Rattle.kern_model.specs.declared.numbers.Ids.{Ids}
 use Rattle.kern_model.specs.declared.numbers.Pid.{Pid}
-use Rattle.kern_model.specs.declared.records.Rec.{Rec}
 use Rattle.kern_model.specs.Isolation.{low, crosses, Kept}
 use Rattle.kern_model.specs.Keys.{is_pid}
 use Rattle.kern_model.specs.Maps.{where_key}
-use Rattle.kern_model.specs.Kinds.{is_permission}
-use Rattle.kern_model.specs.ProcessRows.{child_of, fork_row, has_child, take_ended, wait_row, exit_row, kill_with, signalled, send, kill_row, umask_row, exec_row, take_on, getpid_row, getppid_row, getids_row, setuid_row, setgid_row, cap_get_proc_row, cap_set_proc_row, mac_get_proc_row, mac_set_proc_row}
+use Rattle.kern_model.specs.ProcessRows.{child_of, fork_row, has_child, take_ended, wait_row, exit_row, kill_with, signalled, send, kill_row, umask_row, exec_row, take_on, getpid_row, getppid_row, getids_row, setuid_row, setgid_row, cap_get_proc_row, cap_set_proc_row, mac_get_proc_row, mac_set_proc_row, give_child}
 use Rattle.kern_model.specs.Row.{Row, Commit}
-use Rattle.kern_model.specs.Rules.{cap_grow, kill_rule, mac_write_process}
-use Rattle.kern_model.specs.State.{State, Process, Change, SetProcess, DrawProcess, drawn, next_process, object_at}
+use Rattle.kern_model.specs.Rules.{kill_rule, mac_write_process}
+use Rattle.kern_model.specs.State.{State, Process, SetProcess, DrawProcess, drawn, next_process, object_at}
 use Rattle.kern_model.specs.Step.{subject}
 use Rattle.kern_model.proofs.KeyLaws.{pid_cmp_total, pid_cmp_exact}
-use Rattle.kern_model.specs.Valid.{IsValid, IsValidProcess}
-use Rattle.iso_laws.proofs.Cases.{Cases, Meets, OfChanges, meets_given, meets_read}
+use Rattle.kern_model.specs.Valid.{IsValid}
 use Rattle.iso_laws.proofs.LowRows.{Same, AreSeen, seen_self, low_itself, low_by, low_read, same_bound}
 use Rattle.iso_laws.proofs.Part.{by_number, low_pid, same, part_changes, part_of_low}
-use Rattle.iso_laws.proofs.Rows.{Gives, Passes, alike_fail, alike_give, alike_hidden, alike_need, alike_need_if, alike_refuse, gives_need_if, ends_need, ends_give, ends_need_if, ends_refuse}
+use Rattle.iso_laws.proofs.Rows.{Gives, alike_fail, alike_give, alike_hidden, alike_need, alike_need_if, alike_refuse, gives_need_if}
 use Rattle.kern_model.proofs.Selections.{test_after, any_entry-select}
-use Rattle.iso_laws.proofs.Sight.{equal_side, get_process, met_rule, processes_drawn_low}
+use Rattle.iso_laws.proofs.Sight.{equal_side, get_process, processes_drawn_low}
 use Rattle.iso_laws.proofs.processes.Ending.{is_pid_some, ending_low}
 
-module _ (l : Label) (s : State) (kept : Kept l s) (valid : IsValid s) (who : Pid) (p : Process) (is : map.get s.procs who ≡ Some p) (is_low : low l p.label ≡ true) where
+module _ (l : Label) (s : State) (kept : Kept l s) (valid : IsValid s) (who : Pid) (p : Process) (is : map.get s.procs who ≡ Some p)
+    (is_low : low l p.label ≡ true) where
   abbrev part_s : State
   part_s = by_number l s
 
@@ -51,8 +45,9 @@ module _ (l : Label) (s : State) (kept : Kept l s) (valid : IsValid s) (who : Pi
   seen = seen_self l s kept valid who p is is_low
 
   pub exec_low : (path : PathValue) → Same l s who p (exec_row s who p path) (exec_row part_s who p path)
-  exec_low path = low_read l s kept valid who p is is_low path (take_on s.bound who p) (take_on part_s.bound who p) (λ id place h.
-      subst (λ bound. Same l s who p (take_on s.bound who p id place (object_at s id)) (take_on bound who p id place (object_at part_s id))) (sym (same_bound l s kept valid who p is is_low))
+  exec_low path = low_read l s kept valid who p is is_low path (take_on s.bound who p) (take_on part_s.bound who p) (λ id place _ h.
+      subst (λ bound. Same l s who p (take_on s.bound who p id place (object_at s id)) (take_on bound who p id place (object_at part_s id)))
+      (sym (same_bound l s kept valid who p is is_low))
       (low_by l s kept valid who p is is_low id h (take_on s.bound who p id place) (seen _)))
 
   pub getpid_low : Same l s who p (getpid_row s who p) (getpid_row part_s who p)
@@ -94,28 +89,29 @@ module _ (l : Label) (s : State) (kept : Kept l s) (valid : IsValid s) (who : Pi
       any_entry-select pid_cmp_total pid_cmp_exact (where_key (low_pid l) (same {X = Process})) p_of p_of s.procs (λ q x e.
       elim (low l q.label) as (λ b. low l q.label ≡ b → test_after p_of q (cond b (Some x) None) ≡ p_of q x) [
         | true ↦ λ _. refl
-        | false ↦ λ high. sym (false_from_ne_true (p_of q x) (λ t. true≢false (sym (sym (kept.parents q who x e (is_pid_some who x.parent t)) ∙ kept.procs who p is ∙ is_low) ∙ high)))
+        | false ↦ λ high.
+            sym
+            (false_from_ne_true (p_of q x)
+            (λ t. true≢false (sym (sym (kept.parents q who x e (is_pid_some who x.parent t)) ∙ kept.procs who p is ∙ is_low) ∙ high)))
       ] refl)
-
-  -- the caller forks a process with the number after n
-  abbrev forking : ℕ → Row
-  forking n =
-      let child : Pid = record { label = p.label; n = n + 1 } in
-      Commit (DrawProcess p.label (n + 1) ∷ SetProcess child (child_of who p) ∷ []) (answer.Process child) (Some (rec.Fork who child))
 
   pub fork_low : Same l s who p (fork_row s who p) (fork_row part_s who p)
   fork_low =
       let n : ℕ = drawn s.process_numbers p.label in
       let same_number = processes_drawn_low l s p.label is_low in
       alike_refuse (crosses l) l s.top (subject who p) errno.EAGAIN _ _ _ _ (ap (nat_le MAX_PROCS) same_number)
-      (λ _. subst (λ m. Same l s who p (forking n) (forking m)) (sym same_number) (itself (part_of_low l s.top (DrawProcess p.label (n + 1) ∷ SetProcess (next_process s p.label) (child_of who p) ∷ []) (is_low, (is_low, tt)))))
+      (λ _.
+      subst (λ m. Same l s who p (give_child who p n) (give_child who p m)) (sym same_number)
+      (itself (part_of_low l s.top (DrawProcess p.label (n + 1) ∷ SetProcess (next_process s p.label) (child_of who p) ∷ []) (is_low, (is_low, tt)))))
 
   taking : (es : List (Pid × Ending)) → Gives (AreSeen l s) (take_ended who p es)
   taking [] = refl
   taking (e ∷ es) = seen _
 
   pub wait_low : Same l s who p (wait_row s who p) (wait_row part_s who p)
-  wait_low = alike_refuse (crosses l) l s.top (subject who p) errno.ECHILD _ _ _ _ (ap (λ b. length p.ended == 0 && not b) has_child_low) (λ _. itself (taking p.ended))
+  wait_low =
+      alike_refuse (crosses l) l s.top (subject who p) errno.ECHILD _ _ _ _ (ap (λ b. length p.ended == 0 && not b) has_child_low)
+      (λ _. itself (taking p.ended))
 
   -- a process with a Low number ends
   low_end : (q : Pid) (x : Process) (how : Ending) → low l q.label ≡ true → Same l s who p (kill_with s q x how) (kill_with part_s q x how)
@@ -124,14 +120,18 @@ module _ (l : Label) (s : State) (kept : Kept l s) (valid : IsValid s) (who : Pi
   pub exit_low : (code : ℕ) → Same l s who p (exit_row s who p code) (exit_row part_s who p code)
   exit_low code = low_end who p (ending.Exit code) (kept.procs who p is ∙ is_low)
 
-  signalled_low : (target : Pid) (t : Process) → low l target.label ≡ true → (sig : Signal) → Same l s who p (signalled s target t sig) (signalled part_s target t sig)
+  signalled_low : (target : Pid) (t : Process) → low l target.label ≡ true → (sig : Signal)
+      → Same l s who p (signalled s target t sig) (signalled part_s target t sig)
   signalled_low target t h signal.Zero = itself refl
   signalled_low target t h signal.Term = low_end target t ending.Term h
   signalled_low target t h signal.Kill = low_end target t ending.Kill h
 
-  send_low : (target : Pid) (sig : Signal) → low l target.label ≡ true → (o : Option Process) → Same l s who p (send s p target sig o) (send part_s p target sig o)
+  send_low : (target : Pid) (sig : Signal) → low l target.label ≡ true → (o : Option Process)
+      → Same l s who p (send s p target sig o) (send part_s p target sig o)
   send_low target sig h None = alike_fail (crosses l) l s.top (subject who p) errno.ESRCH
-  send_low target sig h (Some t) = alike_need_if (crosses l) l s.top (subject who p) _ _ _ _ _ _ refl refl (alike_need (crosses l) l s.top (subject who p) (kill_rule p target t) _ _ (λ _. signalled_low target t h sig))
+  send_low target sig h (Some t) =
+      alike_need_if (crosses l) l s.top (subject who p) _ _ _ _ _ _ refl refl
+      (alike_need (crosses l) l s.top (subject who p) (kill_rule p target t) _ _ (λ _. signalled_low target t h sig))
 
   pub kill_low : (target : Pid) (sig : Signal) → Same l s who p (kill_row s who p target sig) (kill_row part_s who p target sig)
   kill_low target sig =
@@ -139,85 +139,10 @@ module _ (l : Label) (s : State) (kept : Kept l s) (valid : IsValid s) (who : Pi
       elim (low l target.label) as (λ b. low l target.label ≡ b → Same l s who p (kill_row s who p target sig) (kill_row part_s who p target sig)) [
         | true ↦ λ h.
             alike_need (crosses l) l s.top (subject who p) c _ _
-            (λ _. subst (λ w. Same l s who p (send s p target sig (map.get s.procs target)) (send part_s p target sig w)) (sym (get_process l s target h)) (send_low target sig h (map.get s.procs target)))
+            (λ _.
+            subst (λ w. Same l s who p (send s p target sig (map.get s.procs target)) (send part_s p target sig w)) (sym (get_process l s target h))
+            (send_low target sig h (map.get s.procs target)))
         | false ↦ λ high.
             alike_hidden (crosses l) l s.top (subject who p) c c _ _ refl refl refl
             (λ passes. true≢false (sym is_low ∙ equal_side l (subject who p) c refl refl passes ∙ high))
       ] refl
-
-within_meet : (a b : CapSet) → is_within (meet_of a b) b ≡ true
-within_meet a b = contains-is_subset cap_cmp_total (meet_of a b) b (λ q h. (and_parts _ _ (sym (contains-intersection cap_cmp_total a b q) ∙ h)).1)
-
-module _ (bad : Rec → Bool) (s : State) (valid : IsValid s) (who : Pid) (p : Process) (is : map.get s.procs who ≡ Some p) (fit : Type 0) (P : List Change → Type 0) (cases : Cases bad s who p fit P) where
-  given : {r : Row} → Gives (OfChanges P) r → Meets bad who p P r
-  given {r = r} h = meets_given bad s valid who p is fit P cases r h
-
-  own : IsValidProcess s who p
-  own = valid.procs who p is
-
-  -- the caller gets other users and groups
-  set_ids : (ids : Ids) → ids.groups ≡ p.ids.groups → P (SetProcess who (record p { ids = ids }) ∷ [])
-  set_ids ids groups = cases.self ids p.caps p.umask p.audited groups own.within (λ _. own.umask)
-
-  pub exec_meets : (path : PathValue) → Meets bad who p P (exec_row s who p path)
-  exec_meets path = meets_read bad s valid who p is fit P cases path (take_on s.bound who p) (λ id place. cases.self _ _ p.umask p.audited refl (within_meet _ _) (λ _. own.umask))
-
-  pub getpid_meets : Meets bad who p P (getpid_row s who p)
-  getpid_meets = given cases.none
-
-  pub getppid_meets : Meets bad who p P (getppid_row s who p)
-  getppid_meets = given cases.none
-
-  pub getids_meets : Meets bad who p P (getids_row s who p)
-  getids_meets = given cases.none
-
-  pub cap_get_proc_meets : Meets bad who p P (cap_get_proc_row s who p)
-  cap_get_proc_meets = given cases.none
-
-  pub mac_get_proc_meets : Meets bad who p P (mac_get_proc_row s who p)
-  mac_get_proc_meets = given cases.none
-
-  pub setuid_meets : (user : ℕ) → Meets bad who p P (setuid_row s who p user)
-  setuid_meets user = given (set_ids _ refl, set_ids _ refl)
-
-  pub setgid_meets : (group : ℕ) → Meets bad who p P (setgid_row s who p group)
-  setgid_meets group = given (set_ids _ refl, set_ids _ refl)
-
-  pub umask_meets : (mode : ℕ) → (fit → is_permission mode ≡ true) → Meets bad who p P (umask_row s who p mode)
-  umask_meets mode args = given (cases.self p.ids p.caps mode p.audited refl own.within args)
-
-  -- the capability sets that the caller may set have nothing effective that is not permitted
-  pub cap_set_proc_meets : (caps : CapState) → Meets bad who p P (cap_set_proc_row s who p caps)
-  cap_set_proc_meets caps =
-      ends_need bad (subject who p) P cases.none _ _ (λ passes.
-      let grow = met_rule bad (subject who p) (cap_grow who p caps) refl passes in
-      ends_give bad (subject who p) P cases.none _ _ _ (cases.self p.ids caps p.umask p.audited refl (and_parts _ _ (and_parts _ _ grow).0).1 (λ _. own.umask)))
-
-  pub mac_set_proc_meets : (new : Label) → (fit → dominates s.top new ≡ true) → Meets bad who p P (mac_set_proc_row s who p new)
-  mac_set_proc_meets new args = ends_need_if bad (subject who p) P cases.none _ _ _ (λ passes. ends_give bad (subject who p) P cases.none _ _ _ (cases.label new passes args))
-
-  -- ---- children and ends
-  pub fork_meets : Meets bad who p P (fork_row s who p)
-  fork_meets = ends_refuse bad (subject who p) P cases.none _ _ _ (λ left. ends_give bad (subject who p) P cases.none _ _ _ (cases.fork (omega (arith, leb-false MAX_PROCS (drawn s.process_numbers p.label) left))))
-
-  taking_meets : (es : List (Pid × Ending)) → p.ended ≡ es → Meets bad who p P (take_ended who p es)
-  taking_meets [] e = given refl
-  taking_meets (e ∷ es) first = given (cases.await e es first)
-
-  pub wait_meets : Meets bad who p P (wait_row s who p)
-  wait_meets = ends_refuse bad (subject who p) P cases.none _ _ _ (λ _. taking_meets p.ended refl)
-
-  pub exit_meets : (code : ℕ) → Meets bad who p P (exit_row s who p code)
-  exit_meets code = given (cases.finish who p (ending.Exit code) is (inl refl))
-
-  signalled_meets : (target : Pid) (t : Process) → map.get s.procs target ≡ Some t → Passes bad (subject who p) (mac_write_process p target target.label) → (sig : Signal) → Meets bad who p P (signalled s target t sig)
-  signalled_meets target t at written signal.Zero = given cases.none
-  signalled_meets target t at written signal.Term = given (cases.finish target t ending.Term at (inr written))
-  signalled_meets target t at written signal.Kill = given (cases.finish target t ending.Kill at (inr written))
-
-  send_meets : (target : Pid) (sig : Signal) → Passes bad (subject who p) (mac_write_process p target target.label) → (o : Option Process) → map.get s.procs target ≡ o → Meets bad who p P (send s p target sig o)
-  send_meets target sig written None at = given refl
-  send_meets target sig written (Some t) at = ends_need_if bad (subject who p) P cases.none _ _ _ (λ _. ends_need bad (subject who p) P cases.none _ _ (λ _. signalled_meets target t at written sig))
-
-  pub kill_meets : (target : Pid) (sig : Signal) → Meets bad who p P (kill_row s who p target sig)
-  kill_meets target sig = ends_need bad (subject who p) P cases.none _ _ (λ written. send_meets target sig written (map.get s.procs target) refl)

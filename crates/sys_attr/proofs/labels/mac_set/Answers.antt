@@ -1,42 +1,39 @@
-use Rattle.std.proofs.Common.{refl, [], ◌∷◌, Some}
-use Rattle.lab_lattice.specs.Label.{Label}
-use Rattle.kern_model.specs.AttrRows.{set_label}
-use Rattle.kern_model.specs.declared.calls.Answer.TheVariants.{Nothing}
-use Rattle.kern_model.specs.declared.numbers.Pid.{Pid}
+use Rattle.std.proofs.Common.{ap, refl, Some}
+use Rattle.kern_model.specs.AttrRows.{give_label, relabel, set_label}
 use Rattle.kern_model.specs.declared.records.Rec.TheVariants.{MacSetFile}
-use Rattle.kern_model.specs.Row.{Row, Commit}
-use Rattle.kern_model.specs.State.{State, Change, SetObject, object_at}
-use Rattle.sys_lookup.proofs.PlayLemmas.{caller_plays, then_plays, stops_row, commits}
+use Rattle.kern_model.specs.State.{object_at}
+use Rattle.sys_lookup.proofs.PlayLemmas.{caller_plays, then_plays, stops_row, commits, equal_record}
 use Rattle.sys_lookup.specs.Shared.{holding, state_of}
 use Rattle.sys_lookup.specs.declared.shared.Metadata.{Metadata}
-use Rattle.sys_attr.specs.Objects.{on_argument}
+use Rattle.sys_attr.specs.Objects.{on_argument, on_written}
 use Rattle.sys_attr.proofs.labels.mac_set.Goals as goal
-
--- an object gets a label
-abbrev giving : State → Label → Metadata → Change
-giving s label object = SetObject object.id (record (object_at s object.id) { label = label })
-
--- the row after its checks
-abbrev set_so : State → Pid → Label → Metadata → Row
-set_so s who label object = Commit (giving s label object ∷ []) Nothing (Some (MacSetFile who object.id object.label label))
 
 pub give_label-requires : goal.give_label-requires
 give_label-requires c = c.in_ok-object.ensures.there
 
 pub returns-in_err-object : goal.returns-in_err-object
-returns-in_err-object c = λ p there.
+returns-in_err-object c p there =
     let s = state_of c.args.shared.now in
-    let who = c.args.who.now in
-    let q = holding c.args.shared.now.fds.rows who c.living-process.result.now in
-    caller_plays (λ x. on_argument s x c.args.object (set_label s who x c.args.label)) who q p c.living-process.ensures.found there
-    (stops_row {rest = set_so s who c.args.label} c.from_residual.result c.from_residual.ensures.1 refl c.in_err-object.ensures.step)
+    let q = holding c.args.shared.now.fds.rows c.args.who.now c.living-process.result.now in
+    caller_plays (λ x. on_argument s x c.args.object (set_label s c.args.who.now x c.args.label)) c.args.who.now q p c.living-process.ensures.found there
+    (stops_row {rest = on_written s (relabel s c.args.who.now q c.args.label)} c.from_residual.result c.from_residual.ensures.1 refl c.in_err-object.ensures.step)
+
+pub returns-in_err-ask_label : goal.returns-in_err-ask_label
+returns-in_err-ask_label c p there =
+    let s = state_of c.args.shared.now in
+    let q = holding c.args.shared.now.fds.rows c.args.who.now c.living-process.result.now in
+    let id = c.in_ok-object.object.id in
+    caller_plays (λ x. on_argument s x c.args.object (set_label s c.args.who.now x c.args.label)) c.args.who.now q p c.living-process.ensures.found there
+    (then_plays {rest = on_written s (relabel s c.args.who.now q c.args.label)} c.in_ok-object.ensures.step
+    (stops_row {rest = λ _. give_label c.args.who.now c.args.label id (object_at s id)} c.from_residual-in_err-ask_label.result c.from_residual-in_err-ask_label.ensures.1 refl (c.in_err-ask_label.ensures id c.in_ok-object.ensures.object)))
 
 pub returns : goal.returns
-returns c = λ p there.
+returns c p there =
     let s = state_of c.args.shared.now in
-    let who = c.args.who.now in
-    let q = holding c.args.shared.now.fds.rows who c.living-process.result.now in
-    let object = c.in_ok-object.object in
-    caller_plays (λ x. on_argument s x c.args.object (set_label s who x c.args.label)) who q p c.living-process.ensures.found there
-    (then_plays {rest = set_so s who c.args.label} c.in_ok-object.ensures.step
-    (commits s _ _ (giving s c.args.label object ∷ []) Nothing (Some (MacSetFile who object.id object.label c.args.label)) c.give_label.ensures))
+    let q = holding c.args.shared.now.fds.rows c.args.who.now c.living-process.result.now in
+    let id = c.in_ok-object.object.id in
+    let is = c.in_ok-object.ensures.object in
+    caller_plays (λ x. on_argument s x c.args.object (set_label s c.args.who.now x c.args.label)) c.args.who.now q p c.living-process.ensures.found there
+    (then_plays {rest = on_written s (relabel s c.args.who.now q c.args.label)} c.in_ok-object.ensures.step
+    (then_plays {rest = λ _. give_label c.args.who.now c.args.label id (object_at s id)} (c.in_ok-ask_label.ensures id is)
+    (equal_record (ap (λ (m : Metadata). Some (MacSetFile c.args.who.now id m.label c.args.label)) is) (commits _ _ _ _ _ _ c.give_label.ensures))))

@@ -1,8 +1,7 @@
-use Rattle.std.proofs.Common.{◌≡◌, ◌∙◌, sym, ap, [], ◌∷◌, None}
+use Rattle.std.proofs.Common.{◌≡◌, ◌∙◌, sym, ap}
 use Rattle.std.specs.FinMap as map
 use Rattle.std.specs.Option.{option_copied_mut}
 use Rattle.kern_model.specs.declared.calls.Answer.TheVariants.{Bits}
-use Rattle.kern_model.specs.State.{SetProcess}
 use Rattle.proc_creds.specs.Credentials.{Credentials}
 use Rattle.proc_table.specs.Procs.{creds_of, under_creds, with_creds}
 use Rattle.sys_lookup.specs.Shared.{state_of, with_fds}
@@ -28,7 +27,7 @@ returns-clause-played c = λ p there.
     let left : with_fds (under_creds h.procs.procs who (record lent { umask = mode })) h.fds.rows ≡ map.insert s.procs who (record p { umask = mode }) =
     creds_left h.procs.procs h.fds.rows who p there (record lent { umask = mode }) ∙ ap (λ (x : Credentials). map.insert s.procs who (with_creds p (record x { umask = mode }))) (sym same) in
     equal_answer (ap (λ (x : Credentials). Bits x.umask) (sym same))
-    (commits s _ c.args.checks.now (SetProcess who (record p { umask = mode }) ∷ []) (Bits inside.umask) None (λ i. record s { procs = left i }))
+    (commits _ _ _ _ _ _ (λ i. record s { procs = left i }))
 
 pub invariant_of-shared : goal.invariant_of-shared
 invariant_of-shared c =

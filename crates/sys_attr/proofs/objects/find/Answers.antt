@@ -1,22 +1,14 @@
 use Rattle.std.proofs.Common.{Ok, ap, sym, subst}
-use Rattle.kern_model.specs.declared.checks.Place.{Place}
 use Rattle.kern_model.specs.declared.checks.Place.TheVariants.{Handle}
-use Rattle.kern_model.specs.declared.numbers.Oid.{Oid}
 use Rattle.kern_model.specs.Descriptors.{Opened}
-use Rattle.kern_model.specs.Row.{Row}
-use Rattle.kern_model.specs.State.{State, Process}
 use Rattle.kern_model.specs.Valid.{IsThere}
 use Rattle.chk_rules.specs.Ends.{GoesOn}
 use Rattle.chk_rules.proofs.Steps.{then_goes, stops_there, gives}
 use Rattle.sys_lookup.specs.Shared.{process_of, state_of}
-use Rattle.sys_attr.specs.Objects.{on_argument}
+use Rattle.sys_attr.specs.Objects.{finding}
 use Rattle.sys_attr.specs.declared.objects.ObjectArgument.{ObjectArgument}
 use Rattle.sys_attr.proofs.ThereLemmas.{path_there, descriptor_there}
 use Rattle.sys_attr.proofs.objects.find.Goals as goal
-
--- the part of the row that finds the object
-abbrev finding : State → Process → ObjectArgument → (Oid × Place → Row) → Row
-finding s p object rest = on_argument s p object (λ id place. rest (id, place))
 
 pub returns-in-Path-clause-step : goal.returns-in-Path-clause-step
 returns-in-Path-clause-step c =

@@ -1,19 +1,23 @@
-use Rattle.kern_model.specs.declared.checks.Place.{Place}
+use Rattle.std.proofs.Common.{◌≡◌, ◌∙◌, Result, Ok, Err, IfOk, ap, sym}
 use Rattle.kern_model.specs.declared.numbers.Oid.{Oid}
-use Rattle.kern_model.specs.Row.{Row}
-use Rattle.kern_model.specs.State.{State, Process}
-use Rattle.kern_model.specs.Walk.{read_object}
+use Rattle.kern_model.specs.State.{State}
+use Rattle.chk_rules.specs.declared.stop.Stop.{Stop}
 use Rattle.chk_rules.proofs.Steps.{then_goes, stops_there}
 use Rattle.sys_lookup.specs.Shared.{metadata_of, process_of, state_of}
 use Rattle.sys_lookup.specs.declared.shared.Metadata.{Metadata}
+use Rattle.sys_attr.specs.Objects.{read_found}
 use Rattle.sys_attr.proofs.objects.read_named.Goals as goal
 
--- the row after the object is found
-abbrev found : State → Process → Oid × Place → (Metadata → Row) → Row
-found s p r rest = read_object s p r.0 r.1 (λ o. rest (metadata_of s r.0))
+-- the metadata of an object are those of the object whose number they have
+by_own_number : (s : State) (id : Oid) (r : Result Metadata Stop) → IfOk r (λ m. m ≡ metadata_of s id) → IfOk r (λ m. m ≡ metadata_of s m.id)
+by_own_number s id (Ok m) is = is ∙ ap (metadata_of s) (sym (ap (λ (x : Metadata). x.id) is))
+by_own_number s id (Err how) is = tt
 
-pub returns-in_err-id : goal.returns-in_err-id
-returns-in_err-id c = stops_there {next = found (state_of c.args.caller.now.shared.now) (process_of c.args.caller.now)} c.from_residual.result c.from_residual.ensures.1 c.in_err-id.ensures.step
+pub returns-in_err-id-clause-step : goal.returns-in_err-id-clause-step
+returns-in_err-id-clause-step c = stops_there {next = read_found (state_of c.args.caller.now.shared.now) (process_of c.args.caller.now)} c.from_residual.result c.from_residual.ensures.1 c.in_err-id.ensures.step
 
-pub returns : goal.returns
-returns c = then_goes {next = found (state_of c.args.caller.now.shared.now) (process_of c.args.caller.now)} c.in_ok-id.ensures.step c.read_object.ensures.step
+pub returns-clause-step : goal.returns-clause-step
+returns-clause-step c = then_goes {next = read_found (state_of c.args.caller.now.shared.now) (process_of c.args.caller.now)} c.in_ok-id.ensures.step c.read_object.ensures.step
+
+pub returns-clause-object : goal.returns-clause-object
+returns-clause-object c = by_own_number (state_of c.args.caller.now.shared.now) c.in_ok-id.id c.read_object.result c.read_object.ensures.object

@@ -1,32 +1,24 @@
 use Rattle.std.proofs.Common.{◌∙◌, ap, refl, sym, subst}
-use Rattle.kern_model.specs.declared.checks.Place.{Place}
-use Rattle.kern_model.specs.declared.numbers.Oid.{Oid}
-use Rattle.kern_model.specs.Row.{Row}
-use Rattle.kern_model.specs.State.{State, Process}
 use Rattle.kern_model.specs.Valid.{IsThere}
-use Rattle.kern_model.specs.Walk.{write_object}
 use Rattle.chk_rules.proofs.Steps.{then_goes, stops_there, gives}
 use Rattle.sys_lookup.specs.Shared.{metadata_of, process_of, state_of}
 use Rattle.sys_lookup.specs.declared.shared.Metadata.{Metadata}
+use Rattle.sys_attr.specs.Objects.{write_found}
 use Rattle.sys_attr.proofs.objects.write_named.Goals as goal
 
--- the row after the object is found
-abbrev found : State → Process → Oid × Place → (Metadata × Place → Row) → Row
-found s p r rest = write_object s p r.0 r.1 (λ o. rest (metadata_of s r.0, r.1))
-
 pub returns-in_err-id-clause-step : goal.returns-in_err-id-clause-step
-returns-in_err-id-clause-step c = stops_there {next = found (state_of c.args.caller.now.shared.now) (process_of c.args.caller.now)} c.from_residual.result c.from_residual.ensures.1 c.in_err-id.ensures.step
+returns-in_err-id-clause-step c = stops_there {next = write_found (state_of c.args.caller.now.shared.now) (process_of c.args.caller.now)} c.from_residual.result c.from_residual.ensures.1 c.in_err-id.ensures.step
 
 pub returns-in_err-metadata-clause-step : goal.returns-in_err-metadata-clause-step
 returns-in_err-metadata-clause-step c =
     let s = state_of c.args.caller.now.shared.now in
-    then_goes {next = found s (process_of c.args.caller.now)} c.in_ok-id.ensures.step
+    then_goes {next = write_found s (process_of c.args.caller.now)} c.in_ok-id.ensures.step
     (stops_there {next = λ m rest. rest (m, c.in_ok-id.place)} c.from_residual-in_err-metadata.result c.from_residual-in_err-metadata.ensures.1 c.in_err-metadata.ensures.step)
 
 pub returns-clause-step : goal.returns-clause-step
 returns-clause-step c =
     let s = state_of c.args.caller.now.shared.now in
-    then_goes {next = found s (process_of c.args.caller.now)} c.in_ok-id.ensures.step
+    then_goes {next = write_found s (process_of c.args.caller.now)} c.in_ok-id.ensures.step
     (then_goes {next = λ (m : Metadata) rest. rest (m, c.in_ok-id.place)} c.in_ok-metadata.ensures.step (gives refl))
 
 pub returns-clause-object : goal.returns-clause-object

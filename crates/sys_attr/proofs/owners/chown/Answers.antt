@@ -1,34 +1,39 @@
-use Rattle.std.proofs.Common.{ℕ, ◌∙◌, ap, refl, [], ◌∷◌, None}
-use Rattle.kern_model.specs.AttrRows.{chown_row, set_owner, with_attr}
-use Rattle.kern_model.specs.declared.calls.Answer.TheVariants.{Nothing}
-use Rattle.kern_model.specs.Row.{Row}
-use Rattle.kern_model.specs.State.{State, changed, object_at}
+use Rattle.std.proofs.Common.{◌∙◌, ap, refl}
+use Rattle.kern_model.specs.AttrRows.{change_owner, chown_row, set_owner, with_attr}
+use Rattle.kern_model.specs.State.{changed, object_at}
 use Rattle.sys_lookup.proofs.PlayLemmas.{caller_plays, then_plays, stops_row, commits}
 use Rattle.sys_lookup.specs.Shared.{holding, state_of}
 use Rattle.sys_lookup.specs.declared.shared.Metadata.{Metadata}
+use Rattle.sys_attr.specs.Objects.{on_written}
 use Rattle.sys_attr.proofs.owners.chown.Goals as goal
-
--- the row after its checks
-abbrev set_so : State → ℕ → ℕ → Metadata × ℕ → Row
-set_so s owner group r = set_owner r.0.id (object_at s r.0.id) owner group r.1
 
 pub give_attr-requires : goal.give_attr-requires
 give_attr-requires c = c.in_ok-object.ensures.there
 
 pub returns-in_err-object : goal.returns-in_err-object
-returns-in_err-object c = λ p there.
+returns-in_err-object c p there =
     let s = state_of c.args.shared.now in
-    let who = c.args.who.now in
-    caller_plays (λ x. chown_row s who x c.args.path.now c.args.owner c.args.group) who (holding c.args.shared.now.fds.rows who c.living-process.result.now) p c.living-process.ensures.found there
-    (stops_row {rest = set_so s c.args.owner c.args.group} c.from_residual.result c.from_residual.ensures.1 refl c.in_err-object.ensures.step)
+    let q = holding c.args.shared.now.fds.rows c.args.who.now c.living-process.result.now in
+    caller_plays (λ x. chown_row s c.args.who.now x c.args.path.now c.args.owner c.args.group) c.args.who.now q p c.living-process.ensures.found there
+    (stops_row {rest = on_written s (change_owner q c.args.owner c.args.group)} c.from_residual.result c.from_residual.ensures.1 refl c.in_err-object.ensures.step)
+
+pub returns-in_err-mode : goal.returns-in_err-mode
+returns-in_err-mode c p there =
+    let s = state_of c.args.shared.now in
+    let q = holding c.args.shared.now.fds.rows c.args.who.now c.living-process.result.now in
+    let id = c.in_ok-object.object.id in
+    caller_plays (λ x. chown_row s c.args.who.now x c.args.path.now c.args.owner c.args.group) c.args.who.now q p c.living-process.ensures.found there
+    (then_plays {rest = on_written s (change_owner q c.args.owner c.args.group)} c.in_ok-object.ensures.step
+    (stops_row {rest = set_owner id (object_at s id) c.args.owner c.args.group} c.from_residual-in_err-mode.result c.from_residual-in_err-mode.ensures.1 refl (c.in_err-mode.ensures s id c.in_ok-object.ensures.object)))
 
 pub returns : goal.returns
-returns c = λ p there.
+returns c p there =
     let s = state_of c.args.shared.now in
-    let who = c.args.who.now in
+    let q = holding c.args.shared.now.fds.rows c.args.who.now c.living-process.result.now in
     let id = c.in_ok-object.object.id in
-    let mode = c.in_ok-object.mode in
-    caller_plays (λ x. chown_row s who x c.args.path.now c.args.owner c.args.group) who (holding c.args.shared.now.fds.rows who c.living-process.result.now) p c.living-process.ensures.found there
-    (then_plays {rest = set_so s c.args.owner c.args.group} c.in_ok-object.ensures.step
-    (commits s _ _ (with_attr id (object_at s id) (record (object_at s id).attr { owner = c.args.owner; group = c.args.group; mode = mode }) ∷ []) Nothing None
-    (c.give_attr.ensures ∙ ap (λ (m : Metadata). changed s (with_attr id (object_at s id) (record m.attr { owner = c.args.owner; group = c.args.group; mode = mode }))) c.in_ok-object.ensures.object)))
+    let is = c.in_ok-object.ensures.object in
+    caller_plays (λ x. chown_row s c.args.who.now x c.args.path.now c.args.owner c.args.group) c.args.who.now q p c.living-process.ensures.found there
+    (then_plays {rest = on_written s (change_owner q c.args.owner c.args.group)} c.in_ok-object.ensures.step
+    (then_plays {rest = set_owner id (object_at s id) c.args.owner c.args.group} (c.in_ok-mode.ensures s id is)
+    (commits _ _ _ _ _ _
+    (c.give_attr.ensures ∙ ap (λ (m : Metadata). changed s (with_attr id (object_at s id) (record m.attr { owner = c.args.owner; group = c.args.group; mode = c.in_ok-mode.mode }))) is))))

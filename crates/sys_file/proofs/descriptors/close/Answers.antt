@@ -1,14 +1,9 @@
-use Rattle.std.proofs.Common.{◌≡◌, ◌∙◌, ◌==◌, ◌&&◌, sym, refl, subst, ◌∷◌, None, ℕ, List, true, Result, Ok, Err, IsOk, IsSome}
+use Rattle.std.proofs.Common.{◌≡◌, ◌∙◌, sym, refl, subst, None, true, Result, Ok, Err, IsOk, IsSome}
 use Rattle.std.specs.Result.{is_err}
 use Rattle.std.proofs.lemmas.Bool.{true≢false}
 use Rattle.std.specs.FinMap as map
 use Rattle.kern_model.specs.declared.calls.Answer.TheVariants.{Nothing}
-use Rattle.kern_model.specs.declared.numbers.Pid.{Pid}
-use Rattle.kern_model.specs.Descriptors.{Descriptor, Opened, closing}
-use Rattle.kern_model.specs.FileRows.{close_row}
-use Rattle.kern_model.specs.Keys.{same_pid}
-use Rattle.kern_model.specs.Row.{Row, Commit}
-use Rattle.kern_model.specs.State.{State, Process, Change, SetProcess}
+use Rattle.kern_model.specs.FileRows.{close_opened, close_row, closes}
 use Rattle.fd_table.specs.Files.{OpenFiles, drained, left_with}
 use Rattle.fd_table.specs.Rows.{row_of}
 use Rattle.fd_table.proofs.Closing.{close_changes}
@@ -22,21 +17,13 @@ use Rattle.sys_lookup.proofs.ClosingLemmas.{table_shows}
 use Rattle.sys_file.proofs.ReferLemmas.{referred}
 use Rattle.sys_file.proofs.descriptors.close.Goals as goal
 
--- what changes where a descriptor closes
-abbrev leaving : State → Pid → Process → ℕ → List Change
-leaving s who p fd = SetProcess who (record p { fds = map.remove p.fds fd }) ∷ closing s (λ (d : Descriptor). same_pid d.who who && d.fd == fd)
-
--- the row after the descriptor is found
-abbrev closes : State → Pid → Process → ℕ → Opened → Row
-closes s who p fd f = Commit (leaving s who p fd) Nothing None
-
 pub returns-in_err-opened-clause-played : goal.returns-in_err-opened-clause-played
 returns-in_err-opened-clause-played c = λ p log there.
     let s = state_of c.args.shared.now in
     let who = c.args.who.now in
     let q = holding c.args.shared.now.fds.rows who c.living-process.result.now in
     caller_plays (λ x. close_row s who x c.args.fd) who q p c.living-process.ensures.found there
-    (stops_row {rest = closes s who q c.args.fd} c.from_residual.result c.from_residual.ensures.1 refl (c.in_err-opened.ensures.step log))
+    (stops_row {rest = λ _. close_opened s who q c.args.fd} c.from_residual.result c.from_residual.ensures.1 refl (c.in_err-opened.ensures.step log))
 
 -- a result that is `Ok` is no error
 no_err : {X E : Type 0} (r : Result X E) → IsOk r → is_err r ≡ true → ⊥
@@ -64,8 +51,8 @@ returns-clause-played c = λ p log there.
     let fewer = map.remove (row_of h.fds.rows who) fd in
     let rows = map.insert h.fds.rows who fewer in
     caller_plays (λ x. close_row s who x fd) who q p c.living-process.ensures.found there
-    (then_plays {rest = closes s who q fd} (c.in_ok-opened.ensures.step log)
-    (commits s _ log (leaving s who q fd) Nothing None
+    (then_plays {rest = λ _. close_opened s who q fd} (c.in_ok-opened.ensures.step log)
+    (commits s _ log (closes s who q fd) Nothing None
     ((λ i. record s {
       procs = with_fds h.procs.procs (left i).rows;
       descriptions = (left i).descriptions;

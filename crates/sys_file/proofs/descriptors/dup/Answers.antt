@@ -2,11 +2,9 @@ use Rattle.std.proofs.Common.{◌≡◌, ◌∙◌, ap, sym, refl, subst, ◌+�
 use Rattle.kern_model.specs.declared.calls.Answer.TheVariants as answer
 use Rattle.kern_model.specs.declared.calls.Errno.TheVariants.{EMFILE}
 use Rattle.kern_model.specs.declared.limits.TheConstants.{MAX_DESCRIPTORS}
-use Rattle.kern_model.specs.declared.numbers.Pid.{Pid}
-use Rattle.kern_model.specs.Descriptors.{Opened, lowest_free, with_descriptor}
-use Rattle.kern_model.specs.FileRows.{dup_row, has_free_descriptors}
-use Rattle.kern_model.specs.Row.{Row, Refuse, Commit}
-use Rattle.kern_model.specs.State.{State, Process, SetProcess}
+use Rattle.kern_model.specs.Descriptors.{lowest_free, with_descriptor}
+use Rattle.kern_model.specs.FileRows.{dup_row, repeat}
+use Rattle.kern_model.specs.State.{SetProcess}
 use Rattle.kern_model.specs.Valid.{IsThere}
 use Rattle.chk_rules.specs.declared.stop.Stop.TheVariants as stop
 use Rattle.fd_table.specs.declared.table.FdError.TheVariants as error
@@ -22,17 +20,13 @@ use Rattle.sys_file.proofs.ReferLemmas.{none_is_free, one_is_free, referred}
 use Rattle.sys_lookup.proofs.RefuseLemmas.{lets_on, refuses}
 use Rattle.sys_file.proofs.descriptors.dup.Goals as goal
 
--- the row after the descriptor is found
-abbrev repeating : State → Pid → Process → Opened → Row
-repeating s who p f = Refuse EMFILE (not (has_free_descriptors p 1)) (Commit (SetProcess who (with_descriptor p f.did) ∷ []) (answer.Number (lowest_free p.fds)) None)
-
 pub returns-in_err-opened-clause-played : goal.returns-in_err-opened-clause-played
 returns-in_err-opened-clause-played c = λ p log there.
     let s = state_of c.args.shared.now in
     let who = c.args.who.now in
     let q = holding c.args.shared.now.fds.rows who c.living-process.result.now in
     caller_plays (λ x. dup_row s who x c.args.fd) who q p c.living-process.ensures.found there
-    (stops_row {rest = repeating s who q} c.from_residual.result c.from_residual.ensures.1 refl (c.in_err-opened.ensures.step log))
+    (stops_row {rest = repeat who q} c.from_residual.result c.from_residual.ensures.1 refl (c.in_err-opened.ensures.step log))
 
 pub returns-in-Ok-clause-played : goal.returns-in-Ok-clause-played
 returns-in-Ok-clause-played c = λ p log there.
@@ -52,7 +46,7 @@ returns-in-Ok-clause-played c = λ p log there.
     let same : Ok c.in-Ok.lowest ≡ Ok (lowest_free q.fds) = c.in-Ok.ensures.fd some (one_is_free n free) in
     let lowest : c.in-Ok.lowest ≡ lowest_free q.fds = cc in
     caller_plays (λ x. dup_row s who x c.args.fd) who q p c.living-process.ensures.found there
-    (then_plays {rest = repeating s who q} (c.in_ok-opened.ensures.step log)
+    (then_plays {rest = repeat who q} (c.in_ok-opened.ensures.step log)
     (refuse_plays (lets_on (ap not free))
     (equal_answer (ap answer.Number lowest)
     (commits s _ log (SetProcess who (with_descriptor q f.did) ∷ []) _ None
@@ -75,7 +69,7 @@ returns-in-Err-clause-played c = λ p log there.
       | false ↦ λ _. refl
     ] refl in
     caller_plays (λ x. dup_row s who x c.args.fd) who q p c.living-process.ensures.found there
-    (then_plays {rest = repeating s who q} (c.in_ok-opened.ensures.step log)
+    (then_plays {rest = repeat who q} (c.in_ok-opened.ensures.step log)
     (refuse_stops_row (Err (stop.Refused EMFILE)) refl (λ i. record s { procs = with_fds h.procs.procs (c.in-Err.ensures.err i).rows; descriptions = (c.in-Err.ensures.err i).descriptions; description_numbers = (c.in-Err.ensures.err i).numbers }) (refuses (ap not full))))
 
 pub invariant_of-shared : goal.invariant_of-shared

@@ -1,14 +1,11 @@
 use Rattle.std.proofs.Common.{◌≡◌, ◌∙◌, ◌≤◌, ◌+ℤ◌, rules, w64, to_z, of_z, sym, refl, subst, ℕ, ℤ, pos, length, true, Err, Result}
 use Rattle.std.proofs.lemmas.Int.{to_z-of_z}
 use Rattle.kern_model.specs.declared.calls.Errno.TheVariants.{EINVAL}
-use Rattle.kern_model.specs.declared.calls.Whence.{Whence}
 use Rattle.kern_model.specs.declared.limits.TheConstants.{MAX_FILE_BYTES}
 use Rattle.kern_model.specs.declared.numbers.Oid.{Oid}
 use Rattle.kern_model.specs.declared.objects.Object.{Object}
-use Rattle.kern_model.specs.Descriptors.{Opened}
-use Rattle.kern_model.specs.FileRows.{base_of, lseek_row, open_object}
-use Rattle.kern_model.specs.Row.{Row}
-use Rattle.kern_model.specs.State.{State, object_at}
+use Rattle.kern_model.specs.FileRows.{base_of, lseek_row, moves, open_object, seek_opened}
+use Rattle.kern_model.specs.State.{object_at}
 use Rattle.chk_rules.specs.declared.stop.Stop.{Stop}
 use Rattle.chk_rules.specs.declared.stop.Stop.TheVariants as stop
 use Rattle.fd_table.specs.Files.{is_past}
@@ -19,12 +16,7 @@ use Rattle.sys_lookup.proofs.PlayLemmas.{caller_plays, then_plays, stops_row, re
 use Rattle.sys_file.proofs.ObjectLemmas.{few_bytes, file_there, object_is}
 use Rattle.sys_file.proofs.ReferLemmas.{open_there, referred}
 use Rattle.sys_lookup.proofs.RefuseLemmas.{refuses}
-use Rattle.sys_file.specs.Seeking.{moves}
 use Rattle.sys_file.proofs.descriptors.lseek.Goals as goal
-
--- the row after the checks
-abbrev seeking : State → Whence → ℤ → Opened → Row
-seeking s from offset f = moves f (pos (base_of s f from) +ℤ offset) (length (open_object s f).bytes)
 
 pub returns-in_err-opened : goal.returns-in_err-opened
 returns-in_err-opened c = λ p there.
@@ -32,7 +24,7 @@ returns-in_err-opened c = λ p there.
     let who = c.args.who.now in
     let q = holding c.args.shared.now.fds.rows who c.living-process.result.now in
     caller_plays (λ x. lseek_row s who x c.args.fd c.args.from c.args.offset) who q p c.living-process.ensures.found there
-    (stops_row {rest = seeking s c.args.from c.args.offset} c.from_residual.result c.from_residual.ensures.1 refl c.in_err-opened.ensures.step)
+    (stops_row {rest = seek_opened s c.args.from c.args.offset} c.from_residual.result c.from_residual.ensures.1 refl c.in_err-opened.ensures.step)
 
 pub file_size-size-requires : goal.file_size-size-requires
 file_size-size-requires c =
@@ -61,7 +53,7 @@ returns-in-Some c = λ p there.
     let r = c.move_to.result in
     let t = state_of c.move_to.new.shared in
     caller_plays (λ x. lseek_row s who x c.args.fd c.args.from c.args.offset) who q p c.living-process.ensures.found there
-    (then_plays {rest = seeking s c.args.from c.args.offset} c.in_ok-opened.ensures.step
+    (then_plays {rest = seek_opened s c.args.from c.args.offset} c.in_ok-opened.ensures.step
     (subst (λ (z : ℤ). PlaysRow s log (moves f z (length (open_object s f).bytes)) r t log) passed
     (subst (λ (n : ℕ). PlaysRow s log (moves f (to_z w64 (of_z w64 c.in-Some.to)) n) r t log) size
     (c.move_to.ensures f log (open_there h who c.living-process.result.now c.args.fd f c.in_ok-opened.ensures.found)))))
@@ -85,5 +77,5 @@ returns-in-None c = λ p there.
     (λ i. is_past (pos (sym base i) +ℤ sym offset i) (length (open_object s f).bytes)) ∙ c.in-None.ensures.none (length (open_object s f).bytes) small refl in
     let r : Result Effect Stop = Err (stop.Refused EINVAL) in
     caller_plays (λ x. lseek_row s who x c.args.fd c.args.from c.args.offset) who q p c.living-process.ensures.found there
-    (then_plays {rest = seeking s c.args.from c.args.offset} c.in_ok-opened.ensures.step
+    (then_plays {rest = seek_opened s c.args.from c.args.offset} c.in_ok-opened.ensures.step
     (refuse_stops_row r refl refl (refuses past)))

@@ -2,7 +2,7 @@ use Rattle.std.proofs.Common.{◌≡◌, ap, sym, refl, subst, ◌∷◌, [], �
 use Rattle.std.proofs.lemmas.Int.{to_z-of_z}
 use Rattle.kern_model.specs.declared.calls.Answer.TheVariants as answer
 use Rattle.kern_model.specs.declared.calls.Errno.TheVariants.{EINVAL}
-use Rattle.kern_model.specs.FileRows.{moved}
+use Rattle.kern_model.specs.FileRows.{moved, moves}
 use Rattle.chk_rules.specs.declared.stop.Stop.{Stop}
 use Rattle.chk_rules.specs.declared.stop.Stop.TheVariants as stop
 use Rattle.fd_table.specs.declared.table.FdError.TheVariants as error
@@ -16,7 +16,6 @@ use Rattle.sys_lookup.proofs.FdChanges.{with_files}
 use Rattle.sys_lookup.proofs.OpenedLemmas.{refers_to}
 use Rattle.sys_lookup.proofs.PlayLemmas.{refuse_plays, refuse_stops_row, equal_answer, commits}
 use Rattle.sys_lookup.proofs.RefuseLemmas.{lets_on, refuses}
-use Rattle.sys_file.specs.Seeking.{moves}
 use Rattle.sys_file.proofs.descriptors.move_to.Goals as goal
 
 pub returns-in-Ok : goal.returns-in-Ok

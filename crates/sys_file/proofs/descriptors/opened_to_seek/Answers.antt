@@ -1,29 +1,16 @@
-use Rattle.std.proofs.Common.{◌≡◌, ◌∙◌, ap, refl, subst, Bool, Result}
+use Rattle.std.proofs.Common.{◌≡◌, ◌∙◌, ap, refl, Bool}
 use Rattle.kern_model.specs.declared.calls.Errno.TheVariants.{ESPIPE}
-use Rattle.kern_model.specs.declared.checks.Place.TheVariants.{Handle}
 use Rattle.kern_model.specs.declared.numbers.Oid.{Oid}
 use Rattle.kern_model.specs.Descriptors.{Opened}
-use Rattle.kern_model.specs.FileRows.{open_object}
+use Rattle.kern_model.specs.FileRows.{open_object, to_seek}
 use Rattle.kern_model.specs.Kinds.{is_stream}
-use Rattle.kern_model.specs.Row.{Row, Need, Refuse}
-use Rattle.kern_model.specs.Rules.{mac_read}
-use Rattle.kern_model.specs.State.{State, Process, object_at}
-use Rattle.chk_rules.specs.CheckLog.{CheckLog}
-use Rattle.chk_rules.specs.Ends.{GoesOn}
-use Rattle.chk_rules.specs.declared.stop.Stop.{Stop}
+use Rattle.kern_model.specs.State.{State, object_at}
 use Rattle.chk_rules.proofs.Steps.{then_goes, stops_there, need_goes, need_stops, refuse_goes, refuse_stops, equal_refusal, gives}
 use Rattle.sys_lookup.specs.Shared.{metadata_of, process_of, state_of}
 use Rattle.sys_lookup.specs.declared.shared.Metadata.{Metadata}
 use Rattle.sys_lookup.proofs.CheckLemmas.{not_refused}
+use Rattle.sys_file.proofs.ReferLemmas.{read_there}
 use Rattle.sys_file.proofs.descriptors.opened_to_seek.Goals as goal
-
--- the row after the descriptor is found
-abbrev asking : State → Process → Opened → (Opened → Row) → Row
-asking s p f rest = Need (mac_read s p f.description.object Handle) (Refuse ESPIPE (is_stream (open_object s f).kind) (rest f))
-
--- the check of an equal number
-abbrev asked : State → Process → CheckLog → Result Metadata Stop → CheckLog → Oid → Type 0
-asked s p a r b id = GoesOn a (λ (rest : Metadata → Row). Need (mac_read s p id Handle) (rest (metadata_of s id))) r b
 
 -- whether the object that was read is a stream
 same_kind : (s : State) (id : Oid) (f : Opened) (object : Metadata) (is : Bool) → is ≡ is_stream object.kind → object ≡ metadata_of s id → id ≡ f.description.object → is ≡ is_stream (open_object s f).kind
@@ -31,16 +18,16 @@ same_kind s id f object is found read same = found ∙ ap (λ (m : Metadata). is
 
 pub returns-in_err-opened-clause-step : goal.returns-in_err-opened-clause-step
 returns-in_err-opened-clause-step c =
-    stops_there {next = asking (state_of c.args.caller.now.shared.now) (process_of c.args.caller.now)} c.from_residual.result c.from_residual.ensures.1 (c.in_err-opened.ensures.step c.args.checks.now)
+    stops_there {next = to_seek (state_of c.args.caller.now.shared.now) (process_of c.args.caller.now)} c.from_residual.result c.from_residual.ensures.1 (c.in_err-opened.ensures.step c.args.checks.now)
 
 pub returns-in_err-object-clause-step : goal.returns-in_err-object-clause-step
 returns-in_err-object-clause-step c =
     let s = state_of c.args.caller.now.shared.now in
     let p = process_of c.args.caller.now in
     let log = c.args.checks.now in
-    then_goes {next = asking s p} (c.in_ok-opened.ensures.step log)
+    then_goes {next = to_seek s p} (c.in_ok-opened.ensures.step log)
     (need_stops c.from_residual-in_err-object.result c.from_residual-in_err-object.ensures.1
-    (subst (asked s p log _ c.read_object.new.checks) (λ i. (c.opened-2.view_is i).description.object) c.in_err-object.ensures.step))
+    (read_there s p (λ i. (c.opened-2.view_is i).description.object) c.in_err-object.ensures.step))
 
 pub returns-in_err-refuse_if-clause-step : goal.returns-in_err-refuse_if-clause-step
 returns-in_err-refuse_if-clause-step c =
@@ -48,8 +35,8 @@ returns-in_err-refuse_if-clause-step c =
     let p = process_of c.args.caller.now in
     let log = c.args.checks.now in
     let f = c.in_ok-opened.opened in
-    then_goes {next = asking s p} (c.in_ok-opened.ensures.step log)
-    (need_goes (subst (asked s p log _ c.read_object.new.checks) (λ i. (c.opened-2.view_is i).description.object) c.in_ok-object.ensures.step)
+    then_goes {next = to_seek s p} (c.in_ok-opened.ensures.step log)
+    (need_goes (read_there s p (λ i. (c.opened-2.view_is i).description.object) c.in_ok-object.ensures.step)
     (refuse_stops c.from_residual-in_err-refuse_if.result c.from_residual-in_err-refuse_if.ensures.1
     (equal_refusal (same_kind s _ f c.in_ok-object.object _ c.is_stream.ensures c.in_ok-object.ensures.object (λ i. (c.opened-2.view_is i).description.object)) (c.in_err-refuse_if.ensures c.read_object.new.checks))))
 
@@ -59,8 +46,8 @@ returns-clause-step c =
     let p = process_of c.args.caller.now in
     let log = c.args.checks.now in
     let f = c.in_ok-opened.opened in
-    then_goes {next = asking s p} (c.in_ok-opened.ensures.step log)
-    (need_goes (subst (asked s p log _ c.read_object.new.checks) (λ i. (c.opened-2.view_is i).description.object) c.in_ok-object.ensures.step)
+    then_goes {next = to_seek s p} (c.in_ok-opened.ensures.step log)
+    (need_goes (read_there s p (λ i. (c.opened-2.view_is i).description.object) c.in_ok-object.ensures.step)
     (refuse_goes (equal_refusal (same_kind s _ f c.in_ok-object.object _ c.is_stream.ensures c.in_ok-object.ensures.object (λ i. (c.opened-2.view_is i).description.object)) (c.in_ok-refuse_if.ensures c.read_object.new.checks)) (gives refl)))
 
 pub returns-clause-no_stream : goal.returns-clause-no_stream

@@ -2,8 +2,9 @@ use Rattle.std.proofs.Common.{◌≡◌, ◌∙◌, ◌&&◌, ap, subst, Bool, R
 use Rattle.std.specs.Prelude.{⊤}
 use Rattle.kern_model.specs.declared.checks.Check.{Check}
 use Rattle.kern_model.specs.Kinds.{is_dir, is_fifo}
+use Rattle.kern_model.specs.OpenRows.{label_writes}
 use Rattle.kern_model.specs.Row.{Row, need_if}
-use Rattle.kern_model.specs.Rules.{mac_write}
+use Rattle.kern_model.specs.State.{object_at}
 use Rattle.chk_rules.specs.CheckLog.{CheckLog}
 use Rattle.chk_rules.specs.Ends.{GoesOn}
 use Rattle.chk_rules.specs.declared.stop.Stop.{Stop}
@@ -33,4 +34,4 @@ returns c = λ s id same.
     let drains = c.both-drains.ensures ∙ (λ i. (c.is_fifo.ensures ∙ ap (λ (m : Metadata). is_fifo m.kind) same) i && c.args.flags.r) in
     refuse_goes (equal_refusal (c.is_directory.ensures ∙ ap (λ (m : Metadata). is_dir m.kind) same) (c.in_ok-refuse_if.ensures log))
     (refuse_goes (equal_refusal (c.both.ensures ∙ (λ i. drains i && c.args.flags.w)) (c.in_ok-refuse_if-2.ensures log))
-    (equal_asked (mac_write s (process_of c.args.caller.now) id c.args.place) drains (c.mac_write_if.ensures s id same)))
+    (equal_asked (label_writes (process_of c.args.caller.now) id c.args.place (object_at s id)) drains (c.mac_write_if.ensures s id same)))

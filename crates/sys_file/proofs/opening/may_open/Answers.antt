@@ -1,6 +1,7 @@
+use Rattle.kern_model.specs.OpenRows.{allowed_by_kind, allowed_by_label, allowed_by_mode}
+use Rattle.kern_model.specs.State.{object_at}
 use Rattle.chk_rules.proofs.Steps.{equal_refusal, item_goes, item_stops, refuse_goes, refuse_stops}
 use Rattle.sys_lookup.specs.Shared.{process_of, state_of}
-use Rattle.sys_file.specs.Opening.{allowed_by_kind, allowed_by_label, allowed_by_mode}
 use Rattle.sys_file.proofs.opening.may_open.Goals as goal
 
 pub returns-in_err-refuse_if-clause-step : goal.returns-in_err-refuse_if-clause-step
@@ -12,7 +13,7 @@ returns-in_err-label_allows-clause-step c =
     let p = process_of c.args.caller.now in
     let id = c.args.id.now in
     refuse_goes (equal_refusal c.both.ensures (c.in_ok-refuse_if.ensures c.args.checks.now))
-    (item_stops (allowed_by_label s p c.args.flags id c.args.place) c.from_residual-in_err-label_allows.result c.from_residual-in_err-label_allows.ensures.1 (c.in_err-label_allows.ensures s id c.metadata-object.ensures))
+    (item_stops (allowed_by_label p c.args.flags id c.args.place (object_at s id)) c.from_residual-in_err-label_allows.result c.from_residual-in_err-label_allows.ensures.1 (c.in_err-label_allows.ensures s id c.metadata-object.ensures))
 
 pub returns-in_err-kind_allows-clause-step : goal.returns-in_err-kind_allows-clause-step
 returns-in_err-kind_allows-clause-step c =
@@ -20,8 +21,8 @@ returns-in_err-kind_allows-clause-step c =
     let p = process_of c.args.caller.now in
     let id = c.args.id.now in
     refuse_goes (equal_refusal c.both.ensures (c.in_ok-refuse_if.ensures c.args.checks.now))
-    (item_goes (allowed_by_label s p c.args.flags id c.args.place) (c.in_ok-label_allows.ensures s id c.metadata-object.ensures)
-    (item_stops (allowed_by_kind s p c.args.flags id c.args.place) c.from_residual-in_err-kind_allows.result c.from_residual-in_err-kind_allows.ensures.1 (c.in_err-kind_allows.ensures s id c.metadata-object.ensures)))
+    (item_goes (allowed_by_label p c.args.flags id c.args.place (object_at s id)) (c.in_ok-label_allows.ensures s id c.metadata-object.ensures)
+    (item_stops (allowed_by_kind p c.args.flags id c.args.place (object_at s id)) c.from_residual-in_err-kind_allows.result c.from_residual-in_err-kind_allows.ensures.1 (c.in_err-kind_allows.ensures s id c.metadata-object.ensures)))
 
 pub returns-in_err-mode_allows-clause-step : goal.returns-in_err-mode_allows-clause-step
 returns-in_err-mode_allows-clause-step c =
@@ -29,9 +30,9 @@ returns-in_err-mode_allows-clause-step c =
     let p = process_of c.args.caller.now in
     let id = c.args.id.now in
     refuse_goes (equal_refusal c.both.ensures (c.in_ok-refuse_if.ensures c.args.checks.now))
-    (item_goes (allowed_by_label s p c.args.flags id c.args.place) (c.in_ok-label_allows.ensures s id c.metadata-object.ensures)
-    (item_goes (allowed_by_kind s p c.args.flags id c.args.place) (c.in_ok-kind_allows.ensures s id c.metadata-object.ensures)
-    (item_stops (allowed_by_mode s p c.args.flags id c.args.place) c.from_residual-in_err-mode_allows.result c.from_residual-in_err-mode_allows.ensures.1 (c.in_err-mode_allows.ensures s id c.metadata-object.ensures))))
+    (item_goes (allowed_by_label p c.args.flags id c.args.place (object_at s id)) (c.in_ok-label_allows.ensures s id c.metadata-object.ensures)
+    (item_goes (allowed_by_kind p c.args.flags id c.args.place (object_at s id)) (c.in_ok-kind_allows.ensures s id c.metadata-object.ensures)
+    (item_stops (allowed_by_mode p c.args.flags id c.args.place (object_at s id)) c.from_residual-in_err-mode_allows.result c.from_residual-in_err-mode_allows.ensures.1 (c.in_err-mode_allows.ensures s id c.metadata-object.ensures))))
 
 pub returns-clause-step : goal.returns-clause-step
 returns-clause-step c =
@@ -39,7 +40,7 @@ returns-clause-step c =
     let p = process_of c.args.caller.now in
     let id = c.args.id.now in
     refuse_goes (equal_refusal c.both.ensures (c.in_ok-refuse_if.ensures c.args.checks.now))
-    (item_goes (allowed_by_label s p c.args.flags id c.args.place) (c.in_ok-label_allows.ensures s id c.metadata-object.ensures)
-    (item_goes (allowed_by_kind s p c.args.flags id c.args.place) (c.in_ok-kind_allows.ensures s id c.metadata-object.ensures)
-    (item_goes (allowed_by_mode s p c.args.flags id c.args.place) (c.in_ok-mode_allows.ensures s id c.metadata-object.ensures)
-    (c.content_after.ensures.step s id c.metadata-object.ensures))))
+    (item_goes (allowed_by_label p c.args.flags id c.args.place (object_at s id)) (c.in_ok-label_allows.ensures s id c.metadata-object.ensures)
+    (item_goes (allowed_by_kind p c.args.flags id c.args.place (object_at s id)) (c.in_ok-kind_allows.ensures s id c.metadata-object.ensures)
+    (item_goes (allowed_by_mode p c.args.flags id c.args.place (object_at s id)) (c.in_ok-mode_allows.ensures s id c.metadata-object.ensures)
+    (c.emptied_attr.ensures.step s id c.metadata-object.ensures))))

@@ -1,36 +1,36 @@
-use Rattle.std.proofs.Common.{◌∙◌, ap, subst, sym, refl, ◌++◌, None}
+use Rattle.std.proofs.Common.{◌∙◌, ap, subst, sym, refl, ◌++◌, Option, None, Some}
 use Rattle.kern_model.specs.declared.calls.Answer.TheVariants as answer
+use Rattle.kern_model.specs.declared.objects.Attr.{Attr}
 use Rattle.kern_model.specs.declared.numbers.Oid.{Oid}
 use Rattle.kern_model.specs.declared.numbers.Pid.{Pid}
 use Rattle.kern_model.specs.declared.calls.OpenFlags.{OpenFlags}
 use Rattle.kern_model.specs.declared.objects.Object.{Object}
 use Rattle.kern_model.specs.FileRows.{opening}
+use Rattle.kern_model.specs.OpenRows.{emptying}
 use Rattle.kern_model.specs.Keys.{oid_cmp}
-use Rattle.kern_model.specs.State.{State, Process, changed_by}
+use Rattle.kern_model.specs.State.{State, Process, changed_by, object_at}
 use Rattle.std.proofs.Common.{◌≡◌}
 use Rattle.std.specs.FinMap.{FinMap}
 use Rattle.fs_nodes.specs.Nodes.{IsFile}
 use Rattle.sys_lookup.proofs.PlayLemmas.{commits, equal_answer, no_memory_row}
 use Rattle.sys_lookup.specs.Shared.{state_of}
-use Rattle.sys_file.specs.Opening.{CanBeEmptied, emptying}
-use Rattle.sys_file.specs.declared.opening.Content.{Content}
-use Rattle.sys_file.specs.declared.opening.Content.TheVariants as content
+use Rattle.sys_file.specs.Opening.{CanBeEmptied}
 use Rattle.sys_file.proofs.opening.open_present.Goals as goal
 
 -- whether it can be emptied does not depend on descriptors
-still : (s t : State) (id : Oid) (kept : Content) → t.objects ≡ s.objects → CanBeEmptied s id kept → CanBeEmptied t id kept
-still s t id content.Kept same can = tt
-still s t id (content.Emptied attr) same can = subst (λ (m : FinMap oid_cmp Object). IsFile m id) (sym same) can
+still : (s t : State) (id : Oid) (emptied : Option Attr) → t.objects ≡ s.objects → CanBeEmptied s id emptied → CanBeEmptied t id emptied
+still s t id None same can = tt
+still s t id (Some attr) same can = subst (λ (m : FinMap oid_cmp Object). IsFile m id) (sym same) can
 
 -- the content changes before the description is made or after it
-either : (s : State) (who : Pid) (p : Process) (id : Oid) (flags : OpenFlags) (kept : Content) → (
+either : (s : State) (who : Pid) (p : Process) (id : Oid) (flags : OpenFlags) (emptied : Option Attr) → (
     let u = changed_by s (opening s who p id flags) in
-    changed_by u (emptying u id kept) ≡ changed_by s (emptying s id kept ++ opening s who p id flags))
-either s who p id flags content.Kept = refl
-either s who p id flags (content.Emptied attr) = refl
+    changed_by u (emptying id (object_at u id) emptied) ≡ changed_by s (emptying id (object_at s id) emptied ++ opening s who p id flags))
+either s who p id flags None = refl
+either s who p id flags (Some attr) = refl
 
 pub set_content-requires : goal.set_content-requires
-set_content-requires c = still (state_of c.args.shared.now) (state_of c.describe.new.shared) c.args.id.now c.args.content c.in_ok-fd.ensures.objects c.requires.file
+set_content-requires c = still (state_of c.args.shared.now) (state_of c.describe.new.shared) c.args.id.now c.args.emptied c.in_ok-fd.ensures.objects c.requires.file
 
 pub returns-in_err-fd : goal.returns-in_err-fd
 returns-in_err-fd c = λ p log there. no_memory_row c.from_residual.result c.from_residual.ensures.1
@@ -41,5 +41,5 @@ returns c = λ p log there.
     let who = c.args.who.now in
     let id = c.args.id.now in
     equal_answer (ap answer.Number (c.in_ok-fd.ensures.fd p there))
-    (commits s (state_of c.set_content.new.shared) log (emptying s id c.args.content ++ opening s who p id c.args.flags) (answer.Number c.in_ok-fd.fd) None
-    (c.set_content.ensures ∙ ap (λ (u : State). changed_by u (emptying u id c.args.content)) (c.in_ok-fd.ensures.described p there) ∙ either s who p id c.args.flags c.args.content))
+    (commits s (state_of c.set_content.new.shared) log (emptying id (object_at s id) c.args.emptied ++ opening s who p id c.args.flags) (answer.Number c.in_ok-fd.fd) None
+    (c.set_content.ensures ∙ ap (λ (u : State). changed_by u (emptying id (object_at u id) c.args.emptied)) (c.in_ok-fd.ensures.described p there) ∙ either s who p id c.args.flags c.args.emptied))

@@ -1,24 +1,28 @@
-use Rattle.std.proofs.Common.{◌∙◌, ap, sym, subst, []}
+use Rattle.std.proofs.Common.{◌∙◌, ap, sym, subst, [], Option}
+use Rattle.kern_model.specs.declared.objects.Attr.{Attr}
 use Rattle.kern_model.specs.declared.objects.Object.{Object}
-use Rattle.kern_model.specs.State.{SetObject, changed, changed_by}
+use Rattle.kern_model.specs.FileRows.{rewritten}
+use Rattle.kern_model.specs.OpenRows.{emptying}
+use Rattle.kern_model.specs.State.{changed, changed_by, object_at}
 use Rattle.fs_nodes.specs.Nodes.{IsFile}
 use Rattle.sys_lookup.specs.Shared.{state_of}
 use Rattle.sys_file.proofs.ObjectLemmas.{object_is}
-use Rattle.sys_file.specs.Opening.{CanBeEmptied, emptying}
-use Rattle.sys_file.specs.declared.opening.Content.{Content}
+use Rattle.sys_file.specs.Opening.{CanBeEmptied}
 use Rattle.sys_file.proofs.opening.set_content.Goals as goal
 
 pub empty-requires : goal.empty-requires
-empty-requires c = subst (CanBeEmptied (state_of c.args.shared.now) c.args.id.now) c.in-Emptied.is c.requires
+empty-requires c = subst (CanBeEmptied (state_of c.args.shared.now) c.args.id.now) c.in-Some.is c.requires
 
-pub returns-in-Kept : goal.returns-in-Kept
-returns-in-Kept c = ap (λ (k : Content). changed_by (state_of c.args.shared.now) (emptying (state_of c.args.shared.now) c.args.id.now k)) (sym c.in-Kept.is)
+pub returns-in-None : goal.returns-in-None
+returns-in-None c =
+    let s = state_of c.args.shared.now in
+    ap (λ (e : Option Attr). changed_by s (emptying c.args.id.now (object_at s c.args.id.now) e)) (sym c.in-None.is)
 
-pub returns-in-Emptied : goal.returns-in-Emptied
-returns-in-Emptied c =
+pub returns-in-Some : goal.returns-in-Some
+returns-in-Some c =
     let s = state_of c.args.shared.now in
     let id = c.args.id.now in
-    let file : IsFile s.objects id = subst (CanBeEmptied s id) c.in-Emptied.is c.requires in
+    let file : IsFile s.objects id = subst (CanBeEmptied s id) c.in-Some.is c.requires in
     c.empty.ensures file.object file.is
-    ∙ ap (λ (o : Object). changed s (SetObject id (record o { bytes = []; attr = c.in-Emptied.attr }))) (sym (object_is s id file.object file.is))
-    ∙ ap (λ (k : Content). changed_by s (emptying s id k)) (sym c.in-Emptied.is)
+    ∙ ap (λ (o : Object). changed s (rewritten id o [] c.in-Some.attr)) (sym (object_is s id file.object file.is))
+    ∙ ap (λ (e : Option Attr). changed_by s (emptying id (object_at s id) e)) (sym c.in-Some.is)

@@ -1,11 +1,11 @@
 use Rattle.std.proofs.Common.{◌∙◌, refl}
 use Rattle.kern_model.specs.Descriptors.{opened}
-use Rattle.kern_model.specs.FileRows.{read_row}
+use Rattle.kern_model.specs.FileRows.{read_opened, read_row}
 use Rattle.sys_lookup.proofs.OpenedLemmas.{refers_to}
 use Rattle.sys_lookup.proofs.PlayLemmas.{caller_plays, stops_row, then_plays}
 use Rattle.sys_lookup.specs.Shared.{holding, metadata_of, state_of}
 use Rattle.sys_file.proofs.ObjectLemmas.{file_there, stream_is, stream_there}
-use Rattle.sys_file.proofs.ReadLemmas.{coming_out, file_plays, stream_plays, stream_stops}
+use Rattle.sys_file.proofs.ReadLemmas.{file_plays, stream_plays, stream_stops}
 use Rattle.sys_file.proofs.reading.read.Goals as goal
 
 pub returns-in_err-opened : goal.returns-in_err-opened
@@ -14,7 +14,7 @@ returns-in_err-opened c = λ p there.
     let who = c.args.who.now in
     let q = holding h.fds.rows who c.living-process.result.now in
     caller_plays (λ x. read_row (state_of h) who x c.args.fd c.args.n) who q p c.living-process.ensures.found there
-    (stops_row {rest = coming_out (state_of h) q c.args.n} c.from_residual.result c.from_residual.ensures.1 refl c.in_err-opened.ensures.step)
+    (stops_row {rest = read_opened (state_of h) q c.args.n} c.from_residual.result c.from_residual.ensures.1 refl c.in_err-opened.ensures.step)
 
 pub read_file-requires-clause-open : goal.read_file-requires-clause-open
 unfolding opened
@@ -36,7 +36,7 @@ returns-then-not-is_stream c = λ p there.
     let who = c.args.who.now in
     let q = holding h.fds.rows who c.living-process.result.now in
     caller_plays (λ x. read_row s who x c.args.fd c.args.n) who q p c.living-process.ensures.found there
-    (then_plays {rest = coming_out s q c.args.n} c.in_ok-opened.ensures.step
+    (then_plays {rest = read_opened s q c.args.n} c.in_ok-opened.ensures.step
     (file_plays q c.args.n c.in_ok-opened.opened (stream_is s (λ i. (c.opened.view_is i).description.object) c.metadata-object.ensures c.is_stream.ensures c.if-not-is_stream.true)
     (c.read_file.ensures c.opened_to_read.new.checks)))
 
@@ -48,7 +48,7 @@ returns-in_err-mac_write c = λ p there.
     let q = holding h.fds.rows who c.living-process.result.now in
     let f = c.in_ok-opened.opened in
     caller_plays (λ x. read_row s who x c.args.fd c.args.n) who q p c.living-process.ensures.found there
-    (then_plays {rest = coming_out s q c.args.n} c.in_ok-opened.ensures.step
+    (then_plays {rest = read_opened s q c.args.n} c.in_ok-opened.ensures.step
     (stream_stops q c.args.n f (stream_is s (λ i. (c.opened.view_is i).description.object) c.metadata-object.ensures c.is_stream.ensures c.if-not-is_stream.false) c.from_residual-in_err-mac_write.ensures.1 refl
     (c.in_err-mac_write.ensures s f.description.object (c.metadata-object.ensures ∙ (λ i. metadata_of s (c.opened.view_is i).description.object)))))
 
@@ -65,7 +65,7 @@ returns c = λ p there.
     let q = holding h.fds.rows who c.living-process.result.now in
     let f = c.in_ok-opened.opened in
     caller_plays (λ x. read_row s who x c.args.fd c.args.n) who q p c.living-process.ensures.found there
-    (then_plays {rest = coming_out s q c.args.n} c.in_ok-opened.ensures.step
+    (then_plays {rest = read_opened s q c.args.n} c.in_ok-opened.ensures.step
     (stream_plays q c.args.n f (stream_is s (λ i. (c.opened.view_is i).description.object) c.metadata-object.ensures c.is_stream.ensures c.if-not-is_stream.false)
     (c.in_ok-mac_write.ensures s f.description.object (c.metadata-object.ensures ∙ (λ i. metadata_of s (c.opened.view_is i).description.object)))
     (c.read_stream.ensures c.mac_write.new.checks)))

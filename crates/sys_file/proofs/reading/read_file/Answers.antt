@@ -1,30 +1,21 @@
-use Rattle.std.proofs.Common.{◌≡◌, ◌∙◌, ◌+◌, ◌-◌, ap, sym, subst, arith, min, ℕ, List, [], ◌∷◌, None, Ok, Result, false, cond, drop, length, take}
+use Rattle.std.proofs.Common.{◌≡◌, ◌∙◌, ◌+◌, ◌-◌, ap, sym, refl, subst, arith, min, ℕ, List, [], ◌∷◌, None, Ok, Result, drop, length, take}
 use Rattle.std.specs.FinMap as map
 use Rattle.std.proofs.lemmas.List.{length-drop, length-take}
 use Rattle.kern_model.specs.declared.calls.Answer.TheVariants as answer
-use Rattle.kern_model.specs.declared.objects.Object.{Object}
-use Rattle.kern_model.specs.Descriptors.{Opened}
-use Rattle.kern_model.specs.FileRows.{moved, open_object, reading, taken_from}
-use Rattle.kern_model.specs.Kinds.{is_stream}
-use Rattle.kern_model.specs.State.{State, changed}
+use Rattle.kern_model.specs.FileRows.{from_file, moved}
+use Rattle.kern_model.specs.State.{changed}
 use Rattle.chk_rules.specs.declared.stop.Stop.{Stop}
 use Rattle.sys_lookup.specs.declared.effect.Effect.{Effect}
-use Rattle.sys_lookup.proofs.PlayLemmas.{no_memory_row, commits}
+use Rattle.sys_lookup.proofs.PlayLemmas.{no_memory_row, commits, refuse_plays}
+use Rattle.sys_lookup.proofs.RefuseLemmas.{lets_on}
 use Rattle.sys_lookup.specs.PlaysRow.{PlaysRow}
 use Rattle.sys_lookup.specs.Shared.{state_of}
 use Rattle.sys_file.proofs.ObjectLemmas.{few_bytes, object_is}
-use Rattle.sys_file.proofs.ReadLemmas.{from_file, from_stream}
 use Rattle.sys_file.proofs.reading.read_file.Goals as goal
 
 -- what is read is no longer than what was asked for, and than what is left
 read_few : (bytes : List ℕ) (at n : ℕ) → length (take n (drop at bytes)) ≡ min n (length bytes - at)
 read_few bytes at n = length-take n (drop at bytes) ∙ ap (min n) (length-drop at bytes)
-
--- the row of a file
-reading_file : (s : State) (f : Opened) (n : ℕ) (bytes : List ℕ) → is_stream (open_object s f).kind ≡ false → bytes ≡ taken_from (open_object s f) f n → from_file f bytes ≡ reading s f n
-reading_file s f n bytes no_stream is =
-    ap (from_file f) is
-    ∙ sym (ap (λ b. cond b (from_stream s f n) (from_file f (taken_from (open_object s f) f n))) no_stream)
 
 pub returns-in_err-bytes : goal.returns-in_err-bytes
 returns-in_err-bytes c = λ log. no_memory_row c.from_residual.result c.from_residual.ensures.1
@@ -53,10 +44,10 @@ returns c = λ log.
     let same = object_is s f.description.object file.object file.is in
     let there = (λ i. map.get (c.nodes.ensures i).table.objects (c.opened.view_is i).description.object) ∙ file.is in
     let bytes = c.in_ok-bytes.ensures file.object there in
-    let no_stream = ap (λ (o : Object). is_stream o.kind) same ∙ ap is_stream file.file in
     let is = bytes ∙ (λ i. take c.args.n (drop (c.opened.view_is i).description.offset (sym same i).bytes)) in
     let r : Result Effect Stop = Ok (record { answer = answer.Bytes c.in_ok-bytes.bytes; own = None }) in
     let t = state_of c.set_offset.new.shared in
-    subst (λ row. PlaysRow s log row r t log) (reading_file s f c.args.n c.in_ok-bytes.bytes no_stream is)
+    refuse_plays (lets_on refl)
+    (subst (λ (taken : List ℕ). PlaysRow s log (from_file f taken) r t log) is
     (commits s t log (moved f (f.description.offset + length c.in_ok-bytes.bytes) ∷ []) (answer.Bytes c.in_ok-bytes.bytes) None
-    (c.set_offset.ensures f c.requires.open ∙ (λ i. changed s (moved f ((c.opened.view_is i).description.offset + length (c.items.ensures i))))))
+    (c.set_offset.ensures f c.requires.open ∙ (λ i. changed s (moved f ((c.opened.view_is i).description.offset + length (c.items.ensures i)))))))

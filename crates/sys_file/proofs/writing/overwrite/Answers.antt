@@ -1,8 +1,8 @@
 use Rattle.std.proofs.Common.{◌∙◌, ap, sym, arith, length, Err}
 use Rattle.std.specs.FinMap as map
 use Rattle.kern_model.specs.declared.objects.Object.{Object}
-use Rattle.kern_model.specs.FileRows.{written_over}
-use Rattle.kern_model.specs.State.{SetObject, changed}
+use Rattle.kern_model.specs.FileRows.{rewritten, written_over}
+use Rattle.kern_model.specs.State.{changed}
 use Rattle.kern_model.proofs.KeyLaws.{oid_cmp_exact, oid_cmp_total}
 use Rattle.kern_model.proofs.MapLemmas.{get-insert_same}
 use Rattle.fd_table.proofs.Loops.{set_twice}
@@ -53,4 +53,4 @@ returns-in-Ok-clause-written c =
     (λ i. record s { objects = (set i).objects; object_numbers = (set i).numbers; entries = c.set_attr.ensures.entries i })
     ∙ (λ i. record s { objects = map.insert (written i).objects id last; object_numbers = (written i).numbers; entries = c.in-Ok.ensures.entries i })
     ∙ (λ i. record s { objects = set_twice oid_cmp_total oid_cmp_exact s.objects id new last i })
-    ∙ (λ i. changed s (SetObject id (record (sym same i) { attr = c.args.attr; bytes = written_over (sym same i).bytes c.args.at c.args.bytes.now })))
+    ∙ (λ i. changed s (rewritten id (sym same i) (written_over (sym same i).bytes c.args.at c.args.bytes.now) c.args.attr))

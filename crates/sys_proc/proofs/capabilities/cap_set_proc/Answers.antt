@@ -1,19 +1,17 @@
-use Rattle.std.proofs.Common.{◌≡◌, ◌∙◌, sym, ap, true, refl, [], ◌∷◌, Some}
+use Rattle.std.proofs.Common.{◌≡◌, ◌∙◌, sym, ap, true, refl, Some}
 use Rattle.std.specs.Option.{option_copied_mut}
-use Rattle.kern_model.specs.declared.calls.Answer.TheVariants.{Nothing}
 use Rattle.kern_model.specs.declared.checks.Check.{Check}
 use Rattle.kern_model.specs.declared.records.Rec.TheVariants.{CapSetProc}
 use Rattle.kern_model.specs.Rules.{cap_of}
-use Rattle.kern_model.specs.State.{SetProcess, root}
+use Rattle.kern_model.specs.State.{root}
 use Rattle.proc_creds.specs.Credentials.{Credentials}
 use Rattle.proc_table.specs.Procs.{starting}
 use Rattle.chk_rules.proofs.Steps.{equal_check}
-use Rattle.sys_lookup.specs.Shared.{state_of}
 use Rattle.sys_lookup.proofs.CheckLemmas.{holds_where_passed}
 use Rattle.sys_lookup.proofs.LendLemmas.{creds_there}
 use Rattle.sys_lookup.proofs.OwnerLemmas.{owners_creds}
-use Rattle.sys_lookup.proofs.PlayLemmas.{need_plays, need_stops_row, commits}
-use Rattle.sys_proc.proofs.LentLemmas.{lent_is, left_changed, left_same}
+use Rattle.sys_lookup.proofs.PlayLemmas.{need_plays, need_stops_row}
+use Rattle.sys_proc.proofs.LentLemmas.{lent_is, left_same, plays_becoming}
 use Rattle.sys_proc.proofs.capabilities.cap_set_proc.Goals as goal
 
 pub unreachable-requires : goal.unreachable-requires
@@ -39,14 +37,12 @@ returns-in_err-must c = λ p there.
 pub returns : goal.returns
 returns c = λ p there.
     let h = c.args.shared.now in
-    let s = state_of h in
     let who = c.args.who.now in
     let caps = c.args.caps in
     let lent = c.in-Some.creds.now in
     let same = lent_is h who p there lent c.in-Some.ensures.value in
     need_plays (equal_check (c.cap_grow.ensures p same) c.in_ok-must.ensures)
-    (commits s _ _ (SetProcess who (record p { caps = caps }) ∷ []) Nothing (Some (CapSetProc who caps))
-    (left_changed h who p there lent c.in-Some.ensures.value (λ (x : Credentials). record x { caps = caps }) c.cap_set.new.self c.in-Ok.ensures.set.1))
+    (plays_becoming h who p there lent c.in-Some.ensures.value _ (Some (CapSetProc who caps)) (λ (x : Credentials). record x { caps = caps }) c.cap_set.new.self c.in-Ok.ensures.set.1)
 
 pub invariant_of-shared : goal.invariant_of-shared
 invariant_of-shared c =

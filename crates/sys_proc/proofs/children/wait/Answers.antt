@@ -1,7 +1,5 @@
-use Rattle.std.proofs.Common.{◌∙◌, ap, sym, not, subst, ◌==◌, ◌&&◌, drop, length, Result, Err}
-use Rattle.kern_model.specs.declared.calls.Errno.TheVariants.{ECHILD}
-use Rattle.kern_model.specs.ProcessRows.{take_ended, wait_row}
-use Rattle.kern_model.specs.Row.{Refuse}
+use Rattle.std.proofs.Common.{◌∙◌, ap, sym, subst, drop, Result, Err}
+use Rattle.kern_model.specs.ProcessRows.{await_child, wait_row}
 use Rattle.kern_model.specs.State.{State, Process}
 use Rattle.kern_model.specs.declared.numbers.Pid.{Pid}
 use Rattle.proc_table.specs.declared.procs.ReapError.{ReapError}
@@ -27,9 +25,9 @@ invariant_of-shared c =
 
 -- the row, whose test is made in the table
 waits : (h : Shared) (who : Pid) (q : Process) (log : CheckLog) (r : Result Effect Stop) (t : State)
-    → PlaysRow (state_of h) log (Refuse ECHILD (length q.ended == 0 && not (has_living_child h.procs.procs who)) (take_ended who (holding h.fds.rows who q) q.ended)) r t log
+    → PlaysRow (state_of h) log (await_child (has_living_child h.procs.procs who) who (holding h.fds.rows who q) q.ended) r t log
     → PlaysRow (state_of h) log (wait_row (state_of h) who (holding h.fds.rows who q)) r t log
-waits h who q log r t plays = subst (λ b. PlaysRow (state_of h) log (Refuse ECHILD (length q.ended == 0 && not b) (take_ended who (holding h.fds.rows who q) q.ended)) r t log) (sym (child_shown h who)) plays
+waits h who q log r t plays = subst (λ b. PlaysRow (state_of h) log (await_child b who (holding h.fds.rows who q) q.ended) r t log) (sym (child_shown h who)) plays
 
 pub returns-in-Ok-clause-played : goal.returns-in-Ok-clause-played
 returns-in-Ok-clause-played c = λ p log there.

@@ -1,6 +1,6 @@
-use Rattle.std.proofs.Common.{not}
-use Rattle.kern_model.specs.Row.{Need, need_if}
-use Rattle.kern_model.specs.Rules.{kill_rule, mac_write_process, same_label}
+use Rattle.kern_model.specs.ProcessRows.{writes_present}
+use Rattle.kern_model.specs.Row.{Need}
+use Rattle.kern_model.specs.Rules.{kill_rule}
 use Rattle.chk_rules.proofs.Steps.{equal_check, item_goes, item_stops}
 use Rattle.sys_proc.proofs.ends.may_signal.Goals as goal
 
@@ -9,7 +9,7 @@ returns-in_err-mac_write_present c =
     let sender = c.args.sender.now in
     let target = c.args.target.now in
     let receiver = c.args.receiver.now in
-    item_stops (need_if (not (same_label receiver.label target.label)) (mac_write_process sender target receiver.label)) {part = λ rest. Need (kill_rule sender target receiver) (rest tt)}
+    item_stops (writes_present sender target receiver) {part = λ rest. Need (kill_rule sender target receiver) (rest tt)}
     c.from_residual.result c.from_residual.ensures.1 c.in_err-mac_write_present.ensures
 
 pub returns : goal.returns
@@ -17,5 +17,5 @@ returns c =
     let sender = c.args.sender.now in
     let target = c.args.target.now in
     let receiver = c.args.receiver.now in
-    item_goes (need_if (not (same_label receiver.label target.label)) (mac_write_process sender target receiver.label)) {part = λ rest. Need (kill_rule sender target receiver) (rest tt)}
+    item_goes (writes_present sender target receiver) {part = λ rest. Need (kill_rule sender target receiver) (rest tt)}
     c.in_ok-mac_write_present.ensures (equal_check c.kill_rule.ensures c.must.ensures)

@@ -1,21 +1,12 @@
-use Rattle.std.proofs.Common.{◌∙◌, sym, ap, [], ◌∷◌, None, Bool, ℕ}
+use Rattle.std.proofs.Common.{◌∙◌, sym, ap, None}
 use Rattle.std.specs.Option.{option_copied_mut}
-use Rattle.kern_model.specs.declared.calls.Answer.TheVariants.{Nothing}
-use Rattle.kern_model.specs.declared.numbers.Pid.{Pid}
-use Rattle.kern_model.specs.ProcessRows.{set_ids}
-use Rattle.kern_model.specs.Row.{Row}
-use Rattle.kern_model.specs.State.{Process, SetProcess}
-use Rattle.proc_creds.specs.Credentials.{Credentials, with_group}
-use Rattle.sys_lookup.specs.Shared.{state_of}
+use Rattle.kern_model.specs.ProcessRows.{set_group, with_group}
+use Rattle.proc_creds.specs.Credentials.{Credentials}
 use Rattle.sys_lookup.proofs.LendLemmas.{creds_there}
 use Rattle.sys_lookup.proofs.OwnerLemmas.{owners_creds}
-use Rattle.sys_lookup.proofs.PlayLemmas.{then_plays, stops_row, commits}
-use Rattle.sys_proc.proofs.LentLemmas.{lent_is, left_changed, left_same}
+use Rattle.sys_lookup.proofs.PlayLemmas.{then_plays, stops_row}
+use Rattle.sys_proc.proofs.LentLemmas.{lent_is, left_same, plays_becoming}
 use Rattle.sys_proc.proofs.groups.setgid.Goals as goal
-
--- the row after its checks
-abbrev set_so : Pid → Process → ℕ → Bool → Row
-set_so who p group all = set_ids who p (with_group p.ids group all)
 
 pub unreachable-requires : goal.unreachable-requires
 unreachable-requires c =
@@ -28,20 +19,18 @@ returns-in_err-all c = λ p there.
     let who = c.args.who.now in
     let lent = c.in-Some.creds.now in
     let same = lent_is h who p there lent c.in-Some.ensures.value in
-    stops_row {rest = set_so who p c.args.group} c.from_residual.result c.from_residual.ensures.1 (left_same h who p there lent c.in-Some.ensures.value) (c.in_err-all.ensures.step p same)
+    stops_row {rest = set_group who p c.args.group} c.from_residual.result c.from_residual.ensures.1 (left_same h who p there lent c.in-Some.ensures.value) (c.in_err-all.ensures.step p same)
 
 pub returns : goal.returns
 returns c = λ p there.
     let h = c.args.shared.now in
-    let s = state_of h in
     let who = c.args.who.now in
     let group = c.args.group in
     let all = c.in_ok-all.all in
     let lent = c.in-Some.creds.now in
     let same = lent_is h who p there lent c.in-Some.ensures.value in
-    then_plays {rest = set_so who p group} (c.in_ok-all.ensures.step p same)
-    (commits s _ _ (SetProcess who (record p { ids = with_group p.ids group all }) ∷ []) Nothing None
-    (left_changed h who p there lent c.in-Some.ensures.value (λ (x : Credentials). record x { ids = with_group x.ids group all }) c.setgid.new.self c.in-Ok.ensures.set.1))
+    then_plays {rest = set_group who p group} (c.in_ok-all.ensures.step p same)
+    (plays_becoming h who p there lent c.in-Some.ensures.value _ None (λ (x : Credentials). record x { ids = with_group x.ids group all }) c.setgid.new.self c.in-Ok.ensures.set.1)
 
 pub invariant_of-shared : goal.invariant_of-shared
 invariant_of-shared c =

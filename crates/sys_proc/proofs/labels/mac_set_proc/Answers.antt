@@ -1,22 +1,13 @@
-use Rattle.std.proofs.Common.{◌∙◌, sym, ap, [], ◌∷◌, Some}
+use Rattle.std.proofs.Common.{◌∙◌, sym, ap, Some}
 use Rattle.std.specs.Option.{option_copied_mut}
-use Rattle.lab_lattice.specs.Label.{Label}
-use Rattle.kern_model.specs.declared.calls.Answer.TheVariants.{Nothing}
-use Rattle.kern_model.specs.declared.numbers.Pid.{Pid}
 use Rattle.kern_model.specs.declared.records.Rec.TheVariants.{MacSetProc}
-use Rattle.kern_model.specs.Row.{Row, Commit}
-use Rattle.kern_model.specs.State.{Process, SetProcess}
+use Rattle.kern_model.specs.ProcessRows.{set_own_label}
 use Rattle.proc_creds.specs.Credentials.{Credentials}
-use Rattle.sys_lookup.specs.Shared.{state_of}
 use Rattle.sys_lookup.proofs.LendLemmas.{creds_there}
 use Rattle.sys_lookup.proofs.OwnerLemmas.{owners_creds}
-use Rattle.sys_lookup.proofs.PlayLemmas.{then_plays, stops_row, commits}
-use Rattle.sys_proc.proofs.LentLemmas.{equal_record, lent_is, left_changed, left_same}
+use Rattle.sys_lookup.proofs.PlayLemmas.{then_plays, stops_row}
+use Rattle.sys_proc.proofs.LentLemmas.{equal_record, lent_is, left_same, plays_becoming}
 use Rattle.sys_proc.proofs.labels.mac_set_proc.Goals as goal
-
--- the row after its check
-abbrev set_so : Pid → Process → Label → Row
-set_so who p label = Commit (SetProcess who (record p { label = label }) ∷ []) Nothing (Some (MacSetProc who p.label label))
 
 pub unreachable-requires : goal.unreachable-requires
 unreachable-requires c =
@@ -29,20 +20,19 @@ returns-in_err-may_get c = λ p there.
     let who = c.args.who.now in
     let lent = c.in-Some.creds.now in
     let same = lent_is h who p there lent c.in-Some.ensures.value in
-    stops_row {rest = λ _. set_so who p c.args.label} c.from_residual.result c.from_residual.ensures.1 (left_same h who p there lent c.in-Some.ensures.value) (c.in_err-may_get.ensures p same)
+    stops_row {rest = λ _. set_own_label who p c.args.label} c.from_residual.result c.from_residual.ensures.1 (left_same h who p there lent c.in-Some.ensures.value) (c.in_err-may_get.ensures p same)
 
 pub returns : goal.returns
 returns c = λ p there.
     let h = c.args.shared.now in
-    let s = state_of h in
     let who = c.args.who.now in
     let label = c.args.label in
     let lent = c.in-Some.creds.now in
     let same = lent_is h who p there lent c.in-Some.ensures.value in
-    then_plays {rest = λ _. set_so who p label} (c.in_ok-may_get.ensures p same)
+    then_plays {rest = λ _. set_own_label who p label} (c.in_ok-may_get.ensures p same)
     (equal_record (ap (λ (x : Credentials). Some (MacSetProc who x.label label)) (c.creds.view_is ∙ sym same))
-    (commits s _ _ (SetProcess who (record p { label = label }) ∷ []) Nothing (Some (MacSetProc who c.creds.inside.label label))
-    (left_changed h who p there lent c.in-Some.ensures.value (λ (x : Credentials). record x { label = label }) c.mac_set.new.self c.mac_set.ensures)))
+    (plays_becoming h who p there lent c.in-Some.ensures.value _ (Some (MacSetProc who c.creds.inside.label label))
+    (λ (x : Credentials). record x { label = label }) c.mac_set.new.self c.mac_set.ensures))
 
 pub invariant_of-shared : goal.invariant_of-shared
 invariant_of-shared c =

@@ -1,16 +1,12 @@
-use Rattle.std.proofs.Common.{◌≡◌, ◌∙◌, sym, ap, [], ◌∷◌, Some}
+use Rattle.std.proofs.Common.{◌≡◌, ◌∙◌, sym, ap, Some}
 use Rattle.std.specs.Option.{option_copied_mut}
-use Rattle.kern_model.specs.declared.calls.Answer.TheVariants.{Nothing}
 use Rattle.kern_model.specs.declared.records.Rec.TheVariants.{Exec}
 use Rattle.kern_model.specs.Exec.{exec_caps, exec_ids}
-use Rattle.kern_model.specs.State.{SetProcess}
 use Rattle.proc_creds.specs.Credentials.{Credentials, taken_on}
 use Rattle.proc_creds.proofs.ExecLemmas.{taken_from_file}
-use Rattle.sys_lookup.specs.Shared.{state_of}
 use Rattle.sys_lookup.proofs.LendLemmas.{creds_there}
 use Rattle.sys_lookup.proofs.OwnerLemmas.{owners_creds}
-use Rattle.sys_lookup.proofs.PlayLemmas.{commits}
-use Rattle.sys_proc.proofs.LentLemmas.{equal_record, lent_is, left_changed}
+use Rattle.sys_proc.proofs.LentLemmas.{equal_record, lent_is, plays_becoming}
 use Rattle.sys_proc.proofs.programs.run.Goals as goal
 
 pub unreachable-requires : goal.unreachable-requires
@@ -21,7 +17,6 @@ unreachable-requires c =
 pub returns : goal.returns
 returns c = λ log p there.
     let h = c.args.shared.now in
-    let s = state_of h in
     let who = c.args.who.now in
     let m = c.args.program.now in
     let lent = c.in-Some.creds.now in
@@ -33,8 +28,8 @@ returns c = λ log p there.
     ∙ (λ i. record lent { ids = taken_from_file lent.ids m.attr i; caps = caps }) in
     equal_record
     (ap (λ (x : Credentials). Some (Exec who m.id m.attr.caps x.caps)) (c.creds.view_is ∙ left) ∙ ap (λ (x : Credentials). Some (Exec who m.id m.attr.caps (exec_caps x.caps m.attr.caps h.bound))) (sym same))
-    (commits s _ log (SetProcess who (record p { ids = exec_ids p.ids m.attr; caps = exec_caps p.caps m.attr.caps h.bound }) ∷ []) Nothing (Some (Exec who m.id m.attr.caps c.creds.inside.caps))
-    (left_changed h who p there lent c.in-Some.ensures.value (λ (x : Credentials). record x { ids = exec_ids x.ids m.attr; caps = exec_caps x.caps m.attr.caps h.bound }) c.exec_transform.new.self left))
+    (plays_becoming h who p there lent c.in-Some.ensures.value log (Some (Exec who m.id m.attr.caps c.creds.inside.caps))
+    (λ (x : Credentials). record x { ids = exec_ids x.ids m.attr; caps = exec_caps x.caps m.attr.caps h.bound }) c.exec_transform.new.self left)
 
 pub invariant_of-shared : goal.invariant_of-shared
 invariant_of-shared c =

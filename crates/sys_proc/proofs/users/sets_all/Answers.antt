@@ -15,12 +15,12 @@ returns-in_err-all-clause-step c = λ p same.
 
 pub returns-in_err-must-clause-step : goal.returns-in_err-must-clause-step
 returns-in_err-must-clause-step c = λ p same.
-    else_stops (c.setuid_all.ensures p same) c.from_residual-in_err-must.result c.from_residual-in_err-must.ensures.1 c.if-not-all.true c.in_ok-all.ensures
+    else_stops (c.setuid_all.ensures p same) c.in_ok-all.ensures c.from_residual-in_err-must.result c.from_residual-in_err-must.ensures.1 c.if-not-all.true
     (equal_check (c.setuid_rule.ensures p same) c.in_err-must.ensures)
 
 pub returns-in_ok-must-clause-step : goal.returns-in_ok-must-clause-step
 returns-in_ok-must-clause-step c = λ p same.
-    else_goes (c.setuid_all.ensures p same) c.if-not-all.true c.in_ok-all.ensures (equal_check (c.setuid_rule.ensures p same) c.in_ok-must.ensures)
+    else_goes (c.setuid_all.ensures p same) c.in_ok-all.ensures c.if-not-all.true (equal_check (c.setuid_rule.ensures p same) c.in_ok-must.ensures)
 
 pub returns-in_ok-must-clause-allowed : goal.returns-in_ok-must-clause-allowed
 returns-in_ok-must-clause-allowed c =
@@ -30,4 +30,4 @@ returns-in_ok-must-clause-allowed c =
     ap (λ all. all || may_be_user c.args.creds.now.ids c.args.user) c.if-not-all.true ∙ sym (ap (λ (k : Check). k.holds) check_is) ∙ holds
 
 pub returns-else-not-all-clause-step : goal.returns-else-not-all-clause-step
-returns-else-not-all-clause-step c = λ p same. soft_granted (c.setuid_all.ensures p same) c.if-not-all.false c.in_ok-all.ensures
+returns-else-not-all-clause-step c = λ p same. soft_granted (c.setuid_all.ensures p same) c.in_ok-all.ensures c.if-not-all.false

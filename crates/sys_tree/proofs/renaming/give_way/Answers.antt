@@ -1,57 +1,58 @@
-use Rattle.std.proofs.Common.{◌∙◌, Bool, Option, Ok, cond, refl, sym, subst}
+use Rattle.std.proofs.Common.{◌≡◌, ◌∙◌, Bool, true, false, Option, Result, Ok, refl, sym, subst}
+use Rattle.kern_model.specs.declared.checks.Place.{Place}
 use Rattle.kern_model.specs.declared.numbers.Oid.{Oid}
 use Rattle.kern_model.specs.Keys.{same_oid}
-use Rattle.kern_model.specs.Row.{Row}
-use Rattle.kern_model.specs.State.{State}
+use Rattle.kern_model.specs.State.{State, Process}
+use Rattle.kern_model.specs.TreeRows.{gives_way, may_replace, over_other}
+use Rattle.chk_rules.specs.CheckLog.{CheckLog}
 use Rattle.chk_rules.specs.Ends.{GoesOn}
+use Rattle.chk_rules.specs.declared.stop.Stop.{Stop}
 use Rattle.chk_rules.proofs.Steps.{need_goes, need_stops, item_goes, item_stops, gives}
 use Rattle.sys_lookup.specs.Shared.{process_of, state_of}
-use Rattle.sys_tree.specs.Targets.{giving, replacing}
-use Rattle.sys_tree.specs.declared.renaming.Way.{Way}
-use Rattle.sys_tree.specs.declared.renaming.Way.TheVariants.{Stays, Moves}
 use Rattle.sys_tree.proofs.renaming.give_way.Goals as goal
 
--- the row after the object at the target is written, given whether it is the object itself
-abbrev deciding : State → Oid → Oid → Bool → (Way → Row) → Row
-deciding s id target same rest = cond same (rest Stays) (replacing s id target (rest Moves))
+-- the same step for an equal target, at an equal place
+at_target : (s : State) (p : Process) (id : Oid) {o target : Option Oid} {at place : Place} {a b : CheckLog} {r : Result Bool Stop} → o ≡ target → at ≡ place → GoesOn a (gives_way s p id o at) r b → GoesOn a (gives_way s p id target place) r b
+at_target s p id {o = o} {place = place} {a = a} {b = b} {r = r} same here step =
+    subst (λ (x : Option Oid). GoesOn a (gives_way s p id x place) r b) same (subst (λ (x : Place). GoesOn a (gives_way s p id o x) r b) here step)
 
-pub returns-in_err-write_object : goal.returns-in_err-write_object
-returns-in_err-write_object c =
+pub returns-in_err-target : goal.returns-in_err-target
+returns-in_err-target c = λ is.
     let s = state_of c.args.caller.now.shared.now in
-    let id = c.args.id.now in
-    let t = c.in-Some.target in
-    subst (λ (o : Option Oid). GoesOn c.args.checks.now (giving s (process_of c.args.caller.now) id o c.args.place) c.from_residual.result c.write_object.new.checks) (sym c.in-Some.is)
-    (need_stops {part = deciding s id t (same_oid t id)} c.from_residual.result c.from_residual.ensures.1 c.in_err-write_object.ensures.step)
+    let id = c.args.object.now.id in
+    let t = c.in-Some.id in
+    at_target s (process_of c.args.caller.now) id (sym c.in-Some.is) c.last_place.ensures
+    (need_stops {part = over_other s id t (same_oid t id)} c.from_residual.result c.from_residual.ensures.1 c.in_err-target.ensures.step)
 
 pub returns-then-is_same : goal.returns-then-is_same
-returns-then-is_same c =
+returns-then-is_same c = λ is.
     let s = state_of c.args.caller.now.shared.now in
-    let id = c.args.id.now in
-    let t = c.in-Some.target in
+    let id = c.args.object.now.id in
+    let t = c.in-Some.id in
     let log = c.write_object.new.checks in
-    subst (λ (o : Option Oid). GoesOn c.args.checks.now (giving s (process_of c.args.caller.now) id o c.args.place) (Ok Stays) log) (sym c.in-Some.is)
-    (need_goes {part = deciding s id t (same_oid t id)} c.in_ok-write_object.ensures.step
-    (subst (λ (b : Bool). GoesOn log (deciding s id t b) (Ok Stays) log) (sym (sym c.is_same.ensures ∙ c.if-is_same.true)) (gives refl)))
+    at_target s (process_of c.args.caller.now) id (sym c.in-Some.is) c.last_place.ensures
+    (need_goes {part = over_other s id t (same_oid t id)} c.in_ok-target.ensures.step
+    (subst (λ (b : Bool). GoesOn log (over_other s id t b) (Ok false) log) (sym (sym c.is_same.ensures ∙ c.if-is_same.true)) (gives refl)))
 
-pub returns-in_err-replace : goal.returns-in_err-replace
-returns-in_err-replace c =
+pub returns-in_err-may_replace : goal.returns-in_err-may_replace
+returns-in_err-may_replace c = λ is.
     let s = state_of c.args.caller.now.shared.now in
-    let id = c.args.id.now in
-    let t = c.in-Some.target in
+    let id = c.args.object.now.id in
+    let t = c.in-Some.id in
     let log = c.write_object.new.checks in
-    let r = c.from_residual-in_err-replace.result in
-    subst (λ (o : Option Oid). GoesOn c.args.checks.now (giving s (process_of c.args.caller.now) id o c.args.place) r log) (sym c.in-Some.is)
-    (need_goes {part = deciding s id t (same_oid t id)} c.in_ok-write_object.ensures.step
-    (subst (λ (b : Bool). GoesOn log (deciding s id t b) r log) (sym (sym c.is_same.ensures ∙ c.if-is_same.false))
-    (item_stops (replacing s id t) r c.from_residual-in_err-replace.ensures.1 (c.in_err-replace.ensures log))))
+    let r = c.from_residual-in_err-may_replace.result in
+    at_target s (process_of c.args.caller.now) id (sym c.in-Some.is) c.last_place.ensures
+    (need_goes {part = over_other s id t (same_oid t id)} c.in_ok-target.ensures.step
+    (subst (λ (b : Bool). GoesOn log (over_other s id t b) r log) (sym (sym c.is_same.ensures ∙ c.if-is_same.false))
+    (item_stops (may_replace s id t) r c.from_residual-in_err-may_replace.ensures.1 (c.in_err-may_replace.ensures id t log is c.in_ok-target.ensures.object))))
 
 pub returns : goal.returns
-returns c =
+returns c = λ is.
     let s = state_of c.args.caller.now.shared.now in
-    let id = c.args.id.now in
-    let t = c.in-Some.target in
+    let id = c.args.object.now.id in
+    let t = c.in-Some.id in
     let log = c.write_object.new.checks in
-    subst (λ (o : Option Oid). GoesOn c.args.checks.now (giving s (process_of c.args.caller.now) id o c.args.place) (Ok Moves) log) (sym c.in-Some.is)
-    (need_goes {part = deciding s id t (same_oid t id)} c.in_ok-write_object.ensures.step
-    (subst (λ (b : Bool). GoesOn log (deciding s id t b) (Ok Moves) log) (sym (sym c.is_same.ensures ∙ c.if-is_same.false))
-    (item_goes (replacing s id t) (c.in_ok-replace.ensures log) (gives refl))))
+    at_target s (process_of c.args.caller.now) id (sym c.in-Some.is) c.last_place.ensures
+    (need_goes {part = over_other s id t (same_oid t id)} c.in_ok-target.ensures.step
+    (subst (λ (b : Bool). GoesOn log (over_other s id t b) (Ok true) log) (sym (sym c.is_same.ensures ∙ c.if-is_same.false))
+    (item_goes (may_replace s id t) (c.in_ok-may_replace.ensures id t log is c.in_ok-target.ensures.object) (gives refl))))

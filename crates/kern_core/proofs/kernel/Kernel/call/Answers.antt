@@ -2,7 +2,7 @@ use Rattle.std.proofs.Common.{◌∙◌, sym}
 use Rattle.std.proofs.lemmas.Result.{IfOk-weaker}
 use Rattle.sys_lookup.specs.Shared as held
 use Rattle.kern_core.specs.Kernel.{has_failed, state_of}
-use Rattle.kern_core.proofs.KernelLemmas.{kept_played, named_played, valid_played, go_on_played, where_no_error}
+use Rattle.kern_core.proofs.KernelLemmas.{kept_played, named_played, needs_only_named, valid_played, go_on_played, where_no_error}
 use Rattle.kern_core.proofs.kernel.Kernel.call.Goals as goal
 
 pub invariant_of-self : goal.invariant_of-self
@@ -31,6 +31,10 @@ pub returns-clause-numbers : goal.returns-clause-numbers
 unfolding state_of
 returns-clause-numbers c =
     go_on_played (held.state_of c.args.self.now.shared) (held.state_of c.play-outcome.new.shared) c.args.who.now c.args.call.now c.play-outcome.result c.play-outcome.ensures.played (c.args.self.now.valid c.if-self.false)
+
+pub returns-clause-unnamed : goal.returns-clause-unnamed
+unfolding state_of
+returns-clause-unnamed c = needs_only_named (held.state_of c.args.self.now.shared) (held.state_of c.play-outcome.new.shared) c.args.who.now c.args.call.now c.play-outcome.result c.play-outcome.ensures.played
 
 pub play-outcome-requires : goal.play-outcome-requires
 play-outcome-requires c = record { valid = c.args.self.now.valid c.if-self.false }

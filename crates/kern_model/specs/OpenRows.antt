@@ -1,0 +1,128 @@
+-- The row of open: what a path leads to may be opened, or made, and then it is opened.
+use Rattle.std.specs.Prelude.{ℕ, ◌&&◌, not, cond, List, [], ◌∷◌, ◌++◌, Option, None, Some, unwrap_or}
+use Rattle.fs_path.specs.Name.{Name}
+use Rattle.fs_path.specs.Path.{PathValue}
+use Rattle.lab_lattice.specs.Label.{dominates}
+use Rattle.kern_model.specs.declared.calls.Answer.TheVariants as answer
+use Rattle.kern_model.specs.declared.calls.Errno.TheVariants as errno
+use Rattle.kern_model.specs.declared.calls.OpenFlags.{OpenFlags}
+use Rattle.kern_model.specs.declared.checks.Check.{Check}
+use Rattle.kern_model.specs.declared.checks.CheckName.TheVariants as check
+use Rattle.kern_model.specs.declared.checks.Place.{Place}
+use Rattle.kern_model.specs.declared.checks.Place.TheVariants.{First}
+use Rattle.kern_model.specs.declared.checks.Want.TheVariants as want
+use Rattle.kern_model.specs.declared.numbers.Oid.{Oid}
+use Rattle.kern_model.specs.declared.numbers.Pid.{Pid}
+use Rattle.kern_model.specs.declared.objects.Attr.{Attr}
+use Rattle.kern_model.specs.declared.objects.Body.TheVariants as body
+use Rattle.kern_model.specs.declared.objects.Object.{Object}
+use Rattle.kern_model.specs.Kinds.{is_dir, is_file, is_fifo, object_with, masked}
+use Rattle.kern_model.specs.State.{State, Process, Change, object_at}
+use Rattle.kern_model.specs.Descriptors.{lowest_free}
+use Rattle.kern_model.specs.Rules.{of_object, same_label, mode_allows}
+use Rattle.kern_model.specs.Row.{Row, Refuse, Commit, need_if}
+use Rattle.kern_model.specs.Walk.{Found, Start, Entry, walk, last_place, dir_place}
+use Rattle.kern_model.specs.Create.{make_in, attr_of, made}
+use Rattle.kern_model.specs.FileRows.{may_describe, opening, keeps_attr, rewritten, to_number}
+
+-- ---- checks of an object that was read
+
+-- the caller's label dominates the object's
+abbrev pub label_reads : Process → Oid → Place → Object → Check
+label_reads p id place o = of_object check.MacRead (dominates p.label o.label) None id o place
+
+-- the caller's label is the object's
+abbrev pub label_writes : Process → Oid → Place → Object → Check
+label_writes p id place o = of_object check.MacWrite (same_label p.label o.label) None id o place
+
+-- the class has the read bit
+abbrev pub mode_reads : Process → Oid → Place → Object → Check
+mode_reads p id place o = of_object check.DacRead (mode_allows o.attr p.ids want.Read) None id o place
+
+-- the class has the write bit
+abbrev pub mode_writes : Process → Oid → Place → Object → Check
+mode_writes p id place o = of_object check.DacWrite (mode_allows o.attr p.ids want.Write) None id o place
+
+-- ---- whether an object that is there may be opened
+
+-- the caller may open an object by its label
+abbrev pub allowed_by_label : Process → OpenFlags → Oid → Place → Object → Row → Row
+allowed_by_label p flags id place o rest = need_if flags.r (label_reads p id place o) (need_if flags.w (label_writes p id place o) rest)
+
+-- the object is of a kind that is opened so; a FIFO that is opened for reading is written too, since bytes come out
+abbrev pub allowed_by_kind : Process → OpenFlags → Oid → Place → Object → Row → Row
+allowed_by_kind p flags id place o rest =
+    Refuse errno.EISDIR (is_dir o.kind)
+    (Refuse errno.EINVAL (is_fifo o.kind && flags.r && flags.w)
+    (need_if (is_fifo o.kind && flags.r) (label_writes p id place o) rest))
+
+-- the caller may open an object by its mode
+abbrev pub allowed_by_mode : Process → OpenFlags → Oid → Place → Object → Row → Row
+allowed_by_mode p flags id place o rest = need_if flags.r (mode_reads p id place o) (need_if flags.w (mode_writes p id place o) rest)
+
+-- with `t` a file is emptied: the attributes that it has then, or none where an object keeps its content
+abbrev pub to_emptied : OpenFlags → Oid → Place → Object → (Option Attr → Row) → Row
+to_emptied flags id place o rest = cond (flags.t && is_file o.kind) (keeps_attr id place o (λ attr. rest (Some attr))) (rest None)
+
+-- the caller may open an object that is there
+abbrev pub to_present : Process → OpenFlags → Oid → Place → Object → (Option Attr → Row) → Row
+to_present p flags id place o rest =
+    Refuse errno.EEXIST (flags.c && flags.x)
+    (allowed_by_label p flags id place o
+    (allowed_by_kind p flags id place o
+    (allowed_by_mode p flags id place o
+    (to_emptied flags id place o rest))))
+
+-- ---- what is opened
+
+-- what was done before, and then the description
+abbrev pub opens : State → Pid → Process → Oid → OpenFlags → List Change → Row
+opens s who p id flags before = Commit (before ++ opening s who p id flags) (answer.Number (lowest_free p.fds)) None
+
+-- the change of an object that is emptied with these attributes, if it is
+abbrev pub emptying : Oid → Object → Option Attr → List Change
+emptying id o None = []
+emptying id o (Some attr) = rewritten id o [] attr ∷ []
+
+-- an object that is there is opened
+abbrev pub opens_present : State → Pid → Process → OpenFlags → Oid → Object → Option Attr → Row
+opens_present s who p flags id o emptied = opens s who p id flags (emptying id o emptied)
+
+-- where an object has the name it is opened, if the caller may
+abbrev pub open_present : State → Pid → Process → OpenFlags → Oid → Place → Row
+open_present s who p flags id place = to_present p flags id place (object_at s id) (opens_present s who p flags id (object_at s id))
+
+-- the part of it from the content on
+abbrev pub open_emptying : State → Pid → Process → OpenFlags → Oid → Place → Row
+open_emptying s who p flags id place = to_emptied flags id place (object_at s id) (opens_present s who p flags id (object_at s id))
+
+-- the caller may make a file under a name that nothing has
+abbrev pub to_absent : State → Process → OpenFlags → Oid → Place → Row → Row
+to_absent s p flags dir place rest = Refuse errno.ENOENT (not flags.c) (make_in s p dir place rest)
+
+-- an empty file that the caller makes
+abbrev pub new_file : Process → ℕ → Object
+new_file p mode = object_with p.label (attr_of p (masked mode p.umask)) (body.File [])
+
+-- a file is made under a number, and opened
+abbrev pub opens_made : State → Pid → Process → OpenFlags → ℕ → Oid → Name → Oid → Row
+opens_made s who p flags mode dir name id = opens s who p id flags (made s p dir name (new_file p mode))
+
+abbrev pub opens_new : State → Pid → Process → OpenFlags → ℕ → Oid → Name → Row
+opens_new s who p flags mode dir name = to_number s p (opens_made s who p flags mode dir name)
+
+-- where nothing has the name a file is made, if that is asked for
+abbrev pub open_absent : State → Pid → Process → OpenFlags → ℕ → Oid → Name → Place → Row
+open_absent s who p flags mode dir name place = to_absent s p flags dir place (opens_new s who p flags mode dir name)
+
+abbrev pub open_found : State → Pid → Process → PathValue → OpenFlags → ℕ → Found → Row
+open_found s who p path flags mode (Start id) = open_present s who p flags id (last_place (λ n. First n) path)
+open_found s who p path flags mode (Entry dir name None) = open_absent s who p flags mode dir name (dir_place (λ n. First n) path)
+open_found s who p path flags mode (Entry dir name (Some id)) = open_present s who p flags id (last_place (λ n. First n) path)
+
+abbrev pub open_path : State → Pid → Process → PathValue → OpenFlags → ℕ → Row
+open_path s who p path flags mode = walk s p (λ n. First n) path (open_found s who p path flags mode)
+
+-- `open PATH FLAGS [MODE]`
+abbrev pub open_row : State → Pid → Process → PathValue → OpenFlags → Option ℕ → Row
+open_row s who p path flags mode = may_describe s p 1 (open_path s who p path flags (unwrap_or mode 0))
