@@ -26,7 +26,7 @@ use Rattle.kern_model.proofs.MapLemmas.{each-entries, each-insert, each-remove, 
 use Rattle.kern_model.proofs.Selections.{count_remove}
 use Rattle.fs_nodes.specs.Nodes.{NodeTable, no_nodes, with_new, with_object, next_in}
 use Rattle.fs_dirs.specs.Entries.{entries_alone, name_count}
-use Rattle.fs_dirs.specs.Tree.{IsNoDir, IsTree, MayBeAdded, TreeView, root_alone}
+use Rattle.fs_dirs.specs.Tree.{IsNoDir, IsTree, MayBeAdded, TreeView, root_alone, state_of_tree}
 use Rattle.fs_dirs.proofs.CountLemmas.{count_entries-empty, count_entries-insert}
 use Rattle.fs_dirs.proofs.MoveLemmas.{no_more}
 
@@ -134,7 +134,7 @@ tree_alone attr t none = record {
 }
 
 -- an object that gets one more name and has several from then on is no directory
-several_no_dir : (v : TreeView) → IsTree v.nodes.table v.entries → (dir : Oid) (name : Name) (id : Oid) → MayBeAdded v id → map.get v.entries (dir, name) ≡ None → (q : Oid) → 1 < name_count (map.insert v.entries (dir, name) id) q → IsNoDir v.nodes.table.objects q
+several_no_dir : (v : TreeView) → IsTree v.nodes.table v.entries → (dir : Oid) (name : Name) (id : Oid) → MayBeAdded (state_of_tree v) id → map.get v.entries (dir, name) ≡ None → (q : Oid) → 1 < name_count (map.insert v.entries (dir, name) id) q → IsNoDir v.nodes.table.objects q
 several_no_dir v tree dir name id may absent q several =
     let counted = count_entries-insert (λ (spot : Spot) (at : Oid). same_oid at q) spot_cmp_total v.entries (dir, name) id absent in
     elim (same_oid id q) as (λ b. same_oid id q ≡ b → IsNoDir v.nodes.table.objects q) [
@@ -151,7 +151,7 @@ several_no_dir v tree dir name id may absent q several =
           tree.single q (omega (arith, counted, none, several))
     ] refl
 
-pub tree_added : (v : TreeView) → IsTree v.nodes.table v.entries → (dir : Oid) (name : Name) (id : Oid) → IsDir v.nodes.table.objects dir → MayBeAdded v id → map.get v.entries (dir, name) ≡ None → IsTree v.nodes.table (map.insert v.entries (dir, name) id)
+pub tree_added : (v : TreeView) → IsTree v.nodes.table v.entries → (dir : Oid) (name : Name) (id : Oid) → IsDir v.nodes.table.objects dir → MayBeAdded (state_of_tree v) id → map.get v.entries (dir, name) ≡ None → IsTree v.nodes.table (map.insert v.entries (dir, name) id)
 tree_added v tree dir name id is_dir may absent = record {
   drawn_already = tree.drawn_already;
   dirs = each-insert spot_cmp_total spot_cmp_exact (λ (spot : Spot) (at : Oid). IsDir v.nodes.table.objects spot.0) v.entries tree.dirs (dir, name) id is_dir;

@@ -57,13 +57,13 @@ pub record AreEntries (table : NodeTable) (entries : FinMap spot_cmp Oid) : Type
   pub single : (id : Oid) → 1 < name_count entries id → IsNoDir table.objects id
 
 -- an object may get one more name: it has few, is neither a pipe nor the root, and a directory gets no second one
-pub record MayBeAdded (t : TreeView) (id : Oid) : Type 0 where
+pub record MayBeAdded (s : State) (id : Oid) : Type 0 where
   pub object : Object
-  pub is : map.get t.nodes.table.objects id ≡ Some object
-  pub few : link_count (state_of_tree t) id < MAX_LINKS
+  pub is : map.get s.objects id ≡ Some object
+  pub few : link_count s id < MAX_LINKS
   pub no_root : id ≡ root → ⊥
   pub no_pipe : object.kind ≡ kind.Pipe → ⊥
-  pub one : object.kind ≡ kind.Dir → link_count (state_of_tree t) id ≡ 0
+  pub one : object.kind ≡ kind.Dir → link_count s id ≡ 0
 
 -- whether an object would lie under itself in a directory: it is a directory, and the other one is it or lies under it
 abbrev pub would_loop : State → Oid → Oid → Bool

@@ -323,7 +323,7 @@ impl Tree {
     /// Has a new name in a directory lead to an object.
     pub fn add(&mut self, dir: &Oid, name: &Name, id: &Oid) -> Result<(), AddError>
         requires dir { IsDir self.old.nodes.table.objects dir.now }
-        requires may { MayBeAdded self.old id.now }
+        requires may { MayBeAdded (state_of_tree self.old) id.now }
         ensures added { OnOk result (self.new ≡ record self.old { entries = map.insert self.old.entries (dir.now, name.now) id.now }) }
         ensures exists { (result ≡ Err AddError.Exists) ↔ IsSome (look (state_of_tree self.old) dir.now name.now) }
         ensures removed { (result ≡ Err AddError.Removed) ↔ (look (state_of_tree self.old) dir.now name.now ≡ None) × (is_removed (state_of_tree self.old) dir.now ≡ true) }

@@ -43,7 +43,7 @@ pub record IsMaking (bad : Rec → Bool) (s : State) (who : Pid) (p : Process) (
   pub free : look s dir name ≡ None
   pub standing : is_removed s dir ≡ false
   pub fresh : IsFresh p o
-  pub left : has_object_number s p ≡ true
+  pub left : has_object_number s p.label ≡ true
   pub order : dominates p.label is_dir.object.label ≡ true
   pub named : fit → is_name name ≡ true
 
@@ -96,7 +96,7 @@ pub record Cases (bad : Rec → Bool) (s : State) (who : Pid) (p : Process) (fit
       → IsDir s.objects dir → Passes bad (subject who p) (mac_write s p into there_place)
       → IsMove s dir name id into new → (fit → is_name new ≡ true) → P (DropEntry (dir, name) ∷ SetEntry (into, new) id ∷ [])
   -- an object is made
-  pub make : (dir : Oid) (name : Name) (o : Object) (place : Place) → IsMaking bad s who p fit dir name o place → P (made s p dir name o)
+  pub make : (dir : Oid) (name : Name) (o : Object) (place : Place) → IsMaking bad s who p fit dir name o place → P (made s p.label dir name o)
   -- the caller gets a further descriptor, of what another one refers to
   pub share : (fd : ℕ) (f : Opened) → IsOpen s p fd f → open_count p + 1 ≤ MAX_DESCRIPTORS → P (SetProcess who (with_descriptor p f.did) ∷ [])
   -- a descriptor of the caller gets another offset
@@ -117,9 +117,9 @@ pub record Cases (bad : Rec → Bool) (s : State) (who : Pid) (p : Process) (fit
       → P (rewritten id (object_at s id) [] attr ∷ opening s who p id flags)
   -- a file is made and opened
   pub open_made : (dir : Oid) (name : Name) (o : Object) (place : Place) (flags : OpenFlags) → IsMaking bad s who p fit dir name o place → o.kind ≡ kind.File
-      → HasRoom s p → P (made s p dir name o ++ opening s who p (next_object s p.label) flags)
+      → HasRoom s p → P (made s p.label dir name o ++ opening s who p (next_object s p.label) flags)
   -- a pipe is made and opened at both ends
-  pub pipe : has_object_number s p ≡ true → open_count p + 2 ≤ MAX_DESCRIPTORS → drawn s.description_numbers p.label + 2 ≤ MAX_DESCRIPTIONS → P (piped s who p)
+  pub pipe : has_object_number s p.label ≡ true → open_count p + 2 ≤ MAX_DESCRIPTORS → drawn s.description_numbers p.label + 2 ≤ MAX_DESCRIPTIONS → P (piped s who p)
   -- a descriptor of the caller closes
   pub close : (fd : ℕ) → P (SetProcess who (without_fd p fd) ∷ closing s (has_fd who fd))
   -- an object whose mac_write passed gets other attributes

@@ -122,7 +122,7 @@ module _ (There : Oid → Type 0) (s : State) (leads : LeadsTo There s) (who : P
   made_there : (o : Object) → IsThere (map.insert s.objects (next_object s p.label) o) (next_object s p.label)
   made_there o = record { value = o; is = get-insert_same oid_cmp_total s.objects (next_object s p.label) o }
 
-  made_fits : (dir : Oid) (name : Name) (o : Object) → Fits_in s (made s p dir name o)
+  made_fits : (dir : Oid) (name : Name) (o : Object) → Fits_in s (made s p.label dir name o)
   made_fits dir name o = (next_is_above s.object_numbers p.label, (inr (next_drawn s.object_numbers p.label), (inr (made_there o), tt)))
 
   -- what opens an object fits where the object is known
@@ -177,7 +177,7 @@ module _ (There : Oid → Type 0) (s : State) (leads : LeadsTo There s) (who : P
         let there : There id = to id may.walked in
         ((inl there, opening_fits (changed s (SetObject id (record (object_at s id) { attr = attr; bytes = [] }))) id flags refl (inl there)), tt)
     fits_effect cs own (OpenMade dir name o place flags making file room) =
-        let before : List Change = made s p dir name o in (
+        let before : List Change = made s p.label dir name o in (
           fit-append There (Child who None) s before (opening s who p (next_object s p.label) flags) s (made_fits dir name o)
               (opening_fits (changed_by s before) (next_object s p.label) flags refl (inr (made_there o))),
           tt,

@@ -81,7 +81,7 @@ module _ (Known : Check → Type 0) (Not : Bool → Type 0) (Given : Premise →
     pub written : Known (mac_write s p dir place)
     pub order : Known (created_order s p dir place)
     pub standing : Not (is_removed s dir)
-    pub left : Not (not (has_object_number s p))
+    pub left : Not (not (has_object_number s p.label))
     pub fresh : IsFresh p o
     pub named : Given HasNames → is_name name ≡ true
 
@@ -157,7 +157,7 @@ module _ (Known : Check → Type 0) (Not : Bool → Type 0) (Given : Premise →
         → (Given HasNames → is_name new ≡ true)
         → Effect (DropEntry (dir, name) ∷ SetEntry (into, new) id ∷ []) None
     -- an object is made
-    Make : (dir : Oid) (name : Name) (o : Object) (place : Place) → Making dir name o place → Effect (made s p dir name o) None
+    Make : (dir : Oid) (name : Name) (o : Object) (place : Place) → Making dir name o place → Effect (made s p.label dir name o) None
     -- a descriptor is shared, moves, or closes
     Share : (fd : ℕ) (f : Opened) → IsOpen s p fd f → Not (not (has_free_descriptors p 1)) → Effect (SetProcess who (with_descriptor p f.did) ∷ []) None
     Seek : (fd : ℕ) (f : Opened) (offset : ℕ) → IsOpen s p fd f → Effect (moved f offset ∷ []) None
@@ -182,9 +182,9 @@ module _ (Known : Check → Type 0) (Not : Bool → Type 0) (Given : Premise →
         → (is_mode (object_at s id).attr.mode ≡ true → is_mode attr.mode ≡ true)
         → Effect (rewritten id (object_at s id) [] attr ∷ opening s who p id flags) None
     OpenMade : (dir : Oid) (name : Name) (o : Object) (place : Place) (flags : OpenFlags) → Making dir name o place → is_file o.kind ≡ true → Room
-        → Effect (made s p dir name o ++ opening s who p (next_object s p.label) flags) None
+        → Effect (made s p.label dir name o ++ opening s who p (next_object s p.label) flags) None
     -- a pipe is made and opened at both ends
-    MakePipe : Not (not (has_object_number s p)) → Not (not (has_free_descriptors p 2)) → Not (not (has_descriptions s p 2)) → Effect (piped s who p) None
+    MakePipe : Not (not (has_object_number s p.label)) → Not (not (has_free_descriptors p 2)) → Not (not (has_descriptions s p 2)) → Effect (piped s who p) None
     -- an object gets other attributes, but no other capability sets
     SetAttr : (id : Oid) (attr : Attr) (place : Place) → Reaches s p id → Known (mac_write s p id place)
         → (is_mode (object_at s id).attr.mode ≡ true → Given InRange → is_mode attr.mode ≡ true) → attr.caps ≡ (object_at s id).attr.caps

@@ -47,12 +47,12 @@ hidden_cases l s kept valid who p fit is high =
       leave = λ dir name id place written is_dir at empty. part_of_high l s.top (DropEntry (dir, name) ∷ []) (wrote dir place written is_dir, tt);
       enter = λ dir name id place written is_dir free standing named no_dir few order fits. part_of_high l s.top (SetEntry (dir, name) id ∷ []) (wrote dir place written is_dir, tt);
       move = λ dir name id into new place there_place written is_dir written_there move fits. part_of_high l s.top (DropEntry (dir, name) ∷ SetEntry (into, new) id ∷ []) (wrote dir place written is_dir, (wrote into there_place written_there move.into_is, tt));
-      make = λ dir name o place making. part_of_high l s.top (made s p dir name o) (mine, (mine, (wrote dir place making.written making.is_dir, tt)));
+      make = λ dir name o place making. part_of_high l s.top (made s p.label dir name o) (mine, (mine, (wrote dir place making.written making.is_dir, tt)));
       open_existing = λ id flags place may. part_of_high l s.top (opening s who p id flags) (mine, (mine, (high, tt)));
       open_emptied = λ id flags place attr may writes file mode.
           part_of_high l s.top (SetObject id _ ∷ opening s who p id flags) (wrote_there id place (may.written writes) (record { value = may.named.object; is = may.named.is }), (mine, (mine, (high, tt))));
       open_made = λ dir name o place flags making file room.
-          part_of_high l s.top (made s p dir name o ++ opening s who p (next_object s p.label) flags) (mine, (mine, (wrote dir place making.written making.is_dir, (mine, (mine, (high, tt))))));
+          part_of_high l s.top (made s p.label dir name o ++ opening s who p (next_object s p.label) flags) (mine, (mine, (wrote dir place making.written making.is_dir, (mine, (mine, (high, tt))))));
       share = λ fd f open_is room. unseen _;
       seek = λ fd f offset open_is. part_of_high l s.top (moved f offset ∷ []) (described fd f open_is, tt);
       pass = λ fd f bytes open_is written stream few. part_of_high l s.top (with_bytes s f.description.object bytes ∷ []) (wrote_open fd f open_is written, tt);

@@ -103,7 +103,7 @@ module _ (l : Label) (s : State) (kept : Kept l s) (valid : IsValid s) (who : Pi
   kept_same : (id : Oid) (o new : Object) → map.get s.objects id ≡ Some o → new.kind ≡ o.kind → low l id.label ≡ low l new.label → Kept l (changed s (SetObject id new))
   kept_same id o new at same side = kept_object l s kept id new side (λ did d e on stream. kept.streams did d o e (ap (map.get s.objects) on ∙ at) (ap is_stream (sym same) ∙ stream))
 
-  kept_made : (fit : Type 0) (dir : Oid) (name : Name) (o : Object) (place : Place) → IsMaking (crosses l) s who p fit dir name o place → Kept l (changed_by s (made s p dir name o))
+  kept_made : (fit : Type 0) (dir : Oid) (name : Name) (o : Object) (place : Place) → IsMaking (crosses l) s who p fit dir name o place → Kept l (changed_by s (made s p.label dir name o))
   kept_made fit dir name o place making =
       let new : Oid = next_object s p.label in
       kept_beside l (changed s (SetObject new o)) (kept_new new o (ap (low l) (sym making.fresh.label)) (next_absent s valid p.label)) _ _ s.process_numbers s.description_numbers
@@ -144,7 +144,7 @@ module _ (l : Label) (s : State) (kept : Kept l s) (valid : IsValid s) (who : Pi
       let new : Oid = next_object s p.label in
       let first : Did = next_description s p.label in
       let second : Did = second_description s p in
-      let made_t : State = changed_by s (drawing s p o ++ DrawDescription p.label (drawn s.description_numbers p.label + 2) ∷ []) in
+      let made_t : State = changed_by s (drawing s p.label o ++ DrawDescription p.label (drawn s.description_numbers p.label + 2) ∷ []) in
       let made_is : Kept l made_t = kept_beside l (changed s (SetObject new o)) (kept_new new o refl (next_absent s valid p.label)) s.entries _ s.process_numbers _ in
       let half_is : Kept l (changed made_t (SetDescription first (on_pipe s p true))) = kept_description l made_t made_is first (on_pipe s p true) (λ h. h) (λ x e stream. refl) in
       let whole_is : Kept l (changed (changed made_t (SetDescription first (on_pipe s p true))) (SetDescription second (on_pipe s p false))) = kept_description l _ half_is second (on_pipe s p false) (λ h. h) (λ x e stream. refl) in
@@ -188,7 +188,7 @@ module _ (l : Label) (s : State) (kept : Kept l s) (valid : IsValid s) (who : Pi
     open_existing = λ id flags place may.
         kept_opened s kept id flags (opening_low l s kept who p id flags place may) (λ o e. opening_side l s kept who p id flags place may o (some_same may.named.object o (sym may.named.is ∙ e)));
     open_emptied = λ id flags place attr may writes file mode. kept_emptied id flags place attr may file;
-    open_made = λ dir name o place flags making file room. kept_opened (changed_by s (made s p dir name o)) (kept_made fit dir name o place making) (next_object s p.label) flags (λ h. h) (λ x e stream. refl);
+    open_made = λ dir name o place flags making file room. kept_opened (changed_by s (made s p.label dir name o)) (kept_made fit dir name o place making) (next_object s p.label) flags (λ h. h) (λ x e stream. refl);
     pipe = λ left room numbers. kept_piped;
     close = λ fd.
         kept_closed l s kept valid (has_fd who fd) (changed s (SetProcess who (without_fd p fd)))

@@ -221,7 +221,7 @@ module _ (c : Cap) (s : State) (who : Pid) (p : Process) (picks : Pid → Bool) 
   same_found path flags mode (Start id) = same_present flags id _
   same_found path flags mode (Entry dir name None) =
       ap (to_absent s p flags dir (dir_place (λ n. First n) path))
-      (refuse_same (same_opens (next_object s p.label) flags (made s p dir name (object_with p.label (attr_of p (masked mode p.umask)) (body.File [])))))
+      (refuse_same (same_opens (next_object s p.label) flags (made s p.label dir name (object_with p.label (attr_of p (masked mode p.umask)) (body.File [])))))
   same_found path flags mode (Entry dir name (Some id)) = same_present flags id _
 
   -- ---- calls on entries

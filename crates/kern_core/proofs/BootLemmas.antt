@@ -1,5 +1,5 @@
 -- The first state, object by object and process by process.
-use Rattle.std.specs.Prelude.{◌≡◌, ℕ, ◌+◌, ◌≤◌, ◌<◌, Bool, true, false, ◌&&◌, cond, List, [], ◌∷◌, ◌++◌, length, count_by, Option, Some, None, refl, unwrap_or}
+use Rattle.std.specs.Prelude.{◌≡◌, ℕ, ◌+◌, ◌≤◌, ◌<◌, Bool, true, false, ◌&&◌, cond, List, [], ◌∷◌, ◌++◌, length, count_by, Option, Some, None, Result, Ok, Err, OnOk, OnErr, refl, unwrap_or}
 use Rattle.std.specs.FinMap as map
 use Rattle.std.specs.FinMap.{FinMap}
 use Rattle.std.proofs.lemmas.List.Sums.{sum_by-cons}
@@ -25,6 +25,11 @@ use Rattle.kern_model.specs.World.{IsWorld, IsWorldProc, procs_at}
 use Rattle.cap_bits.specs.CapSet.{is_within}
 use Rattle.std.specs.List.{AllByRecursion}
 use Rattle.kern_model.proofs.TableLemmas.{each_set_at}
+use Rattle.fd_table.specs.Rows.{AllFds}
+use Rattle.proc_table.specs.Procs.{ProcTable, next_in, with_new}
+use Rattle.proc_table.specs.declared.procs.ProcError.{ProcError}
+use Rattle.sys_lookup.specs.Owners.{HasOwners}
+use Rattle.sys_lookup.proofs.OwnerLemmas.{owners_process}
 use Rattle.kern_core.specs.Starts.{CanStart, IsSpotOf, RoomForObjects, entry_at}
 
 -- ---- one object
@@ -47,6 +52,11 @@ with_made s p = changed_by s (DrawProcess p.label (drawn s.process_numbers p.lab
 pub process_booted : (s : State) (w : WorldProc) (made : Process) → made ≡ process_of w → with_made s made ≡ boot_process s w
 unfolding boot_process
 process_booted s w made is = ap (with_made s) is
+
+-- each process with descriptors still lives after one more was tried
+pub owners_booted : (r : Result Pid ProcError) (old new : ProcTable) (rows : AllFds) (p : Process) → OnOk r (new ≡ with_new old p) → OnErr r (new ≡ old) → ∥ HasOwners old.procs rows ∥₁ → ∥ HasOwners new.procs rows ∥₁
+owners_booted (Ok who) old new rows p made err known = subst (λ (t : ProcTable). ∥ HasOwners t.procs rows ∥₁) (sym made) (owners_process old.procs rows (next_in old p.label) p known)
+owners_booted (Err e) old new rows p made err known = subst (λ (t : ProcTable). ∥ HasOwners t.procs rows ∥₁) (sym err) known
 
 -- ---- the numbers that are drawn
 entry_draws : (s t : State) (dir : Oid) (names : List Name) (id : Oid) → (changed_by t (entry_for s dir names id)).object_numbers ≡ t.object_numbers

@@ -1,9 +1,7 @@
 -- What a step keeps.
 use Rattle.std.specs.Prelude.{◌≡◌, refl, true, false, List, [], Option, Some, None, Result, Ok, Err, IfOk, OnOk, IsSome, is_some}
-use Rattle.std.specs.Option.{option_map}
 use Rattle.std.specs.Result.{is_err}
 use Rattle.std.specs.FinMap as map
-use Rattle.std.specs.FinMap.{FinMap}
 use Rattle.std.proofs.Common.{ap, sym, ◌∙◌, subst, arith}
 use Rattle.std.proofs.Math.Bridge.{le_prop}
 use Rattle.std.proofs.Math.Logic.{∥∥₁_map, ∥∥₁_elim}
@@ -26,10 +24,6 @@ use Rattle.kern_model.specs.Step.{StepResult, IsPlayed, step, step_by, settled, 
 use Rattle.kern_model.specs.Table.{row}
 use Rattle.kern_model.specs.Valid.{IsValid}
 use Rattle.kern_model.specs.World.{IsWorld}
-use Rattle.kern_model.specs.Keys.{pid_cmp}
-use Rattle.fd_table.specs.Rows.{AllFds}
-use Rattle.sys_lookup.specs.Shared.{with_fds}
-use Rattle.sys_lookup.proofs.FdLemmas.{field-with_fds}
 use Rattle.iso_laws.specs.Unnamed.{NeedsOnlyNamed}
 use Rattle.iso_laws.proofs.Laws.{numbers_step, refusals_are_named, unnamed_capability, valid_boot, valid_step}
 use Rattle.kern_core.specs.Kernel.{IsStopped}
@@ -103,11 +97,3 @@ valid_furnished w is = valid_boot (record w { procs = [] }) (record {
 -- is valid, by the parts that make it
 pub valid_started : (w : World) → IsWorld w → (made started : State) (ps : List WorldProc) → made ≡ furnished w → ps ≡ w.procs → started ≡ boot_processes made ps → IsValid started
 valid_started w h made started ps furnishes procs starts = subst IsValid (sym (starts ∙ (λ i. boot_processes (furnishes i) (procs i)))) (valid_boot w h)
-
--- ---- what is reported of a process
-module _ (procs : FinMap pid_cmp Process) (rows : AllFds) (who : Pid) where
-  pub caps_found : option_map (λ (p : Process). p.caps) (map.get (with_fds procs rows) who) ≡ option_map (λ (p : Process). p.caps) (map.get procs who)
-  caps_found = field-with_fds (λ (p : Process). p.caps) (λ _ _ _. refl) procs rows who
-
-  pub label_found : option_map (λ (p : Process). p.label) (map.get (with_fds procs rows) who) ≡ option_map (λ (p : Process). p.label) (map.get procs who)
-  label_found = field-with_fds (λ (p : Process). p.label) (λ _ _ _. refl) procs rows who

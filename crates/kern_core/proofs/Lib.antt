@@ -1,3 +1,4 @@
+pub mod AuditLemmas
 pub mod BootLemmas
 pub mod KernelLemmas
 pub mod StepLemmas

@@ -7,12 +7,11 @@ use Rattle.kern_model.specs.declared.calls.Reply.TheVariants as reply
 use Rattle.kern_model.specs.declared.numbers.Pid.{Pid}
 use Rattle.kern_model.specs.State.{State}
 use Rattle.sys_lookup.specs.Memory.{takes_no_memory}
-use Rattle.sys_lookup.specs.Shared as held
 use Rattle.kern_core.specs.declared.kernel.Kernel.{Kernel}
 
 -- the state of a kernel
 unfoldable pub state_of : Kernel → State
-state_of k = held.state_of k.shared
+state_of k = k.shared
 
 -- whether memory ran out in a call
 unfoldable pub has_failed : Kernel → Bool

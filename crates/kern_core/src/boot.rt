@@ -6,8 +6,6 @@ ghost use Rattle.kern_model.specs.declared.records.Rec.TheVariants as rec;
 ghost use Rattle.kern_model.specs.State.{drawn, next_process};
 ghost use Rattle.kern_model.specs.Boot.{boot_process, boot_processes, furnished, started};
 ghost use Rattle.kern_model.specs.World.{IsWorld};
-ghost use Rattle.fd_table.specs.Files.{no_files};
-ghost use Rattle.sys_lookup.specs.Shared.{state_of};
 ghost use Rattle.kern_core.specs.Starts.{CanStart};
 
 use crate::from_world::creds_from;
@@ -21,8 +19,7 @@ use sys_lookup::Shared;
 /// The state that has the objects of a world, and no process.
 pub fn furnish(alloc: Global, world: &World) -> Result<Shared, NoMemory>
     requires { IsWorld world.now }
-    ensures state { IfOk result (λ shared. state_of shared ≡ furnished world.now) }
-    ensures fds { IfOk result (λ shared. shared.fds ≡ no_files) }
+    ensures { IfOk result (λ shared. shared ≡ furnished world.now) }
 {
     let mut loading = Loading::new(alloc, world.bound, world.top)?;
     loading.boot_objects(world.objects.items())?;
@@ -32,8 +29,7 @@ pub fn furnish(alloc: Global, world: &World) -> Result<Shared, NoMemory>
 /// The state that has the objects of a world, and no process, and the processes of that world. The world is used up.
 pub fn furnish_from(alloc: Global, world: World) -> Result<(Shared, ProcList), NoMemory>
     requires { IsWorld world }
-    ensures state { IfOk result (λ made. state_of made.0 ≡ furnished world) }
-    ensures fds { IfOk result (λ made. made.0.fds ≡ no_files) }
+    ensures state { IfOk result (λ made. made.0 ≡ furnished world) }
     ensures procs { IfOk result (λ made. made.1 ≡ world.procs) }
 {
     let World {
@@ -54,10 +50,9 @@ pub fn boot_processes(
     shared: &mut Shared,
     procs: &[WorldProc],
 ) -> Result<RecList, NoMemory>
-    requires start { CanStart shared.old.procs.numbers procs.now }
-    requires fds { shared.old.fds ≡ no_files }
-    ensures state { OnOk result (state_of shared.new ≡ boot_processes (state_of shared.old) procs.now) }
-    ensures recs { IfOk result (λ recs. recs ≡ started (state_of shared.old) procs.now) }
+    requires { CanStart shared.old.process_numbers procs.now }
+    ensures state { OnOk result (shared.new ≡ boot_processes shared.old procs.now) }
+    ensures recs { IfOk result (λ recs. recs ≡ started shared.old procs.now) }
 {
     let mut recs = RecList::new(alloc);
     for process in procs {
@@ -69,12 +64,10 @@ pub fn boot_processes(
 
 // Makes a process under the next number of its label, and returns the number.
 fn boot_process(shared: &mut Shared, process: &WorldProc) -> Result<Pid, NoMemory>
-    requires number { drawn shared.old.procs.numbers process.now.label < MAX_PROCS }
+    requires number { drawn shared.old.process_numbers process.now.label < MAX_PROCS }
     requires within { is_within process.now.caps.e process.now.caps.p ≡ true }
-    requires fds { shared.old.fds ≡ no_files }
-    ensures fds { shared.new.fds ≡ shared.old.fds }
-    ensures state { OnOk result (state_of shared.new ≡ boot_process (state_of shared.old) process.now) }
-    ensures number { IfOk result (λ who. who ≡ next_process (state_of shared.old) process.now.label) }
+    ensures state { OnOk result (shared.new ≡ boot_process shared.old process.now) }
+    ensures number { IfOk result (λ who. who ≡ next_process shared.old process.now.label) }
 {
     match shared.procs.boot(creds_from(process)?, root_directory()) {
         Ok(who) => Ok(who),

@@ -1,14 +1,13 @@
 // The calls. The body of each stands in the crate of its family; those of the calls on the audit trail stand here.
-ghost use Rattle.std.specs.Prelude.{◌≡◌, Some, true, IfOk, IsOk, IsSome};
+ghost use Rattle.std.specs.Prelude.{◌≡◌, true, IfOk, IsOk, IsSome};
 ghost use Rattle.std.specs.FinMap as map;
 ghost use Rattle.kern_model.specs.Arguments.{has_names};
-ghost use Rattle.kern_model.specs.State.{Process};
+ghost use Rattle.kern_model.specs.State.{process_at};
 ghost use Rattle.kern_model.specs.Step.{IsPlayed};
 ghost use Rattle.kern_model.specs.Table.{row};
 ghost use Rattle.kern_model.specs.Valid.{IsValid};
 ghost use Rattle.sys_lookup.specs.Memory.{takes_no_memory};
 ghost use Rattle.sys_lookup.specs.PlaysRow.{LeavesNothing, PlaysRow};
-ghost use Rattle.sys_lookup.specs.Shared.{state_of};
 ghost use Rattle.kern_core.specs.Kernel.{TakesNoMemory};
 
 mod auditing;
@@ -17,21 +16,20 @@ use crate::outcome::{no_process, report};
 use chk_rules::{Checks, Stop};
 use kern_model::{Call, NoMemory, Outcome, Pid};
 use std::alloc::Global;
-use sys_lookup::{Effect, Shared};
+use sys_lookup::{Caller, Effect, Shared};
 
 /// Plays one call of a process, and returns the reply and the records that it leaves.
 pub fn play(alloc: Global, shared: &mut Shared, who: &Pid, call: &Call) -> Result<Outcome, NoMemory>
-    requires valid { ∥ IsValid (state_of shared.old) ∥₁ }
-    ensures played { IfOk result (λ outcome. IsPlayed (state_of shared.old) who.now call.now outcome (state_of shared.new)) }
-    ensures names { IsSome (map.get (state_of shared.old).procs who.now) → has_names call.now ≡ true }
-    ensures ready { TakesNoMemory (state_of shared.old) who.now call.now → IsOk result }
+    requires valid { ∥ IsValid shared.old ∥₁ }
+    ensures played { IfOk result (λ outcome. IsPlayed shared.old who.now call.now outcome shared.new) }
+    ensures names { IsSome (map.get shared.old.procs who.now) → has_names call.now ≡ true }
+    ensures ready { TakesNoMemory shared.old who.now call.now → IsOk result }
 {
-    let Some(process) = shared.procs.find(who) else {
+    let Some(caller) = Caller::find(shared, who) else {
         return Ok(no_process(alloc));
     };
-    let audited = process.audited;
-    let creds = &process.creds;
-    let mut checks = Checks::new(alloc, *who, creds.label, creds.caps.e);
+    let audited = caller.is_audited();
+    let mut checks = Checks::new(alloc, *who, caller.label(), caller.caps().e);
     let played = play_body(alloc, shared, &mut checks, who, call);
     report(checks, who, audited, call.name(), played)
 }
@@ -44,9 +42,9 @@ fn play_body(
     who: &Pid,
     call: &Call,
 ) -> Result<Effect, Stop>
-    requires valid { ∥ IsValid (state_of shared.old) ∥₁ }
-    requires living { IsSome (map.get (state_of shared.old).procs who.now) }
-    ensures played { (p : Process) → map.get (state_of shared.old).procs who.now ≡ Some p → PlaysRow (state_of shared.old) checks.old (row (state_of shared.old) who.now p call.now) result (state_of shared.new) checks.new }
+    requires valid { ∥ IsValid shared.old ∥₁ }
+    requires living { IsSome (map.get shared.old.procs who.now) }
+    ensures played { PlaysRow shared.old checks.old (row shared.old who.now (process_at shared.old who.now) call.now) result shared.new checks.new }
     ensures names { has_names call.now ≡ true }
     ensures nothing { takes_no_memory call.now ≡ true → LeavesNothing result }
 {

@@ -9,9 +9,7 @@ ghost use Rattle.kern_model.specs.State.{Process};
 ghost use Rattle.kern_model.specs.Step.{IsPlayed};
 ghost use Rattle.kern_model.specs.Valid.{IsValid};
 ghost use Rattle.kern_model.specs.World.{IsWorld};
-ghost use Rattle.fd_table.specs.Files.{no_files};
 ghost use Rattle.iso_laws.specs.Unnamed.{NeedsOnlyNamed};
-ghost use Rattle.sys_lookup.specs.Shared as held;
 ghost use Rattle.kern_core.specs.Starts.{CanStart};
 
 use crate::boot::{boot_processes, furnish, furnish_from};
@@ -20,7 +18,7 @@ use cap_bits::CapState;
 use kern_model::{Call, Calls, NoMemory, Outcome, Pid, PidList, RecList, World, WorldProc};
 use lab_lattice::Label;
 use std::alloc::Global;
-use sys_lookup::Shared;
+use sys_lookup::{Caller, Shared};
 
 /// A kernel. When memory runs out in a call it has failed, and it plays no further call. The state of a kernel that has not
 /// failed is valid.
@@ -28,7 +26,7 @@ pub struct Kernel {
     alloc: Global,
     shared: Shared,
     failed: bool,
-    ghost valid: { failed ≡ false → ∥ IsValid (held.state_of shared) ∥₁ },
+    ghost valid: { failed ≡ false → ∥ IsValid shared ∥₁ },
 }
 
 // Written out, so that a drop is one call.
@@ -78,11 +76,10 @@ impl Kernel {
         shared: Shared,
         procs: &[WorldProc],
     ) -> Result<(Kernel, RecList), NoMemory>
-        requires start { CanStart shared.procs.numbers procs.now }
-        requires fds { shared.fds ≡ no_files }
-        requires valid { IsValid (boot_processes (held.state_of shared) procs.now) }
-        ensures state { IfOk result (λ b. state_of b.0 ≡ boot_processes (held.state_of shared) procs.now) }
-        ensures recs { IfOk result (λ b. b.1 ≡ started (held.state_of shared) procs.now) }
+        requires start { CanStart shared.process_numbers procs.now }
+        requires valid { IsValid (boot_processes shared procs.now) }
+        ensures state { IfOk result (λ b. state_of b.0 ≡ boot_processes shared procs.now) }
+        ensures recs { IfOk result (λ b. b.1 ≡ started shared procs.now) }
         ensures valid { IfOk result (λ b. IsValid (state_of b.0)) }
         ensures sound { IfOk result (λ b. has_failed b.0 ≡ false) }
     {
@@ -129,21 +126,21 @@ impl Kernel {
     }
 
     /// The capability sets of the living process with this number, if there is one.
-    #[tactic(auto, using(crate::proofs::KernelLemmas::caps_found), unfolding(crate::specs::Kernel::state_of))]
+    #[tactic(auto, unfolding(crate::specs::Kernel::state_of))]
     pub fn caps_of(&self, who: &Pid) -> Option<CapState>
         ensures { result ≡ option_map (λ (p : Process). p.caps) (map.get (state_of self.now).procs who.now) }
     {
-        let process = self.shared.procs.find(who)?;
-        Some(process.creds.caps)
+        let caller = Caller::find(&self.shared, who)?;
+        Some(caller.caps())
     }
 
     /// The label of the living process with this number, if there is one.
-    #[tactic(auto, using(crate::proofs::KernelLemmas::label_found), unfolding(crate::specs::Kernel::state_of))]
+    #[tactic(auto, unfolding(crate::specs::Kernel::state_of))]
     pub fn label_of(&self, who: &Pid) -> Option<Label>
         ensures { result ≡ option_map (λ (p : Process). p.label) (map.get (state_of self.now).procs who.now) }
     {
-        let process = self.shared.procs.find(who)?;
-        Some(process.creds.label)
+        let caller = Caller::find(&self.shared, who)?;
+        Some(caller.label())
     }
 
     /// The numbers of the living processes, by label and then by number.
@@ -151,7 +148,7 @@ impl Kernel {
     pub fn live(&self) -> Result<PidList, NoMemory>
         ensures { IfOk result (λ numbers. numbers ≡ map.keys (state_of self.now).procs) }
     {
-        self.shared.procs.live()
+        self.shared.live()
     }
 }
 

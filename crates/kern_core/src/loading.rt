@@ -3,9 +3,7 @@ ghost use Rattle.std.specs.Prelude.{◌≡◌, ◌<◌, IfOk, OnOk};
 ghost use Rattle.kern_model.specs.declared.limits.TheConstants.{MAX_OBJECTS};
 ghost use Rattle.kern_model.specs.State.{drawn};
 ghost use Rattle.kern_model.specs.Boot.{boot_object, boot_objects, nothing};
-ghost use Rattle.fd_table.specs.Files.{no_files};
 ghost use Rattle.fs_dirs.specs.Tree.{AreEntries};
-ghost use Rattle.sys_lookup.specs.Shared.{state_of};
 ghost use Rattle.kern_core.specs.Starts.{IsSpotOf, RoomForObjects, state_loaded};
 
 use crate::from_world::copy_body;
@@ -74,8 +72,7 @@ impl Loading {
     /// The state with all entries in their directories, and without processes.
     pub fn load(self, alloc: Global) -> Result<Shared, NoMemory>
         requires { AreEntries self.nodes.table self.spots }
-        ensures state { IfOk result (λ shared. state_of shared ≡ state_loaded self) }
-        ensures fds { IfOk result (λ shared. shared.fds ≡ no_files) }
+        ensures { IfOk result (λ shared. shared ≡ state_loaded self) }
     {
         let Loading {
             nodes,

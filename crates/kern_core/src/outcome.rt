@@ -1,5 +1,5 @@
 // What is reported of a call.
-ghost use Rattle.std.specs.Prelude.{◌≡◌, [], None, IfOk, IsOk};
+ghost use Rattle.std.specs.Prelude.{◌≡◌, [], IfOk, IsOk};
 ghost use Rattle.kern_model.specs.declared.calls.Reply.TheVariants as reply;
 ghost use Rattle.kern_model.specs.declared.calls.Errno.TheVariants as errno;
 ghost use Rattle.sys_lookup.specs.PlaysRow.{LeavesNothing};

@@ -6,6 +6,7 @@ pub mod MapLemmas
 pub mod NamedLaws
 pub mod RowLemmas
 pub mod Selections
+pub mod StateCode
 pub mod StateLemmas
 pub mod TableLemmas
 pub mod WorldLemmas

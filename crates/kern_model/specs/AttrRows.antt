@@ -1,5 +1,5 @@
 -- The rows of the calls on modes, owners, capability sets of files, and labels of objects.
-use Rattle.std.specs.Prelude.{ℕ, ◌&&◌, ◌||◌, not, Bool, cond, [], ◌∷◌, None, Some}
+use Rattle.std.specs.Prelude.{ℕ, ◌||◌, not, Bool, cond, [], ◌∷◌, None, Some}
 use Rattle.cap_bits.specs.declared.state.CapState.{CapState}
 use Rattle.fs_path.specs.Path.{PathValue}
 use Rattle.lab_lattice.specs.Label.{Label}
@@ -12,9 +12,9 @@ use Rattle.kern_model.specs.declared.numbers.Pid.{Pid}
 use Rattle.kern_model.specs.declared.objects.Attr.{Attr}
 use Rattle.kern_model.specs.declared.objects.Object.{Object}
 use Rattle.kern_model.specs.declared.records.Rec.TheVariants as rec
-use Rattle.kern_model.specs.Entries.{is_empty}
+use Rattle.kern_model.specs.Entries.{has_entries}
 use Rattle.kern_model.specs.FileRows.{on_descriptor}
-use Rattle.kern_model.specs.Kinds.{is_dir, is_file, has_set_id, permissions}
+use Rattle.kern_model.specs.Kinds.{is_file, has_set_id, permissions}
 use Rattle.kern_model.specs.Rules.{same_label, mac_change_of, relabelled_order, is_owner_of, owner_of, chown_of, setfcap_of, cap_within, fsetid_of}
 use Rattle.kern_model.specs.Row.{Row, Need, Soft, Refuse, Commit}
 use Rattle.kern_model.specs.State.{State, Process, Change, SetObject, object_at}
@@ -149,7 +149,7 @@ abbrev pub change_label : State → Label → Oid → Place → Row → Row
 change_label s new id place rest =
     Need (mac_change_of new id (object_at s id) place)
     (Need (relabelled_order s id new place)
-    (Refuse errno.ENOTEMPTY (is_dir (object_at s id).kind && not (is_empty s id)) rest))
+    (Refuse errno.ENOTEMPTY (has_entries s id) rest))
 
 -- a label is asked for, of an object that the caller owns; nothing else is asked of a label that the object has
 abbrev pub asks_label : State → Process → Label → Oid → Place → Object → Row → Row

@@ -1,7 +1,8 @@
 -- How objects are made, and entered in directories.
-use Rattle.std.specs.Prelude.{ℕ, ◌+◌, nat_lt, Bool, List, [], ◌∷◌, ◌++◌}
+use Rattle.std.specs.Prelude.{ℕ, ◌+◌, nat_lt, not, Bool, List, [], ◌∷◌, ◌++◌}
 use Rattle.cap_bits.specs.State.{no_flags}
 use Rattle.fs_path.specs.Name.{Name}
+use Rattle.lab_lattice.specs.Label.{Label}
 use Rattle.kern_model.specs.declared.limits.TheConstants.{MAX_OBJECTS}
 use Rattle.kern_model.specs.declared.calls.Errno.TheVariants as errno
 use Rattle.kern_model.specs.declared.checks.Check.{Check}
@@ -26,18 +27,22 @@ enter_in s p dir place order rest = write_directory s p dir place order (Refuse 
 abbrev pub make_in : State → Process → Oid → Place → Row → Row
 make_in s p dir place rest = enter_in s p dir place (created_order s p dir place) rest
 
--- whether a number of an object is left at the caller's label
-abbrev pub has_object_number : State → Process → Bool
-has_object_number s p = nat_lt (drawn s.object_numbers p.label) MAX_OBJECTS
+-- whether a number of an object is left at a label
+abbrev pub has_object_number : State → Label → Bool
+has_object_number s label = nat_lt (drawn s.object_numbers label) MAX_OBJECTS
+
+-- a number of an object is left at a label, and the row goes on with the next one
+abbrev pub to_number : State → Label → (Oid → Row) → Row
+to_number s label rest = Refuse errno.ENOSPC (not (has_object_number s label)) (rest (next_object s label))
 
 -- what the caller makes is its effective user's and group's, without capabilities
 abbrev pub attr_of : Process → ℕ → Attr
 attr_of p mode = record { owner = p.ids.euid; group = p.ids.egid; mode = mode; caps = no_flags }
 
--- the next number of the caller's label is drawn for an object
-abbrev pub drawing : State → Process → Object → List Change
-drawing s p object = DrawObject p.label (drawn s.object_numbers p.label + 1) ∷ SetObject (next_object s p.label) object ∷ []
+-- the next number of a label is drawn for an object
+abbrev pub drawing : State → Label → Object → List Change
+drawing s label object = DrawObject label (drawn s.object_numbers label + 1) ∷ SetObject (next_object s label) object ∷ []
 
--- an object is made in a directory
-abbrev pub made : State → Process → Oid → Name → Object → List Change
-made s p dir name object = drawing s p object ++ SetEntry (dir, name) (next_object s p.label) ∷ []
+-- an object is made at a label, and a name leads to it
+abbrev pub made : State → Label → Oid → Name → Object → List Change
+made s label dir name object = drawing s label object ++ SetEntry (dir, name) (next_object s label) ∷ []

@@ -7,11 +7,16 @@ use Rattle.fs_path.specs.Name.{Name}
 use Rattle.kern_model.specs.declared.numbers.Oid.{Oid}
 use Rattle.kern_model.specs.Maps.{any_entry, count_entries}
 use Rattle.kern_model.specs.Keys.{Spot, same_oid}
-use Rattle.kern_model.specs.State.{State, root}
+use Rattle.kern_model.specs.Kinds.{is_dir}
+use Rattle.kern_model.specs.State.{State, object_at, root}
 
 -- whether no name stands in a directory
 abbrev pub is_empty : State → Oid → Bool
 is_empty s dir = not (any_entry (λ (spot : Spot) id. same_oid spot.0 dir) s.entries)
+
+-- whether an object is a directory in which names stand
+abbrev pub has_entries : State → Oid → Bool
+has_entries s id = is_dir (object_at s id).kind && not (is_empty s id)
 
 -- how many names stand in a directory
 abbrev pub entry_count : State → Oid → ℕ

@@ -25,7 +25,7 @@ use Rattle.kern_model.specs.Descriptors.{Opened, Descriptor, opened, open_count,
 use Rattle.kern_model.specs.Rules.{of_object, mac_write, is_plain}
 use Rattle.kern_model.specs.Row.{Row, Soft, Refuse, Fail, Commit, need_if}
 use Rattle.kern_model.specs.Walk.{read_object, write_object}
-use Rattle.kern_model.specs.Create.{attr_of, drawing, has_object_number}
+use Rattle.kern_model.specs.Create.{attr_of, drawing, to_number}
 use Rattle.kern_model.specs.Stat.{stat_of}
 
 -- ---- what rows of descriptors share
@@ -76,10 +76,6 @@ keeps_attr id place o rest = Soft (of_object check.Fsetid (is_plain o.attr) None
 -- a file that was read gets other bytes and attributes
 abbrev pub rewritten : Oid → Object → List ℕ → Attr → Change
 rewritten id o bytes attr = SetObject id (record o { bytes = bytes; attr = attr })
-
--- a number of an object is left at the caller's label, and the row goes on with the next one
-abbrev pub to_number : State → Process → (Oid → Row) → Row
-to_number s p rest = Refuse errno.ENOSPC (not (has_object_number s p)) (rest (next_object s p.label))
 
 -- a description of the caller is made, with its lowest free descriptor
 abbrev pub opening : State → Pid → Process → Oid → OpenFlags → List Change
@@ -133,7 +129,7 @@ second_description s p = record { label = p.label; n = drawn s.description_numbe
 
 -- a pipe of the caller is made
 abbrev pub drawing_pipe : State → Process → List Change
-drawing_pipe s p = drawing s p (object_with p.label (attr_of p pipe_mode) body.Pipe)
+drawing_pipe s p = drawing s p.label (object_with p.label (attr_of p pipe_mode) body.Pipe)
 
 -- a pipe is made, with a description for reading, and one for writing
 abbrev pub piped : State → Pid → Process → List Change
@@ -153,7 +149,7 @@ make_pipe s who p = Commit (piped s who p) (both_ends s p) None
 
 -- `pipe`
 abbrev pub pipe_row : State → Pid → Process → Row
-pipe_row s who p = may_describe s p 2 (to_number s p (λ _. make_pipe s who p))
+pipe_row s who p = may_describe s p 2 (to_number s p.label (λ _. make_pipe s who p))
 
 -- ---- read
 

@@ -2,15 +2,11 @@
 use Rattle.std.specs.Prelude.{ℕ, ◌&&◌, not, cond, List, [], ◌∷◌, ◌++◌, Option, None, Some, unwrap_or}
 use Rattle.fs_path.specs.Name.{Name}
 use Rattle.fs_path.specs.Path.{PathValue}
-use Rattle.lab_lattice.specs.Label.{dominates}
 use Rattle.kern_model.specs.declared.calls.Answer.TheVariants as answer
 use Rattle.kern_model.specs.declared.calls.Errno.TheVariants as errno
 use Rattle.kern_model.specs.declared.calls.OpenFlags.{OpenFlags}
-use Rattle.kern_model.specs.declared.checks.Check.{Check}
-use Rattle.kern_model.specs.declared.checks.CheckName.TheVariants as check
 use Rattle.kern_model.specs.declared.checks.Place.{Place}
 use Rattle.kern_model.specs.declared.checks.Place.TheVariants.{First}
-use Rattle.kern_model.specs.declared.checks.Want.TheVariants as want
 use Rattle.kern_model.specs.declared.numbers.Oid.{Oid}
 use Rattle.kern_model.specs.declared.numbers.Pid.{Pid}
 use Rattle.kern_model.specs.declared.objects.Attr.{Attr}
@@ -19,46 +15,28 @@ use Rattle.kern_model.specs.declared.objects.Object.{Object}
 use Rattle.kern_model.specs.Kinds.{is_dir, is_file, is_fifo, object_with, masked}
 use Rattle.kern_model.specs.State.{State, Process, Change, object_at}
 use Rattle.kern_model.specs.Descriptors.{lowest_free}
-use Rattle.kern_model.specs.Rules.{of_object, same_label, mode_allows}
+use Rattle.kern_model.specs.Rules.{mac_read_of, mac_write_of, dac_read_of, dac_write_of}
 use Rattle.kern_model.specs.Row.{Row, Refuse, Commit, need_if}
 use Rattle.kern_model.specs.Walk.{Found, Start, Entry, walk, last_place, dir_place}
-use Rattle.kern_model.specs.Create.{make_in, attr_of, made}
-use Rattle.kern_model.specs.FileRows.{may_describe, opening, keeps_attr, rewritten, to_number}
-
--- ---- checks of an object that was read
-
--- the caller's label dominates the object's
-abbrev pub label_reads : Process → Oid → Place → Object → Check
-label_reads p id place o = of_object check.MacRead (dominates p.label o.label) None id o place
-
--- the caller's label is the object's
-abbrev pub label_writes : Process → Oid → Place → Object → Check
-label_writes p id place o = of_object check.MacWrite (same_label p.label o.label) None id o place
-
--- the class has the read bit
-abbrev pub mode_reads : Process → Oid → Place → Object → Check
-mode_reads p id place o = of_object check.DacRead (mode_allows o.attr p.ids want.Read) None id o place
-
--- the class has the write bit
-abbrev pub mode_writes : Process → Oid → Place → Object → Check
-mode_writes p id place o = of_object check.DacWrite (mode_allows o.attr p.ids want.Write) None id o place
+use Rattle.kern_model.specs.Create.{make_in, attr_of, made, to_number}
+use Rattle.kern_model.specs.FileRows.{may_describe, opening, keeps_attr, rewritten}
 
 -- ---- whether an object that is there may be opened
 
 -- the caller may open an object by its label
 abbrev pub allowed_by_label : Process → OpenFlags → Oid → Place → Object → Row → Row
-allowed_by_label p flags id place o rest = need_if flags.r (label_reads p id place o) (need_if flags.w (label_writes p id place o) rest)
+allowed_by_label p flags id place o rest = need_if flags.r (mac_read_of p id o place) (need_if flags.w (mac_write_of p id o place) rest)
 
 -- the object is of a kind that is opened so; a FIFO that is opened for reading is written too, since bytes come out
 abbrev pub allowed_by_kind : Process → OpenFlags → Oid → Place → Object → Row → Row
 allowed_by_kind p flags id place o rest =
     Refuse errno.EISDIR (is_dir o.kind)
     (Refuse errno.EINVAL (is_fifo o.kind && flags.r && flags.w)
-    (need_if (is_fifo o.kind && flags.r) (label_writes p id place o) rest))
+    (need_if (is_fifo o.kind && flags.r) (mac_write_of p id o place) rest))
 
 -- the caller may open an object by its mode
 abbrev pub allowed_by_mode : Process → OpenFlags → Oid → Place → Object → Row → Row
-allowed_by_mode p flags id place o rest = need_if flags.r (mode_reads p id place o) (need_if flags.w (mode_writes p id place o) rest)
+allowed_by_mode p flags id place o rest = need_if flags.r (dac_read_of p id o place) (need_if flags.w (dac_write_of p id o place) rest)
 
 -- with `t` a file is emptied: the attributes that it has then, or none where an object keeps its content
 abbrev pub to_emptied : OpenFlags → Oid → Place → Object → (Option Attr → Row) → Row
@@ -106,10 +84,10 @@ new_file p mode = object_with p.label (attr_of p (masked mode p.umask)) (body.Fi
 
 -- a file is made under a number, and opened
 abbrev pub opens_made : State → Pid → Process → OpenFlags → ℕ → Oid → Name → Oid → Row
-opens_made s who p flags mode dir name id = opens s who p id flags (made s p dir name (new_file p mode))
+opens_made s who p flags mode dir name id = opens s who p id flags (made s p.label dir name (new_file p mode))
 
 abbrev pub opens_new : State → Pid → Process → OpenFlags → ℕ → Oid → Name → Row
-opens_new s who p flags mode dir name = to_number s p (opens_made s who p flags mode dir name)
+opens_new s who p flags mode dir name = to_number s p.label (opens_made s who p flags mode dir name)
 
 -- where nothing has the name a file is made, if that is asked for
 abbrev pub open_absent : State → Pid → Process → OpenFlags → ℕ → Oid → Name → Place → Row

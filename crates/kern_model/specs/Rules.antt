@@ -124,12 +124,18 @@ abbrev pub on_object : State → CheckName → Bool → Option Label → Oid →
 on_object s name holds new id place = of_object name holds new id (object_at s id) place
 
 -- the caller's label dominates the object's
+abbrev pub mac_read_of : Process → Oid → Object → Place → Check
+mac_read_of p id o place = of_object check.MacRead (dominates p.label o.label) None id o place
+
 abbrev pub mac_read : State → Process → Oid → Place → Check
-mac_read s p id place = on_object s check.MacRead (dominates p.label (object_at s id).label) None id place
+mac_read s p id place = mac_read_of p id (object_at s id) place
 
 -- the caller's label is the object's
+abbrev pub mac_write_of : Process → Oid → Object → Place → Check
+mac_write_of p id o place = of_object check.MacWrite (same_label p.label o.label) None id o place
+
 abbrev pub mac_write : State → Process → Oid → Place → Check
-mac_write s p id place = on_object s check.MacWrite (same_label p.label (object_at s id).label) None id place
+mac_write s p id place = mac_write_of p id (object_at s id) place
 
 -- of a directory in which an object is made: the caller's label dominates the directory's
 abbrev pub created_order : State → Process → Oid → Place → Check
@@ -166,16 +172,22 @@ abbrev pub mac_change_of : Label → Oid → Object → Place → Check
 mac_change_of new id o place = cond (dominates new o.label) (mac_upgrade_of new id o place) (mac_downgrade_of new id o place)
 
 -- the class has the read bit
+abbrev pub dac_read_of : Process → Oid → Object → Place → Check
+dac_read_of p id o place = of_object check.DacRead (mode_allows o.attr p.ids want.Read) None id o place
+
 abbrev pub dac_read : State → Process → Oid → Place → Check
-dac_read s p id place = on_object s check.DacRead (mode_allows (object_at s id).attr p.ids want.Read) None id place
+dac_read s p id place = dac_read_of p id (object_at s id) place
 
 -- the class has the execute bit of the directory
 abbrev pub dac_search : State → Process → Oid → Place → Check
 dac_search s p id place = on_object s check.DacSearch (mode_allows (object_at s id).attr p.ids want.Execute) None id place
 
 -- the class has the write bit
+abbrev pub dac_write_of : Process → Oid → Object → Place → Check
+dac_write_of p id o place = of_object check.DacWrite (mode_allows o.attr p.ids want.Write) None id o place
+
 abbrev pub dac_write : State → Process → Oid → Place → Check
-dac_write s p id place = on_object s check.DacWrite (mode_allows (object_at s id).attr p.ids want.Write) None id place
+dac_write s p id place = dac_write_of p id (object_at s id) place
 
 -- the class has the execute bit of the file
 abbrev pub dac_execute : Process → Oid → Object → Place → Check
@@ -268,13 +280,19 @@ may_become old new = is_within new.p old.p && is_within new.e new.p && is_within
 abbrev pub cap_grow : Pid → Process → CapState → Check
 cap_grow who p caps = on_caller check.CapGrow (may_become p.caps caps) None who p
 
--- the user is the real or the saved one
-abbrev pub setuid_rule : Pid → Process → ℕ → Check
-setuid_rule who p user = on_caller check.Setuid (user == p.ids.ruid || user == p.ids.suid) None who p
+-- a process may have a user as its effective one that is its real or its saved one
+abbrev pub may_be_user : Ids → ℕ → Bool
+may_be_user ids user = user == ids.ruid || user == ids.suid
 
--- the group is the real or the saved one
+abbrev pub setuid_rule : Pid → Process → ℕ → Check
+setuid_rule who p user = on_caller check.Setuid (may_be_user p.ids user) None who p
+
+-- a process may have a group as its effective one that is its real or its saved one
+abbrev pub may_be_group : Ids → ℕ → Bool
+may_be_group ids group = group == ids.rgid || group == ids.sgid
+
 abbrev pub setgid_rule : Pid → Process → ℕ → Check
-setgid_rule who p group = on_caller check.Setgid (group == p.ids.rgid || group == p.ids.sgid) None who p
+setgid_rule who p group = on_caller check.Setgid (may_be_group p.ids group) None who p
 
 -- soft: real, effective and saved user are the one asked for
 abbrev pub setuid_all : Pid → Process → ℕ → Check

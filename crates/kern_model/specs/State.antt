@@ -1,5 +1,5 @@
 -- The state of the kernel, and the single changes that are made to it.
-use Rattle.std.specs.Prelude.{ℕ, ◌+◌, Bool, List, [], ◌∷◌, Option}
+use Rattle.std.specs.Prelude.{ℕ, ◌+◌, Bool, false, List, [], ◌∷◌, Option, None}
 use Rattle.std.specs.Ordering.{nat_cmp}
 use Rattle.std.specs.FinMap as map
 use Rattle.std.specs.FinMap.{FinMap}
@@ -97,9 +97,27 @@ stub_object top = record { kind = File; label = top; attr = record { owner = 0; 
 abbrev pub stub : Label → Oid
 stub top = record { label = top; n = 0 }
 
+-- what is read in place of a process that is not living: one of the highest label that owns nothing and may do nothing
+abbrev pub stub_process : Label → Process
+stub_process top = record {
+  ids = record { ruid = 0; euid = 0; suid = 0; rgid = 0; egid = 0; sgid = 0; groups = [] };
+  label = top;
+  caps = no_flags;
+  umask = 0;
+  cwd = stub top;
+  audited = false;
+  parent = None;
+  ended = [];
+  fds = map.empty;
+}
+
 -- the object with a number, and the stub where there is none
 abbrev pub object_at : State → Oid → Object
 object_at s id = get_or s.objects id (stub_object s.top)
+
+-- the living process with a number, and the stub where there is none
+abbrev pub process_at : State → Pid → Process
+process_at s who = get_or s.procs who (stub_process s.top)
 
 -- the last number drawn of a label
 abbrev pub drawn : FinMap label_cmp ℕ → Label → ℕ

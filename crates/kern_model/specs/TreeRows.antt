@@ -13,10 +13,10 @@ use Rattle.kern_model.specs.declared.numbers.Pid.{Pid}
 use Rattle.kern_model.specs.declared.objects.Body.{Body}
 use Rattle.kern_model.specs.declared.objects.Body.TheVariants as body
 use Rattle.kern_model.specs.declared.objects.Object.{Object}
-use Rattle.kern_model.specs.Entries.{is_empty, is_removed, is_under, link_count, names_in}
+use Rattle.kern_model.specs.Entries.{has_entries, is_empty, is_removed, is_under, link_count, names_in}
 use Rattle.kern_model.specs.Keys.{Spot, same_oid}
 use Rattle.kern_model.specs.Kinds.{is_dir, object_with, masked}
-use Rattle.kern_model.specs.Create.{enter_in, write_directory, attr_of, made, has_object_number}
+use Rattle.kern_model.specs.Create.{enter_in, write_directory, attr_of, made, to_number}
 use Rattle.kern_model.specs.Rules.{mac_write, dac_read, dac_write, created_order, held_order, link_dir, unlink_dir}
 use Rattle.kern_model.specs.Row.{Row, Need, Refuse, Commit}
 use Rattle.kern_model.specs.State.{State, Process, SetEntry, DropEntry, SetProcess, object_at}
@@ -42,8 +42,7 @@ new_spot s p place path order rest = walk s p place path (λ found. new_spot_fou
 -- an object of the caller is made, and the spot leads to it
 abbrev pub make_object : State → Process → ℕ → Body → Spot → Row
 make_object s p mode body (dir, name) =
-    Refuse errno.ENOSPC (not (has_object_number s p))
-    (Commit (made s p dir name (object_with p.label (attr_of p (masked mode p.umask)) body)) answer.Nothing None)
+    to_number s p.label (λ _. Commit (made s p.label dir name (object_with p.label (attr_of p (masked mode p.umask)) body)) answer.Nothing None)
 
 -- the spot of what the caller makes
 abbrev pub make_spot : State → Process → PathValue → (Spot → Row) → Row
@@ -149,7 +148,7 @@ abbrev pub may_replace : State → Oid → Oid → Row → Row
 may_replace s id t rest =
     Refuse errno.ENOTDIR (is_dir (object_at s id).kind && not (is_dir (object_at s t).kind))
     (Refuse errno.EISDIR (is_dir (object_at s t).kind && not (is_dir (object_at s id).kind))
-    (Refuse errno.ENOTEMPTY (is_dir (object_at s t).kind && not (is_empty s t)) rest))
+    (Refuse errno.ENOTEMPTY (has_entries s t) rest))
 
 -- an object takes the place of what was written, if that is another one; whether it moves is given
 abbrev pub over_other : State → Oid → Oid → Bool → (Bool → Row) → Row

@@ -8,7 +8,7 @@ use lab_lattice::bottom;
 use proc_creds::Creds;
 use proc_table::Procs;
 use std::alloc::Global;
-use sys_lookup::{Found, Shared, WalkStop, walk};
+use sys_lookup::{Caller, Found, Shared, WalkStop, walk};
 
 const OWNER: u32 = 1;
 
@@ -80,11 +80,10 @@ fn walked(
         n: 1,
     };
     let path = Path::read(alloc, text).ok()?;
-    let Some(process) = shared.procs.find(&who) else {
+    let Some(caller) = Caller::find(shared, &who) else {
         return None;
     };
-    let creds = &process.creds;
-    let mut checks = Checks::new(alloc, who, creds.label, creds.caps.e);
+    let mut checks = Checks::new(alloc, who, caller.label(), caller.caps().e);
     Some(walk(shared, &mut checks, &who, &path, second))
 }
 

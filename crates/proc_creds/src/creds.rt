@@ -3,8 +3,8 @@ ghost use Rattle.std.specs.Prelude.{◌≡◌, ◌||◌, true, false, IfOk, OnOk
 ghost use Rattle.cap_bits.specs.CapSet.{is_within};
 ghost use Rattle.kern_model.specs.Exec.{exec_caps};
 ghost use Rattle.kern_model.specs.ProcessRows.{with_group, with_user};
-ghost use Rattle.kern_model.specs.Rules.{may_become};
-ghost use Rattle.proc_creds.specs.Credentials.{may_be_group, may_be_user, taken_on};
+ghost use Rattle.kern_model.specs.Rules.{may_be_group, may_be_user, may_become};
+ghost use Rattle.proc_creds.specs.Credentials.{taken_on};
 
 use cap_bits::{CapSet, CapState};
 use kern_model::{Gid, Ids, Mode, NoMemory, Uid};

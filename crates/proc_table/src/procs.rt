@@ -1,5 +1,5 @@
 // The processes.
-ghost use Rattle.std.specs.Prelude.{◌≡◌, ◌↔◌, ◌≤◌, Some, Err, IfOk, OnErr, OnOk, drop, option_copied, option_map};
+ghost use Rattle.std.specs.Prelude.{◌≡◌, ◌↔◌, ◌≤◌, None, Some, Err, IfOk, OnErr, OnOk, drop, option_copied, option_map};
 ghost use Rattle.std.specs.FinMap as map;
 ghost use Rattle.kern_model.specs.ProcessRows.{child_of};
 ghost use Rattle.kern_model.specs.State.{Process, drawn};
@@ -89,6 +89,7 @@ impl Procs {
     /// has no parent.
     pub fn boot(&mut self, creds: Creds, cwd: Oid) -> Result<Pid, ProcError>
         ensures who { IfOk result (λ who. who ≡ next_in self.old creds.label) }
+        ensures fresh { map.get self.old.procs (next_in self.old creds.label) ≡ None }
         ensures made { OnOk result (self.new ≡ with_new self.old (starting creds cwd)) }
         ensures full { (result ≡ Err ProcError.Full) ↔ (MAX_PROCS ≤ drawn self.old.numbers creds.label) }
         ensures err { OnErr result (self.new ≡ self.old) }

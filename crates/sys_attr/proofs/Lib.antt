@@ -1,2 +1,4 @@
+mod CallLemmas
+mod ChangeLemmas
 mod KeepLemmas
 mod ThereLemmas

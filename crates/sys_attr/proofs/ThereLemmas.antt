@@ -1,28 +1,22 @@
 -- Objects that a call names are there.
-use Rattle.std.specs.Prelude.{◌≡◌, ℕ, true, false, [], ◌∷◌, Option, None, Some, Result, Ok, Err, IfOk, cond, refl}
+use Rattle.std.specs.Prelude.{◌≡◌, ℕ, true, false, Option, None, Some, Result, Ok, Err, IfOk, cond, refl}
 use Rattle.std.specs.FinMap as map
 use Rattle.std.specs.FinMap.{FinMap}
 use Rattle.std.specs.Option.{option_and_then, option_map}
-use Rattle.std.proofs.Common.{ap, sym, subst, inl, inr}
+use Rattle.std.proofs.Common.{sym, subst, inl, inr}
 use Rattle.std.proofs.Math.Logic.{∥∥₁_map, ∥∥₁_elim}
 use Rattle.fs_path.specs.Path.{PathValue}
-use Rattle.kern_model.specs.declared.calls.Answer.TheVariants.{Nothing}
-use Rattle.kern_model.specs.declared.calls.Errno.TheVariants.{EBADF}
 use Rattle.kern_model.specs.declared.checks.Place.{Place}
 use Rattle.kern_model.specs.declared.numbers.Did.{Did}
 use Rattle.kern_model.specs.declared.numbers.Oid.{Oid}
 use Rattle.kern_model.specs.declared.numbers.Pid.{Pid}
 use Rattle.kern_model.specs.declared.objects.Object.{Object}
 use Rattle.kern_model.specs.Descriptors.{Opened, opened}
-use Rattle.kern_model.specs.FileRows.{or_not_open, on_descriptor}
 use Rattle.kern_model.specs.Keys.{oid_cmp}
-use Rattle.kern_model.specs.Row.{Row, Commit, End, Done, Refused, judge}
-use Rattle.kern_model.specs.State.{State, Process, Description, SetDescription, root}
+use Rattle.kern_model.specs.State.{State, Process, Description, root}
 use Rattle.kern_model.specs.Valid.{IsThere, IsValid}
 use Rattle.kern_model.specs.Walk.{start_of}
 use Rattle.kern_model.proofs.MapLemmas.{never_some, some_same}
-use Rattle.chk_rules.specs.CheckLog.{CheckLog, judge_from}
-use Rattle.chk_rules.specs.Ends.{GoesOn}
 use Rattle.chk_rules.specs.declared.stop.Stop.{Stop}
 use Rattle.sys_lookup.specs.Walks.{IsLedTo}
 
@@ -54,17 +48,6 @@ path_there s valid who p living path (Err how) led = tt
 
 -- ---- by a descriptor
 
--- the description that an end sets, if it does that alone
-described : Opened → End → Opened
-described d (Done (SetDescription did x ∷ []) answer own) = record { did = did; description = x }
-described d _ = d
-
--- a row goes on from what a descriptor refers to where it refers to that
-goes_on_from : (a b : CheckLog) (w : Option Opened) (f : Opened) → ((rest : Opened → Row) → judge_from a (or_not_open w rest) ≡ judge_from b (rest f)) → w ≡ Some f
-unfolding judge described
-goes_on_from a b None f goes = let no : Refused EBADF ≡ Done [] Nothing None = ap (λ j. j.end) (goes (λ _. Commit [] Nothing None)) in cc
-goes_on_from a b (Some g) f goes = ap (λ j. Some (described g j.end)) (goes (λ x. Commit (SetDescription x.did x.description ∷ []) Nothing None))
-
 described_by : (s : State) (did : Did) (f : Opened) → option_map (λ d. record { did = did; description = d }) (map.get s.descriptions did) ≡ Some f → map.get s.descriptions f.did ≡ Some f.description
 described_by s did f is =
     elim (map.get s.descriptions did) as (λ (w : Option Description). map.get s.descriptions did ≡ w → option_map (λ d. record { did = did; description = d }) w ≡ Some f → map.get s.descriptions f.did ≡ Some f.description) [
@@ -82,8 +65,8 @@ described_there s p fd f is =
     ] is
 
 -- the object that an open descriptor refers to is there
-pub descriptor_there : (s : State) → ∥ IsValid s ∥₁ → (p : Process) (fd : ℕ) (f : Opened) (a b : CheckLog) → GoesOn a (on_descriptor s p fd) (Ok f) b → IsThere s.objects f.description.object
-descriptor_there s valid p fd f a b goes =
+pub descriptor_there : (s : State) → ∥ IsValid s ∥₁ → (p : Process) (fd : ℕ) (f : Opened) → opened s p fd ≡ Some f → IsThere s.objects f.description.object
+descriptor_there s valid p fd f is =
     there_where s.objects f.description.object (∥∥₁_map valid (λ v.
-    let d = v.descriptions f.did f.description (described_there s p fd f (goes_on_from a b (opened s p fd) f goes.continues)) in
+    let d = v.descriptions f.did f.description (described_there s p fd f is) in
     record { value = d.object; is = d.object_is }))

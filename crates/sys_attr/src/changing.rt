@@ -1,26 +1,40 @@
-// Changes of an object.
-ghost use Rattle.std.specs.Prelude.{◌≡◌};
+// What the calls change.
+ghost use Rattle.std.specs.Prelude.{◌≡◌, IsSome};
+ghost use Rattle.std.specs.FinMap as map;
 ghost use Rattle.kern_model.specs.AttrRows.{with_attr, with_label};
-ghost use Rattle.kern_model.specs.State.{changed, object_at};
+ghost use Rattle.kern_model.specs.State.{SetProcess, changed, object_at, process_at};
 ghost use Rattle.kern_model.specs.Valid.{IsThere};
-ghost use Rattle.sys_lookup.specs.Shared.{state_of};
 
-use kern_model::{Attr, Oid};
+use kern_model::{Attr, Mode, Oid, Pid};
 use lab_lattice::Label;
 use sys_lookup::Shared;
 
 /// Gives an object that is there other attributes.
 pub fn give_attr(shared: &mut Shared, id: &Oid, attr: Attr)
-    requires { IsThere (state_of shared.old).objects id.now }
-    ensures { state_of shared.new ≡ changed (state_of shared.old) (with_attr id.now (object_at (state_of shared.old) id.now) attr) }
+    requires { IsThere shared.old.objects id.now }
+    ensures { shared.new ≡ changed shared.old (with_attr id.now (object_at shared.old id.now) attr) }
 {
     shared.tree.set_attr(id, attr);
 }
 
 /// Gives an object that is there another label.
 pub fn give_label(shared: &mut Shared, id: &Oid, label: Label)
-    requires { IsThere (state_of shared.old).objects id.now }
-    ensures { state_of shared.new ≡ changed (state_of shared.old) (with_label id.now (object_at (state_of shared.old) id.now) label) }
+    requires { IsThere shared.old.objects id.now }
+    ensures { shared.new ≡ changed shared.old (with_label id.now (object_at shared.old id.now) label) }
 {
     shared.tree.set_label(id, label);
+}
+
+/// Gives a living process other bits that its new objects do not get, and returns the old ones. No memory is taken.
+pub fn give_umask(shared: &mut Shared, who: &Pid, mode: Mode) -> Mode
+    requires { IsSome (map.get shared.old.procs who.now) }
+    ensures bits { result ≡ (process_at shared.old who.now).umask }
+    ensures changed { shared.new ≡ changed shared.old (SetProcess who.now (record (process_at shared.old who.now) { umask = mode })) }
+{
+    let Some(creds) = shared.procs.creds_mut(who) else {
+        unreachable!();
+    };
+    let old = creds.umask;
+    creds.umask = mode;
+    old
 }

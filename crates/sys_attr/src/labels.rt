@@ -1,21 +1,19 @@
 // The calls `mac_get_file`, `mac_set_file`, `mac_get_fd` and `mac_set_fd`.
-ghost use Rattle.std.specs.Prelude.{◌≡◌, Some, IsSome};
+ghost use Rattle.std.specs.Prelude.{IsSome};
 ghost use Rattle.std.specs.FinMap as map;
-ghost use Rattle.kern_model.specs.declared.numbers.Oid.{Oid};
-ghost use Rattle.kern_model.specs.AttrRows.{asks_label, change_label, get_label, set_label};
-ghost use Rattle.kern_model.specs.State.{Process, object_at};
+ghost use Rattle.kern_model.specs.AttrRows.{change_label};
+ghost use Rattle.kern_model.specs.State.{process_at};
 ghost use Rattle.kern_model.specs.Valid.{IsValid};
-ghost use Rattle.chk_rules.specs.Ends.{GoesOn};
 ghost use Rattle.sys_lookup.specs.PlaysRow.{PlaysRow};
-ghost use Rattle.sys_lookup.specs.Shared.{metadata_of, process_of, state_of};
-ghost use Rattle.sys_attr.specs.Objects.{on_argument};
+ghost use Rattle.sys_lookup.specs.StepOn.{StepIn};
+ghost use Rattle.sys_attr.specs.Objects.{asks_label_at, mac_get_row, mac_set_row};
 
 use crate::changing::give_label;
 use crate::objects::{ObjectArgument, read_named, write_named};
 use chk_rules::{Checks, Stop, refuse_if};
 use kern_model::{Answer, Errno, Pid, Place, Rec};
 use lab_lattice::{Label, Lattice};
-use sys_lookup::{Caller, Effect, Metadata, Shared, living};
+use sys_lookup::{Caller, Effect, Metadata, Shared};
 
 /// `mac_get_file` and `mac_get_fd`: the label of an object.
 pub fn mac_get(
@@ -24,20 +22,12 @@ pub fn mac_get(
     who: &Pid,
     object: ObjectArgument<'_>,
 ) -> Result<Effect, Stop>
-    requires living { IsSome (map.get (state_of shared.now).procs who.now) }
-    ensures { (p : Process) → map.get (state_of shared.now).procs who.now ≡ Some p → PlaysRow (state_of shared.now) checks.old (on_argument (state_of shared.now) p object.entry (get_label (state_of shared.now) p)) result (state_of shared.now) checks.new }
+    requires living { IsSome (map.get shared.now.procs who.now) }
+    ensures { PlaysRow shared.now checks.old (mac_get_row shared.now (process_at shared.now who.now) object.entry) result shared.now checks.new }
 {
-    let process = living(shared, who);
-    let caller = Caller {
-        shared,
-        who: *who,
-        process,
-    };
+    let caller = Caller::new(shared, who);
     let object = read_named(&caller, checks, object)?;
-    Ok(Effect {
-        answer: Answer::Mark(object.label),
-        own: None,
-    })
+    Ok(Effect::answers(Answer::Mark(object.label)))
 }
 
 /// `mac_set_file` and `mac_set_fd`: an object gets a label.
@@ -48,16 +38,11 @@ pub fn mac_set(
     object: ObjectArgument<'_>,
     label: Label,
 ) -> Result<Effect, Stop>
-    requires valid { ∥ IsValid (state_of shared.old) ∥₁ }
-    requires living { IsSome (map.get (state_of shared.old).procs who.now) }
-    ensures { (p : Process) → map.get (state_of shared.old).procs who.now ≡ Some p → PlaysRow (state_of shared.old) checks.old (on_argument (state_of shared.old) p object.entry (set_label (state_of shared.old) who.now p label)) result (state_of shared.new) checks.new }
+    requires valid { ∥ IsValid shared.old ∥₁ }
+    requires living { IsSome (map.get shared.old.procs who.now) }
+    ensures { PlaysRow shared.old checks.old (mac_set_row shared.old who.now (process_at shared.old who.now) object.entry label) result shared.new checks.new }
 {
-    let process = living(shared, who);
-    let caller = Caller {
-        shared,
-        who: *who,
-        process,
-    };
+    let caller = Caller::new(shared, who);
     let (object, place) = write_named(&caller, checks, object)?;
     ask_label(&caller, checks, &object, &label, place)?;
     give_label(shared, &object.id, label);
@@ -75,7 +60,7 @@ fn ask_label(
     label: &Label,
     place: Place,
 ) -> Result<(), Stop>
-    ensures { (id : Oid) → object.now ≡ metadata_of (state_of caller.now.shared.now) id → GoesOn checks.old (λ rest. asks_label (state_of caller.now.shared.now) (process_of caller.now) label.now id place (object_at (state_of caller.now.shared.now) id) (rest tt)) result checks.new }
+    ensures { StepIn caller.now.state checks.old object.now (λ id rest. asks_label_at caller.now label.now id place (rest tt)) result checks.new }
 {
     caller.owner(checks, object, place)?;
     if label.equal(&object.label) {
@@ -92,7 +77,7 @@ fn may_change(
     label: &Label,
     place: Place,
 ) -> Result<(), Stop>
-    ensures { (id : Oid) → object.now ≡ metadata_of (state_of caller.now.shared.now) id → GoesOn checks.old (λ rest. change_label (state_of caller.now.shared.now) label.now id place (rest tt)) result checks.new }
+    ensures { StepIn caller.now.state checks.old object.now (λ id rest. change_label caller.now.state label.now id place (rest tt)) result checks.new }
 {
     caller.mac_change(checks, object, label, place)?;
     caller.relabelled_order(checks, object, label, place)?;

@@ -1,9 +1,9 @@
 // The objects that calls name.
-ghost use Rattle.std.specs.Prelude.{◌≡◌, Some, IfOk};
-ghost use Rattle.std.specs.FinMap as map;
+ghost use Rattle.std.specs.Prelude.{◌≡◌, IfOk};
 ghost use Rattle.kern_model.specs.Valid.{IsThere, IsValid};
 ghost use Rattle.chk_rules.specs.Ends.{GoesOn};
-ghost use Rattle.sys_lookup.specs.Shared.{metadata_of, process_of, state_of};
+ghost use Rattle.sys_lookup.specs.Callers.{IsLiving};
+ghost use Rattle.sys_lookup.specs.Shared.{metadata_of};
 ghost use Rattle.sys_attr.specs.Objects.{finding, reading, writing};
 
 use chk_rules::{Checks, Stop};
@@ -25,8 +25,8 @@ pub fn read_named(
     checks: &mut Checks,
     object: ObjectArgument<'_>,
 ) -> Result<Metadata, Stop>
-    ensures step { GoesOn checks.old (reading (state_of caller.now.shared.now) (process_of caller.now) object.entry) result checks.new }
-    ensures object { IfOk result (λ object. object ≡ metadata_of (state_of caller.now.shared.now) object.id) }
+    ensures step { GoesOn checks.old (reading caller.now.state caller.now.process object.entry) result checks.new }
+    ensures object { IfOk result (λ object. object ≡ metadata_of caller.now.state object.id) }
 {
     let (id, place) = find(caller, checks, object)?;
     caller.read_object(checks, &id, place)
@@ -38,11 +38,11 @@ pub fn write_named(
     checks: &mut Checks,
     object: ObjectArgument<'_>,
 ) -> Result<(Metadata, Place), Stop>
-    requires valid { ∥ IsValid (state_of caller.now.shared.now) ∥₁ }
-    requires living { Some (process_of caller.now) ≡ map.get (state_of caller.now.shared.now).procs caller.now.who }
-    ensures step { GoesOn checks.old (writing (state_of caller.now.shared.now) (process_of caller.now) object.entry) result checks.new }
-    ensures object { IfOk result (λ r. r.0 ≡ metadata_of (state_of caller.now.shared.now) r.0.id) }
-    ensures there { IfOk result (λ r. IsThere (state_of caller.now.shared.now).objects r.0.id) }
+    requires valid { ∥ IsValid caller.now.state ∥₁ }
+    requires living { IsLiving caller.now }
+    ensures step { GoesOn checks.old (writing caller.now.state caller.now.process object.entry) result checks.new }
+    ensures object { IfOk result (λ r. r.0 ≡ metadata_of caller.now.state r.0.id) }
+    ensures there { IfOk result (λ r. IsThere caller.now.state.objects r.0.id) }
 {
     let (id, place) = find(caller, checks, object)?;
     let metadata = caller.write_object(checks, &id, place)?;
@@ -55,8 +55,8 @@ fn find(
     checks: &mut Checks,
     object: ObjectArgument<'_>,
 ) -> Result<(Oid, Place), Stop>
-    ensures step { GoesOn checks.old (finding (state_of caller.now.shared.now) (process_of caller.now) object.entry) result checks.new }
-    ensures there { ∥ IsValid (state_of caller.now.shared.now) ∥₁ → Some (process_of caller.now) ≡ map.get (state_of caller.now.shared.now).procs caller.now.who → IfOk result (λ r. IsThere (state_of caller.now.shared.now).objects r.0) }
+    ensures step { GoesOn checks.old (finding caller.now.state caller.now.process object.entry) result checks.new }
+    ensures there { ∥ IsValid caller.now.state ∥₁ → IsLiving caller.now → IfOk result (λ r. IsThere caller.now.state.objects r.0) }
 {
     match object {
         ObjectArgument::Path(path) => caller.reach(checks, PathArgument::First, path),

@@ -1,13 +1,12 @@
 // The calls on modes, owners, the umask, capability sets of files, and labels of objects, as one.
-ghost use Rattle.std.specs.Prelude.{◌≡◌, Some, IsSome, true};
+ghost use Rattle.std.specs.Prelude.{◌≡◌, IsSome, true};
 ghost use Rattle.std.specs.FinMap as map;
 ghost use Rattle.kern_model.specs.Arguments.{has_names};
-ghost use Rattle.kern_model.specs.State.{Process};
+ghost use Rattle.kern_model.specs.State.{process_at};
 ghost use Rattle.kern_model.specs.Table.{row};
 ghost use Rattle.kern_model.specs.Valid.{IsValid};
 ghost use Rattle.sys_lookup.specs.Memory.{takes_no_memory};
 ghost use Rattle.sys_lookup.specs.PlaysRow.{LeavesNothing, PlaysRow};
-ghost use Rattle.sys_lookup.specs.Shared.{state_of};
 ghost use Rattle.sys_attr.specs.Playing.{is_attr_call};
 
 use crate::file_caps::{cap_get, cap_set};
@@ -28,9 +27,9 @@ pub fn play(
     call: &Call,
 ) -> Result<Effect, Stop>
     requires call { is_attr_call call.now ≡ true }
-    requires valid { ∥ IsValid (state_of shared.old) ∥₁ }
-    requires living { IsSome (map.get (state_of shared.old).procs who.now) }
-    ensures played { (p : Process) → map.get (state_of shared.old).procs who.now ≡ Some p → PlaysRow (state_of shared.old) checks.old (row (state_of shared.old) who.now p call.now) result (state_of shared.new) checks.new }
+    requires valid { ∥ IsValid shared.old ∥₁ }
+    requires living { IsSome (map.get shared.old.procs who.now) }
+    ensures played { PlaysRow shared.old checks.old (row shared.old who.now (process_at shared.old who.now) call.now) result shared.new checks.new }
     ensures names { has_names call.now ≡ true }
     ensures nothing { takes_no_memory call.now ≡ true → LeavesNothing result }
 {

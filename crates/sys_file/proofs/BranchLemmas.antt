@@ -1,6 +1,7 @@
 -- Rows that go one of two ways.
-use Rattle.std.specs.Prelude.{◌≡◌, Bool, true, false, Result, cond}
-use Rattle.std.proofs.Common.{sym, subst}
+use Rattle.std.specs.Prelude.{◌≡◌, Bool, true, false, None, Result, IfOk, OnOk, cond}
+use Rattle.std.proofs.Common.{sym, subst, ◌∙◌}
+use Rattle.kern_model.specs.declared.calls.Answer.{Answer}
 use Rattle.kern_model.specs.Row.{Row}
 use Rattle.kern_model.specs.State.{State}
 use Rattle.chk_rules.specs.CheckLog.{CheckLog}
@@ -22,3 +23,23 @@ module _ {s t : State} {a b : CheckLog} {r : Result Effect Stop} {is : Bool} whe
 
   pub plays_else : (other : Row) {row : Row} → is ≡ false → PlaysRow s a row r t b → PlaysRow s a (cond is other row) r t b
   plays_else other {row = row} same plays = subst (λ c. PlaysRow s a (cond c other row) r t b) (sym same) plays
+
+-- the same with an equal result
+pub plays_result : {s t : State} {a b : CheckLog} {row : Row} {r given : Result Effect Stop} → r ≡ given → PlaysRow s a row given t b → PlaysRow s a row r t b
+plays_result {s = s} {t = t} {a = a} {b = b} {row = row} same plays = subst (λ x. PlaysRow s a row x t b) (sym same) plays
+
+-- the same in an equal state
+pub plays_in : {s u t : State} {a b : CheckLog} {r : Result Effect Stop} (row : State → Row) → u ≡ s → PlaysRow u a (row u) r t b → PlaysRow s a (row s) r t b
+plays_in {t = t} {a = a} {b = b} {r = r} row same plays = subst (λ (x : State). PlaysRow x a (row x) r t b) same plays
+
+-- an effect with an equal answer
+pub answering : {effect : Effect} {given answer : Answer} → effect ≡ record { answer = given; own = None } → given ≡ answer → effect ≡ record { answer = answer; own = None }
+answering is same = is ∙ (λ i. record { answer = same i; own = None })
+
+-- what holds of a result holds of an equal one
+module _ {X E : Type 0} {r given : Result X E} (same : r ≡ given) where
+  pub on_ok : (Q : Type 0) → OnOk given Q → OnOk r Q
+  on_ok Q holds = subst (λ x. OnOk x Q) (sym same) holds
+
+  pub if_ok : (Q : X → Type 0) → IfOk given Q → IfOk r Q
+  if_ok Q holds = subst (λ x. IfOk x Q) (sym same) holds

@@ -1,7 +1,7 @@
 -- The objects that open descriptors refer to.
 use Rattle.std.specs.Prelude.{◌≡◌, ◌≤◌, Bool, true, false, None, Some, length, refl}
 use Rattle.std.specs.FinMap as map
-use Rattle.std.proofs.Common.{ap, sym, ◌∙◌}
+use Rattle.std.proofs.Common.{ap, sym, subst, ◌∙◌}
 use Rattle.std.proofs.Math.Bridge.{le_prop}
 use Rattle.std.proofs.Math.Logic.{∥∥₁_elim}
 use Rattle.kern_model.specs.declared.limits.TheConstants.{MAX_FILE_BYTES, MAX_PIPE_BYTES}
@@ -28,6 +28,10 @@ file_kind kind.File no_stream no_dir = refl
 file_kind kind.Fifo no_stream no_dir = let h : true ≡ false = no_stream in cc
 file_kind kind.Pipe no_stream no_dir = let h : true ≡ false = no_stream in cc
 
+-- a file of a valid state has few bytes
+pub few_bytes : (s : State) → ∥ IsValid s ∥₁ → (id : Oid) (o : Object) → map.get s.objects id ≡ Some o → o.kind ≡ kind.File → length o.bytes ≤ MAX_FILE_BYTES
+few_bytes s valid id o is file = ∥∥₁_elim valid le_prop (λ v. (v.objects id o is).file_bytes file)
+
 -- A description of a valid state stands on a file, unless it stands on a pipe or a FIFO.
 module _ (s : State) (valid : ∥ IsValid s ∥₁) (did : Did) (d : Description) (there : map.get s.descriptions did ≡ Some d) where
   pub file_there : is_stream (object_at s d.object).kind ≡ false → IsFile s.objects d.object
@@ -42,9 +46,11 @@ module _ (s : State) (valid : ∥ IsValid s ∥₁) (did : Did) (d : Description
         }
       ] refl
 
--- a file of a valid state has few bytes
-pub few_bytes : (s : State) → ∥ IsValid s ∥₁ → (id : Oid) (o : Object) → map.get s.objects id ≡ Some o → o.kind ≡ kind.File → length o.bytes ≤ MAX_FILE_BYTES
-few_bytes s valid id o is file = ∥∥₁_elim valid le_prop (λ v. (v.objects id o is).file_bytes file)
+  -- so there are few bytes
+  pub few_there : is_stream (object_at s d.object).kind ≡ false → length (object_at s d.object).bytes ≤ MAX_FILE_BYTES
+  few_there no_stream =
+      let file = file_there no_stream in
+      subst (λ (o : Object). length o.bytes ≤ MAX_FILE_BYTES) (sym (object_is s d.object file.object file.is)) (few_bytes s valid d.object file.object file.is file.file)
 
 -- what is read as a stream is there
 pub stream_there : (s : State) (id : Oid) → is_stream (object_at s id).kind ≡ true → IsStream s.objects id

@@ -1,5 +1,5 @@
 -- What a pipe with its two descriptions makes of a state.
-use Rattle.std.specs.Prelude.{◌≡◌, ◌+◌, ◌≤◌, ℕ, Bool, true, false, cond, nat_le, Option, None, Some, IsSome, refl}
+use Rattle.std.specs.Prelude.{◌≡◌, ◌+◌, ◌≤◌, ℕ, Bool, true, false, cond, nat_le}
 use Rattle.std.specs.FinMap as map
 use Rattle.std.specs.FinMap.{contains_key, len-entries, len-insert}
 use Rattle.std.proofs.Common.{ap, sym, ◌∙◌, arith}
@@ -7,14 +7,16 @@ use Rattle.std.proofs.lemmas.Bool.{le-leb, leb-true}
 use Rattle.std.specs.Cmp.{nat_cmp_total}
 use Rattle.lab_lattice.specs.Label.{Label}
 use Rattle.lab_lattice.proofs.Labels.{label_cmp_total, label_cmp_exact}
+use Rattle.kern_model.specs.declared.calls.OpenFlags.{OpenFlags}
 use Rattle.kern_model.specs.declared.numbers.Did.{Did}
 use Rattle.kern_model.specs.declared.numbers.Oid.{Oid}
 use Rattle.kern_model.specs.declared.numbers.Pid.{Pid}
 use Rattle.kern_model.specs.Descriptors.{lowest_free, with_descriptor}
 use Rattle.kern_model.specs.FileRows.{drawing_pipe, has_free_descriptors, on_pipe, opening, piped, second_description}
-use Rattle.kern_model.specs.State.{State, Process, changed_by, drawn, next_description, next_object}
+use Rattle.kern_model.specs.State.{State, Process, changed_by, drawn, next_description, next_object, process_at}
 use Rattle.kern_model.proofs.KeyLaws.{pid_cmp_total, pid_cmp_exact}
 use Rattle.kern_model.proofs.MapLemmas.{get-insert_same, get_or-found}
+use Rattle.kern_model.proofs.StateLemmas.{process_is}
 use Rattle.fd_table.proofs.Loops.{set_twice}
 use Rattle.sys_file.specs.Ends.{end_flags}
 
@@ -36,15 +38,6 @@ drawn_after s l =
     let n = drawn s.description_numbers l in
     ap (λ k. k + 1) (get_or-found (map.insert s.description_numbers l (n + 1)) l 0 (n + 1) (get-insert_same label_cmp_total s.description_numbers l (n + 1))) ∙ omega arith
 
--- something is there
-pub record Holds {X : Type 0} (w : Option X) : Type 0 where
-  pub value : X
-  pub is : w ≡ Some value
-
-pub holds : {X : Type 0} (w : Option X) → IsSome w → Holds w
-holds None there = let no : false ≡ true = there in absurd (cc)
-holds (Some x) there = record { value = x; is = refl }
-
 -- where two more may be counted, one may
 pub one_less : (n most : ℕ) → nat_le (n + 2) most ≡ true → nat_le (n + 1) most ≡ true
 one_less n most fits = let few = leb-true _ _ fits in le-leb _ _ (omega (arith, few))
@@ -63,6 +56,9 @@ module _ (s : State) (who : Pid) (p : Process) (id : Oid) where
   abbrev pub with_both : State
   with_both = changed_by with_reader (opening with_reader who (with_descriptor p first) id (end_flags false))
 
+  pub reader_is : process_at with_reader who ≡ with_descriptor p first
+  reader_is = process_is with_reader who (with_descriptor p first) (get-insert_same pid_cmp_total s.procs who (with_descriptor p first))
+
   pub both_are : id ≡ next_object s p.label → with_both ≡ changed_by s (piped s who p)
   both_are is =
       let l = p.label in
@@ -79,3 +75,8 @@ module _ (s : State) (who : Pid) (p : Process) (id : Oid) where
         description_numbers = set_twice label_cmp_total label_cmp_exact s.description_numbers l (n + 1) (n + 2) i;
         procs = set_twice pid_cmp_total pid_cmp_exact s.procs who reader (with_descriptor reader (second_description s p)) i;
       })
+
+-- a pipe is made, and then a description for reading
+pub reader_made : (s : State) (who : Pid) (id : Oid) {u v : State} {flags : OpenFlags} → u ≡ changed_by s (drawing_pipe s (process_at s who))
+    → v ≡ changed_by u (opening u who (process_at u who) id flags) → flags ≡ end_flags true → v ≡ with_reader s who (process_at s who) id
+reader_made s who id pipe reader same = reader ∙ (λ i. changed_by (pipe i) (opening (pipe i) who (process_at (pipe i) who) id (same i)))

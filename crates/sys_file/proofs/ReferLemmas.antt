@@ -1,32 +1,79 @@
 -- What a descriptor of a process refers to.
-use Rattle.std.specs.Prelude.{◌≡◌, ℕ, ◌+◌, ◌≤◌, ◌<◌, nat_le, true, false, Some, Result}
-use Rattle.std.proofs.Common.{arith, leb-false, leb-true, subst}
+use Rattle.std.specs.Prelude.{◌≡◌, ℕ, ◌+◌, ◌≤◌, ◌<◌, nat_le, true, false, Option, None, Some, IsSome, Result, refl}
+use Rattle.std.specs.Option.{option_and_then, option_map}
+use Rattle.std.specs.Ordering.{nat_cmp}
+use Rattle.std.specs.FinMap as map
+use Rattle.std.proofs.Common.{ap, arith, leb-false, leb-true, subst, sym, ◌∙◌}
+use Rattle.kern_model.specs.declared.numbers.Did.{Did}
 use Rattle.kern_model.specs.declared.checks.Place.TheVariants.{Handle}
 use Rattle.kern_model.specs.declared.limits.TheConstants.{MAX_DESCRIPTORS}
 use Rattle.kern_model.specs.declared.numbers.Oid.{Oid}
 use Rattle.kern_model.specs.declared.numbers.Pid.{Pid}
 use Rattle.kern_model.specs.Descriptors.{Opened, opened}
 use Rattle.kern_model.specs.Row.{Row}
-use Rattle.kern_model.specs.State.{State, Process}
+use Rattle.kern_model.specs.State.{State, Process, Description, process_at, stub_process}
 use Rattle.kern_model.specs.Walk.{read_object, write_object}
 use Rattle.chk_rules.specs.CheckLog.{CheckLog}
 use Rattle.chk_rules.specs.Ends.{GoesOn}
 use Rattle.chk_rules.specs.declared.stop.Stop.{Stop}
-use Rattle.fd_table.specs.Files.{opened_at}
+use Rattle.kern_model.proofs.MapLemmas.{get_or-absent, never_some, some_same}
+use Rattle.kern_model.proofs.StateLemmas.{process_is, process_there}
+use Rattle.sys_lookup.specs.Callers.{CallerView, caller_in}
 use Rattle.sys_lookup.specs.declared.shared.Metadata.{Metadata}
-use Rattle.sys_lookup.specs.declared.shared.Shared.{Shared}
-use Rattle.sys_lookup.specs.Shared.{holding, metadata_of, state_of}
+use Rattle.sys_lookup.specs.declared.shared.Shared.TheInside.{Inside}
+use Rattle.sys_lookup.specs.Shared.{metadata_of, state_of}
+use Rattle.sys_lookup.proofs.FdLemmas.{StandsIn, stands_in}
 use Rattle.sys_lookup.proofs.OpenedLemmas.{RefersTo, refers_to}
+use Rattle.sys_lookup.proofs.StandsLemmas.{opened_is}
 
--- what is open in the state stands in the table
-pub referred : (h : Shared) (who : Pid) (q : Process) (fd : ℕ) (f : Opened) → opened (state_of h) (holding h.fds.rows who q) fd ≡ Some f → RefersTo h.fds who fd f
-unfolding opened
-referred h who q fd f is = refers_to h.fds who fd f is
+-- something is there
+pub record Holds {X : Type 0} (w : Option X) : Type 0 where
+  pub value : X
+  pub is : w ≡ Some value
 
--- and the same
-pub open_there : (h : Shared) (who : Pid) (q : Process) (fd : ℕ) (f : Opened) → opened (state_of h) (holding h.fds.rows who q) fd ≡ Some f → opened_at h.fds who fd ≡ Some f
+pub holds : {X : Type 0} (w : Option X) → IsSome w → Holds w
+holds None there = let no : false ≡ true = there in absurd (cc)
+holds (Some x) there = record { value = x; is = refl }
+
+-- what is open for a caller is open
+pub open_of : {k : CallerView} {s : State} {who : Pid} (fd : ℕ) (f : Opened) → k ≡ caller_in s who → opened k.state k.process fd ≡ Some f → opened s (process_at s who) fd ≡ Some f
+open_of fd f same found = ap (λ (x : CallerView). opened x.state x.process fd) (sym same) ∙ found
+
+-- what a descriptor refers to is there
+pub described : (s : State) (p : Process) (fd : ℕ) (f : Opened) → opened s p fd ≡ Some f → map.get s.descriptions f.did ≡ Some f.description
 unfolding opened
-open_there h who q fd f is = is
+described s p fd f =
+    elim (map.get p.fds fd) as (λ w. option_and_then (λ did. option_map (λ (d : Description). record { did = did; description = d }) (map.get s.descriptions did)) w ≡ Some f → map.get s.descriptions f.did ≡ Some f.description) [
+      | None ↦ λ h. absurd (never_some None f refl h)
+      | Some did ↦
+          elim (map.get s.descriptions did) as (λ w. map.get s.descriptions did ≡ w → option_map (λ (d : Description). record { did = did; description = d }) w ≡ Some f → map.get s.descriptions f.did ≡ Some f.description) [
+            | None ↦ λ _ h. absurd (never_some None f refl h)
+            | Some d ↦ λ is h. subst (λ (x : Opened). map.get s.descriptions x.did ≡ Some x.description) (some_same _ f h) is
+          ] refl
+    ]
+
+-- a process with a descriptor that is open is living
+pub opener_there : (s : State) (who : Pid) (fd : ℕ) (f : Opened) → opened s (process_at s who) fd ≡ Some f → map.get s.procs who ≡ Some (process_at s who)
+unfolding opened
+opener_there s who fd f is =
+    elim (map.get s.procs who) as (λ w. map.get s.procs who ≡ w → map.get s.procs who ≡ Some (process_at s who)) [
+      | None ↦ λ none.
+          let none_open = ap (option_and_then (λ did. option_map (λ (d : Description). record { did = did; description = d }) (map.get s.descriptions did))) (map.get-empty {X = Did} nat_cmp fd) in
+          absurd (never_some (opened s (process_at s who) fd) f (ap (λ (p : Process). opened s p fd) (get_or-absent s.procs who (stub_process s.top) none) ∙ none_open) is)
+      | Some p ↦ λ e. e ∙ ap (λ (x : Process). Some x) (sym (process_is s who p e))
+    ] refl
+
+-- a living process stands in the table
+pub caller_stands : (h : Inside) {s : State} → state_of h ≡ s → (who : Pid) → IsSome (map.get s.procs who) → StandsIn h.procs.procs h.fds.rows who (process_at s who)
+caller_stands h {s} is who living = stands_in h.procs.procs h.fds.rows who (process_at s who) (ap (λ (x : State). map.get x.procs who) is ∙ process_there s who living)
+
+-- What is open in a state stands in the tables that it is made of.
+module _ (h : Inside) {s : State} (is : state_of h ≡ s) (who : Pid) (fd : ℕ) (f : Opened) (found : opened s (process_at s who) fd ≡ Some f) where
+  pub opener : StandsIn h.procs.procs h.fds.rows who (process_at s who)
+  opener = stands_in h.procs.procs h.fds.rows who (process_at s who) (ap (λ (x : State). map.get x.procs who) is ∙ opener_there s who fd f found)
+
+  pub referred : RefersTo h.fds who fd f
+  referred = refers_to h.fds who fd f (opened_is h (caller_in s who) is (opener_there s who fd f found) fd ∙ found)
 
 -- one more descriptor is free
 pub one_is_free : (n : ℕ) → nat_le (n + 1) MAX_DESCRIPTORS ≡ true → n < MAX_DESCRIPTORS

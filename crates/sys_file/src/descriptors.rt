@@ -2,64 +2,66 @@
 ghost use Rattle.std.specs.Prelude.{◌≡◌, ◌≤◌, ◌+ℤ◌, ℕ, ℤ, pos, None, Some, IfOk, IsSome, false, true, length};
 ghost use Rattle.std.specs.FinMap as map;
 ghost use Rattle.kern_model.specs.Descriptors.{Opened as Open, opened};
-ghost use Rattle.kern_model.specs.FileRows.{base_of, close_row, dup_row, fstat_row, lseek_row, moves, open_object, opened_to_seek};
+ghost use Rattle.kern_model.specs.FileRows.{base_of, close_row, closes, dup_row, fstat_row, lseek_row, moves, open_object, opened_to_seek, repeat};
 ghost use Rattle.kern_model.specs.Kinds.{is_stream};
-ghost use Rattle.kern_model.specs.State.{Process, State, object_at};
+ghost use Rattle.kern_model.specs.State.{State, changed_by, object_at, process_at};
 ghost use Rattle.kern_model.specs.Valid.{IsValid};
 ghost use Rattle.kern_model.specs.declared.limits.TheConstants.{MAX_FILE_BYTES};
 ghost use Rattle.kern_model.specs.declared.numbers.Pid.{Pid as Number};
 ghost use Rattle.chk_rules.specs.CheckLog.{CheckLog};
 ghost use Rattle.chk_rules.specs.Ends.{GoesOn};
-ghost use Rattle.fd_table.specs.Files.{is_past, opened_at};
+ghost use Rattle.fd_table.specs.Files.{is_past};
 ghost use Rattle.sys_lookup.specs.PlaysRow.{LeavesNothing, PlaysRow};
-ghost use Rattle.sys_lookup.specs.Shared.{process_of, state_of};
+ghost use Rattle.sys_file.specs.Descriptors.{IsOpen, RefersTo};
 
 use chk_rules::{Checks, Stop, refuse_if};
 use fd_table::Opened;
 use kern_model::{Answer, Errno, Fd, Oid, Pid, Place, Whence};
-use sys_lookup::{Caller, Effect, Shared, living};
+use sys_lookup::{Caller, Effect, Shared};
 
 /// `close`: a descriptor closes. What it refers to goes, where no other descriptor refers to it. It takes no memory.
 pub fn close(shared: &mut Shared, who: &Pid, fd: Fd) -> Result<Effect, Stop>
-    requires valid { ∥ IsValid (state_of shared.old) ∥₁ }
-    requires living { IsSome (map.get (state_of shared.old).procs who.now) }
-    ensures played { (p : Process) (log : CheckLog) → map.get (state_of shared.old).procs who.now ≡ Some p → PlaysRow (state_of shared.old) log (close_row (state_of shared.old) who.now p fd) result (state_of shared.new) log }
+    requires valid { ∥ IsValid shared.old ∥₁ }
+    requires living { IsSome (map.get shared.old.procs who.now) }
+    ensures played { (log : CheckLog) → PlaysRow shared.old log (close_row shared.old who.now (process_at shared.old who.now) fd) result shared.new log }
     ensures nothing { LeavesNothing result }
 {
-    let process = living(shared, who);
-    let caller = Caller {
-        shared,
-        who: *who,
-        process,
-    };
+    let caller = Caller::new(shared, who);
     caller.opened(fd)?;
+    close_open(shared, who, fd);
+    Ok(Effect::done())
+}
+
+// Closes a descriptor that is open.
+fn close_open(shared: &mut Shared, who: &Pid, fd: Fd)
+    requires valid { ∥ IsValid shared.old ∥₁ }
+    requires open { IsOpen shared.old who.now fd }
+    ensures { shared.new ≡ changed_by shared.old (closes shared.old who.now (process_at shared.old who.now) fd) }
+{
     if shared.fds.close(who, fd, &mut shared.tree).is_err() {
         unreachable!();
     }
-    Ok(Effect {
-        answer: Answer::Nothing,
-        own: None,
-    })
 }
 
 /// `dup`: a further descriptor, the lowest that is free, on the same description. It takes no memory.
 pub fn dup(shared: &mut Shared, who: &Pid, fd: Fd) -> Result<Effect, Stop>
-    requires { IsSome (map.get (state_of shared.old).procs who.now) }
-    ensures played { (p : Process) (log : CheckLog) → map.get (state_of shared.old).procs who.now ≡ Some p → PlaysRow (state_of shared.old) log (dup_row (state_of shared.old) who.now p fd) result (state_of shared.new) log }
+    requires { IsSome (map.get shared.old.procs who.now) }
+    ensures played { (log : CheckLog) → PlaysRow shared.old log (dup_row shared.old who.now (process_at shared.old who.now) fd) result shared.new log }
     ensures nothing { LeavesNothing result }
 {
-    let process = living(shared, who);
-    let caller = Caller {
-        shared,
-        who: *who,
-        process,
-    };
+    let caller = Caller::new(shared, who);
     caller.opened(fd)?;
+    repeat(shared, who, fd)
+}
+
+// Has the lowest descriptor that is free refer to what a descriptor refers to that is open.
+fn repeat(shared: &mut Shared, who: &Pid, fd: Fd) -> Result<Effect, Stop>
+    requires { IsOpen shared.old who.now fd }
+    ensures played { (f : Open) (log : CheckLog) → RefersTo shared.old who.now fd f → PlaysRow shared.old log (repeat who.now (process_at shared.old who.now) f) result shared.new log }
+    ensures nothing { LeavesNothing result }
+{
     match shared.fds.dup(who, fd) {
-        Ok(lowest) => Ok(Effect {
-            answer: Answer::Number(lowest),
-            own: None,
-        }),
+        Ok(lowest) => Ok(Effect::answers(Answer::Number(lowest))),
         // The descriptor is open, so all descriptors are.
         Err(_) => Err(Stop::Refused(Errno::EMFILE)),
     }
@@ -67,14 +69,12 @@ pub fn dup(shared: &mut Shared, who: &Pid, fd: Fd) -> Result<Effect, Stop>
 
 /// `fstat`: what is reported of the object that a descriptor refers to.
 pub fn fstat(caller: &Caller<'_>, checks: &mut Checks, fd: Fd) -> Result<Effect, Stop>
-    ensures { (who : Number) → PlaysRow (state_of caller.now.shared.now) checks.old (fstat_row (state_of caller.now.shared.now) who (process_of caller.now) fd) result (state_of caller.now.shared.now) checks.new }
+    ensures { (who : Number) → PlaysRow caller.now.state checks.old (fstat_row caller.now.state who caller.now.process fd) result caller.now.state checks.new }
 {
     let opened = caller.opened(fd)?;
     caller.read_object(checks, &opened.object, Place::Handle)?;
-    Ok(Effect {
-        answer: Answer::Stat(caller.shared.report(&opened.object)),
-        own: None,
-    })
+    let stat = caller.report(&opened.object);
+    Ok(Effect::answers(Answer::Stat(stat)))
 }
 
 /// `lseek`: the offset of a descriptor on a file moves, within the file's bytes.
@@ -86,16 +86,11 @@ pub fn lseek(
     from: Whence,
     offset: i64,
 ) -> Result<Effect, Stop>
-    requires valid { ∥ IsValid (state_of shared.old) ∥₁ }
-    requires living { IsSome (map.get (state_of shared.old).procs who.now) }
-    ensures { (p : Process) → map.get (state_of shared.old).procs who.now ≡ Some p → PlaysRow (state_of shared.old) checks.old (lseek_row (state_of shared.old) who.now p fd from offset) result (state_of shared.new) checks.new }
+    requires valid { ∥ IsValid shared.old ∥₁ }
+    requires living { IsSome (map.get shared.old.procs who.now) }
+    ensures { PlaysRow shared.old checks.old (lseek_row shared.old who.now (process_at shared.old who.now) fd from offset) result shared.new checks.new }
 {
-    let process = living(shared, who);
-    let caller = Caller {
-        shared,
-        who: *who,
-        process,
-    };
+    let caller = Caller::new(shared, who);
     let opened = opened_to_seek(&caller, checks, fd)?;
     let size = file_size(shared, &opened.object);
     match sum(base_of(&opened, from, size), offset) {
@@ -106,13 +101,10 @@ pub fn lseek(
 
 // Moves the offset of a descriptor on a file of so many bytes, or refuses where it is not within them.
 fn move_to(shared: &mut Shared, who: &Pid, fd: Fd, to: i64, size: u32) -> Result<Effect, Stop>
-    ensures { (f : Open) (log : CheckLog) → opened_at shared.old.fds who.now fd ≡ Some f → PlaysRow (state_of shared.old) log (moves f to size) result (state_of shared.new) log }
+    ensures { (f : Open) (log : CheckLog) → RefersTo shared.old who.now fd f → PlaysRow shared.old log (moves f to size) result shared.new log }
 {
     match shared.fds.seek(who, fd, to, size) {
-        Ok(offset) => Ok(Effect {
-            answer: Answer::Number(offset),
-            own: None,
-        }),
+        Ok(offset) => Ok(Effect::answers(Answer::Number(offset))),
         // The descriptor is open, so the offset is not within the file.
         Err(_) => Err(Stop::Refused(Errno::EINVAL)),
     }
@@ -128,9 +120,9 @@ fn sum(base: u32, offset: i64) -> Option<i64>
 
 // What `lseek` moves in: a descriptor on an object that the caller may read by label, and that has offsets.
 fn opened_to_seek(caller: &Caller<'_>, checks: &mut Checks, fd: Fd) -> Result<Opened, Stop>
-    ensures step { GoesOn checks.old (opened_to_seek (state_of caller.now.shared.now) (process_of caller.now) fd) result checks.new }
-    ensures found { IfOk result (λ f. opened (state_of caller.now.shared.now) (process_of caller.now) fd ≡ Some f) }
-    ensures no_stream { IfOk result (λ f. is_stream (open_object (state_of caller.now.shared.now) f).kind ≡ false) }
+    ensures step { GoesOn checks.old (opened_to_seek caller.now.state caller.now.process fd) result checks.new }
+    ensures found { IfOk result (λ f. opened caller.now.state caller.now.process fd ≡ Some f) }
+    ensures no_stream { IfOk result (λ f. is_stream (open_object caller.now.state f).kind ≡ false) }
 {
     let opened = caller.opened(fd)?;
     let object = caller.read_object(checks, &opened.object, Place::Handle)?;
@@ -140,8 +132,8 @@ fn opened_to_seek(caller: &Caller<'_>, checks: &mut Checks, fd: Fd) -> Result<Op
 
 // How many bytes an object contains that is no stream.
 fn file_size(shared: &Shared, id: &Oid) -> u32
-    requires { length (object_at (state_of shared.now) id.now).bytes ≤ MAX_FILE_BYTES }
-    ensures { result ≡ length (object_at (state_of shared.now) id.now).bytes }
+    requires { length (object_at shared.now id.now).bytes ≤ MAX_FILE_BYTES }
+    ensures { result ≡ length (object_at shared.now id.now).bytes }
 {
     shared.byte_count(id) as u32
 }

@@ -1,18 +1,17 @@
 // Where descriptions stand in files.
-ghost use Rattle.std.specs.Prelude.{◌≡◌, Some, IsSome};
+ghost use Rattle.std.specs.Prelude.{◌≡◌};
 ghost use Rattle.kern_model.specs.Descriptors.{Opened};
 ghost use Rattle.kern_model.specs.FileRows.{moved};
 ghost use Rattle.kern_model.specs.State.{changed};
-ghost use Rattle.fd_table.specs.Files.{opened_at};
-ghost use Rattle.sys_lookup.specs.Shared.{state_of};
+ghost use Rattle.sys_file.specs.Descriptors.{IsOpen, RefersTo};
 
 use kern_model::{Fd, Pid};
 use sys_lookup::Shared;
 
 /// Sets the offset of a descriptor that is open, in bytes. It takes no memory.
 pub fn set_offset(shared: &mut Shared, who: &Pid, fd: Fd, to: u32)
-    requires { IsSome (opened_at shared.old.fds who.now fd) }
-    ensures { (f : Opened) → opened_at shared.old.fds who.now fd ≡ Some f → state_of shared.new ≡ changed (state_of shared.old) (moved f to) }
+    requires { IsOpen shared.old who.now fd }
+    ensures { (f : Opened) → RefersTo shared.old who.now fd f → shared.new ≡ changed shared.old (moved f to) }
 {
     // The file may have fewer bytes, since a truncation leaves offsets.
     if shared.fds.seek(who, fd, i64::from(to), to).is_err() {

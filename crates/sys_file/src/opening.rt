@@ -7,7 +7,7 @@ ghost use Rattle.kern_model.specs.Entries.{is_removed};
 ghost use Rattle.kern_model.specs.FileRows.{has_descriptions, has_free_descriptors, opening, rewritten};
 ghost use Rattle.kern_model.specs.Kinds.{is_fifo, is_file};
 ghost use Rattle.kern_model.specs.OpenRows.{allowed_by_kind, allowed_by_label, allowed_by_mode, emptying, open_row, opens_new, opens_present, to_absent, to_emptied, to_present};
-ghost use Rattle.kern_model.specs.State.{Process, State, changed, changed_by, look, object_at};
+ghost use Rattle.kern_model.specs.State.{State, changed, changed_by, look, object_at, process_at};
 ghost use Rattle.kern_model.specs.Valid.{IsDir, IsValid};
 ghost use Rattle.kern_model.specs.declared.numbers.Oid.{Oid as Number};
 ghost use Rattle.kern_model.specs.declared.objects.Object.{Object};
@@ -16,7 +16,7 @@ ghost use Rattle.chk_rules.specs.Ends.{GoesOn};
 ghost use Rattle.fd_table.specs.Files.{is_no_memory};
 ghost use Rattle.fs_nodes.specs.Nodes.{IsFile};
 ghost use Rattle.sys_lookup.specs.PlaysRow.{PlaysRow};
-ghost use Rattle.sys_lookup.specs.Shared.{metadata_of, process_of, state_of};
+ghost use Rattle.sys_lookup.specs.Shared.{metadata_of};
 ghost use Rattle.sys_file.specs.Opening.{CanBeEmptied, EmptiesFiles};
 
 use chk_rules::{Checks, Stop, refuse_if};
@@ -26,7 +26,7 @@ use kern_model::{
     Place,
 };
 use std::alloc::Global;
-use sys_lookup::{Caller, Effect, Found, Metadata, PathArgument, Shared, create, living};
+use sys_lookup::{Caller, Effect, Found, Metadata, PathArgument, Shared, create};
 
 /// `open`: an object is opened at the caller's lowest free descriptor. With `c` a file is made where nothing has the name.
 pub fn open(
@@ -38,18 +38,13 @@ pub fn open(
     flags: OpenFlags,
     mode: Option<Mode>,
 ) -> Result<Effect, Stop>
-    requires valid { ∥ IsValid (state_of shared.old) ∥₁ }
-    requires living { IsSome (map.get (state_of shared.old).procs who.now) }
-    ensures played { (p : Process) → map.get (state_of shared.old).procs who.now ≡ Some p → PlaysRow (state_of shared.old) checks.old (open_row (state_of shared.old) who.now p path.now flags mode) result (state_of shared.new) checks.new }
+    requires valid { ∥ IsValid shared.old ∥₁ }
+    requires living { IsSome (map.get shared.old.procs who.now) }
+    ensures played { PlaysRow shared.old checks.old (open_row shared.old who.now (process_at shared.old who.now) path.now flags mode) result shared.new checks.new }
     ensures names { are_names path.now ≡ true }
 {
     let _names = path.components();
-    let process = living(shared, who);
-    let caller = Caller {
-        shared,
-        who: *who,
-        process,
-    };
+    let caller = Caller::new(shared, who);
     caller.may_open(1)?;
     match caller.walk(checks, PathArgument::First, path)? {
         Found::Start(id) => {
@@ -81,8 +76,8 @@ fn may_make(
     dir: &Oid,
     place: Place,
 ) -> Result<(), Stop>
-    ensures step { GoesOn checks.old (λ rest. to_absent (state_of caller.now.shared.now) (process_of caller.now) flags dir.now place (rest tt)) result checks.new }
-    ensures stands { OnOk result (is_removed (state_of caller.now.shared.now) dir.now ≡ false) }
+    ensures step { GoesOn checks.old (λ rest. to_absent caller.now.state caller.now.process flags dir.now place (rest tt)) result checks.new }
+    ensures stands { OnOk result (is_removed caller.now.state dir.now ≡ false) }
 {
     refuse_if(!flags.c, Errno::ENOENT)?;
     caller.make_in(checks, dir, place)
@@ -96,10 +91,10 @@ fn may_open(
     id: &Oid,
     place: Place,
 ) -> Result<Option<Attr>, Stop>
-    ensures step { GoesOn checks.old (to_present (process_of caller.now) flags id.now place (object_at (state_of caller.now.shared.now) id.now)) result checks.new }
-    ensures files { IfOk result (EmptiesFiles (state_of caller.now.shared.now) id.now) }
+    ensures step { GoesOn checks.old (to_present caller.now.process flags id.now place (object_at caller.now.state id.now)) result checks.new }
+    ensures files { IfOk result (EmptiesFiles caller.now.state id.now) }
 {
-    let object = caller.shared.metadata(id);
+    let object = caller.metadata(id);
     refuse_if(both(flags.c, flags.x), Errno::EEXIST)?;
     label_allows(caller, checks, flags, &object, place)?;
     kind_allows(caller, checks, flags, &object, place)?;
@@ -115,7 +110,7 @@ fn label_allows(
     object: &Metadata,
     place: Place,
 ) -> Result<(), Stop>
-    ensures { (s : State) (id : Number) → object.now ≡ metadata_of s id → GoesOn checks.old (λ rest. allowed_by_label (process_of caller.now) flags id place (object_at s id) (rest tt)) result checks.new }
+    ensures { (s : State) (id : Number) → object.now ≡ metadata_of s id → GoesOn checks.old (λ rest. allowed_by_label caller.now.process flags id place (object_at s id) (rest tt)) result checks.new }
 {
     caller.mac_read_if(flags.r, checks, object, place)?;
     caller.mac_write_if(flags.w, checks, object, place)
@@ -129,7 +124,7 @@ fn kind_allows(
     object: &Metadata,
     place: Place,
 ) -> Result<(), Stop>
-    ensures { (s : State) (id : Number) → object.now ≡ metadata_of s id → GoesOn checks.old (λ rest. allowed_by_kind (process_of caller.now) flags id place (object_at s id) (rest tt)) result checks.new }
+    ensures { (s : State) (id : Number) → object.now ≡ metadata_of s id → GoesOn checks.old (λ rest. allowed_by_kind caller.now.process flags id place (object_at s id) (rest tt)) result checks.new }
 {
     refuse_if(object.is_directory(), Errno::EISDIR)?;
     let drains = both(is_fifo(object.kind), flags.r);
@@ -145,7 +140,7 @@ fn mode_allows(
     object: &Metadata,
     place: Place,
 ) -> Result<(), Stop>
-    ensures { (s : State) (id : Number) → object.now ≡ metadata_of s id → GoesOn checks.old (λ rest. allowed_by_mode (process_of caller.now) flags id place (object_at s id) (rest tt)) result checks.new }
+    ensures { (s : State) (id : Number) → object.now ≡ metadata_of s id → GoesOn checks.old (λ rest. allowed_by_mode caller.now.process flags id place (object_at s id) (rest tt)) result checks.new }
 {
     caller.dac_read_if(flags.r, checks, object, place)?;
     caller.dac_write_if(flags.w, checks, object, place)
@@ -199,18 +194,15 @@ fn open_present(
     flags: OpenFlags,
     emptied: Option<Attr>,
 ) -> Result<Effect, Stop>
-    requires living { IsSome (map.get (state_of shared.old).procs who.now) }
-    requires free { (p : Process) → map.get (state_of shared.old).procs who.now ≡ Some p → has_free_descriptors p 1 ≡ true }
-    requires left { (p : Process) → map.get (state_of shared.old).procs who.now ≡ Some p → has_descriptions (state_of shared.old) p 1 ≡ true }
-    requires file { CanBeEmptied (state_of shared.old) id.now emptied }
-    ensures { (p : Process) (log : CheckLog) → map.get (state_of shared.old).procs who.now ≡ Some p → PlaysRow (state_of shared.old) log (opens_present (state_of shared.old) who.now p flags id.now (object_at (state_of shared.old) id.now) emptied) result (state_of shared.new) log }
+    requires living { IsSome (map.get shared.old.procs who.now) }
+    requires free { has_free_descriptors (process_at shared.old who.now) 1 ≡ true }
+    requires left { has_descriptions shared.old (process_at shared.old who.now) 1 ≡ true }
+    requires file { CanBeEmptied shared.old id.now emptied }
+    ensures { (log : CheckLog) → PlaysRow shared.old log (opens_present shared.old who.now (process_at shared.old who.now) flags id.now (object_at shared.old id.now) emptied) result shared.new log }
 {
     let fd = describe(shared, who, id, flags)?;
     set_content(shared, id, emptied);
-    Ok(Effect {
-        answer: Answer::Number(fd),
-        own: None,
-    })
+    Ok(Effect::answers(Answer::Number(fd)))
 }
 
 // Makes an empty file of the caller under a new name, and opens it.
@@ -223,43 +215,34 @@ fn open_new(
     flags: OpenFlags,
     mode: Mode,
 ) -> Result<Effect, Stop>
-    requires valid { ∥ IsValid (state_of shared.old) ∥₁ }
-    requires living { IsSome (map.get (state_of shared.old).procs who.now) }
-    requires free { (p : Process) → map.get (state_of shared.old).procs who.now ≡ Some p → has_free_descriptors p 1 ≡ true }
-    requires left { (p : Process) → map.get (state_of shared.old).procs who.now ≡ Some p → has_descriptions (state_of shared.old) p 1 ≡ true }
-    requires dir { IsDir (state_of shared.old).objects dir.now }
-    requires stands { is_removed (state_of shared.old) dir.now ≡ false }
-    requires absent { look (state_of shared.old) dir.now name.now ≡ None }
-    ensures { (p : Process) (log : CheckLog) → map.get (state_of shared.old).procs who.now ≡ Some p → PlaysRow (state_of shared.old) log (opens_new (state_of shared.old) who.now p flags mode dir.now name.now) result (state_of shared.new) log }
+    requires valid { ∥ IsValid shared.old ∥₁ }
+    requires living { IsSome (map.get shared.old.procs who.now) }
+    requires free { has_free_descriptors (process_at shared.old who.now) 1 ≡ true }
+    requires left { has_descriptions shared.old (process_at shared.old who.now) 1 ≡ true }
+    requires dir { IsDir shared.old.objects dir.now }
+    requires stands { is_removed shared.old dir.now ≡ false }
+    requires absent { look shared.old dir.now name.now ≡ None }
+    ensures { (log : CheckLog) → PlaysRow shared.old log (opens_new shared.old who.now (process_at shared.old who.now) flags mode dir.now name.now) result shared.new log }
 {
-    let process = living(shared, who);
-    let caller = Caller {
-        shared,
-        who: *who,
-        process,
-    };
+    let caller = Caller::new(shared, who);
     let attr = caller.new_attr(mode);
-    let label = process.creds.label;
+    let label = caller.label();
     let empty = Body::File(ByteList::new(alloc));
     let id = create(shared, dir, name, label, attr, empty)?;
     let fd = describe(shared, who, &id, flags)?;
-    Ok(Effect {
-        answer: Answer::Number(fd),
-        own: None,
-    })
+    Ok(Effect::answers(Answer::Number(fd)))
 }
 
 /// Makes a description of an object, with the lowest free descriptor of a process, which it returns.
 pub fn describe(shared: &mut Shared, who: &Pid, id: &Oid, flags: OpenFlags) -> Result<Fd, NoMemory>
-    requires living { IsSome (map.get (state_of shared.old).procs who.now) }
-    requires free { (p : Process) → map.get (state_of shared.old).procs who.now ≡ Some p → has_free_descriptors p 1 ≡ true }
-    requires left { (p : Process) → map.get (state_of shared.old).procs who.now ≡ Some p → has_descriptions (state_of shared.old) p 1 ≡ true }
-    ensures fd { (p : Process) → map.get (state_of shared.old).procs who.now ≡ Some p → IfOk result (λ fd. fd ≡ lowest_free p.fds) }
-    ensures objects { (state_of shared.new).objects ≡ (state_of shared.old).objects }
-    ensures described { (p : Process) → map.get (state_of shared.old).procs who.now ≡ Some p → OnOk result (state_of shared.new ≡ changed_by (state_of shared.old) (opening (state_of shared.old) who.now p id.now flags)) }
+    requires living { IsSome (map.get shared.old.procs who.now) }
+    requires free { has_free_descriptors (process_at shared.old who.now) 1 ≡ true }
+    requires left { has_descriptions shared.old (process_at shared.old who.now) 1 ≡ true }
+    ensures fd { IfOk result (λ fd. fd ≡ lowest_free (process_at shared.old who.now).fds) }
+    ensures objects { shared.new.objects ≡ shared.old.objects }
+    ensures described { OnOk result (shared.new ≡ changed_by shared.old (opening shared.old who.now (process_at shared.old who.now) id.now flags)) }
 {
-    let process = living(shared, who);
-    let label = process.creds.label;
+    let label = Caller::new(shared, who).label();
     shared.fds.reserve(who)?;
     match shared.fds.open_at_lowest(who, &label, *id, how(flags)) {
         Ok(fd) => Ok(fd),
@@ -290,8 +273,8 @@ fn how(flags: OpenFlags) -> How
 
 // Empties an object with these attributes, if it is to be emptied. It takes no memory.
 fn set_content(shared: &mut Shared, id: &Oid, emptied: Option<Attr>)
-    requires { CanBeEmptied (state_of shared.old) id.now emptied }
-    ensures { state_of shared.new ≡ changed_by (state_of shared.old) (emptying id.now (object_at (state_of shared.old) id.now) emptied) }
+    requires { CanBeEmptied shared.old id.now emptied }
+    ensures { shared.new ≡ changed_by shared.old (emptying id.now (object_at shared.old id.now) emptied) }
 {
     match emptied {
         None => (),
@@ -301,8 +284,8 @@ fn set_content(shared: &mut Shared, id: &Oid, emptied: Option<Attr>)
 
 // Empties a file, and gives it other attributes. It takes no memory.
 fn empty(shared: &mut Shared, id: &Oid, attr: Attr)
-    requires { IsFile (state_of shared.old).objects id.now }
-    ensures { (o : Object) → map.get (state_of shared.old).objects id.now ≡ Some o → state_of shared.new ≡ changed (state_of shared.old) (rewritten id.now o [] attr) }
+    requires { IsFile shared.old.objects id.now }
+    ensures { (o : Object) → map.get shared.old.objects id.now ≡ Some o → shared.new ≡ changed shared.old (rewritten id.now o [] attr) }
 {
     shared.tree.truncate(id);
     shared.tree.set_attr(id, attr);

@@ -1,13 +1,12 @@
 // The calls on descriptors, and those that open or make what descriptors refer to, as one.
-ghost use Rattle.std.specs.Prelude.{◌≡◌, Some, IsSome, true};
+ghost use Rattle.std.specs.Prelude.{◌≡◌, IsSome, true};
 ghost use Rattle.std.specs.FinMap as map;
 ghost use Rattle.kern_model.specs.Arguments.{has_names};
-ghost use Rattle.kern_model.specs.State.{Process};
+ghost use Rattle.kern_model.specs.State.{process_at};
 ghost use Rattle.kern_model.specs.Table.{row};
 ghost use Rattle.kern_model.specs.Valid.{IsValid};
 ghost use Rattle.sys_lookup.specs.Memory.{takes_no_memory};
 ghost use Rattle.sys_lookup.specs.PlaysRow.{LeavesNothing, PlaysRow};
-ghost use Rattle.sys_lookup.specs.Shared.{state_of};
 ghost use Rattle.sys_file.specs.Playing.{is_file_call};
 
 use crate::descriptors::{close, dup, fstat, lseek};
@@ -18,7 +17,7 @@ use crate::writing::write;
 use chk_rules::{Checks, Stop};
 use kern_model::{Call, Pid};
 use std::alloc::Global;
-use sys_lookup::{Caller, Effect, Shared, living};
+use sys_lookup::{Caller, Effect, Shared};
 
 /// Plays a call of a living process on descriptors, or one that opens or makes what descriptors refer to.
 #[inline(never)]
@@ -30,9 +29,9 @@ pub fn play(
     call: &Call,
 ) -> Result<Effect, Stop>
     requires call { is_file_call call.now ≡ true }
-    requires valid { ∥ IsValid (state_of shared.old) ∥₁ }
-    requires living { IsSome (map.get (state_of shared.old).procs who.now) }
-    ensures played { (p : Process) → map.get (state_of shared.old).procs who.now ≡ Some p → PlaysRow (state_of shared.old) checks.old (row (state_of shared.old) who.now p call.now) result (state_of shared.new) checks.new }
+    requires valid { ∥ IsValid shared.old ∥₁ }
+    requires living { IsSome (map.get shared.old.procs who.now) }
+    ensures played { PlaysRow shared.old checks.old (row shared.old who.now (process_at shared.old who.now) call.now) result shared.new checks.new }
     ensures names { has_names call.now ≡ true }
     ensures nothing { takes_no_memory call.now ≡ true → LeavesNothing result }
 {
@@ -45,15 +44,7 @@ pub fn play(
         Call::Dup(fd) => dup(shared, who, *fd),
         Call::Pipe => pipe(shared, who),
         Call::Mkfifo(path, mode) => mkfifo(shared, checks, who, path, *mode),
-        Call::Fstat(fd) => {
-            let process = living(shared, who);
-            let caller = Caller {
-                shared,
-                who: *who,
-                process,
-            };
-            fstat(&caller, checks, *fd)
-        }
+        Call::Fstat(fd) => fstat(&Caller::new(shared, who), checks, *fd),
         _ => unreachable!(),
     }
 }

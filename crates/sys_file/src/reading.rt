@@ -1,23 +1,23 @@
 // The call `read`.
-ghost use Rattle.std.specs.Prelude.{◌≡◌, Some, IfOk, IsSome, false, true};
+ghost use Rattle.std.specs.Prelude.{◌≡◌, Some, IfOk, IsSome, drop, false, take, true};
 ghost use Rattle.std.specs.FinMap as map;
 ghost use Rattle.kern_model.specs.Descriptors.{opened};
 ghost use Rattle.kern_model.specs.FileRows.{comes_out, open_object, opened_to_read, read_row};
-ghost use Rattle.kern_model.specs.State.{Process};
+ghost use Rattle.kern_model.specs.State.{process_at};
 ghost use Rattle.kern_model.specs.Valid.{IsValid};
+ghost use Rattle.kern_model.specs.declared.objects.Object.{Object};
 ghost use Rattle.chk_rules.specs.CheckLog.{CheckLog};
 ghost use Rattle.chk_rules.specs.Ends.{GoesOn};
-ghost use Rattle.fd_table.specs.Files.{opened_at};
 ghost use Rattle.fs_nodes.specs.Nodes.{IsFile, IsStream};
 ghost use Rattle.sys_lookup.specs.PlaysRow.{PlaysRow};
-ghost use Rattle.sys_lookup.specs.Shared.{process_of, state_of};
+ghost use Rattle.sys_file.specs.Descriptors.{RefersTo};
 
 use crate::offsets::set_offset;
 use chk_rules::{Checks, Stop, refuse_if};
 use fd_table::{Opened, PipeError};
 use kern_model::limits::MAX_PIPE_BYTES;
-use kern_model::{Answer, Errno, Fd, Pid, Place};
-use sys_lookup::{Caller, Effect, Shared, living};
+use kern_model::{Answer, ByteList, Errno, Fd, NoMemory, Oid, Pid, Place};
+use sys_lookup::{Caller, Effect, Shared};
 
 /// `read`: up to `n` bytes of a file from the offset on, or from the start of a pipe or FIFO, which loses them.
 pub fn read(
@@ -27,18 +27,13 @@ pub fn read(
     fd: Fd,
     n: u32,
 ) -> Result<Effect, Stop>
-    requires valid { ∥ IsValid (state_of shared.old) ∥₁ }
-    requires living { IsSome (map.get (state_of shared.old).procs who.now) }
-    ensures { (p : Process) → map.get (state_of shared.old).procs who.now ≡ Some p → PlaysRow (state_of shared.old) checks.old (read_row (state_of shared.old) who.now p fd n) result (state_of shared.new) checks.new }
+    requires valid { ∥ IsValid shared.old ∥₁ }
+    requires living { IsSome (map.get shared.old.procs who.now) }
+    ensures { PlaysRow shared.old checks.old (read_row shared.old who.now (process_at shared.old who.now) fd n) result shared.new checks.new }
 {
-    let process = living(shared, who);
-    let caller = Caller {
-        shared,
-        who: *who,
-        process,
-    };
+    let caller = Caller::new(shared, who);
     let opened = opened_to_read(&caller, checks, fd)?;
-    let object = caller.shared.metadata(&opened.object);
+    let object = shared.metadata(&opened.object);
     if !object.is_stream() {
         return read_file(shared, who, fd, &opened, n);
     }
@@ -48,8 +43,8 @@ pub fn read(
 
 // A descriptor that is open for reading, on an object that the caller may read by label.
 fn opened_to_read(caller: &Caller<'_>, checks: &mut Checks, fd: Fd) -> Result<Opened, Stop>
-    ensures step { GoesOn checks.old (opened_to_read (state_of caller.now.shared.now) (process_of caller.now) fd) result checks.new }
-    ensures found { IfOk result (λ f. opened (state_of caller.now.shared.now) (process_of caller.now) fd ≡ Some f) }
+    ensures step { GoesOn checks.old (opened_to_read caller.now.state caller.now.process fd) result checks.new }
+    ensures found { IfOk result (λ f. opened caller.now.state caller.now.process fd ≡ Some f) }
 {
     let opened = caller.opened(fd)?;
     refuse_if(!opened.how.reads, Errno::EBADF)?;
@@ -65,40 +60,39 @@ fn read_file(
     opened: &Opened,
     n: u32,
 ) -> Result<Effect, Stop>
-    requires valid { ∥ IsValid (state_of shared.old) ∥₁ }
-    requires open { opened_at shared.old.fds who.now fd ≡ Some opened.now }
-    requires file { IsFile (state_of shared.old).objects opened.now.description.object }
-    ensures { (log : CheckLog) → PlaysRow (state_of shared.old) log (comes_out false (state_of shared.old) n opened.now (open_object (state_of shared.old) opened.now)) result (state_of shared.new) log }
+    requires valid { ∥ IsValid shared.old ∥₁ }
+    requires open { RefersTo shared.old who.now fd opened.now }
+    requires file { IsFile shared.old.objects opened.now.description.object }
+    ensures { (log : CheckLog) → PlaysRow shared.old log (comes_out false shared.old n opened.now (open_object shared.old opened.now)) result shared.new log }
 {
-    let bytes = shared
-        .tree
-        .nodes()
-        .read_at(&opened.object, opened.offset, n)?;
+    let bytes = bytes_at(shared, &opened.object, opened.offset, n)?;
     let end = opened.offset + bytes.items().len() as u32;
     set_offset(shared, who, fd, end);
-    Ok(Effect {
-        answer: Answer::Bytes(bytes),
-        own: None,
-    })
+    Ok(Effect::answers(Answer::Bytes(bytes)))
+}
+
+// The bytes of an object from an offset on: `n` of them, or all that are left where fewer are.
+fn bytes_at(shared: &Shared, id: &Oid, at: u32, n: u32) -> Result<ByteList, NoMemory>
+    ensures { (o : Object) → map.get shared.now.objects id.now ≡ Some o → IfOk result (λ bytes. bytes ≡ take n (drop at o.bytes)) }
+{
+    let nodes = shared.tree.nodes();
+    nodes.read_at(id, at, n)
 }
 
 // Takes up to `n` bytes out of a pipe or FIFO. They are copied first, since that may run out of memory.
 fn read_stream(shared: &mut Shared, opened: &Opened, n: u32) -> Result<Effect, Stop>
-    requires valid { ∥ IsValid (state_of shared.old) ∥₁ }
-    requires stream { IsStream (state_of shared.old).objects opened.now.description.object }
-    ensures { (log : CheckLog) → PlaysRow (state_of shared.old) log (comes_out true (state_of shared.old) n opened.now (open_object (state_of shared.old) opened.now)) result (state_of shared.new) log }
+    requires valid { ∥ IsValid shared.old ∥₁ }
+    requires stream { IsStream shared.old.objects opened.now.description.object }
+    ensures { (log : CheckLog) → PlaysRow shared.old log (comes_out true shared.old n opened.now (open_object shared.old opened.now)) result shared.new log }
 {
-    let bytes = shared.tree.nodes().read_at(&opened.object, 0, n)?;
+    let bytes = bytes_at(shared, &opened.object, 0, n)?;
     let mut buffer = [0; MAX_PIPE_BYTES];
     let taken = &mut buffer[..bytes.items().len()];
     match shared
         .fds
         .pipe_take(&mut shared.tree, &opened.object, taken)
     {
-        Ok(_) => Ok(Effect {
-            answer: Answer::Bytes(bytes),
-            own: None,
-        }),
+        Ok(_) => Ok(Effect::answers(Answer::Bytes(bytes))),
         Err(PipeError::Again) => Err(Stop::Refused(Errno::EAGAIN)),
         Err(PipeError::Broken) => unreachable!(),
         Err(PipeError::NoMemory(_)) => unreachable!(),

@@ -1,19 +1,19 @@
 // The call `write`.
-ghost use Rattle.std.specs.Prelude.{◌≡◌, ◌+◌, ◌≤◌, None, Some, IfOk, IsSome, OnOk, length};
+ghost use Rattle.std.specs.Prelude.{◌≡◌, ◌+◌, ◌≤◌, ℕ, None, Some, IfOk, IsSome, OnOk, length};
 ghost use Rattle.std.specs.FinMap as map;
 ghost use Rattle.kern_model.specs.Descriptors.{Opened as Description, opened};
 ghost use Rattle.kern_model.specs.FileRows.{moved, open_object, opened_to_write, place_in, putting, rewritten, to_place, write_row, written_over};
-ghost use Rattle.kern_model.specs.State.{Process, changed, object_at};
+ghost use Rattle.kern_model.specs.State.{changed, object_at, process_at};
 ghost use Rattle.kern_model.specs.Valid.{IsValid};
 ghost use Rattle.kern_model.specs.declared.calls.Answer.TheVariants as answer;
 ghost use Rattle.kern_model.specs.declared.limits.TheConstants.{MAX_FILE_BYTES};
+ghost use Rattle.kern_model.specs.declared.numbers.Pid.{Pid as Number};
 ghost use Rattle.kern_model.specs.declared.objects.Object.{Object};
 ghost use Rattle.chk_rules.specs.CheckLog.{CheckLog};
 ghost use Rattle.chk_rules.specs.Ends.{GoesOn};
-ghost use Rattle.fd_table.specs.Files.{opened_at};
 ghost use Rattle.fs_nodes.specs.Nodes.{IsFile, IsStream};
 ghost use Rattle.sys_lookup.specs.PlaysRow.{PlaysRow};
-ghost use Rattle.sys_lookup.specs.Shared.{process_of, state_of};
+ghost use Rattle.sys_file.specs.Descriptors.{IsOpen, RefersTo};
 
 use crate::offsets::set_offset;
 use chk_rules::{Checks, Stop, refuse_if};
@@ -21,7 +21,7 @@ use fd_table::{Opened, PipeError};
 use fs_nodes::WriteError;
 use kern_model::limits::MAX_FILE_BYTES;
 use kern_model::{Answer, Attr, Errno, Fd, Oid, Pid, Place};
-use sys_lookup::{Caller, Effect, NoMemory, Shared, living};
+use sys_lookup::{Caller, Effect, NoMemory, Shared};
 
 /// `write`: all these bytes go into a file at the offset, or at its end where the descriptor appends, or into a pipe or FIFO.
 pub fn write(
@@ -31,18 +31,13 @@ pub fn write(
     fd: Fd,
     bytes: &[u8],
 ) -> Result<Effect, Stop>
-    requires valid { ∥ IsValid (state_of shared.old) ∥₁ }
-    requires living { IsSome (map.get (state_of shared.old).procs who.now) }
-    ensures { (p : Process) → map.get (state_of shared.old).procs who.now ≡ Some p → PlaysRow (state_of shared.old) checks.old (write_row (state_of shared.old) who.now p fd bytes.now) result (state_of shared.new) checks.new }
+    requires valid { ∥ IsValid shared.old ∥₁ }
+    requires living { IsSome (map.get shared.old.procs who.now) }
+    ensures { PlaysRow shared.old checks.old (write_row shared.old who.now (process_at shared.old who.now) fd bytes.now) result shared.new checks.new }
 {
-    let process = living(shared, who);
-    let caller = Caller {
-        shared,
-        who: *who,
-        process,
-    };
+    let caller = Caller::new(shared, who);
     let opened = opened_to_write(&caller, checks, fd)?;
-    let object = caller.shared.metadata(&opened.object);
+    let object = shared.metadata(&opened.object);
     if object.is_stream() {
         return write_stream(shared, &opened, bytes);
     }
@@ -57,8 +52,8 @@ pub fn write(
 
 // A descriptor that is open for writing, on an object that the caller may write by label.
 fn opened_to_write(caller: &Caller<'_>, checks: &mut Checks, fd: Fd) -> Result<Opened, Stop>
-    ensures step { GoesOn checks.old (opened_to_write (state_of caller.now.shared.now) (process_of caller.now) fd) result checks.new }
-    ensures found { IfOk result (λ f. opened (state_of caller.now.shared.now) (process_of caller.now) fd ≡ Some f) }
+    ensures step { GoesOn checks.old (opened_to_write caller.now.state caller.now.process fd) result checks.new }
+    ensures found { IfOk result (λ f. opened caller.now.state caller.now.process fd ≡ Some f) }
 {
     let opened = caller.opened(fd)?;
     refuse_if(!opened.how.writes, Errno::EBADF)?;
@@ -68,14 +63,11 @@ fn opened_to_write(caller: &Caller<'_>, checks: &mut Checks, fd: Fd) -> Result<O
 
 // Puts bytes at the end of a pipe or FIFO.
 fn write_stream(shared: &mut Shared, opened: &Opened, bytes: &[u8]) -> Result<Effect, Stop>
-    requires { IsStream (state_of shared.old).objects opened.now.description.object }
-    ensures { (log : CheckLog) → PlaysRow (state_of shared.old) log (putting (state_of shared.old) opened.now bytes.now) result (state_of shared.new) log }
+    requires { IsStream shared.old.objects opened.now.description.object }
+    ensures { (log : CheckLog) → PlaysRow shared.old log (putting shared.old opened.now bytes.now) result shared.new log }
 {
     match shared.fds.pipe_put(&mut shared.tree, &opened.object, bytes) {
-        Ok(()) => Ok(Effect {
-            answer: Answer::Number(bytes.len() as u32),
-            own: None,
-        }),
+        Ok(()) => Ok(Effect::answers(Answer::Number(bytes.len() as u32))),
         Err(PipeError::Broken) => Err(Stop::Refused(Errno::EPIPE)),
         Err(PipeError::Again) => Err(Stop::Refused(Errno::EAGAIN)),
         Err(PipeError::NoMemory(e)) => Err(Stop::NoMemory(e)),
@@ -84,10 +76,10 @@ fn write_stream(shared: &mut Shared, opened: &Opened, bytes: &[u8]) -> Result<Ef
 
 // Where bytes go into a file, if they may.
 fn place_to_write(shared: &Shared, opened: &Opened, bytes: &[u8]) -> Result<u32, Stop>
-    requires valid { ∥ IsValid (state_of shared.now) ∥₁ }
-    requires file { IsFile (state_of shared.now).objects opened.now.description.object }
-    ensures step { (log : CheckLog) → GoesOn log (to_place bytes.now opened.now (open_object (state_of shared.now) opened.now)) result log }
-    ensures within { IfOk result (λ at. at ≤ length (open_object (state_of shared.now) opened.now).bytes) }
+    requires valid { ∥ IsValid shared.now ∥₁ }
+    requires file { IsFile shared.now.objects opened.now.description.object }
+    ensures step { (log : CheckLog) → GoesOn log (to_place bytes.now opened.now (open_object shared.now opened.now)) result log }
+    ensures within { IfOk result (λ at. at ≤ length (open_object shared.now opened.now).bytes) }
     ensures few { IfOk result (λ at. at + length bytes.now ≤ MAX_FILE_BYTES) }
 {
     let size = shared.byte_count(&opened.object) as u32;
@@ -116,11 +108,11 @@ fn overwrite(
     bytes: &[u8],
     attr: Attr,
 ) -> Result<(), NoMemory>
-    requires file { IsFile (state_of shared.old).objects id.now }
-    requires within { at ≤ length (object_at (state_of shared.old) id.now).bytes }
+    requires file { IsFile shared.old.objects id.now }
+    requires within { at ≤ length (object_at shared.old id.now).bytes }
     requires few { at + length bytes.now ≤ MAX_FILE_BYTES }
-    ensures files { shared.new.fds ≡ shared.old.fds }
-    ensures written { OnOk result (state_of shared.new ≡ changed (state_of shared.old) (rewritten id.now (object_at (state_of shared.old) id.now) (written_over (object_at (state_of shared.old) id.now).bytes at bytes.now) attr)) }
+    ensures open { (who : Number) (fd : ℕ) → opened shared.new (process_at shared.new who) fd ≡ opened shared.old (process_at shared.old who) fd }
+    ensures written { OnOk result (shared.new ≡ changed shared.old (rewritten id.now (object_at shared.old id.now) (written_over (object_at shared.old id.now).bytes at bytes.now) attr)) }
 {
     match shared.tree.write_at(id, at, bytes) {
         Ok(()) => {
@@ -135,15 +127,12 @@ fn overwrite(
 
 // Moves the offset after bytes that are written from a place on, and answers their number.
 fn move_after(shared: &mut Shared, who: &Pid, fd: Fd, at: u32, bytes: &[u8]) -> Effect
-    requires open { IsSome (opened_at shared.old.fds who.now fd) }
+    requires open { IsOpen shared.old who.now fd }
     requires few { at + length bytes.now ≤ MAX_FILE_BYTES }
-    ensures moved { (f : Description) → opened_at shared.old.fds who.now fd ≡ Some f → state_of shared.new ≡ changed (state_of shared.old) (moved f (at + length bytes.now)) }
+    ensures moved { (f : Description) → RefersTo shared.old who.now fd f → shared.new ≡ changed shared.old (moved f (at + length bytes.now)) }
     ensures effect { result ≡ record { answer = answer.Number (length bytes.now); own = None } }
 {
     let count = bytes.len() as u32;
     set_offset(shared, who, fd, at + count);
-    Effect {
-        answer: Answer::Number(count),
-        own: None,
-    }
+    Effect::answers(Answer::Number(count))
 }

@@ -17,7 +17,8 @@ use Rattle.kern_model.proofs.KeyLaws.{did_cmp_total, did_cmp_exact, pid_cmp_tota
 use Rattle.kern_model.proofs.MapLemmas.{same_key}
 use Rattle.kern_model.proofs.Selections.{none_passes, some_passes}
 use Rattle.fd_table.proofs.Closing.{Shows}
-use Rattle.sys_lookup.specs.declared.shared.Shared.{Shared}
+use Rattle.sys_lookup.specs.declared.shared.Shared.TheInside.{Inside}
+use Rattle.sys_lookup.specs.Owners.{HasOwners}
 use Rattle.sys_lookup.specs.Shared.{state_of}
 use Rattle.sys_lookup.proofs.FdLemmas.{found, stands_in}
 use Rattle.sys_lookup.proofs.OwnerLemmas.{owner_of}
@@ -52,12 +53,12 @@ module _ (s : State) (did : Did) where
       ] refl
 
 -- the table shows the descriptors of the state
-pub table_shows : (h : Shared) → ∥ IsValid (state_of h) ∥₁ → Shows (state_of h) h.fds
-table_shows h valid =
+pub table_shows : (h : Inside) → ∥ HasOwners h.procs.procs h.fds.rows ∥₁ → ∥ IsValid (state_of h) ∥₁ → Shows (state_of h) h.fds
+table_shows h owners valid =
     let s = state_of h in
     record {
       descriptions = refl;
       fds = λ who p there. let q = stands_in h.procs.procs h.fds.rows who p there in ap (λ (x : Process). x.fds) (sym q.same);
-      living = λ who fd did at. let q = owner_of h.procs.procs h.fds.rows h.owners who fd did at in record { value = _; is = found h.procs.procs h.fds.rows who q.value q.is };
+      living = λ who fd did at. let q = owner_of h.procs.procs h.fds.rows owners who fd did at in record { value = _; is = found h.procs.procs h.fds.rows who q.value q.is };
       held = λ did d there. holder s did (∥∥₁_map valid (λ v. (v.descriptions did d there).held));
     }

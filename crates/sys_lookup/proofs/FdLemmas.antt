@@ -8,9 +8,9 @@ use Rattle.kern_model.specs.declared.numbers.Pid.{Pid}
 use Rattle.kern_model.specs.Keys.{pid_cmp}
 use Rattle.kern_model.specs.State.{Process}
 use Rattle.kern_model.proofs.KeyLaws.{pid_cmp_total, pid_cmp_exact}
-use Rattle.kern_model.proofs.MapLemmas.{get_or-absent, never_some, some_same}
+use Rattle.kern_model.proofs.MapLemmas.{never_some, some_same}
 use Rattle.kern_model.proofs.Selections.{get-select_each, keys-select_each, select-insert_each}
-use Rattle.fd_table.specs.Rows.{AllFds, Fds, row_of}
+use Rattle.fd_table.specs.Rows.{AllFds}
 use Rattle.sys_lookup.specs.Shared.{holding, with_fds}
 
 module _ (procs : FinMap pid_cmp Process) (rows : AllFds) where
@@ -60,16 +60,9 @@ module _ (procs : FinMap pid_cmp Process) (rows : AllFds) (who : Pid) where
         | Some q ↦ λ _ _. refl
       ] refl
 
-  pub in_state : (q : Process) → map.get procs who ≡ Some q → IsSome (map.get (with_fds procs rows) who)
-  in_state q e = subst IsSome (sym (found procs rows who q e)) refl
-
 -- what is no descriptor of a process is the same in the table
 pub field-with_fds : {X : Type 0} (f : Process → X) → ((rows : AllFds) (who : Pid) (q : Process) → f (holding rows who q) ≡ f q) → (procs : FinMap pid_cmp Process) (rows : AllFds) (who : Pid)
     → option_map f (map.get (with_fds procs rows) who) ≡ option_map f (map.get procs who)
 field-with_fds f same procs rows who =
     ap (option_map f) (get-with_fds procs rows who)
     ∙ elim (map.get procs who) as (λ w. option_map f (option_map (holding rows who) w) ≡ option_map f w) [ None ↦ refl | Some q ↦ ap (λ x. Some x) (same rows who q) ]
-
--- where no file is open, no process has a descriptor
-pub no_row : (rows : AllFds) → rows ≡ map.empty → (who : Pid) → row_of rows who ≡ map.empty
-no_row rows none who = ap (λ (m : AllFds). row_of m who) none ∙ get_or-absent map.empty who map.empty (map.get-empty {X = Fds} pid_cmp who)

@@ -1,4 +1,5 @@
 pub mod AskLemmas
+pub mod CallerLemmas
 pub mod CheckLemmas
 pub mod ClosingLemmas
 pub mod FdChanges
@@ -10,5 +11,6 @@ pub mod OwnerLemmas
 pub mod PlayLemmas
 pub mod PlayingLemmas
 pub mod RefuseLemmas
+pub mod StandsLemmas
 pub mod StopLemmas
 pub mod WalkLemmas

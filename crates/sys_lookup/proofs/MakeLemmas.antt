@@ -1,8 +1,7 @@
 -- An object is made in a valid state.
 use Rattle.std.specs.Prelude.{◌≡◌, ⊤, Bool, not, true, Option, None, Some, Ok, refl}
 use Rattle.std.specs.FinMap as map
-use Rattle.std.specs.FinMap.{FinMap}
-use Rattle.std.proofs.Common.{ap, sym, ◌∙◌, subst, arith}
+use Rattle.std.proofs.Common.{ap, sym, ◌∙◌, arith}
 use Rattle.std.proofs.Math.Logic.{∥∥₁_map, ∥∥₁_elim}
 use Rattle.std.proofs.lemmas.Bool.{false_from_ne_true, not-false}
 use Rattle.cap_bits.specs.CapSet.{no_caps}
@@ -14,17 +13,17 @@ use Rattle.kern_model.specs.declared.objects.Attr.{Attr}
 use Rattle.kern_model.specs.declared.objects.Body.{Body}
 use Rattle.kern_model.specs.declared.objects.Kind.TheVariants as kind
 use Rattle.kern_model.specs.declared.objects.Object.{Object}
+use Rattle.kern_model.specs.Create.{drawing}
 use Rattle.kern_model.specs.Entries.{link_count}
-use Rattle.kern_model.specs.Keys.{Spot, oid_cmp, same_oid}
+use Rattle.kern_model.specs.Keys.{Spot, same_oid}
 use Rattle.kern_model.specs.Kinds.{kind_of, object_with}
-use Rattle.kern_model.specs.Maps.{count_entries}
 use Rattle.kern_model.specs.Row.{Row, Refuse}
-use Rattle.kern_model.specs.State.{State, next_object}
+use Rattle.kern_model.specs.State.{State, changed_by, next_object}
 use Rattle.kern_model.specs.Valid.{IsDir, IsValid}
 use Rattle.kern_model.proofs.KeyLaws.{oid_cmp_total, oid_cmp_exact, spot_cmp_total, spot_cmp_exact}
 use Rattle.kern_model.proofs.MapLemmas.{count_entries-none, get-insert_kept, get-insert_same, never_some, same_key}
 use Rattle.kern_model.proofs.StateLemmas.{next_absent}
-use Rattle.fs_dirs.specs.Tree.{MayBeAdded, TreeView, state_of_tree}
+use Rattle.fs_dirs.specs.Tree.{MayBeAdded}
 use Rattle.chk_rules.specs.CheckLog.{CheckLog, check_log}
 use Rattle.chk_rules.specs.Ends.{GoesOn}
 use Rattle.sys_lookup.proofs.CheckLemmas.{not_refused}
@@ -42,19 +41,23 @@ absent_where None known = refl
 absent_where (Some x) known = absurd (∥∥₁_elim known (λ a b. absurd a) (λ e. never_some (Some x) x e refl))
 
 -- A new object has the next number, and no entry yet.
-module _ (s : State) (valid : ∥ IsValid s ∥₁) (label : Label) (attr : Attr) (content : Body) (no_pipe : kind_of content ≡ kind.Pipe → ⊥) (u : TreeView) (objects_are : u.nodes.table.objects ≡ map.insert s.objects (next_object s label) (object_with label attr content)) (entries_are : u.entries ≡ s.entries) where
+module _ (s : State) (valid : ∥ IsValid s ∥₁) (label : Label) (attr : Attr) (content : Body) (no_pipe : kind_of content ≡ kind.Pipe → ⊥) where
   abbrev new : Oid
   new = next_object s label
 
   abbrev made : Object
   made = object_with label attr content
 
+  -- the state once it is there
+  abbrev pub after : State
+  after = changed_by s (drawing s label made)
+
   none_there : map.get s.objects new ≡ None
   none_there = absent_where (map.get s.objects new) (∥∥₁_map valid (λ v. next_absent s v label))
 
   -- directories stay
-  pub dir_stays : (dir : Oid) → IsDir s.objects dir → IsDir u.nodes.table.objects dir
-  dir_stays dir d = subst (λ (m : FinMap oid_cmp Object). IsDir m dir) (sym objects_are) (record { object = d.object; is = get-insert_kept oid_cmp_total oid_cmp_exact s.objects new made none_there dir d.object d.is; dir = d.dir })
+  pub dir_stays : (dir : Oid) → IsDir s.objects dir → IsDir after.objects dir
+  dir_stays dir d = record { object = d.object; is = get-insert_kept oid_cmp_total oid_cmp_exact s.objects new made none_there dir d.object d.is; dir = d.dir }
 
   unnamed : link_count s new ≡ 0
   unnamed =
@@ -64,14 +67,12 @@ module _ (s : State) (valid : ∥ IsValid s ∥₁) (label : Label) (attr : Attr
       never_some (map.get s.objects new) entry.object none_there (ap (map.get s.objects) (sym (same_key oid_cmp_exact at new same)) ∙ entry.object_is))))
 
   -- it may get one
-  pub may_be_added : (id : Oid) → id ≡ new → MayBeAdded u id
-  may_be_added id is =
-      let none : link_count (state_of_tree u) id ≡ 0 = (λ i. count_entries (λ (spot : Spot) (at : Oid). same_oid at (is i)) (entries_are i)) ∙ unnamed in
-      record {
-        object = made;
-        is = (λ i. map.get (objects_are i) (is i)) ∙ get-insert_same oid_cmp_total s.objects new made;
-        few = omega (arith, none);
-        no_root = λ e. ∥∥₁_elim valid (λ a b. absurd a) (λ v. never_some (map.get s.objects new) v.root_is.object none_there (ap (map.get s.objects) (sym is ∙ e) ∙ v.root_is.is));
-        no_pipe = no_pipe;
-        one = λ _. none;
-      }
+  pub may_be_added : MayBeAdded after new
+  may_be_added = record {
+    object = made;
+    is = get-insert_same oid_cmp_total s.objects new made;
+    few = omega (arith, unnamed);
+    no_root = λ e. ∥∥₁_elim valid (λ a b. absurd a) (λ v. never_some (map.get s.objects new) v.root_is.object none_there (ap (map.get s.objects) e ∙ v.root_is.is));
+    no_pipe = no_pipe;
+    one = λ _. unnamed;
+  }

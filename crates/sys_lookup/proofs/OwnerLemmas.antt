@@ -40,6 +40,13 @@ pub owner_of : (procs : FinMap pid_cmp Process) (rows : AllFds) → ∥ HasOwner
     → (q : Pid) (fd : ℕ) (did : Did) → map.get (row_of rows q) fd ≡ Some did → IsThere procs q
 owner_of procs rows known q fd did at = owners_known procs rows known q (has_row rows q fd did at)
 
+-- and what is not living has no descriptor
+pub no_owner : (procs : FinMap pid_cmp Process) (rows : AllFds) → ∥ HasOwners procs rows ∥₁ → (q : Pid) → map.get procs q ≡ None → row_of rows q ≡ map.empty
+no_owner procs rows known q absent = elim (map.get rows q) as (λ w. map.get rows q ≡ w → row_of rows q ≡ map.empty) [
+  | None ↦ λ e. get_or-absent rows q map.empty e
+  | Some f ↦ λ e. let owner = owners_known procs rows known q (record { value = f; is = e }) in absurd (never_some (map.get procs q) owner.value absent owner.is)
+] refl
+
 -- ---- a process changes
 
 there_after : (procs : FinMap pid_cmp Process) (who : Pid) (p : Process) (q : Pid) → IsThere procs q → IsThere (map.insert procs who p) q

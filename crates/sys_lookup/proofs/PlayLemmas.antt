@@ -1,6 +1,5 @@
 -- The body of a call along its row, step by step.
-use Rattle.std.specs.Prelude.{◌≡◌, Bool, List, Option, Some, Result, Ok, Err, IfErr, refl}
-use Rattle.std.specs.FinMap as map
+use Rattle.std.specs.Prelude.{◌≡◌, Bool, List, Option, Result, Ok, Err, IfErr, refl}
 use Rattle.std.specs.Result.{IsErrAnd}
 use Rattle.std.specs.declared.alloc.AllocError.{AllocError}
 use Rattle.std.proofs.Common.{sym, ◌∙◌, subst}
@@ -10,8 +9,7 @@ use Rattle.kern_model.specs.declared.numbers.Pid.{Pid}
 use Rattle.kern_model.specs.declared.records.Rec.{Rec}
 use Rattle.kern_model.specs.declared.checks.Check.{Check}
 use Rattle.kern_model.specs.Row.{Row, Need, Refuse, Fail, Commit}
-use Rattle.kern_model.specs.State.{State, Process, Change, changed_by}
-use Rattle.kern_model.proofs.MapLemmas.{some_same}
+use Rattle.kern_model.specs.State.{State, Change, changed_by}
 use Rattle.kern_model.proofs.RowLemmas.{judge-fail, judge-give}
 use Rattle.chk_rules.specs.CheckLog.{CheckLog, judge_from}
 use Rattle.chk_rules.specs.Ends.{EndsBy, GoesOn}
@@ -19,6 +17,7 @@ use Rattle.chk_rules.specs.declared.stop.Stop.{Stop}
 use Rattle.chk_rules.specs.declared.stop.Stop.TheVariants as stop
 use Rattle.chk_rules.proofs.Steps.{ends_over}
 use Rattle.sys_lookup.specs.declared.effect.Effect.{Effect}
+use Rattle.sys_lookup.specs.Callers.{CallerView, caller_in}
 use Rattle.sys_lookup.specs.PlaysRow.{PlaysRow, Keeps}
 
 -- the state is as it was, however the call stopped
@@ -115,6 +114,14 @@ equal_answer {s = s} {t = t} {a = a} {b = b} {r = r} {changes = changes} {own = 
 pub equal_record : {s t : State} {a b : CheckLog} {r : Result Effect Stop} {changes : List Change} {answer : Answer} {given own : Option Rec} → given ≡ own → PlaysRow s a (Commit changes answer given) r t b → PlaysRow s a (Commit changes answer own) r t b
 equal_record {s = s} {t = t} {a = a} {b = b} {r = r} {changes = changes} {answer = answer} same plays = subst (λ x. PlaysRow s a (Commit changes answer x) r t b) same plays
 
--- the row of the living process that was found is that of the caller
-pub caller_plays : {s t : State} {a b : CheckLog} {r : Result Effect Stop} (row : Process → Row) (who : Pid) (q p : Process) → Some q ≡ map.get s.procs who → map.get s.procs who ≡ Some p → PlaysRow s a (row q) r t b → PlaysRow s a (row p) r t b
-caller_plays {s = s} {t = t} {a = a} {b = b} {r = r} row who q p found there plays = subst (λ x. PlaysRow s a (row x) r t b) (some_same q p (found ∙ there)) plays
+-- the row ends with this effect, and its changes are made
+pub commits_as : {s t : State} {log : CheckLog} {changes : List Change} {answer : Answer} {own : Option Rec} {effect : Effect} → effect ≡ record { answer = answer; own = own } → t ≡ changed_by s changes → PlaysRow s log (Commit changes answer own) (Ok effect) t log
+commits_as {s = s} {t = t} {log = log} {changes = changes} {answer = answer} {own = own} same made = subst (λ e. PlaysRow s log (Commit changes answer own) (Ok e) t log) (sym same) (commits s t log changes answer own made)
+
+-- a caller is the living process with its number, and so its row is that of this process
+pub called : {s t : State} {a b : CheckLog} {r : Result Effect Stop} {who : Pid} {k : CallerView} (row : CallerView → Row) → k ≡ caller_in s who → PlaysRow k.state a (row k) r t b → PlaysRow s a (row (caller_in s who)) r t b
+called {t = t} {a = a} {b = b} {r = r} row same plays = subst (λ (x : CallerView). PlaysRow x.state a (row x) r t b) same plays
+
+-- the same of a step
+pub step_called : {X : Type 0} {s : State} {a b : CheckLog} {r : Result X Stop} {who : Pid} {k : CallerView} (part : CallerView → (X → Row) → Row) → k ≡ caller_in s who → GoesOn a (part k) r b → GoesOn a (part (caller_in s who)) r b
+step_called {a = a} {b = b} {r = r} part same step = subst (λ (x : CallerView). GoesOn a (part x) r b) same step

@@ -1,8 +1,10 @@
-pub mod Making
+pub mod Callers
+pub mod Calling
 pub mod Memory
 pub mod Owners
 pub mod PlaysRow
 pub mod Rewriting
 pub mod Shared
+pub mod StepOn
 pub mod WalkStops
 pub mod Walks

@@ -1,14 +1,18 @@
--- The state that is shared, and what checks read of a process and of an object.
-use Rattle.std.specs.Prelude.{Some}
+-- The state that is shared, and what checks read of an object.
+use Rattle.std.specs.Prelude.{Bool, Option, Some}
 use Rattle.std.specs.FinMap.{FinMap}
+use Rattle.lab_lattice.specs.Label.{Label}
+use Rattle.kern_model.specs.declared.checks.Check.{Check}
+use Rattle.kern_model.specs.declared.checks.CheckName.{CheckName}
+use Rattle.kern_model.specs.declared.checks.Place.{Place}
+use Rattle.kern_model.specs.declared.checks.Thing.TheVariants as thing
 use Rattle.kern_model.specs.declared.numbers.Oid.{Oid}
 use Rattle.kern_model.specs.declared.numbers.Pid.{Pid}
 use Rattle.kern_model.specs.Keys.{pid_cmp}
 use Rattle.kern_model.specs.Maps.{select}
 use Rattle.kern_model.specs.State.{State, Process, object_at}
 use Rattle.fd_table.specs.Rows.{AllFds, row_of}
-use Rattle.sys_lookup.specs.declared.caller.Caller.{Caller}
-use Rattle.sys_lookup.specs.declared.shared.Shared.{Shared}
+use Rattle.sys_lookup.specs.declared.shared.Shared.TheInside.{Inside}
 use Rattle.sys_lookup.specs.declared.shared.Metadata.{Metadata}
 
 -- a process with its descriptors
@@ -20,7 +24,7 @@ unfoldable pub with_fds : FinMap pid_cmp Process → AllFds → FinMap pid_cmp P
 with_fds procs rows = select (λ who p. Some (holding rows who p)) procs
 
 -- the state that is held
-abbrev pub state_of : Shared → State
+abbrev pub state_of : Inside → State
 state_of h = record {
   objects = h.tree.nodes.table.objects;
   entries = h.tree.entries;
@@ -33,10 +37,10 @@ state_of h = record {
   top = h.top;
 }
 
--- the process that makes a call
-abbrev pub process_of : Caller → Process
-process_of k = holding k.shared.now.fds.rows k.who k.process.now
-
 -- the metadata of the object with a number, and of the stub where there is none
 abbrev pub metadata_of : State → Oid → Metadata
 metadata_of s id = record { id = id; kind = (object_at s id).kind; label = (object_at s id).label; attr = (object_at s id).attr }
+
+-- a check of an object, of which the metadata are at hand
+abbrev pub check_on : CheckName → Bool → Option Label → Metadata → Place → Check
+check_on name holds new object place = record { name = name; holds = holds; thing = thing.Object object.id; thing_label = object.label; new_label = new; place = place }

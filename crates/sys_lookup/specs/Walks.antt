@@ -1,12 +1,13 @@
 -- What a walk finds, and the parts of rows that walk.
 use Rattle.std.specs.Prelude.{◌≡◌, ◌⊎◌, ℕ, Option, Some, Result, Ok, Err}
 use Rattle.fs_path.specs.Name.{Name}
+use Rattle.fs_path.specs.Path.{PathValue}
 use Rattle.kern_model.specs.declared.checks.Place.{Place}
 use Rattle.kern_model.specs.declared.checks.Place.TheVariants as place
 use Rattle.kern_model.specs.declared.numbers.Oid.{Oid}
 use Rattle.kern_model.specs.State.{State, Process, look}
 use Rattle.kern_model.specs.Row.{Row}
-use Rattle.kern_model.specs.Walk.{Found, Start, Entry, enter, or_missing}
+use Rattle.kern_model.specs.Walk.{Found, Start, Entry, enter, last_place, or_missing, reach}
 use Rattle.kern_model.specs.Valid.{IsDir}
 use Rattle.chk_rules.specs.declared.stop.Stop.{Stop}
 use Rattle.sys_lookup.specs.declared.argument.PathArgument.{PathArgument}
@@ -28,6 +29,10 @@ found_of (found.Entry dir name object) = Entry dir name object
 abbrev pub found_by : Result walked.Found Stop → Result Found Stop
 found_by (Ok w) = Ok (found_of w)
 found_by (Err how) = Err how
+
+-- the part of a row that walks a path to an object that is there, and goes on with its number and its place
+abbrev pub reach_end : State → Process → (ℕ → Place) → PathValue → (Oid × Place → Row) → Row
+reach_end s p place path rest = reach s p place path (λ id. rest (id, last_place place path))
 
 -- the part of a row that looks up the last name of a walk
 abbrev pub find_name : State → Process → Place → Oid → Name → (Found → Row) → Row

@@ -1,11 +1,7 @@
 // Checks that a call makes only where they are asked for.
-ghost use Rattle.std.specs.Prelude.{◌≡◌};
-ghost use Rattle.kern_model.specs.declared.numbers.Oid.{Oid};
 ghost use Rattle.kern_model.specs.Row.{need_if};
 ghost use Rattle.kern_model.specs.Rules.{dac_read, dac_write, mac_read, mac_write};
-ghost use Rattle.kern_model.specs.State.{State};
-ghost use Rattle.chk_rules.specs.Ends.{GoesOn};
-ghost use Rattle.sys_lookup.specs.Shared.{metadata_of, process_of};
+ghost use Rattle.sys_lookup.specs.StepOn.{StepOn};
 
 use crate::caller::Caller;
 use crate::shared::Metadata;
@@ -21,7 +17,7 @@ impl Caller<'_> {
         object: &Metadata,
         place: Place,
     ) -> Result<(), Stop>
-        ensures { (s : State) (id : Oid) → object.now ≡ metadata_of s id → GoesOn checks.old (λ rest. need_if asked (mac_read s (process_of self.now) id place) (rest tt)) result checks.new }
+        ensures { StepOn checks.old object.now (λ s id rest. need_if asked (mac_read s self.now.process id place) (rest tt)) result checks.new }
     {
         if asked {
             self.mac_read(checks, object, place)
@@ -38,7 +34,7 @@ impl Caller<'_> {
         object: &Metadata,
         place: Place,
     ) -> Result<(), Stop>
-        ensures { (s : State) (id : Oid) → object.now ≡ metadata_of s id → GoesOn checks.old (λ rest. need_if asked (mac_write s (process_of self.now) id place) (rest tt)) result checks.new }
+        ensures { StepOn checks.old object.now (λ s id rest. need_if asked (mac_write s self.now.process id place) (rest tt)) result checks.new }
     {
         if asked {
             self.mac_write(checks, object, place)
@@ -55,7 +51,7 @@ impl Caller<'_> {
         object: &Metadata,
         place: Place,
     ) -> Result<(), Stop>
-        ensures { (s : State) (id : Oid) → object.now ≡ metadata_of s id → GoesOn checks.old (λ rest. need_if asked (dac_read s (process_of self.now) id place) (rest tt)) result checks.new }
+        ensures { StepOn checks.old object.now (λ s id rest. need_if asked (dac_read s self.now.process id place) (rest tt)) result checks.new }
     {
         if asked {
             self.dac_read(checks, object, place)
@@ -72,7 +68,7 @@ impl Caller<'_> {
         object: &Metadata,
         place: Place,
     ) -> Result<(), Stop>
-        ensures { (s : State) (id : Oid) → object.now ≡ metadata_of s id → GoesOn checks.old (λ rest. need_if asked (dac_write s (process_of self.now) id place) (rest tt)) result checks.new }
+        ensures { StepOn checks.old object.now (λ s id rest. need_if asked (dac_write s self.now.process id place) (rest tt)) result checks.new }
     {
         if asked {
             self.dac_write(checks, object, place)

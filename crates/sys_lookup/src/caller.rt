@@ -1,49 +1,77 @@
 // The caller of a call, and the checks that are made of it.
-ghost use Rattle.std.specs.Prelude.{◌≡◌, IsSome, None, Some, false, true};
+ghost use Rattle.std.specs.Prelude.{◌≡◌, IsSome, MatchOption, None, false, true};
 ghost use Rattle.std.specs.FinMap as map;
 ghost use Rattle.kern_model.specs.declared.numbers.Oid.{Oid};
 ghost use Rattle.kern_model.specs.Row.{Need, Soft};
 ghost use Rattle.kern_model.specs.Rules.{created_order, dac_read, dac_search, dac_write, fsetid, held_order, link_dir, mac_read, mac_write, mode_allows as mode_lets, unlink_dir};
 ghost use Rattle.kern_model.specs.declared.checks.CheckName.TheVariants as check;
-ghost use Rattle.kern_model.specs.declared.checks.Thing.TheVariants as thing;
 ghost use Rattle.lab_lattice.specs.Label.{dominates};
-ghost use Rattle.kern_model.specs.State.{State};
-ghost use Rattle.chk_rules.specs.Ends.{GoesOn};
-ghost use Rattle.sys_lookup.specs.Shared.{holding, metadata_of, process_of, state_of};
+ghost use Rattle.sys_lookup.specs.Callers.{IsLiving, caller_in};
+ghost use Rattle.sys_lookup.specs.StepOn.{StepOn};
+ghost use Rattle.sys_lookup.specs.Shared.{check_on};
 
 use crate::shared::{Metadata, Shared};
 use chk_rules::{Checks, Stop, Want, mac_read_ok, mac_write_ok, mode_allows, must, prefer};
 use kern_model::{Check, CheckName, Oid, Pid, Place, Thing};
 use lab_lattice::{Label, Lattice};
 use proc_table::Proc;
+use std::marker::Model;
 
-/// The process that makes a call, and the state in which its call looks things up.
-#[derive(Clone, Copy)]
+/// A living process that makes a call, and the state in which its call looks things up.
+#[derive(Drop)]
 pub struct Caller<'a> {
-    pub shared: &'a Shared,
-    pub who: Pid,
-    pub process: &'a Proc,
+    pub(crate) shared: &'a Shared,
+    pub(crate) who: Pid,
+    pub(crate) process: &'a Proc,
 }
 
-/// The living process with a number.
-pub fn living<'a>(shared: &'a Shared, who: &Pid) -> &'a Proc
-    requires { IsSome (map.get (state_of shared.now).procs who.now) }
-    ensures there { map.get shared.now.procs.procs who.now ≡ Some result.now }
-    ensures found { Some (holding shared.now.fds.rows who.now result.now) ≡ map.get (state_of shared.now).procs who.now }
-{
-    let Some(process) = shared.procs.find(who) else {
-        unreachable!();
-    };
-    process
+impl<'a> Model for Caller<'a> {
+    ghost use Rattle.kern_model.proofs.StateCode.{pid_code, process_code, state_code};
+    ghost use Rattle.sys_lookup.specs.Callers.{CallerView, IsLiving, caller_code};
+
+    ghost Value = { CallerView };
+
+    ghost coded = { caller_code state_code pid_code process_code };
+
+    ghost use Rattle.sys_lookup.specs.Calling.{caller_of};
+
+    ghost view = { caller_of };
+
+    ghost invariant = { λ c. IsLiving (caller_of c) };
+}
+
+impl<'a> Caller<'a> {
+    /// The process with a number, as the caller in a state, if it is living.
+    pub fn find(shared: &'a Shared, who: &Pid) -> Option<Caller<'a>>
+        ensures { MatchOption result (map.get shared.now.procs who.now ≡ None) (λ k. (k ≡ caller_in shared.now who.now) × IsLiving k) }
+    {
+        let process = shared.procs.find(who)?;
+        Some(Caller {
+            shared,
+            who: *who,
+            process,
+        })
+    }
+
+    /// The living process with a number, as the caller in a state.
+    pub fn new(shared: &'a Shared, who: &Pid) -> Caller<'a>
+        requires { IsSome (map.get shared.now.procs who.now) }
+        ensures caller { result ≡ caller_in shared.now who.now }
+        ensures living { IsLiving result }
+    {
+        let Some(caller) = Caller::find(shared, who) else {
+            unreachable!();
+        };
+        caller
+    }
 }
 
 impl Caller<'_> {
     /// Checks that the caller's label dominates that of an object, which is what labels ask of a read.
     pub fn mac_read(&self, checks: &mut Checks, object: &Metadata, place: Place) -> Result<(), Stop>
-        ensures { (s : State) (id : Oid) → object.now ≡ metadata_of s id → GoesOn checks.old (λ rest. Need (mac_read s (process_of self.now) id place) (rest tt)) result checks.new }
+        ensures { StepOn checks.old object.now (λ s id rest. Need (mac_read s self.now.process id place) (rest tt)) result checks.new }
     {
-        let process = self.process;
-        let holds = mac_read_ok(&process.creds.label, &object.label);
+        let holds = mac_read_ok(&self.label(), &object.label);
         must(checks, &check_of(CheckName::MacRead, holds, object, place))
     }
 
@@ -54,16 +82,15 @@ impl Caller<'_> {
         object: &Metadata,
         place: Place,
     ) -> Result<(), Stop>
-        ensures { (s : State) (id : Oid) → object.now ≡ metadata_of s id → GoesOn checks.old (λ rest. Need (mac_write s (process_of self.now) id place) (rest tt)) result checks.new }
+        ensures { StepOn checks.old object.now (λ s id rest. Need (mac_write s self.now.process id place) (rest tt)) result checks.new }
     {
-        let process = self.process;
-        let holds = mac_write_ok(&process.creds.label, &object.label);
+        let holds = mac_write_ok(&self.label(), &object.label);
         must(checks, &check_of(CheckName::MacWrite, holds, object, place))
     }
 
     /// Checks that the mode of an object lets the caller read it.
     pub fn dac_read(&self, checks: &mut Checks, object: &Metadata, place: Place) -> Result<(), Stop>
-        ensures { (s : State) (id : Oid) → object.now ≡ metadata_of s id → GoesOn checks.old (λ rest. Need (dac_read s (process_of self.now) id place) (rest tt)) result checks.new }
+        ensures { StepOn checks.old object.now (λ s id rest. Need (dac_read s self.now.process id place) (rest tt)) result checks.new }
     {
         let holds = self.mode_lets(object, Want::Read);
         must(checks, &check_of(CheckName::DacRead, holds, object, place))
@@ -76,7 +103,7 @@ impl Caller<'_> {
         object: &Metadata,
         place: Place,
     ) -> Result<(), Stop>
-        ensures { (s : State) (id : Oid) → object.now ≡ metadata_of s id → GoesOn checks.old (λ rest. Need (dac_write s (process_of self.now) id place) (rest tt)) result checks.new }
+        ensures { StepOn checks.old object.now (λ s id rest. Need (dac_write s self.now.process id place) (rest tt)) result checks.new }
     {
         let holds = self.mode_lets(object, Want::Write);
         must(checks, &check_of(CheckName::DacWrite, holds, object, place))
@@ -84,7 +111,7 @@ impl Caller<'_> {
 
     /// Checks that the caller may search a directory.
     pub fn dac_search(&self, checks: &mut Checks, dir: &Metadata, place: Place) -> Result<(), Stop>
-        ensures { (s : State) (id : Oid) → dir.now ≡ metadata_of s id → GoesOn checks.old (λ rest. Need (dac_search s (process_of self.now) id place) (rest tt)) result checks.new }
+        ensures { StepOn checks.old dir.now (λ s id rest. Need (dac_search s self.now.process id place) (rest tt)) result checks.new }
     {
         let holds = self.mode_lets(dir, Want::Execute);
         must(checks, &check_of(CheckName::DacSearch, holds, dir, place))
@@ -92,7 +119,7 @@ impl Caller<'_> {
 
     /// Checks that an object may get one more name: it is no directory.
     pub fn link_dir(&self, checks: &mut Checks, object: &Metadata, place: Place) -> Result<(), Stop>
-        ensures { (s : State) (id : Oid) → object.now ≡ metadata_of s id → GoesOn checks.old (λ rest. Need (link_dir s id place) (rest tt)) result checks.new }
+        ensures { StepOn checks.old object.now (λ s id rest. Need (link_dir s id place) (rest tt)) result checks.new }
     {
         let holds = !object.is_directory();
         must(checks, &check_of(CheckName::LinkDir, holds, object, place))
@@ -105,7 +132,7 @@ impl Caller<'_> {
         object: &Metadata,
         place: Place,
     ) -> Result<(), Stop>
-        ensures { (s : State) (id : Oid) → object.now ≡ metadata_of s id → GoesOn checks.old (λ rest. Need (unlink_dir s id place) (rest tt)) result checks.new }
+        ensures { StepOn checks.old object.now (λ s id rest. Need (unlink_dir s id place) (rest tt)) result checks.new }
     {
         let holds = !object.is_directory();
         must(
@@ -122,39 +149,38 @@ impl Caller<'_> {
         plain: bool,
         place: Place,
     ) -> Result<bool, Stop>
-        ensures { (s : State) (id : Oid) → object.now ≡ metadata_of s id → GoesOn checks.old (λ rest. Soft (fsetid s plain id place) (rest true) (rest false)) result checks.new }
+        ensures { StepOn checks.old object.now (λ s id rest. Soft (fsetid s plain id place) (rest true) (rest false)) result checks.new }
     {
         prefer(checks, &check_of(CheckName::Fsetid, plain, object, place))
     }
 
     /// The check of a directory in which the caller makes an object: the order of labels holds.
     pub fn created_order(&self, dir: &Oid, place: Place) -> Check
-        ensures { result ≡ created_order (state_of self.now.shared.now) (process_of self.now) dir.now place }
+        ensures { result ≡ created_order self.now.state self.now.process dir.now place }
     {
-        let process = self.process;
-        label_order(&process.creds.label, &self.shared.metadata(dir), place)
+        label_order(&self.label(), &self.metadata(dir), place)
     }
 
     /// The check of a directory that gets an entry for an object: the order of labels holds.
     pub fn held_order(&self, id: &Oid, dir: &Oid, place: Place) -> Check
-        ensures { result ≡ held_order (state_of self.now.shared.now) id.now dir.now place }
+        ensures { result ≡ held_order self.now.state id.now dir.now place }
     {
-        let object = self.shared.metadata(id);
-        label_order(&object.label, &self.shared.metadata(dir), place)
+        let object = self.metadata(id);
+        label_order(&object.label, &self.metadata(dir), place)
     }
 
     /// Whether the mode of an object lets the caller do what is wanted.
     pub(crate) fn mode_lets(&self, object: &Metadata, want: Want) -> bool
-        ensures { result ≡ mode_lets object.now.attr (process_of self.now).ids want }
+        ensures { result ≡ mode_lets object.now.attr self.now.process.ids want }
     {
-        let process = self.process;
-        mode_allows(&object.attr, &process.creds.ids, want)
+        let creds = self.creds();
+        mode_allows(&object.attr, &creds.ids, want)
     }
 }
 
 // The check that a label dominates that of a directory.
 fn label_order(label: &Label, dir: &Metadata, place: Place) -> Check
-    ensures { result ≡ record { name = check.LabelOrder; holds = dominates label.now dir.now.label; thing = thing.Object dir.now.id; thing_label = dir.now.label; new_label = None; place = place } }
+    ensures { result ≡ check_on check.LabelOrder (dominates label.now dir.now.label) None dir.now place }
 {
     check_of(
         CheckName::LabelOrder,
@@ -167,7 +193,7 @@ fn label_order(label: &Label, dir: &Metadata, place: Place) -> Check
 /// A check of an object, given whether its rule holds.
 #[inline(always)]
 pub fn check_of(name: CheckName, holds: bool, object: &Metadata, place: Place) -> Check
-    ensures { result ≡ record { name = name; holds = holds; thing = thing.Object object.now.id; thing_label = object.now.label; new_label = None; place = place } }
+    ensures { result ≡ check_on name holds None object.now place }
 {
     Check {
         name,

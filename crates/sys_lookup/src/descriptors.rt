@@ -1,13 +1,11 @@
 // What the descriptors of the caller refer to, and whether it may open more.
-ghost use Rattle.std.specs.Prelude.{◌≡◌, Some, IfErr, IfOk, OnOk, not, true};
+ghost use Rattle.std.specs.Prelude.{◌≡◌, Some, IfErr, IfOk, OnOk, true};
 ghost use Rattle.kern_model.specs.Descriptors.{opened};
-ghost use Rattle.kern_model.specs.FileRows.{has_descriptions, has_free_descriptors, on_descriptor};
-ghost use Rattle.kern_model.specs.Row.{Refuse};
+ghost use Rattle.kern_model.specs.FileRows.{has_descriptions, has_free_descriptors, may_describe, on_descriptor};
 ghost use Rattle.kern_model.specs.declared.calls.Errno.TheVariants as errno;
 ghost use Rattle.chk_rules.specs.CheckLog.{CheckLog};
 ghost use Rattle.chk_rules.specs.declared.stop.Stop.TheVariants as stop;
 ghost use Rattle.chk_rules.specs.Ends.{GoesOn};
-ghost use Rattle.sys_lookup.specs.Shared.{process_of, state_of};
 
 use crate::caller::Caller;
 use chk_rules::Stop;
@@ -18,11 +16,12 @@ impl Caller<'_> {
     /// What a descriptor of the caller refers to, or a refusal where it is not open.
     #[tactic(auto, unfolding(kern_model::specs::Row::judge, chk_rules::specs::Ends::EndsBy, kern_model::specs::Descriptors::opened))]
     pub fn opened(&self, fd: Fd) -> Result<Opened, Stop>
-        ensures step { (log : CheckLog) → GoesOn log (on_descriptor (state_of self.now.shared.now) (process_of self.now) fd) result log }
-        ensures found { IfOk result (λ f. opened (state_of self.now.shared.now) (process_of self.now) fd ≡ Some f) }
+        ensures step { (log : CheckLog) → GoesOn log (on_descriptor self.now.state self.now.process fd) result log }
+        ensures found { IfOk result (λ f. opened self.now.state self.now.process fd ≡ Some f) }
         ensures refused { IfErr result (λ how. how ≡ stop.Refused errno.EBADF) }
     {
-        match self.shared.fds.opened(&self.who, fd) {
+        let shared = self.shared;
+        match shared.fds.opened(&self.who, fd) {
             Some(opened) => Ok(opened),
             None => Err(Stop::Refused(Errno::EBADF)),
         }
@@ -32,16 +31,12 @@ impl Caller<'_> {
     /// label.
     #[tactic(auto, unfolding(kern_model::specs::Row::judge, chk_rules::specs::Ends::EndsBy))]
     pub fn may_open(&self, n: u32) -> Result<(), Stop>
-        ensures step { (log : CheckLog) → GoesOn log (λ rest. Refuse errno.EMFILE (not (has_free_descriptors (process_of self.now) n)) (Refuse errno.ENFILE (not (has_descriptions (state_of self.now.shared.now) (process_of self.now) n)) (rest tt))) result log }
-        ensures free { OnOk result (has_free_descriptors (process_of self.now) n ≡ true) }
-        ensures left { OnOk result (has_descriptions (state_of self.now.shared.now) (process_of self.now) n ≡ true) }
+        ensures step { (log : CheckLog) → GoesOn log (λ rest. may_describe self.now.state self.now.process n (rest tt)) result log }
+        ensures free { OnOk result (has_free_descriptors self.now.process n ≡ true) }
+        ensures left { OnOk result (has_descriptions self.now.state self.now.process n ≡ true) }
     {
-        let process = self.process;
-        match self
-            .shared
-            .fds
-            .open_refusal(&self.who, &process.creds.label, n)
-        {
+        let shared = self.shared;
+        match shared.fds.open_refusal(&self.who, &self.label(), n) {
             None => Ok(()),
             Some(FdError::TooMany) => Err(Stop::Refused(Errno::EMFILE)),
             Some(FdError::Full) => Err(Stop::Refused(Errno::ENFILE)),

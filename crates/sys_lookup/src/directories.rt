@@ -6,7 +6,7 @@ ghost use Rattle.kern_model.specs.Row.{Need};
 ghost use Rattle.kern_model.specs.Rules.{mac_read, mac_write};
 ghost use Rattle.kern_model.specs.TreeRows.{leave_from};
 ghost use Rattle.chk_rules.specs.Ends.{GoesOn};
-ghost use Rattle.sys_lookup.specs.Shared.{metadata_of, process_of, state_of};
+ghost use Rattle.sys_lookup.specs.Shared.{metadata_of};
 
 use crate::argument::PathArgument;
 use crate::caller::Caller;
@@ -17,10 +17,10 @@ use kern_model::{Check, Errno, Oid, Path, Place};
 impl Caller<'_> {
     /// Reads an object, by label, and returns its metadata.
     pub fn read_object(&self, checks: &mut Checks, id: &Oid, place: Place) -> Result<Metadata, Stop>
-        ensures step { GoesOn checks.old (λ rest. Need (mac_read (state_of self.now.shared.now) (process_of self.now) id.now place) (rest (metadata_of (state_of self.now.shared.now) id.now))) result checks.new }
-        ensures object { IfOk result (λ object. object ≡ metadata_of (state_of self.now.shared.now) id.now) }
+        ensures step { GoesOn checks.old (λ rest. Need (mac_read self.now.state self.now.process id.now place) (rest (metadata_of self.now.state id.now))) result checks.new }
+        ensures object { IfOk result (λ object. object ≡ metadata_of self.now.state id.now) }
     {
-        let object = self.shared.metadata(id);
+        let object = self.metadata(id);
         self.mac_read(checks, &object, place)?;
         Ok(object)
     }
@@ -32,10 +32,10 @@ impl Caller<'_> {
         id: &Oid,
         place: Place,
     ) -> Result<Metadata, Stop>
-        ensures step { GoesOn checks.old (λ rest. Need (mac_write (state_of self.now.shared.now) (process_of self.now) id.now place) (rest (metadata_of (state_of self.now.shared.now) id.now))) result checks.new }
-        ensures object { IfOk result (λ object. object ≡ metadata_of (state_of self.now.shared.now) id.now) }
+        ensures step { GoesOn checks.old (λ rest. Need (mac_write self.now.state self.now.process id.now place) (rest (metadata_of self.now.state id.now))) result checks.new }
+        ensures object { IfOk result (λ object. object ≡ metadata_of self.now.state id.now) }
     {
-        let object = self.shared.metadata(id);
+        let object = self.metadata(id);
         self.mac_write(checks, &object, place)?;
         Ok(object)
     }
@@ -48,7 +48,7 @@ impl Caller<'_> {
         place: Place,
         order: &Check,
     ) -> Result<(), Stop>
-        ensures { GoesOn checks.old (λ rest. write_directory (state_of self.now.shared.now) (process_of self.now) dir.now place order.now (rest tt)) result checks.new }
+        ensures { GoesOn checks.old (λ rest. write_directory self.now.state self.now.process dir.now place order.now (rest tt)) result checks.new }
     {
         let object = self.write_object(checks, dir, place)?;
         self.dac_write(checks, &object, place)?;
@@ -63,17 +63,17 @@ impl Caller<'_> {
         place: Place,
         order: &Check,
     ) -> Result<(), Stop>
-        ensures stands { OnOk result (is_removed (state_of self.now.shared.now) dir.now ≡ false) }
-        ensures step { GoesOn checks.old (λ rest. enter_in (state_of self.now.shared.now) (process_of self.now) dir.now place order.now (rest tt)) result checks.new }
+        ensures stands { OnOk result (is_removed self.now.state dir.now ≡ false) }
+        ensures step { GoesOn checks.old (λ rest. enter_in self.now.state self.now.process dir.now place order.now (rest tt)) result checks.new }
     {
         self.write_directory(checks, dir, place, order)?;
-        refuse_if(self.shared.tree.is_removed(dir), Errno::ENOENT)
+        refuse_if(self.is_removed(dir), Errno::ENOENT)
     }
 
     /// Writes a directory in which the caller is to make an object.
     pub fn make_in(&self, checks: &mut Checks, dir: &Oid, place: Place) -> Result<(), Stop>
-        ensures stands { OnOk result (is_removed (state_of self.now.shared.now) dir.now ≡ false) }
-        ensures step { GoesOn checks.old (λ rest. make_in (state_of self.now.shared.now) (process_of self.now) dir.now place (rest tt)) result checks.new }
+        ensures stands { OnOk result (is_removed self.now.state dir.now ≡ false) }
+        ensures step { GoesOn checks.old (λ rest. make_in self.now.state self.now.process dir.now place (rest tt)) result checks.new }
     {
         self.enter_in(checks, dir, place, &self.created_order(dir, place))
     }
@@ -87,8 +87,8 @@ impl Caller<'_> {
         dir: &Oid,
         id: &Oid,
     ) -> Result<Metadata, Stop>
-        ensures step { GoesOn checks.old (λ rest. leave_from (state_of self.now.shared.now) (process_of self.now) path.now dir.now id.now (rest (metadata_of (state_of self.now.shared.now) id.now))) result checks.new }
-        ensures object { IfOk result (λ object. object ≡ metadata_of (state_of self.now.shared.now) id.now) }
+        ensures step { GoesOn checks.old (λ rest. leave_from self.now.state self.now.process path.now dir.now id.now (rest (metadata_of self.now.state id.now))) result checks.new }
+        ensures object { IfOk result (λ object. object ≡ metadata_of self.now.state id.now) }
     {
         let place = PathArgument::First.dir_place(path);
         let parent = self.write_object(checks, dir, place)?;

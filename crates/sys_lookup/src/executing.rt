@@ -1,11 +1,8 @@
 // What rows ask of a program that is executed.
-ghost use Rattle.std.specs.Prelude.{◌≡◌};
-ghost use Rattle.kern_model.specs.declared.numbers.Oid.{Oid};
 ghost use Rattle.kern_model.specs.Row.{Need};
 ghost use Rattle.kern_model.specs.Rules.{dac_execute, exec_kind};
-ghost use Rattle.kern_model.specs.State.{State, object_at};
-ghost use Rattle.chk_rules.specs.Ends.{GoesOn};
-ghost use Rattle.sys_lookup.specs.Shared.{metadata_of, process_of};
+ghost use Rattle.kern_model.specs.State.{object_at};
+ghost use Rattle.sys_lookup.specs.StepOn.{StepOn};
 
 use crate::caller::{Caller, check_of};
 use crate::shared::Metadata;
@@ -20,7 +17,7 @@ impl Caller<'_> {
         object: &Metadata,
         place: Place,
     ) -> Result<(), Stop>
-        ensures { (s : State) (id : Oid) → object.now ≡ metadata_of s id → GoesOn checks.old (λ rest. Need (exec_kind id (object_at s id) place) (rest tt)) result checks.new }
+        ensures { StepOn checks.old object.now (λ s id rest. Need (exec_kind id (object_at s id) place) (rest tt)) result checks.new }
     {
         let holds = object.is_file();
         must(checks, &check_of(CheckName::ExecKind, holds, object, place))
@@ -33,7 +30,7 @@ impl Caller<'_> {
         object: &Metadata,
         place: Place,
     ) -> Result<(), Stop>
-        ensures { (s : State) (id : Oid) → object.now ≡ metadata_of s id → GoesOn checks.old (λ rest. Need (dac_execute (process_of self.now) id (object_at s id) place) (rest tt)) result checks.new }
+        ensures { StepOn checks.old object.now (λ s id rest. Need (dac_execute self.now.process id (object_at s id) place) (rest tt)) result checks.new }
     {
         let holds = self.mode_lets(object, Want::Execute);
         must(

@@ -6,7 +6,8 @@ ghost use Rattle.kern_model.specs.Row.{Need};
 ghost use Rattle.kern_model.specs.Rules.{cap_within, chown_rule, is_owner, owner, setfcap};
 ghost use Rattle.kern_model.specs.State.{State};
 ghost use Rattle.chk_rules.specs.Ends.{GoesOn};
-ghost use Rattle.sys_lookup.specs.Shared.{metadata_of, process_of};
+ghost use Rattle.sys_lookup.specs.StepOn.{StepOn};
+ghost use Rattle.sys_lookup.specs.Shared.{metadata_of};
 
 use crate::caller::{Caller, check_of};
 use crate::shared::Metadata;
@@ -57,15 +58,15 @@ impl Metadata {
 impl Caller<'_> {
     /// Whether the caller's effective user is the owner of an object.
     pub fn is_owner(&self, object: &Metadata) -> bool
-        ensures { (s : State) (id : Oid) → object.now ≡ metadata_of s id → result ≡ is_owner s (process_of self.now) id }
+        ensures { (s : State) (id : Oid) → object.now ≡ metadata_of s id → result ≡ is_owner s self.now.process id }
     {
-        let process = self.process;
-        process.creds.ids.euid == object.attr.owner
+        let creds = self.creds();
+        creds.ids.euid == object.attr.owner
     }
 
     /// Checks that the caller owns an object.
     pub fn owner(&self, checks: &mut Checks, object: &Metadata, place: Place) -> Result<(), Stop>
-        ensures { (s : State) (id : Oid) → object.now ≡ metadata_of s id → GoesOn checks.old (λ rest. Need (owner s (process_of self.now) id place) (rest tt)) result checks.new }
+        ensures { StepOn checks.old object.now (λ s id rest. Need (owner s self.now.process id place) (rest tt)) result checks.new }
     {
         let holds = self.is_owner(object);
         must(checks, &check_of(CheckName::Owner, holds, object, place))
@@ -81,27 +82,27 @@ impl Caller<'_> {
         group: Gid,
         place: Place,
     ) -> Result<(), Stop>
-        ensures { (s : State) (id : Oid) → object.now ≡ metadata_of s id → GoesOn checks.old (λ rest. Need (chown_rule s (process_of self.now) id user group place) (rest tt)) result checks.new }
+        ensures { StepOn checks.old object.now (λ s id rest. Need (chown_rule s self.now.process id user group place) (rest tt)) result checks.new }
     {
-        let process = self.process;
+        let creds = self.creds();
         let stays = user == object.attr.owner;
-        let holds = stays && self.is_owner(object) && has_group(&process.creds.ids, group);
+        let holds = stays && self.is_owner(object) && has_group(&creds.ids, group);
         must(checks, &check_of(CheckName::Chown, holds, object, place))
     }
 
     /// Checks that the caller may set the capability sets of a file: never without the capability.
     pub fn setfcap(&self, checks: &mut Checks, object: &Metadata, place: Place) -> Result<(), Stop>
-        ensures { (s : State) (id : Oid) → object.now ≡ metadata_of s id → GoesOn checks.old (λ rest. Need (setfcap s id place) (rest tt)) result checks.new }
+        ensures { StepOn checks.old object.now (λ s id rest. Need (setfcap s id place) (rest tt)) result checks.new }
     {
         must(checks, &check_of(CheckName::Setfcap, false, object, place))
     }
 
     /// Checks that each capability in these sets is a permitted one of the caller.
     pub fn cap_within(&self, checks: &mut Checks, caps: &CapState) -> Result<(), Stop>
-        ensures { GoesOn checks.old (λ rest. Need (cap_within self.now.who (process_of self.now) caps.now) (rest tt)) result checks.new }
+        ensures { GoesOn checks.old (λ rest. Need (cap_within self.now.who self.now.process caps.now) (rest tt)) result checks.new }
     {
-        let process = self.process;
-        let permitted = process.creds.caps.p;
+        let creds = self.creds();
+        let permitted = creds.caps.p;
         let holds = caps.e.within(&permitted)
             && caps.i.within(&permitted)
             && caps.p.within(&permitted);
@@ -111,7 +112,7 @@ impl Caller<'_> {
                 name: CheckName::CapWithin,
                 holds,
                 thing: Thing::Process(self.who),
-                thing_label: process.creds.label,
+                thing_label: creds.label,
                 new_label: None,
                 place: Place::Caller,
             },

@@ -1,15 +1,13 @@
 // What rows ask of an object that gets another label.
 ghost use Rattle.std.specs.Prelude.{◌≡◌, ◌&&◌, Some, false, not};
 ghost use Rattle.kern_model.specs.declared.numbers.Oid.{Oid};
-ghost use Rattle.kern_model.specs.declared.checks.Thing.TheVariants as thing;
-ghost use Rattle.kern_model.specs.Entries.{is_empty};
-ghost use Rattle.kern_model.specs.Kinds.{is_dir};
+ghost use Rattle.kern_model.specs.Entries.{has_entries};
 ghost use Rattle.kern_model.specs.Row.{Need};
 ghost use Rattle.kern_model.specs.Rules.{is_above_holders, mac_change_of, relabelled_order};
 ghost use Rattle.kern_model.specs.State.{State, object_at, root};
 ghost use Rattle.kern_model.specs.Keys.{same_oid};
-ghost use Rattle.chk_rules.specs.Ends.{GoesOn};
-ghost use Rattle.sys_lookup.specs.Shared.{metadata_of, state_of};
+ghost use Rattle.sys_lookup.specs.StepOn.{StepIn, StepOn};
+ghost use Rattle.sys_lookup.specs.Shared.{check_on, metadata_of};
 
 use crate::caller::{Caller, check_of};
 use crate::shared::Metadata;
@@ -20,7 +18,7 @@ use lab_lattice::{Label, Lattice};
 
 // The check that an object gets this label: never without the capability.
 fn change_to(name: CheckName, label: &Label, object: &Metadata, place: Place) -> Check
-    ensures { result ≡ record { name = name; holds = false; thing = thing.Object object.now.id; thing_label = object.now.label; new_label = Some label.now; place = place } }
+    ensures { result ≡ check_on name false (Some label.now) object.now place }
 {
     Check {
         new_label: Some(*label),
@@ -49,7 +47,7 @@ impl Caller<'_> {
         label: &Label,
         place: Place,
     ) -> Result<(), Stop>
-        ensures { (s : State) (id : Oid) → object.now ≡ metadata_of s id → GoesOn checks.old (λ rest. Need (mac_change_of label.now id (object_at s id) place) (rest tt)) result checks.new }
+        ensures { StepOn checks.old object.now (λ s id rest. Need (mac_change_of label.now id (object_at s id) place) (rest tt)) result checks.new }
     {
         must(checks, &change_of(label, object, place))
     }
@@ -63,7 +61,7 @@ impl Caller<'_> {
         label: &Label,
         place: Place,
     ) -> Result<(), Stop>
-        ensures { (id : Oid) → object.now ≡ metadata_of (state_of self.now.shared.now) id → GoesOn checks.old (λ rest. Need (relabelled_order (state_of self.now.shared.now) id label.now place) (rest tt)) result checks.new }
+        ensures { StepIn self.now.state checks.old object.now (λ id rest. Need (relabelled_order self.now.state id label.now place) (rest tt)) result checks.new }
     {
         let holds = self.may_bear(object, label);
         must(
@@ -74,16 +72,15 @@ impl Caller<'_> {
 
     /// Whether an object is a directory that contains entries.
     pub fn has_entries(&self, object: &Metadata) -> bool
-        ensures { (id : Oid) → object.now ≡ metadata_of (state_of self.now.shared.now) id → result ≡ (is_dir (object_at (state_of self.now.shared.now) id).kind && not (is_empty (state_of self.now.shared.now) id)) }
+        ensures { (id : Oid) → object.now ≡ metadata_of self.now.state id → result ≡ has_entries self.now.state id }
     {
-        object.is_directory() && !self.shared.tree.is_empty(&object.id)
+        object.is_directory() && !self.is_empty(&object.id)
     }
 
     // Whether a label dominates those of all directories that hold an object, which is not the root.
     fn may_bear(&self, object: &Metadata, label: &Label) -> bool
-        ensures { result ≡ (is_above_holders (state_of self.now.shared.now) object.now.id label.now && not (same_oid object.now.id root)) }
+        ensures { result ≡ (is_above_holders self.now.state object.now.id label.now && not (same_oid object.now.id root)) }
     {
-        self.shared.tree.is_above_holders(&object.id, label)
-            && !object.id.is_same(&root_directory())
+        self.is_above_holders(&object.id, label) && !object.id.is_same(&root_directory())
     }
 }

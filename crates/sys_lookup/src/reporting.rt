@@ -2,7 +2,6 @@
 ghost use Rattle.std.specs.Prelude.{◌≡◌, length};
 ghost use Rattle.kern_model.specs.State.{object_at};
 ghost use Rattle.kern_model.specs.Stat.{stat_of};
-ghost use Rattle.sys_lookup.specs.Shared.{state_of};
 
 use crate::shared::Shared;
 use kern_model::{Kind, Oid, StatAnswer};
@@ -11,7 +10,7 @@ impl Shared {
     /// What is reported of an object, or of the stub where there is none.
     #[tactic(auto, unfolding(kern_model::specs::Stat::stat_of))]
     pub fn report(&self, id: &Oid) -> StatAnswer
-        ensures { result ≡ stat_of (state_of self.now) id.now }
+        ensures { result ≡ stat_of self.now id.now }
     {
         let object = self.metadata(id);
         let (size, names) = match object.kind {
@@ -34,7 +33,7 @@ impl Shared {
     /// How many bytes an object contains; none where it is not there.
     #[tactic(auto, unfolding(kern_model::specs::Maps::get_or))]
     pub fn byte_count(&self, id: &Oid) -> u64
-        ensures { result ≡ length (object_at (state_of self.now) id.now).bytes }
+        ensures { result ≡ length (object_at self.now id.now).bytes }
     {
         match self.tree.nodes().get(id) {
             Some(object) => object.bytes.items().len() as u64,

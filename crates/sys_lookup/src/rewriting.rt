@@ -1,13 +1,10 @@
 // What is asked of an object whose content is read or changes.
 ghost use Rattle.std.specs.Prelude.{◌≡◌};
-ghost use Rattle.kern_model.specs.declared.numbers.Oid.{Oid};
 ghost use Rattle.kern_model.specs.FileRows.{cleared};
 ghost use Rattle.kern_model.specs.Kinds.{has_set_id, is_stream};
 ghost use Rattle.kern_model.specs.Rules.{is_plain};
-ghost use Rattle.kern_model.specs.State.{State};
-ghost use Rattle.chk_rules.specs.Ends.{GoesOn};
 ghost use Rattle.sys_lookup.specs.Rewriting.{kept_attr};
-ghost use Rattle.sys_lookup.specs.Shared.{metadata_of};
+ghost use Rattle.sys_lookup.specs.StepOn.{StepOn};
 
 use crate::caller::Caller;
 use crate::shared::Metadata;
@@ -36,7 +33,7 @@ impl Caller<'_> {
         file: &Metadata,
         place: Place,
     ) -> Result<Attr, Stop>
-        ensures { (s : State) (id : Oid) → file.now ≡ metadata_of s id → GoesOn checks.old (kept_attr s id place) result checks.new }
+        ensures { StepOn checks.old file.now (λ s id. kept_attr s id place) result checks.new }
     {
         if self.fsetid(checks, file, is_plain(&file.attr), place)? {
             Ok(file.attr)

@@ -1,7 +1,6 @@
 // The state that the calls share.
 ghost use Rattle.std.specs.Prelude.{◌≡◌};
 ghost use Rattle.kern_model.specs.Kinds.{is_dir};
-ghost use Rattle.sys_lookup.specs.Owners.{HasOwners};
 
 use cap_bits::{CapSet, CapState};
 use fd_table::FdTable;
@@ -9,6 +8,7 @@ use fs_dirs::Tree;
 use kern_model::{Attr, Kind, Oid};
 use lab_lattice::Label;
 use proc_table::Procs;
+use std::marker::Model;
 
 /// The tree, the open files and the processes, the bound of capabilities over exec, and the highest label. Each process that has
 /// descriptors is living.
@@ -18,9 +18,25 @@ pub struct Shared {
     pub procs: Procs,
     pub bound: CapSet,
     pub top: Label,
-    ghost owners: { ∥ HasOwners procs.procs fds.rows ∥₁ },
 }
 
+impl Model for Shared {
+    ghost use Rattle.kern_model.specs.State.{State};
+    ghost use Rattle.kern_model.proofs.StateCode.{state_code};
+
+    ghost Value = { State };
+
+    ghost coded = { state_code };
+
+    ghost use Rattle.sys_lookup.specs.Owners.{HasOwners};
+    ghost use Rattle.sys_lookup.specs.Shared.{state_of};
+
+    ghost view = { state_of };
+
+    ghost invariant = { λ h. ∥ HasOwners h.procs.procs h.fds.rows ∥₁ };
+}
+
+// Written out, so that a drop is one call.
 impl Drop for Shared {
     fn drop(self) {
         let Shared {
@@ -55,12 +71,12 @@ impl Metadata {
 }
 
 impl Shared {
-    ghost use Rattle.sys_lookup.specs.Shared.{metadata_of, state_of};
+    ghost use Rattle.sys_lookup.specs.Shared.{metadata_of};
 
     /// The metadata of an object, or of the stub where there is none.
     #[tactic(auto, unfolding(kern_model::specs::Maps::get_or))]
     pub fn metadata(&self, id: &Oid) -> Metadata
-        ensures { result ≡ metadata_of (state_of self.now) id.now }
+        ensures { result ≡ metadata_of self.now id.now }
     {
         match self.tree.nodes().get(id) {
             Some(object) => Metadata {

@@ -1,15 +1,14 @@
 // The walk of a path of a process, and how it stops.
-ghost use Rattle.std.specs.Prelude.{◌≡◌, Some, IfOk, IsSome};
+ghost use Rattle.std.specs.Prelude.{◌≡◌, IfOk, IsSome};
 ghost use Rattle.std.specs.FinMap as map;
-ghost use Rattle.kern_model.specs.State.{Process};
+ghost use Rattle.kern_model.specs.State.{process_at};
 ghost use Rattle.kern_model.specs.Walk.{start_of, walk};
 ghost use Rattle.chk_rules.specs.Ends.{GoesOn};
-ghost use Rattle.sys_lookup.specs.Shared.{state_of};
 ghost use Rattle.sys_lookup.specs.Walks.{IsFound, found_by, place_in};
 ghost use Rattle.sys_lookup.specs.WalkStops.{IsWalkStop, argument_of, stop_of, stopped_by};
 
 use crate::argument::PathArgument;
-use crate::caller::{Caller, living};
+use crate::caller::Caller;
 use crate::found::Found;
 use crate::shared::Shared;
 use chk_rules::{Checks, Stop};
@@ -76,16 +75,11 @@ pub fn walk(
     path: &Path,
     second: bool,
 ) -> Result<Found, WalkStop>
-    requires living { IsSome (map.get (state_of shared.now).procs who.now) }
-    ensures step { (p : Process) → map.get (state_of shared.now).procs who.now ≡ Some p → GoesOn checks.old (walk (state_of shared.now) p (place_in (argument_of second)) path.now) (found_by (stopped_by result)) checks.new }
-    ensures found { (p : Process) → map.get (state_of shared.now).procs who.now ≡ Some p → IfOk result (IsFound (state_of shared.now) (start_of p path.now)) }
+    requires living { IsSome (map.get shared.now.procs who.now) }
+    ensures step { GoesOn checks.old (walk shared.now (process_at shared.now who.now) (place_in (argument_of second)) path.now) (found_by (stopped_by result)) checks.new }
+    ensures found { IfOk result (IsFound shared.now (start_of (process_at shared.now who.now) path.now)) }
 {
-    let process = living(shared, who);
-    let caller = Caller {
-        shared,
-        who: *who,
-        process,
-    };
+    let caller = Caller::new(shared, who);
     match caller.walk(checks, argument(second), path) {
         Ok(found) => Ok(found),
         Err(stop) => Err(walk_stop(stop)),

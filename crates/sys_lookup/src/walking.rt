@@ -1,11 +1,10 @@
 // The walk of a path.
-ghost use Rattle.std.specs.Prelude.{◌≡◌, ◌≤◌, ◌+◌, ◌∷◌, length, IfOk, OnOk};
+ghost use Rattle.std.specs.Prelude.{◌≤◌, ◌+◌, ◌∷◌, length, IfOk, OnOk};
 ghost use Rattle.kern_model.specs.Walk.{enter, last_place, reach, start_of, walk, walk_from};
 ghost use Rattle.kern_model.specs.Valid.{IsDir};
 ghost use Rattle.kern_model.specs.declared.numbers.Oid.{Oid as Number};
 ghost use Rattle.chk_rules.specs.Ends.{GoesOn};
-ghost use Rattle.sys_lookup.specs.Shared.{process_of, state_of};
-ghost use Rattle.sys_lookup.specs.Walks.{IsFound, IsLedTo, find_name, found_by, pass_name, place_in};
+ghost use Rattle.sys_lookup.specs.Walks.{IsFound, IsLedTo, find_name, found_by, pass_name, place_in, reach_end};
 
 use crate::argument::PathArgument;
 use crate::caller::Caller;
@@ -22,8 +21,8 @@ impl Caller<'_> {
         which: PathArgument,
         path: &Path,
     ) -> Result<(Oid, Place), Stop>
-        ensures step { GoesOn checks.old (λ rest. reach (state_of self.now.shared.now) (process_of self.now) (place_in which) path.now (λ id. rest (id, last_place (place_in which) path.now))) result checks.new }
-        ensures led { IfOk result (λ r. IsLedTo (state_of self.now.shared.now) (start_of (process_of self.now) path.now) r.0) }
+        ensures step { GoesOn checks.old (reach_end self.now.state self.now.process (place_in which) path.now) result checks.new }
+        ensures led { IfOk result (λ r. IsLedTo self.now.state (start_of self.now.process path.now) r.0) }
     {
         let found = self.walk(checks, which, path)?;
         let id = found.to_object()?;
@@ -32,14 +31,13 @@ impl Caller<'_> {
 
     /// Walks a path from where it starts. Its last name may be absent.
     pub fn walk(&self, checks: &mut Checks, which: PathArgument, path: &Path) -> Result<Found, Stop>
-        ensures step { GoesOn checks.old (walk (state_of self.now.shared.now) (process_of self.now) (place_in which) path.now) (found_by result) checks.new }
-        ensures found { IfOk result (IsFound (state_of self.now.shared.now) (start_of (process_of self.now) path.now)) }
+        ensures step { GoesOn checks.old (walk self.now.state self.now.process (place_in which) path.now) (found_by result) checks.new }
+        ensures found { IfOk result (IsFound self.now.state (start_of self.now.process path.now)) }
     {
-        let process = self.process;
         let start = if path.absolute {
             root_directory()
         } else {
-            process.cwd
+            self.cwd()
         };
         match path.components() {
             [] => Ok(Found::Start(start)),
@@ -50,10 +48,10 @@ impl Caller<'_> {
     /// Enters a directory: it may be read, is a directory, and may be searched.
     #[inline(always)]
     pub fn enter(&self, checks: &mut Checks, dir: &Oid, place: Place) -> Result<(), Stop>
-        ensures step { GoesOn checks.old (λ rest. enter (state_of self.now.shared.now) (process_of self.now) dir.now place (rest tt)) result checks.new }
-        ensures dir { OnOk result (IsDir (state_of self.now.shared.now).objects dir.now) }
+        ensures step { GoesOn checks.old (λ rest. enter self.now.state self.now.process dir.now place (rest tt)) result checks.new }
+        ensures dir { OnOk result (IsDir self.now.state.objects dir.now) }
     {
-        let object = self.shared.metadata(dir);
+        let object = self.metadata(dir);
         self.mac_read(checks, &object, place)?;
         refuse_if(!object.is_directory(), Errno::ENOTDIR)?;
         self.dac_search(checks, &object, place)
@@ -70,11 +68,11 @@ impl Caller<'_> {
         rest: &[Name],
     ) -> Result<Found, Stop>
         requires { at + length rest.now ≤ 31 }
-        ensures step { GoesOn checks.old (walk_from (state_of self.now.shared.now) (process_of self.now) (place_in which) at dir (name.now ∷ rest.now)) (found_by result) checks.new }
-        ensures found { (start : Number) → IfOk result (IsFound (state_of self.now.shared.now) start) }
+        ensures step { GoesOn checks.old (walk_from self.now.state self.now.process (place_in which) at dir (name.now ∷ rest.now)) (found_by result) checks.new }
+        ensures found { (start : Number) → IfOk result (IsFound self.now.state start) }
     {
         match rest {
-            [] => self.find(checks, which.place(at), dir, name),
+            [] => self.find_name(checks, which.place(at), dir, name),
             [next, rest @ ..] => {
                 let dir = self.pass(checks, which.place(at), dir, name)?;
                 self.walk_from(checks, which, at + 1, dir, next, rest)
@@ -84,20 +82,26 @@ impl Caller<'_> {
 
     // Looks up the last name of a walk, which may be absent.
     #[tactic(auto, unfolding(chk_rules::specs::Ends::EndsBy))]
-    fn find(&self, checks: &mut Checks, place: Place, dir: Oid, name: &Name) -> Result<Found, Stop>
-        ensures step { GoesOn checks.old (find_name (state_of self.now.shared.now) (process_of self.now) place dir name.now) (found_by result) checks.new }
-        ensures found { (start : Number) → IfOk result (IsFound (state_of self.now.shared.now) start) }
+    fn find_name(
+        &self,
+        checks: &mut Checks,
+        place: Place,
+        dir: Oid,
+        name: &Name,
+    ) -> Result<Found, Stop>
+        ensures step { GoesOn checks.old (find_name self.now.state self.now.process place dir name.now) (found_by result) checks.new }
+        ensures found { (start : Number) → IfOk result (IsFound self.now.state start) }
     {
         self.enter(checks, &dir, place)?;
-        let object = self.shared.tree.look(&dir, name);
+        let object = self.look(&dir, name);
         Ok(Found::Entry(dir, name.copy()?, object))
     }
 
     // Looks up a name that is not the last: it leads to where the walk goes on.
     fn pass(&self, checks: &mut Checks, place: Place, dir: Oid, name: &Name) -> Result<Oid, Stop>
-        ensures { GoesOn checks.old (pass_name (state_of self.now.shared.now) (process_of self.now) place dir name.now) result checks.new }
+        ensures { GoesOn checks.old (pass_name self.now.state self.now.process place dir name.now) result checks.new }
     {
         self.enter(checks, &dir, place)?;
-        present(self.shared.tree.look(&dir, name))
+        present(self.look(&dir, name))
     }
 }

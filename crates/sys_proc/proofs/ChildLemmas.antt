@@ -14,7 +14,7 @@ use Rattle.kern_model.specs.declared.limits.TheConstants.{MAX_PROCS}
 use Rattle.kern_model.specs.declared.numbers.Pid.{Pid}
 use Rattle.kern_model.specs.declared.records.Rec.TheVariants as rec
 use Rattle.kern_model.specs.Keys.{pid_cmp}
-use Rattle.kern_model.specs.ProcessRows.{await_child, child_of, fork_row, give_child, has_child}
+use Rattle.kern_model.specs.ProcessRows.{await_child, child_of, fork_row, give_child, has_child, wait_row}
 use Rattle.kern_model.specs.State.{State, Process, Change, DrawProcess, SetProcess, drawn}
 use Rattle.kern_model.specs.Valid.{IsThere, IsValid}
 use Rattle.kern_model.proofs.KeyLaws.{pid_cmp_total, pid_cmp_exact}
@@ -25,17 +25,19 @@ use Rattle.proc_table.specs.declared.procs.ReapError.{ReapError}
 use Rattle.proc_table.specs.declared.procs.ReapError.TheVariants as reap
 use Rattle.proc_table.specs.Procs.{ProcTable, has_living_child, next_in, reaped, with_new, with_process}
 use Rattle.chk_rules.specs.CheckLog.{CheckLog}
+use Rattle.chk_rules.specs.declared.stop.Stop.{Stop}
 use Rattle.chk_rules.specs.declared.stop.Stop.TheVariants as stop
 use Rattle.fd_table.specs.Files.{OpenFiles, with_row}
 use Rattle.fd_table.specs.Rows.{AllFds, Fds, row_of}
-use Rattle.sys_lookup.specs.declared.shared.Shared.{Shared}
+use Rattle.sys_lookup.specs.declared.effect.Effect.{Effect}
+use Rattle.sys_lookup.specs.declared.shared.Shared.TheInside.{Inside}
 use Rattle.sys_lookup.specs.Owners.{HasOwners}
 use Rattle.sys_lookup.specs.PlaysRow.{PlaysRow}
 use Rattle.sys_lookup.specs.Shared.{holding, state_of, with_fds}
 use Rattle.sys_lookup.proofs.FdChanges.{with_fds-row}
 use Rattle.sys_lookup.proofs.FdLemmas.{found, with_fds-process}
 use Rattle.sys_lookup.proofs.OwnerLemmas.{owners_known, owners_process, owners_row}
-use Rattle.sys_lookup.proofs.PlayLemmas.{commits, equal_answer, fails_row, refuse_plays, refuse_stops_row}
+use Rattle.sys_lookup.proofs.PlayLemmas.{commits, commits_as, fails_row, refuse_plays, refuse_stops_row}
 use Rattle.sys_lookup.proofs.RefuseLemmas.{lets_on, refuses}
 
 -- ---- a child is made
@@ -49,20 +51,20 @@ with_fds-new procs rows who q fds =
     ∙ insert-insert pid_cmp_total pid_cmp_exact (with_fds procs rows) who (holding rows who q) (record q { fds = fds })
 
 -- no process has the next number of a label, and none has a row of descriptors under it
-pub new_row : (h : Shared) → ∥ IsValid (state_of h) ∥₁ → (l : Label) → map.get h.fds.rows (next_in h.procs l) ≡ None
-new_row h valid l =
+pub new_row : (h : Inside) → ∥ HasOwners h.procs.procs h.fds.rows ∥₁ → ∥ IsValid (state_of h) ∥₁ → (l : Label) → map.get h.fds.rows (next_in h.procs l) ≡ None
+new_row h owners valid l =
     let next = next_in h.procs l in
     let last = drawn h.procs.numbers l in
     elim (map.get h.fds.rows next) as (λ w. map.get h.fds.rows next ≡ w → w ≡ None) [
       | None ↦ λ _. refl
       | Some fds ↦ λ e.
-          let there : IsThere h.procs.procs next = owners_known h.procs.procs h.fds.rows h.owners next (record { value = fds; is = e }) in
+          let there : IsThere h.procs.procs next = owners_known h.procs.procs h.fds.rows owners next (record { value = fds; is = e }) in
           let shown = found h.procs.procs h.fds.rows next there.value there.is in
           absurd (∥∥₁_elim valid (λ a b. absurd a) (λ v. let below : last + 1 ≤ last = ((v.procs next (holding h.fds.rows next there.value) shown).drawn_already).1 in omega (arith, below)))
     ] refl
 
 -- a child is made, and has descriptors on the same descriptions
-pub forks : (h : Shared) (log : CheckLog) (who : Pid) (q : Process) (child : Pid) (procs : ProcTable) (fds : OpenFiles) → nat_le MAX_PROCS (drawn h.procs.numbers q.label) ≡ false → child ≡ next_in h.procs q.label
+pub forks : (h : Inside) (log : CheckLog) (who : Pid) (q : Process) (child : Pid) (procs : ProcTable) (fds : OpenFiles) → nat_le MAX_PROCS (drawn h.procs.numbers q.label) ≡ false → child ≡ next_in h.procs q.label
     → procs ≡ with_new h.procs (child_of who q) → fds ≡ with_row h.fds child (row_of h.fds.rows who)
     → PlaysRow (state_of h) log (fork_row (state_of h) who (holding h.fds.rows who q)) (Ok (record { answer = answer.Process child; own = Some (rec.Fork who child) }))
     (record (state_of h) { procs = with_fds procs.procs fds.rows; descriptions = fds.descriptions; process_numbers = procs.numbers; description_numbers = fds.numbers }) log
@@ -80,12 +82,18 @@ forks h log who q child procs fds left is made copied =
     ∙ (λ i. record s { procs = with_fds all (map.insert h.fds.rows (is i) (row_of h.fds.rows who)); process_numbers = numbers })
     ∙ (λ i. record s { procs = with_fds-new h.procs.procs h.fds.rows next (child_of who q) (row_of h.fds.rows who) i; process_numbers = numbers }))))
 
+-- too many processes were made at the label
+pub refuses_child : (h : Inside) (log : CheckLog) (who : Pid) (q : Process) (procs : ProcTable) → nat_le MAX_PROCS (drawn h.procs.numbers q.label) ≡ true → procs ≡ h.procs
+    → PlaysRow (state_of h) log (fork_row (state_of h) who (holding h.fds.rows who q)) (Err (stop.Refused errno.EAGAIN)) (record (state_of h) { procs = with_fds procs.procs h.fds.rows; process_numbers = procs.numbers }) log
+refuses_child h log who q procs full same =
+    refuse_stops_row (Err (stop.Refused errno.EAGAIN)) refl (λ i. record (state_of h) { procs = with_fds (same i).procs h.fds.rows; process_numbers = (same i).numbers }) (refuses full)
+
 -- ---- owners
 
 -- whether or not it was added
-pub owners_forked : (h : Shared) (who : Pid) (q : Process) (r : Result Pid ProcError) (procs : ProcTable) → OnOk r (procs ≡ with_new h.procs (child_of who q)) → OnErr r (procs ≡ h.procs) → ∥ HasOwners procs.procs h.fds.rows ∥₁
-owners_forked h who q (Ok child) procs made same = subst (λ (t : ProcTable). ∥ HasOwners t.procs h.fds.rows ∥₁) (sym made) (owners_process h.procs.procs h.fds.rows (next_in h.procs q.label) (child_of who q) h.owners)
-owners_forked h who q (Err e) procs made same = subst (λ (t : ProcTable). ∥ HasOwners t.procs h.fds.rows ∥₁) (sym same) h.owners
+pub owners_forked : (h : Inside) → ∥ HasOwners h.procs.procs h.fds.rows ∥₁ → (who : Pid) (q : Process) (r : Result Pid ProcError) (procs : ProcTable) → OnOk r (procs ≡ with_new h.procs (child_of who q)) → OnErr r (procs ≡ h.procs) → ∥ HasOwners procs.procs h.fds.rows ∥₁
+owners_forked h owners who q (Ok child) procs made same = subst (λ (t : ProcTable). ∥ HasOwners t.procs h.fds.rows ∥₁) (sym made) (owners_process h.procs.procs h.fds.rows (next_in h.procs q.label) (child_of who q) owners)
+owners_forked h owners who q (Err e) procs made same = subst (λ (t : ProcTable). ∥ HasOwners t.procs h.fds.rows ∥₁) (sym same) owners
 
 -- and whether or not its row was
 pub owners_copied : (procs : FinMap pid_cmp Process) (old new : OpenFiles) (child : Pid) (row : Fds) (r : Result ⊤ AllocError) → IsThere procs child → ∥ HasOwners procs old.rows ∥₁ → OnOk r (new ≡ with_row old child row) → OnErr r (new ≡ old) → ∥ HasOwners procs new.rows ∥₁
@@ -93,14 +101,14 @@ owners_copied procs old new child row (Ok x) there known made same = subst (λ (
 owners_copied procs old new child row (Err e) there known made same = subst (λ (t : OpenFiles). ∥ HasOwners procs t.rows ∥₁) (sym same) known
 
 -- whether or not a child was taken
-pub owners_reaped : (h : Shared) (who : Pid) (q : Process) (r : Result (Pid × Ending) ReapError) (procs : ProcTable) → OnOk r (procs ≡ with_process h.procs who q) → OnErr r (procs ≡ h.procs) → ∥ HasOwners procs.procs h.fds.rows ∥₁
-owners_reaped h who q (Ok e) procs taken same = subst (λ (t : ProcTable). ∥ HasOwners t.procs h.fds.rows ∥₁) (sym taken) (owners_process h.procs.procs h.fds.rows who q h.owners)
-owners_reaped h who q (Err e) procs taken same = subst (λ (t : ProcTable). ∥ HasOwners t.procs h.fds.rows ∥₁) (sym same) h.owners
+pub owners_reaped : (h : Inside) → ∥ HasOwners h.procs.procs h.fds.rows ∥₁ → (who : Pid) (q : Process) (r : Result (Pid × Ending) ReapError) (procs : ProcTable) → OnOk r (procs ≡ with_process h.procs who q) → OnErr r (procs ≡ h.procs) → ∥ HasOwners procs.procs h.fds.rows ∥₁
+owners_reaped h owners who q (Ok e) procs taken same = subst (λ (t : ProcTable). ∥ HasOwners t.procs h.fds.rows ∥₁) (sym taken) (owners_process h.procs.procs h.fds.rows who q owners)
+owners_reaped h owners who q (Err e) procs taken same = subst (λ (t : ProcTable). ∥ HasOwners t.procs h.fds.rows ∥₁) (sym same) owners
 
 -- ---- a child that ended is taken
 
 -- a process has a living child in the state where it has one in the table
-pub child_shown : (h : Shared) (who : Pid) → has_child (state_of h) who ≡ has_living_child h.procs.procs who
+child_shown : (h : Inside) (who : Pid) → has_child (state_of h) who ≡ has_living_child h.procs.procs who
 unfolding with_fds
 child_shown h who = any_entry-select pid_cmp_total pid_cmp_exact _ _ _ h.procs.procs (λ k x e. refl)
 
@@ -118,25 +126,60 @@ none_living true is = let no : ◌≡◌ {A = Result (Pid × Ending) ReapError} 
 
 module _ (s t : State) (log : CheckLog) (who : Pid) (p : Process) (living : Bool) where
   -- the first one is taken
-  pub takes : (ended : List (Pid × Ending)) (e : Pid × Ending) → Ok e ≡ reaped ended living → t ≡ record s { procs = map.insert s.procs who (record p { ended = drop 1 ended }) }
-      → PlaysRow s log (await_child living who p ended) (Ok (record { answer = answer.Ended e.0 e.1; own = None })) t log
-  takes [] e is made = absurd (nothing_taken living e is)
-  takes (x ∷ es) e is made =
+  takes : (ended : List (Pid × Ending)) (e : Pid × Ending) (effect : Effect) → effect ≡ record { answer = answer.Ended e.0 e.1; own = None } → Ok e ≡ reaped ended living → t ≡ record s { procs = map.insert s.procs who (record p { ended = drop 1 ended }) }
+      → PlaysRow s log (await_child living who p ended) (Ok effect) t log
+  takes [] e effect gives is made = absurd (nothing_taken living e is)
+  takes (x ∷ es) e effect gives is made =
       let taken : ◌≡◌ {A = Result (Pid × Ending) ReapError} (Ok e) (Ok x) = is in
       let same : e ≡ x = cc in
       let some : (length (x ∷ es) == 0) ≡ false = grind (arith, nat_tests) in
       refuse_plays (lets_on (ap (λ b. b && not living) some))
-      (equal_answer (ap (λ (y : Pid × Ending). answer.Ended y.0 y.1) same)
-      (commits s t log (SetProcess who (record p { ended = es }) ∷ []) (answer.Ended e.0 e.1) None made))
+      (commits_as (gives ∙ ap (λ (y : Pid × Ending). record { answer = answer.Ended y.0 y.1; own = None }) same) made)
 
   -- there is none yet
-  pub takes_none : (ended : List (Pid × Ending)) → Err reap.NoneEnded ≡ reaped ended living → t ≡ s
+  takes_none : (ended : List (Pid × Ending)) → Err reap.NoneEnded ≡ reaped ended living → t ≡ s
       → PlaysRow s log (await_child living who p ended) (Err (stop.Refused errno.EAGAIN)) t log
   takes_none [] is same = refuse_plays (lets_on (ap not (some_living living is))) (fails_row s t log errno.EAGAIN same)
   takes_none (x ∷ es) is same = let no : ◌≡◌ {A = Result (Pid × Ending) ReapError} (Err reap.NoneEnded) (Ok x) = is in absurd cc
 
   -- there is no child
-  pub has_none : (ended : List (Pid × Ending)) → Err reap.NoChild ≡ reaped ended living → t ≡ s
+  has_none : (ended : List (Pid × Ending)) → Err reap.NoChild ≡ reaped ended living → t ≡ s
       → PlaysRow s log (await_child living who p ended) (Err (stop.Refused errno.ECHILD)) t log
   has_none [] is same = refuse_stops_row (Err (stop.Refused errno.ECHILD)) refl same (refuses (ap not (none_living living is)))
   has_none (x ∷ es) is same = let no : ◌≡◌ {A = Result (Pid × Ending) ReapError} (Err reap.NoChild) (Ok x) = is in absurd cc
+
+module _ (h : Inside) (log : CheckLog) (who : Pid) (q : Process) (procs : ProcTable) where
+  abbrev before : State
+  before = state_of h
+
+  abbrev after : State
+  after = record before { procs = with_fds procs.procs h.fds.rows; process_numbers = procs.numbers }
+
+  abbrev living : Bool
+  living = has_living_child h.procs.procs who
+
+  -- the call played its row, whose test is made in the table
+  waits : (r r' : Result Effect Stop) → r ≡ r' → PlaysRow before log (await_child living who (holding h.fds.rows who q) q.ended) r' after log → PlaysRow before log (wait_row before who (holding h.fds.rows who q)) r after log
+  waits r r' is plays =
+      subst (λ x. PlaysRow before log (wait_row before who (holding h.fds.rows who q)) x after log) (sym is)
+      (subst (λ b. PlaysRow before log (await_child b who (holding h.fds.rows who q) q.ended) r' after log) (sym (child_shown h who)) plays)
+
+  -- where a child was taken
+  pub waits_taking : (r : Result Effect Stop) (e : Pid × Ending) (effect : Effect) → r ≡ Ok effect → effect ≡ record { answer = answer.Ended e.0 e.1; own = None } → Ok e ≡ reaped q.ended living
+      → procs ≡ with_process h.procs who (record q { ended = drop 1 q.ended }) → PlaysRow before log (wait_row before who (holding h.fds.rows who q)) r after log
+  waits_taking r e effect is gives reaps taken =
+      waits r (Ok effect) is
+      (takes before after log who (holding h.fds.rows who q) living q.ended e effect gives reaps
+      ((λ i. record before { procs = with_fds (taken i).procs h.fds.rows; process_numbers = (taken i).numbers })
+      ∙ (λ i. record before { procs = with_fds-process h.procs.procs h.fds.rows who (record q { ended = drop 1 q.ended }) i })))
+
+  same_after : procs ≡ h.procs → after ≡ before
+  same_after same = λ i. record before { procs = with_fds (same i).procs h.fds.rows; process_numbers = (same i).numbers }
+
+  -- where none has ended yet
+  pub waits_for_none : (r : Result Effect Stop) → r ≡ Err (stop.Refused errno.EAGAIN) → Err reap.NoneEnded ≡ reaped q.ended living → procs ≡ h.procs → PlaysRow before log (wait_row before who (holding h.fds.rows who q)) r after log
+  waits_for_none r is reaps same = waits r _ is (takes_none before after log who (holding h.fds.rows who q) living q.ended reaps (same_after same))
+
+  -- where there is none
+  pub waits_without : (r : Result Effect Stop) → r ≡ Err (stop.Refused errno.ECHILD) → Err reap.NoChild ≡ reaped q.ended living → procs ≡ h.procs → PlaysRow before log (wait_row before who (holding h.fds.rows who q)) r after log
+  waits_without r is reaps same = waits r _ is (has_none before after log who (holding h.fds.rows who q) living q.ended reaps (same_after same))

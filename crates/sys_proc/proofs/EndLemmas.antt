@@ -1,5 +1,5 @@
 -- What becomes of the processes where one ends.
-use Rattle.std.specs.Prelude.{◌≡◌, ◌&&◌, ◌||◌, ◌++◌, not, Bool, true, false, List, [], ◌∷◌, Option, None, Some, cond, option_map, refl}
+use Rattle.std.specs.Prelude.{◌≡◌, ℕ, ◌&&◌, ◌||◌, ◌++◌, not, Bool, true, false, List, [], ◌∷◌, Option, None, Some, cond, Ok, option_map, refl}
 use Rattle.std.specs.List.{AllByRecursion, flat_map, list_any}
 use Rattle.std.specs.FinMap as map
 use Rattle.std.specs.FinMap.{FinMap, get-insert, get-remove, same_map}
@@ -8,11 +8,16 @@ use Rattle.std.proofs.Common.{ap, sym, ◌∙◌}
 use Rattle.std.proofs.Math.Logic.{∥∥₁_map}
 use Rattle.std.proofs.lemmas.Bool.{true≢false}
 use Rattle.std.proofs.lemmas.Cmp.{tied_itself}
+use Rattle.lab_lattice.specs.Label.{label_cmp}
+use Rattle.kern_model.specs.declared.calls.Answer.TheVariants.{Nothing}
 use Rattle.kern_model.specs.declared.calls.Ending.{Ending}
+use Rattle.kern_model.specs.declared.numbers.Oid.{Oid}
 use Rattle.kern_model.specs.declared.numbers.Pid.{Pid}
-use Rattle.kern_model.specs.Keys.{is_pid, pid_cmp, same_pid}
+use Rattle.kern_model.specs.declared.objects.Object.{Object}
+use Rattle.kern_model.specs.declared.records.Rec.TheVariants.{Exit}
+use Rattle.kern_model.specs.Keys.{is_pid, oid_cmp, pid_cmp, same_pid, spot_cmp}
 use Rattle.kern_model.specs.Maps.{any_entry}
-use Rattle.kern_model.specs.ProcessRows.{ending_of, left_by, survives}
+use Rattle.kern_model.specs.ProcessRows.{ending_of, kill_with, left_by, survives}
 use Rattle.kern_model.specs.State.{State, Process, SetProcess, changed_by}
 use Rattle.kern_model.specs.Valid.{IsThere, IsValid}
 use Rattle.kern_model.proofs.KeyLaws.{pid_cmp_total, pid_cmp_exact}
@@ -21,12 +26,15 @@ use Rattle.kern_model.proofs.Selections.{get-remove_none, get-remove_other, get-
 use Rattle.fd_table.specs.Files.{OpenFiles, drained, left_with}
 use Rattle.fd_table.specs.Rows.{AllFds, row_of}
 use Rattle.fd_table.proofs.Closing.{changed_by-append, ending_changes, same_tests}
-use Rattle.proc_table.specs.Procs.{ended_by}
-use Rattle.sys_lookup.specs.declared.shared.Shared.{Shared}
+use Rattle.proc_table.specs.Procs.{ProcTable, ended_by}
+use Rattle.chk_rules.specs.CheckLog.{CheckLog}
+use Rattle.sys_lookup.specs.declared.shared.Shared.TheInside.{Inside}
 use Rattle.sys_lookup.specs.Owners.{HasOwners}
+use Rattle.sys_lookup.specs.PlaysRow.{PlaysRow}
 use Rattle.sys_lookup.specs.Shared.{holding, state_of, with_fds}
 use Rattle.sys_lookup.proofs.ClosingLemmas.{table_shows}
 use Rattle.sys_lookup.proofs.FdLemmas.{get-with_fds}
+use Rattle.sys_lookup.proofs.PlayLemmas.{commits}
 
 -- ---- the processes that change
 
@@ -182,14 +190,36 @@ module _ (procs : FinMap pid_cmp Process) (rows : AllFds) (who : Pid) (q : Proce
       ] refl)
 
 -- a process ends, and its descriptors close
-pub ends_so : (h : Shared) → ∥ IsValid (state_of h) ∥₁ → (who : Pid) (q : Process) (how : Ending) → (
+pub ends_so : (h : Inside) → ∥ HasOwners h.procs.procs h.fds.rows ∥₁ → ∥ IsValid (state_of h) ∥₁ → (who : Pid) (q : Process) (how : Ending) → (
     let left : OpenFiles = left_with h.fds (map.remove h.fds.rows who) in
     record (state_of h) { procs = with_fds (ended_by h.procs.procs who q how) (map.remove h.fds.rows who); descriptions = left.descriptions; objects = drained h.fds.descriptions left.descriptions (state_of h).objects }
     ≡ changed_by (state_of h) (ending_of (state_of h) who (holding h.fds.rows who q) how))
-ends_so h valid who q how =
+ends_so h owners valid who q how =
     let s = state_of h in
     let left : OpenFiles = left_with h.fds (map.remove h.fds.rows who) in
     let closed : State = record s { procs = map.remove s.procs who; descriptions = left.descriptions; objects = drained h.fds.descriptions left.descriptions s.objects } in
     (λ i. record closed { procs = with_fds-ended h.procs.procs h.fds.rows who q how i })
     ∙ sym (survivors s.procs who (holding h.fds.rows who q) how closed refl)
-    ∙ sym (ending_changes s h.fds (table_shows h valid) who (holding h.fds.rows who q) how)
+    ∙ sym (ending_changes s h.fds (table_shows h owners valid) who (holding h.fds.rows who q) how)
+
+-- so the row is played by which it ends
+pub plays_end : (h : Inside) → ∥ HasOwners h.procs.procs h.fds.rows ∥₁ → ∥ IsValid (state_of h) ∥₁ → (log : CheckLog) (who : Pid) (q : Process) (how : Ending) (procs : ProcTable) (fds : OpenFiles)
+    {objects : FinMap oid_cmp Object} {entries : FinMap spot_cmp Oid} {numbers : FinMap label_cmp ℕ}
+    → procs ≡ record h.procs { procs = ended_by h.procs.procs who q how } → fds ≡ left_with h.fds (map.remove h.fds.rows who)
+    → objects ≡ drained h.fds.descriptions fds.descriptions (state_of h).objects → entries ≡ (state_of h).entries → numbers ≡ (state_of h).object_numbers
+    → PlaysRow (state_of h) log (kill_with (state_of h) who (holding h.fds.rows who q) how) (Ok (record { answer = Nothing; own = Some (Exit who how) }))
+    (record (state_of h) { procs = with_fds procs.procs fds.rows; process_numbers = procs.numbers; descriptions = fds.descriptions; description_numbers = fds.numbers; objects = objects; entries = entries; object_numbers = numbers }) log
+plays_end h owners valid log who q how procs fds ended left emptied same_entries same_numbers =
+    let s = state_of h in
+    commits s _ log (ending_of s who (holding h.fds.rows who q) how) Nothing (Some (Exit who how))
+    ((λ i. record s {
+      procs = with_fds (ended i).procs (left i).rows;
+      process_numbers = (ended i).numbers;
+      descriptions = (left i).descriptions;
+      description_numbers = (left i).numbers;
+      objects = emptied i;
+      entries = same_entries i;
+      object_numbers = same_numbers i;
+    })
+    ∙ (λ i. record s { procs = with_fds (ended_by h.procs.procs who q how) (map.remove h.fds.rows who); descriptions = (left_with h.fds (map.remove h.fds.rows who)).descriptions; objects = drained h.fds.descriptions (left i).descriptions s.objects })
+    ∙ ends_so h owners valid who q how)

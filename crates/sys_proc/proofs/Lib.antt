@@ -2,5 +2,6 @@ mod ChildLemmas
 mod EndLemmas
 mod LentLemmas
 mod OwnLemmas
+mod ReceiverLemmas
 mod StandLemmas
 mod StepLemmas

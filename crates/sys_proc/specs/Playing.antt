@@ -1,7 +1,13 @@
--- Which calls are on processes.
-use Rattle.std.specs.Prelude.{Bool, true, false}
+-- Which calls are on processes, and how they are played.
+use Rattle.std.specs.Prelude.{Bool, true, false, Result}
 use Rattle.kern_model.specs.declared.calls.Call.{Call}
 use Rattle.kern_model.specs.declared.calls.Call.TheVariants as call
+use Rattle.kern_model.specs.Row.{Row}
+use Rattle.kern_model.specs.State.{State}
+use Rattle.chk_rules.specs.CheckLog.{CheckLog}
+use Rattle.chk_rules.specs.declared.stop.Stop.{Stop}
+use Rattle.sys_lookup.specs.declared.effect.Effect.{Effect}
+use Rattle.sys_lookup.specs.PlaysRow.{PlaysRow}
 
 -- whether a call asks what its caller is
 abbrev pub is_own_call : Call → Bool
@@ -24,3 +30,7 @@ is_process_call (call.Setgid group) = true
 is_process_call (call.CapSetProc caps) = true
 is_process_call (call.MacSetProc label) = true
 is_process_call c = is_own_call c
+
+-- the body of a call plays a row without a check
+abbrev pub PlaysUnchecked : State → Row → Result Effect Stop → State → Type 0
+PlaysUnchecked s row result t = (log : CheckLog) → PlaysRow s log row result t log

@@ -1,19 +1,18 @@
 // The call `cap_set_proc`.
-ghost use Rattle.std.specs.Prelude.{◌≡◌, IsSome, Some};
+ghost use Rattle.std.specs.Prelude.{◌≡◌, IsSome, true};
 ghost use Rattle.std.specs.FinMap as map;
 ghost use Rattle.kern_model.specs.ProcessRows.{cap_set_proc_row};
-ghost use Rattle.kern_model.specs.Rules.{cap_grow};
-ghost use Rattle.kern_model.specs.State.{Process};
-ghost use Rattle.proc_table.specs.Procs.{creds_of};
+ghost use Rattle.kern_model.specs.Rules.{cap_grow, may_become};
+ghost use Rattle.kern_model.specs.State.{process_at};
 ghost use Rattle.sys_lookup.specs.PlaysRow.{PlaysRow};
-ghost use Rattle.sys_lookup.specs.Shared.{state_of};
+ghost use Rattle.sys_proc.specs.Changing.{becoming};
 
 use crate::checking::check_of_caller;
 use cap_bits::CapState;
 use chk_rules::{Checks, Stop, must};
 use kern_model::{Answer, Check, CheckName, Pid, Rec};
-use proc_creds::{Creds, NotAllowed};
-use sys_lookup::{Effect, Shared};
+use proc_creds::NotAllowed;
+use sys_lookup::{Caller, Effect, Shared};
 
 /// `cap_set_proc`: the caller sets its capability sets.
 pub fn cap_set_proc(
@@ -22,25 +21,37 @@ pub fn cap_set_proc(
     who: &Pid,
     caps: CapState,
 ) -> Result<Effect, Stop>
-    requires living { IsSome (map.get (state_of shared.old).procs who.now) }
-    ensures { (p : Process) → map.get (state_of shared.old).procs who.now ≡ Some p → PlaysRow (state_of shared.old) checks.old (cap_set_proc_row (state_of shared.old) who.now p caps) result (state_of shared.new) checks.new }
+    requires living { IsSome (map.get shared.old.procs who.now) }
+    ensures { PlaysRow shared.old checks.old (cap_set_proc_row shared.old who.now (process_at shared.old who.now) caps) result shared.new checks.new }
+{
+    let caller = Caller::new(shared, who);
+    must(checks, &cap_grow(&caller, who, &caps))?;
+    set_caps(shared, who, caps);
+    Ok(Effect {
+        answer: Answer::Nothing,
+        own: Some(Rec::CapSetProc(*who, caps)),
+    })
+}
+
+// The check whether a caller may set its capability sets to these.
+fn cap_grow(caller: &Caller<'_>, who: &Pid, caps: &CapState) -> Check
+    ensures { result ≡ cap_grow who.now caller.now.process caps.now }
+{
+    let creds = caller.creds();
+    check_of_caller(CheckName::CapGrow, creds.may_set(caps), None, caller, who)
+}
+
+// A living process gets capability sets that it may set. No memory is taken.
+fn set_caps(shared: &mut Shared, who: &Pid, caps: CapState)
+    requires living { IsSome (map.get shared.old.procs who.now) }
+    requires may { may_become (process_at shared.old who.now).caps caps ≡ true }
+    ensures { shared.new ≡ becoming shared.old who.now (λ p. record p { caps = caps }) }
 {
     let Some(creds) = shared.procs.creds_mut(who) else {
         unreachable!();
     };
-    must(checks, &cap_grow(who, creds, &caps))?;
     match creds.cap_set(caps) {
-        Ok(()) => Ok(Effect {
-            answer: Answer::Nothing,
-            own: Some(Rec::CapSetProc(*who, caps)),
-        }),
+        Ok(()) => {}
         Err(NotAllowed) => unreachable!(),
     }
-}
-
-// The check whether a process with these credentials may set its capability sets to these.
-fn cap_grow(who: &Pid, creds: &Creds, caps: &CapState) -> Check
-    ensures { (p : Process) → creds_of p ≡ creds.now → result ≡ cap_grow who.now p caps.now }
-{
-    check_of_caller(CheckName::CapGrow, creds.may_set(caps), None, who, creds)
 }

@@ -1,28 +1,26 @@
-// The checks of a caller itself, by its credentials.
+// The checks of a caller itself.
 ghost use Rattle.std.specs.Prelude.{◌≡◌};
 ghost use Rattle.kern_model.specs.Rules.{on_caller};
-ghost use Rattle.kern_model.specs.State.{Process};
-ghost use Rattle.proc_table.specs.Procs.{creds_of};
 
 use kern_model::{Check, CheckName, Pid, Place, Thing};
 use lab_lattice::Label;
-use proc_creds::Creds;
+use sys_lookup::Caller;
 
-/// A check of a caller with these credentials, given whether its rule holds, and the label that the caller is to get, if any.
+/// A check of a caller with a number, given whether its rule holds, and the label that the caller is to get, if any.
 pub fn check_of_caller(
     name: CheckName,
     holds: bool,
     new_label: Option<Label>,
+    caller: &Caller<'_>,
     who: &Pid,
-    creds: &Creds,
 ) -> Check
-    ensures { (p : Process) → creds_of p ≡ creds.now → result ≡ on_caller name holds new_label who.now p }
+    ensures { result ≡ on_caller name holds new_label who.now caller.now.process }
 {
     Check {
         name,
         holds,
         thing: Thing::Process(*who),
-        thing_label: creds.label,
+        thing_label: caller.label(),
         new_label,
         place: Place::Caller,
     }

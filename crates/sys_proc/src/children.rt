@@ -1,12 +1,11 @@
 // The calls `fork` and `wait`.
-ghost use Rattle.std.specs.Prelude.{◌≡◌, IsSome, Some};
+ghost use Rattle.std.specs.Prelude.{IsSome};
 ghost use Rattle.std.specs.FinMap as map;
 ghost use Rattle.kern_model.specs.ProcessRows.{fork_row, wait_row};
-ghost use Rattle.kern_model.specs.State.{Process};
+ghost use Rattle.kern_model.specs.State.{process_at};
 ghost use Rattle.kern_model.specs.Valid.{IsValid};
-ghost use Rattle.chk_rules.specs.CheckLog.{CheckLog};
-ghost use Rattle.sys_lookup.specs.PlaysRow.{LeavesNothing, PlaysRow};
-ghost use Rattle.sys_lookup.specs.Shared.{state_of};
+ghost use Rattle.sys_lookup.specs.PlaysRow.{LeavesNothing};
+ghost use Rattle.sys_proc.specs.Playing.{PlaysUnchecked};
 
 use chk_rules::Stop;
 use kern_model::{Answer, Errno, Pid, Rec};
@@ -15,9 +14,9 @@ use sys_lookup::{Effect, Shared};
 
 /// `fork`: the caller gets a child that is like it, with descriptors on the same descriptions.
 pub fn fork(shared: &mut Shared, who: &Pid) -> Result<Effect, Stop>
-    requires valid { ∥ IsValid (state_of shared.old) ∥₁ }
-    requires living { IsSome (map.get (state_of shared.old).procs who.now) }
-    ensures { (p : Process) (log : CheckLog) → map.get (state_of shared.old).procs who.now ≡ Some p → PlaysRow (state_of shared.old) log (fork_row (state_of shared.old) who.now p) result (state_of shared.new) log }
+    requires valid { ∥ IsValid shared.old ∥₁ }
+    requires living { IsSome (map.get shared.old.procs who.now) }
+    ensures { PlaysUnchecked shared.old (fork_row shared.old who.now (process_at shared.old who.now)) result shared.new }
 {
     let child = match shared.procs.fork(who) {
         Ok(child) => child,
@@ -33,15 +32,12 @@ pub fn fork(shared: &mut Shared, who: &Pid) -> Result<Effect, Stop>
 
 /// `wait`: the child of the caller that ended first is taken off its list, and the call answers how it ended. It takes no memory.
 pub fn wait(shared: &mut Shared, who: &Pid) -> Result<Effect, Stop>
-    requires { IsSome (map.get (state_of shared.old).procs who.now) }
-    ensures played { (p : Process) (log : CheckLog) → map.get (state_of shared.old).procs who.now ≡ Some p → PlaysRow (state_of shared.old) log (wait_row (state_of shared.old) who.now p) result (state_of shared.new) log }
+    requires { IsSome (map.get shared.old.procs who.now) }
+    ensures played { PlaysUnchecked shared.old (wait_row shared.old who.now (process_at shared.old who.now)) result shared.new }
     ensures nothing { LeavesNothing result }
 {
     match shared.procs.reap(who) {
-        Ok((child, ending)) => Ok(Effect {
-            answer: Answer::Ended(child, ending),
-            own: None,
-        }),
+        Ok((child, ending)) => Ok(Effect::answers(Answer::Ended(child, ending))),
         Err(ReapError::NoChild) => Err(Stop::Refused(Errno::ECHILD)),
         Err(ReapError::NoneEnded) => Err(Stop::Refused(Errno::EAGAIN)),
     }

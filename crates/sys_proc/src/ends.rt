@@ -1,26 +1,26 @@
 // The calls `exit` and `kill`.
-ghost use Rattle.std.specs.Prelude.{◌≡◌, IsSome, Ok, Some};
+ghost use Rattle.std.specs.Prelude.{◌≡◌, IsSome, Ok, option_copied, option_map};
 ghost use Rattle.std.specs.FinMap as map;
 ghost use Rattle.kern_model.specs.ProcessRows.{asks_signal, exit_row, kill_row, kill_with, signalled as signalled_row, writes_present};
 ghost use Rattle.kern_model.specs.Rules.{kill_rule as kill_check, mac_write_process};
-ghost use Rattle.kern_model.specs.State.{Process};
+ghost use Rattle.kern_model.specs.State.{process_at};
 ghost use Rattle.kern_model.specs.Valid.{IsValid};
-ghost use Rattle.chk_rules.specs.CheckLog.{CheckLog};
 ghost use Rattle.chk_rules.specs.Ends.{GoesOn};
+ghost use Rattle.proc_table.specs.Procs.{creds_of};
 ghost use Rattle.sys_lookup.specs.PlaysRow.{PlaysRow};
-ghost use Rattle.sys_lookup.specs.Shared.{state_of};
+ghost use Rattle.sys_proc.specs.Playing.{PlaysUnchecked};
 
 use chk_rules::{Checks, Stop, mac_write_ok, must};
 use kern_model::{Answer, Check, CheckName, Ending, Errno, Pid, Place, Rec, Signal, Thing};
 use lab_lattice::Label;
 use proc_table::Proc;
-use sys_lookup::{Effect, Shared, living};
+use sys_lookup::{Caller, Effect, Shared};
 
 /// `exit`: the caller ends. It takes no memory.
 pub fn exit(shared: &mut Shared, who: &Pid, code: u8) -> Effect
-    requires valid { ∥ IsValid (state_of shared.old) ∥₁ }
-    requires living { IsSome (map.get (state_of shared.old).procs who.now) }
-    ensures { (p : Process) (log : CheckLog) → map.get (state_of shared.old).procs who.now ≡ Some p → PlaysRow (state_of shared.old) log (exit_row (state_of shared.old) who.now p code) (Ok result) (state_of shared.new) log }
+    requires valid { ∥ IsValid shared.old ∥₁ }
+    requires living { IsSome (map.get shared.old.procs who.now) }
+    ensures { PlaysUnchecked shared.old (exit_row shared.old who.now (process_at shared.old who.now) code) (Ok result) shared.new }
 {
     end(shared, who, Ending::Exit(code))
 }
@@ -33,22 +33,34 @@ pub fn kill(
     target: &Pid,
     signal: Signal,
 ) -> Result<Effect, Stop>
-    requires valid { ∥ IsValid (state_of shared.old) ∥₁ }
-    requires living { IsSome (map.get (state_of shared.old).procs who.now) }
-    ensures { (p : Process) → map.get (state_of shared.old).procs who.now ≡ Some p → PlaysRow (state_of shared.old) checks.old (kill_row (state_of shared.old) who.now p target.now signal) result (state_of shared.new) checks.new }
+    requires valid { ∥ IsValid shared.old ∥₁ }
+    requires living { IsSome (map.get shared.old.procs who.now) }
+    ensures { PlaysRow shared.old checks.old (kill_row shared.old who.now (process_at shared.old who.now) target.now signal) result shared.new checks.new }
 {
-    let sender = living(shared, who);
-    must(checks, &mac_write(sender, target, &target.label))?;
-    let Some(receiver) = shared.procs.find(target) else {
+    let sender = Caller::new(shared, who);
+    must(checks, &mac_write(&sender, target, &target.label))?;
+    let Some(receiver) = receiver_of(shared, target) else {
         return Err(Stop::Refused(Errno::ESRCH));
     };
-    may_signal(sender, checks, target, receiver)?;
+    may_signal(&sender, checks, target, receiver)?;
     Ok(signalled(shared, target, signal))
 }
 
+// The living process with the number of a signal's receiver, if there is one.
+fn receiver_of<'a>(shared: &'a Shared, target: &Pid) -> Option<&'a Proc>
+    ensures { option_map creds_of (option_copied result) ≡ option_map creds_of (map.get shared.now.procs target.now) }
+{
+    shared.procs.find(target)
+}
+
 // Checks that a process may send a signal to a living one, whose present label may be another than that of its number.
-fn may_signal(sender: &Proc, checks: &mut Checks, target: &Pid, receiver: &Proc) -> Result<(), Stop>
-    ensures { GoesOn checks.old (λ rest. asks_signal sender.now target.now receiver.now (rest tt)) result checks.new }
+fn may_signal(
+    sender: &Caller<'_>,
+    checks: &mut Checks,
+    target: &Pid,
+    receiver: &Proc,
+) -> Result<(), Stop>
+    ensures { GoesOn checks.old (λ rest. asks_signal sender.now.process target.now receiver.now (rest tt)) result checks.new }
 {
     mac_write_present(sender, checks, target, receiver)?;
     must(checks, &kill_rule(sender, target, receiver))
@@ -56,12 +68,12 @@ fn may_signal(sender: &Proc, checks: &mut Checks, target: &Pid, receiver: &Proc)
 
 // Checks that a process may write another one by its present label, where that is not the label of its number.
 fn mac_write_present(
-    sender: &Proc,
+    sender: &Caller<'_>,
     checks: &mut Checks,
     target: &Pid,
     receiver: &Proc,
 ) -> Result<(), Stop>
-    ensures { GoesOn checks.old (λ rest. writes_present sender.now target.now receiver.now (rest tt)) result checks.new }
+    ensures { GoesOn checks.old (λ rest. writes_present sender.now.process target.now receiver.now (rest tt)) result checks.new }
 {
     let present = &receiver.creds.label;
     if mac_write_ok(present, &target.label) {
@@ -71,12 +83,12 @@ fn mac_write_present(
 }
 
 // The check whether a process may write another one, by a label.
-fn mac_write(sender: &Proc, target: &Pid, label: &Label) -> Check
-    ensures { result ≡ mac_write_process sender.now target.now label.now }
+fn mac_write(sender: &Caller<'_>, target: &Pid, label: &Label) -> Check
+    ensures { result ≡ mac_write_process sender.now.process target.now label.now }
 {
     Check {
         name: CheckName::MacWrite,
-        holds: mac_write_ok(&sender.creds.label, label),
+        holds: mac_write_ok(&sender.label(), label),
         thing: Thing::Process(*target),
         thing_label: *label,
         new_label: None,
@@ -85,10 +97,11 @@ fn mac_write(sender: &Proc, target: &Pid, label: &Label) -> Check
 }
 
 // The check whether a process may send another one a signal, by their users.
-fn kill_rule(sender: &Proc, target: &Pid, receiver: &Proc) -> Check
-    ensures { result ≡ kill_check sender.now target.now receiver.now }
+fn kill_rule(sender: &Caller<'_>, target: &Pid, receiver: &Proc) -> Check
+    ensures { result ≡ kill_check sender.now.process target.now receiver.now }
 {
-    let from = &sender.creds.ids;
+    let creds = sender.creds();
+    let from = &creds.ids;
     let to = &receiver.creds.ids;
     let holds = from.ruid == to.ruid
         || from.ruid == to.suid
@@ -106,15 +119,12 @@ fn kill_rule(sender: &Proc, target: &Pid, receiver: &Proc) -> Check
 
 // A signal reaches a living process. It takes no memory.
 fn signalled(shared: &mut Shared, target: &Pid, signal: Signal) -> Effect
-    requires valid { ∥ IsValid (state_of shared.old) ∥₁ }
-    requires living { IsSome (map.get (state_of shared.old).procs target.now) }
-    ensures { (p : Process) (log : CheckLog) → map.get (state_of shared.old).procs target.now ≡ Some p → PlaysRow (state_of shared.old) log (signalled_row (state_of shared.old) target.now p signal) (Ok result) (state_of shared.new) log }
+    requires valid { ∥ IsValid shared.old ∥₁ }
+    requires living { IsSome (map.get shared.old.procs target.now) }
+    ensures { PlaysUnchecked shared.old (signalled_row shared.old target.now (process_at shared.old target.now) signal) (Ok result) shared.new }
 {
     match signal {
-        Signal::Zero => Effect {
-            answer: Answer::Nothing,
-            own: None,
-        },
+        Signal::Zero => Effect::done(),
         Signal::Term => end(shared, target, Ending::Term),
         Signal::Kill => end(shared, target, Ending::Kill),
     }
@@ -123,9 +133,9 @@ fn signalled(shared: &mut Shared, target: &Pid, signal: Signal) -> Effect
 // A living process ends: its descriptors close, its children lose their parent, and its parent learns how it ended. It takes no
 // memory.
 fn end(shared: &mut Shared, who: &Pid, ending: Ending) -> Effect
-    requires valid { ∥ IsValid (state_of shared.old) ∥₁ }
-    requires living { IsSome (map.get (state_of shared.old).procs who.now) }
-    ensures { (p : Process) (log : CheckLog) → map.get (state_of shared.old).procs who.now ≡ Some p → PlaysRow (state_of shared.old) log (kill_with (state_of shared.old) who.now p ending) (Ok result) (state_of shared.new) log }
+    requires valid { ∥ IsValid shared.old ∥₁ }
+    requires living { IsSome (map.get shared.old.procs who.now) }
+    ensures { PlaysUnchecked shared.old (kill_with shared.old who.now (process_at shared.old who.now) ending) (Ok result) shared.new }
 {
     shared.fds.drop_process(who, &mut shared.tree);
     shared.procs.finish(who, ending);

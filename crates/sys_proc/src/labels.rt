@@ -1,20 +1,18 @@
 // The call `mac_set_proc`.
-ghost use Rattle.std.specs.Prelude.{◌≡◌, IsSome, Some};
+ghost use Rattle.std.specs.Prelude.{◌≡◌, IsSome};
 ghost use Rattle.std.specs.FinMap as map;
 ghost use Rattle.kern_model.specs.ProcessRows.{asks_own_label, mac_set_proc_row};
 ghost use Rattle.kern_model.specs.Rules.{mac_subject};
-ghost use Rattle.kern_model.specs.State.{Process};
+ghost use Rattle.kern_model.specs.State.{process_at};
 ghost use Rattle.chk_rules.specs.Ends.{GoesOn};
-ghost use Rattle.proc_table.specs.Procs.{creds_of};
 ghost use Rattle.sys_lookup.specs.PlaysRow.{PlaysRow};
-ghost use Rattle.sys_lookup.specs.Shared.{state_of};
+ghost use Rattle.sys_proc.specs.Changing.{becoming};
 
 use crate::checking::check_of_caller;
 use chk_rules::{Checks, Stop, mac_write_ok, must};
 use kern_model::{Answer, Check, CheckName, Pid, Rec};
 use lab_lattice::Label;
-use proc_creds::Creds;
-use sys_lookup::{Effect, Shared};
+use sys_lookup::{Caller, Effect, Shared};
 
 /// `mac_set_proc`: the caller gets a label. To get another one than it has takes the capability.
 pub fn mac_set_proc(
@@ -23,35 +21,44 @@ pub fn mac_set_proc(
     who: &Pid,
     label: Label,
 ) -> Result<Effect, Stop>
-    requires living { IsSome (map.get (state_of shared.old).procs who.now) }
-    ensures { (p : Process) → map.get (state_of shared.old).procs who.now ≡ Some p → PlaysRow (state_of shared.old) checks.old (mac_set_proc_row (state_of shared.old) who.now p label) result (state_of shared.new) checks.new }
+    requires living { IsSome (map.get shared.old.procs who.now) }
+    ensures { PlaysRow shared.old checks.old (mac_set_proc_row shared.old who.now (process_at shared.old who.now) label) result shared.new checks.new }
 {
-    let Some(creds) = shared.procs.creds_mut(who) else {
-        unreachable!();
-    };
-    may_get(checks, who, creds, &label)?;
-    let old = creds.label;
-    creds.mac_set(label);
+    let caller = Caller::new(shared, who);
+    may_get(&caller, checks, who, &label)?;
+    let old = caller.label();
+    set_label(shared, who, label);
     Ok(Effect {
         answer: Answer::Nothing,
         own: Some(Rec::MacSetProc(*who, old, label)),
     })
 }
 
-// Checks that a caller with these credentials may get a label: it has it already, or has the capability.
-fn may_get(checks: &mut Checks, who: &Pid, creds: &Creds, label: &Label) -> Result<(), Stop>
-    ensures { (p : Process) → creds_of p ≡ creds.now → GoesOn checks.old (λ rest. asks_own_label who.now p label.now (rest tt)) result checks.new }
+// Checks that a caller may get a label: it has it already, or has the capability.
+fn may_get(caller: &Caller<'_>, checks: &mut Checks, who: &Pid, label: &Label) -> Result<(), Stop>
+    ensures { GoesOn checks.old (λ rest. asks_own_label who.now caller.now.process label.now (rest tt)) result checks.new }
 {
-    if mac_write_ok(label, &creds.label) {
+    if mac_write_ok(label, &caller.label()) {
         Ok(())
     } else {
-        must(checks, &mac_subject(who, creds, label))
+        must(checks, &mac_subject(caller, who, label))
     }
 }
 
-// The check whether a process with these credentials may get another label: never without the capability.
-fn mac_subject(who: &Pid, creds: &Creds, label: &Label) -> Check
-    ensures { (p : Process) → creds_of p ≡ creds.now → result ≡ mac_subject who.now p label.now }
+// The check whether a caller may get another label: never without the capability.
+fn mac_subject(caller: &Caller<'_>, who: &Pid, label: &Label) -> Check
+    ensures { result ≡ mac_subject who.now caller.now.process label.now }
 {
-    check_of_caller(CheckName::MacSubject, false, Some(*label), who, creds)
+    check_of_caller(CheckName::MacSubject, false, Some(*label), caller, who)
+}
+
+// A living process gets a label. No memory is taken.
+fn set_label(shared: &mut Shared, who: &Pid, label: Label)
+    requires { IsSome (map.get shared.old.procs who.now) }
+    ensures { shared.new ≡ becoming shared.old who.now (λ p. record p { label = label }) }
+{
+    let Some(creds) = shared.procs.creds_mut(who) else {
+        unreachable!();
+    };
+    creds.mac_set(label);
 }

@@ -1,13 +1,12 @@
 // The calls on processes, as one.
-ghost use Rattle.std.specs.Prelude.{◌≡◌, Some, IsSome, true};
+ghost use Rattle.std.specs.Prelude.{◌≡◌, IsSome, true};
 ghost use Rattle.std.specs.FinMap as map;
 ghost use Rattle.kern_model.specs.Arguments.{has_names};
-ghost use Rattle.kern_model.specs.State.{Process};
+ghost use Rattle.kern_model.specs.State.{process_at};
 ghost use Rattle.kern_model.specs.Table.{row};
 ghost use Rattle.kern_model.specs.Valid.{IsValid};
 ghost use Rattle.sys_lookup.specs.Memory.{takes_no_memory};
 ghost use Rattle.sys_lookup.specs.PlaysRow.{LeavesNothing, PlaysRow};
-ghost use Rattle.sys_lookup.specs.Shared.{state_of};
 ghost use Rattle.sys_proc.specs.Playing.{is_process_call};
 
 use crate::capabilities::cap_set_proc;
@@ -20,7 +19,7 @@ use crate::reporting::report;
 use crate::users::setuid;
 use chk_rules::{Checks, Stop};
 use kern_model::{Call, Pid};
-use sys_lookup::{Effect, Shared, living};
+use sys_lookup::{Caller, Effect, Shared};
 
 /// Plays a call of a living process on processes: their children and ends, ids, programs, capability sets and labels.
 #[inline(never)]
@@ -31,9 +30,9 @@ pub fn play(
     call: &Call,
 ) -> Result<Effect, Stop>
     requires call { is_process_call call.now ≡ true }
-    requires valid { ∥ IsValid (state_of shared.old) ∥₁ }
-    requires living { IsSome (map.get (state_of shared.old).procs who.now) }
-    ensures played { (p : Process) → map.get (state_of shared.old).procs who.now ≡ Some p → PlaysRow (state_of shared.old) checks.old (row (state_of shared.old) who.now p call.now) result (state_of shared.new) checks.new }
+    requires valid { ∥ IsValid shared.old ∥₁ }
+    requires living { IsSome (map.get shared.old.procs who.now) }
+    ensures played { PlaysRow shared.old checks.old (row shared.old who.now (process_at shared.old who.now) call.now) result shared.new checks.new }
     ensures names { has_names call.now ≡ true }
     ensures nothing { takes_no_memory call.now ≡ true → LeavesNothing result }
 {
@@ -48,7 +47,7 @@ pub fn play(
         Call::CapSetProc(caps) => cap_set_proc(shared, checks, who, *caps),
         Call::MacSetProc(label) => mac_set_proc(shared, checks, who, *label),
         Call::Getpid | Call::Getppid | Call::Getids | Call::CapGetProc | Call::MacGetProc => {
-            report(living(shared, who), who, call)
+            report(&Caller::new(shared, who), who, call)
         }
         _ => unreachable!(),
     }

@@ -3,16 +3,14 @@ ghost use Rattle.std.specs.Prelude.{◌≡◌, Ok, IsSome, None, Some, cond};
 ghost use Rattle.std.specs.FinMap as map;
 ghost use Rattle.kern_model.specs.Kinds.{sets_group as mode_sets_group, sets_user as mode_sets_user};
 ghost use Rattle.kern_model.specs.ProcessRows.{asks_program, exec_row, run};
-ghost use Rattle.kern_model.specs.State.{Process, State, object_at};
-ghost use Rattle.kern_model.specs.declared.numbers.Oid.{Oid};
-ghost use Rattle.chk_rules.specs.CheckLog.{CheckLog};
-ghost use Rattle.chk_rules.specs.Ends.{GoesOn};
+ghost use Rattle.kern_model.specs.State.{object_at, process_at};
 ghost use Rattle.sys_lookup.specs.PlaysRow.{PlaysRow};
-ghost use Rattle.sys_lookup.specs.Shared.{metadata_of, process_of, state_of};
+ghost use Rattle.sys_proc.specs.Playing.{PlaysUnchecked};
+ghost use Rattle.sys_lookup.specs.StepOn.{StepOn};
 
 use chk_rules::{Checks, Stop};
 use kern_model::{Answer, Attr, Gid, Path, Pid, Place, Rec, Uid};
-use sys_lookup::{Caller, Effect, Metadata, PathArgument, Shared, living, sets_group, sets_user};
+use sys_lookup::{Caller, Effect, Metadata, PathArgument, Shared, sets_group, sets_user};
 
 /// `exec`: the caller takes on the credentials that a program gives.
 pub fn exec(
@@ -21,15 +19,10 @@ pub fn exec(
     who: &Pid,
     path: &Path,
 ) -> Result<Effect, Stop>
-    requires living { IsSome (map.get (state_of shared.old).procs who.now) }
-    ensures { (p : Process) → map.get (state_of shared.old).procs who.now ≡ Some p → PlaysRow (state_of shared.old) checks.old (exec_row (state_of shared.old) who.now p path.now) result (state_of shared.new) checks.new }
+    requires living { IsSome (map.get shared.old.procs who.now) }
+    ensures { PlaysRow shared.old checks.old (exec_row shared.old who.now (process_at shared.old who.now) path.now) result shared.new checks.new }
 {
-    let process = living(shared, who);
-    let caller = Caller {
-        shared,
-        who: *who,
-        process,
-    };
+    let caller = Caller::new(shared, who);
     let (id, place) = caller.reach(checks, PathArgument::First, path)?;
     let program = caller.read_object(checks, &id, place)?;
     ask_program(&caller, checks, &program, place)?;
@@ -43,7 +36,7 @@ fn ask_program(
     program: &Metadata,
     place: Place,
 ) -> Result<(), Stop>
-    ensures { (s : State) (id : Oid) → program.now ≡ metadata_of s id → GoesOn checks.old (λ rest. asks_program (process_of caller.now) id place (object_at s id) (rest tt)) result checks.new }
+    ensures { StepOn checks.old program.now (λ s id rest. asks_program caller.now.process id place (object_at s id) (rest tt)) result checks.new }
 {
     caller.exec_kind(checks, program, place)?;
     caller.dac_execute(checks, program, place)
@@ -51,8 +44,8 @@ fn ask_program(
 
 // A process takes on the credentials that a program gives. No memory is taken.
 fn run(shared: &mut Shared, who: &Pid, program: &Metadata) -> Effect
-    requires living { IsSome (map.get (state_of shared.old).procs who.now) }
-    ensures { (log : CheckLog) (p : Process) → map.get (state_of shared.old).procs who.now ≡ Some p → PlaysRow (state_of shared.old) log (run (state_of shared.old).bound who.now p program.now.id program.now.attr) (Ok result) (state_of shared.new) log }
+    requires living { IsSome (map.get shared.old.procs who.now) }
+    ensures { PlaysUnchecked shared.old (run shared.old.bound who.now (process_at shared.old who.now) program.now.id program.now.attr) (Ok result) shared.new }
 {
     let bound = shared.bound;
     let Some(creds) = shared.procs.creds_mut(who) else {

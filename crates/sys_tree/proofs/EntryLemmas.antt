@@ -1,5 +1,5 @@
 -- What the rows that make and move entries ask beside their checks.
-use Rattle.std.specs.Prelude.{◌≡◌, ⊤, ℕ, ◌&&◌, ◌<◌, Bool, true, false, nat_le, Option, None, Some, Result, Ok, Err, cond, refl}
+use Rattle.std.specs.Prelude.{◌≡◌, ⊤, ℕ, ◌&&◌, ◌<◌, true, false, nat_le, Option, None, Some, Result, cond, refl}
 use Rattle.std.specs.FinMap as map
 use Rattle.std.specs.FinMap.{FinMap}
 use Rattle.std.proofs.Common.{ap, sym, ◌∙◌, subst, inl, inr, arith, leb-false}
@@ -8,36 +8,34 @@ use Rattle.fs_path.specs.Name.{Name}
 use Rattle.fs_path.specs.Path.{PathValue}
 use Rattle.lab_lattice.specs.Label.{Label}
 use Rattle.kern_model.specs.declared.limits.TheConstants.{MAX_LINKS}
-use Rattle.kern_model.specs.declared.calls.Errno.{Errno}
 use Rattle.kern_model.specs.declared.checks.Check.{Check}
 use Rattle.kern_model.specs.declared.checks.Place.{Place}
 use Rattle.kern_model.specs.declared.numbers.Oid.{Oid}
 use Rattle.kern_model.specs.declared.numbers.Pid.{Pid}
 use Rattle.kern_model.specs.declared.objects.Object.{Object}
 use Rattle.kern_model.specs.Entries.{is_under, link_count}
-use Rattle.kern_model.specs.Keys.{oid_cmp}
+use Rattle.kern_model.specs.Keys.{oid_cmp, spot_cmp}
 use Rattle.kern_model.specs.Kinds.{is_dir}
 use Rattle.kern_model.specs.Maps.{get_or}
-use Rattle.kern_model.specs.Row.{Row, Refuse, judge}
+use Rattle.kern_model.specs.Row.{Row}
 use Rattle.kern_model.specs.Rules.{held_order}
 use Rattle.kern_model.specs.State.{State, Process, object_at, root, stub_object}
 use Rattle.kern_model.specs.Valid.{IsDir, IsValid}
-use Rattle.kern_model.specs.Walk.{start_of}
+use Rattle.kern_model.specs.Walk.{on_path, start_of}
 use Rattle.kern_model.proofs.MapLemmas.{get_or-found, never_some, some_same}
 use Rattle.chk_rules.specs.CheckLog.{CheckLog}
-use Rattle.chk_rules.specs.Ends.{EndsBy, GoesOn}
+use Rattle.chk_rules.specs.Ends.{GoesOn}
 use Rattle.chk_rules.specs.declared.stop.Stop.{Stop}
-use Rattle.chk_rules.specs.declared.stop.Stop.TheVariants as stop
 use Rattle.fs_dirs.specs.Tree.{MayBeAdded, TreeView, state_of_tree, would_loop}
 use Rattle.fs_dirs.proofs.SameEntries.{is_under-same}
+use Rattle.sys_lookup.specs.declared.effect.Effect.{Effect}
 use Rattle.sys_lookup.specs.declared.shared.Metadata.{Metadata}
-use Rattle.sys_lookup.specs.declared.shared.Shared.{Shared}
-use Rattle.sys_lookup.specs.Shared.{state_of}
-use Rattle.sys_lookup.specs.Walks.{IsLedTo}
-
--- the state with the objects and entries of a tree
-abbrev pub with_tree : State → TreeView → State
-with_tree s t = record s { objects = t.nodes.table.objects; entries = t.entries; object_numbers = t.nodes.table.numbers }
+use Rattle.sys_lookup.specs.declared.shared.Shared.TheInside.{Inside}
+use Rattle.sys_lookup.specs.Callers.{CallerView, caller_in}
+use Rattle.sys_lookup.specs.PlaysRow.{PlaysRow}
+use Rattle.sys_lookup.specs.Shared.{metadata_of, state_of}
+use Rattle.sys_lookup.specs.Walks.{IsEntry, IsLedTo}
+use Rattle.sys_tree.specs.Entries.{IsReadBy}
 
 -- the row of an entry whose object's metadata are known
 abbrev pub on_entry : (Oid × Name × Oid → Row) → Oid × Name × Metadata → Row
@@ -47,23 +45,21 @@ on_entry row (dir, name, object) = row (dir, name, object.id)
 abbrev pub on_reached : (Oid → Place → Row) → Oid × Place → Row
 on_reached row (id, place) = row id place
 
--- ---- refusals that the tree makes
+-- the part of a row that leads to the object at the end of the first path
+abbrev pub reached : CallerView → PathValue → (Oid × Place → Row) → Row
+reached k path rest = on_path k.state k.process path (λ id place. rest (id, place))
 
-goes_past : (log : CheckLog) (errno : Errno) → GoesOn log (λ (rest : ⊤ → Row). Refuse errno false (rest tt)) (Ok tt) log
-unfolding judge
-goes_past log errno = record { continues = λ rest. refl; stops = tt; subject = refl }
+-- the caller read what are the metadata of an object
+pub read_by : (k : CallerView) (id : Oid) {object : Metadata} → object ≡ metadata_of k.state id → IsReadBy k object
+read_by k id is = is ∙ ap (metadata_of k.state) (sym (ap (λ (m : Metadata). m.id) is))
 
-stops_by : (log : CheckLog) (errno : Errno) → GoesOn {X = ⊤} log (λ (rest : ⊤ → Row). Refuse errno true (rest tt)) (Err (stop.Refused errno)) log
-unfolding judge EndsBy
-stops_by log errno = record { continues = tt; stops = λ rest. refl; subject = refl }
+-- what stands in the state of the caller stands in the state in which it is the caller
+pub entry_in : {s : State} {who : Pid} {k : CallerView} {dir : Oid} {name : Name} {object : Option Oid} → k ≡ caller_in s who → IsEntry k.state dir name object → IsEntry s dir name object
+entry_in {dir = dir} {name = name} {object = object} same entry = subst (λ (x : CallerView). IsEntry x.state dir name object) same entry
 
--- a refusal whose condition does not hold lets the row go on
-pub lets_on : {log : CheckLog} {errno : Errno} {holds : Bool} → holds ≡ false → GoesOn log (λ (rest : ⊤ → Row). Refuse errno holds (rest tt)) (Ok tt) log
-lets_on {log = log} {errno = errno} is = subst (λ h. GoesOn log (λ (rest : ⊤ → Row). Refuse errno h (rest tt)) (Ok tt) log) (sym is) (goes_past log errno)
-
--- a refusal whose condition holds stops the row
-pub refuses : {log : CheckLog} {errno : Errno} {holds : Bool} → holds ≡ true → GoesOn {X = ⊤} log (λ (rest : ⊤ → Row). Refuse errno holds (rest tt)) (Err (stop.Refused errno)) log
-refuses {log = log} {errno = errno} is = subst (λ h. GoesOn {X = ⊤} log (λ (rest : ⊤ → Row). Refuse errno h (rest tt)) (Err (stop.Refused errno)) log) (sym is) (stops_by log errno)
+-- a call that changes nothing plays the row of the process with the caller's number
+pub called_still : {s : State} {a b : CheckLog} {r : Result Effect Stop} {who : Pid} {k : CallerView} (row : CallerView → Row) → k ≡ caller_in s who → PlaysRow k.state a (row k) r k.state b → PlaysRow s a (row (caller_in s who)) r s b
+called_still {a = a} {b = b} {r = r} row same plays = subst (λ (x : CallerView). PlaysRow x.state a (row x) r x.state b) same plays
 
 -- ---- the directory that gets an entry
 
@@ -89,14 +85,12 @@ fewer : (n : ℕ) → nat_le MAX_LINKS n ≡ false → n < MAX_LINKS
 fewer n h = omega (arith, leb-false MAX_LINKS n h)
 
 -- the same where the proof that the state is valid is at hand
-added_in : (h : Shared) → IsValid (state_of h) → (who : Pid) (p : Process) → map.get (state_of h).procs who ≡ Some p → (path : PathValue) (id : Oid) → IsLedTo (state_of h) (start_of p path) id
-    → is_dir (object_at (state_of h) id).kind ≡ false → nat_le MAX_LINKS (link_count (state_of h) id) ≡ false → MayBeAdded h.tree id
-added_in h valid who p there path id (inl same) no_dir few =
-    let s = state_of h in
+added_in : (s : State) → IsValid s → (who : Pid) (p : Process) → map.get s.procs who ≡ Some p → (path : PathValue) (id : Oid) → IsLedTo s (start_of p path) id
+    → is_dir (object_at s id).kind ≡ false → nat_le MAX_LINKS (link_count s id) ≡ false → MayBeAdded s id
+added_in s valid who p there path id (inl same) no_dir few =
     let no : true ≡ false = sym (reads_as_dir s id (subst (IsDir s.objects) (sym same) (start_is_dir s valid who p there path))) ∙ no_dir in
     cc
-added_in h valid who p there path id (inr named) no_dir few =
-    let s = state_of h in
+added_in s valid who p there path id (inr named) no_dir few =
     let entry = valid.entries (named.dir, named.name) id named.leads in
     record {
       object = entry.object;
@@ -110,12 +104,11 @@ added_in h valid who p there path id (inr named) no_dir few =
     }
 
 -- what a path leads to may be added under another name where it is no directory and has few names
-pub may_be_added : (h : Shared) → ∥ IsValid (state_of h) ∥₁ → (who : Pid) (p : Process) → map.get (state_of h).procs who ≡ Some p → (path : PathValue) (id : Oid) → IsLedTo (state_of h) (start_of p path) id
-    → is_dir (object_at (state_of h) id).kind ≡ false → nat_le MAX_LINKS (link_count (state_of h) id) ≡ false → MayBeAdded h.tree id
-may_be_added h valid who p there path id led no_dir few =
-    let s = state_of h in
-    let known = ∥∥₁_map valid (λ v. added_in h v who p there path id led no_dir few) in
-    elim (map.get s.objects id) as (λ w. map.get s.objects id ≡ w → MayBeAdded h.tree id) [
+pub may_be_added : (s : State) → ∥ IsValid s ∥₁ → (who : Pid) (p : Process) → map.get s.procs who ≡ Some p → (path : PathValue) (id : Oid) → IsLedTo s (start_of p path) id
+    → is_dir (object_at s id).kind ≡ false → nat_le MAX_LINKS (link_count s id) ≡ false → MayBeAdded s id
+may_be_added s valid who p there path id led no_dir few =
+    let known = ∥∥₁_map valid (λ v. added_in s v who p there path id led no_dir few) in
+    elim (map.get s.objects id) as (λ w. map.get s.objects id ≡ w → MayBeAdded s id) [
       | None ↦ λ e. absurd (∥∥₁_elim known (λ a b. absurd a) (λ m. never_some (map.get s.objects id) m.object e m.is))
       | Some o ↦ λ e. record {
         object = o;
@@ -136,9 +129,16 @@ unfolding get_or
 dir_whatever_stub m id a b =
     elim (map.get m id) as (λ (w : Option Object). is_dir (elim w as (λ _. Object) [ None ↦ stub_object a | Some x ↦ x ]).kind ≡ is_dir (elim w as (λ _. Object) [ None ↦ stub_object b | Some x ↦ x ]).kind) [ None ↦ refl | Some o ↦ refl ]
 
--- whether a directory would lie under itself is the same of the tree alone
-pub loops_same : (h : Shared) (id into : Oid) → would_loop (state_of h) id into ≡ would_loop (state_of_tree h.tree) id into
-loops_same h id into =
-    let s = state_of h in
-    let t = state_of_tree h.tree in
-    ap (λ b. b && is_under s into id) (dir_whatever_stub s.objects id s.top t.top) ∙ ap (λ b. is_dir (object_at t id).kind && b) (is_under-same s t refl into id)
+module _ (h : Inside) {s : State} (is : state_of h ≡ s) where
+  -- whether a directory would lie under itself is the same of the tree alone
+  pub loops_same : (id into : Oid) → would_loop s id into ≡ would_loop (state_of_tree h.tree) id into
+  loops_same id into =
+      let a = state_of h in
+      let t = state_of_tree h.tree in
+      ap (λ (x : State). would_loop x id into) (sym is)
+      ∙ ap (λ b. b && is_under a into id) (dir_whatever_stub a.objects id a.top t.top)
+      ∙ ap (λ b. is_dir (object_at t id).kind && b) (is_under-same a t refl into id)
+
+  -- the entries change as those of the tree do
+  pub entries_changed : (change : FinMap spot_cmp Oid → FinMap spot_cmp Oid) {t : TreeView} → t ≡ record h.tree { entries = change h.tree.entries } → state_of (record h { tree = t }) ≡ record s { entries = change s.entries }
+  entries_changed change made = ap (λ (t : TreeView). state_of (record h { tree = t })) made ∙ ap (λ (x : State). record x { entries = change x.entries }) is

@@ -1,25 +1,21 @@
 // The call `link`.
-ghost use Rattle.std.specs.Prelude.{◌≡◌, None, Some, IfOk, IsSome, OnOk, true, false, nat_le};
+ghost use Rattle.std.specs.Prelude.{◌≡◌, None, IfOk, IsSome, OnOk, true, false, nat_le};
 ghost use Rattle.std.specs.FinMap as map;
 ghost use Rattle.kern_model.specs.Arguments.{are_names};
 ghost use Rattle.kern_model.specs.Entries.{is_removed, link_count};
 ghost use Rattle.kern_model.specs.Kinds.{is_dir};
-ghost use Rattle.kern_model.specs.State.{Process, look, object_at};
-ghost use Rattle.kern_model.specs.TreeRows.{add_entry, asks_name, link_row, name_spot};
-ghost use Rattle.kern_model.specs.Valid.{IsDir, IsValid};
+ghost use Rattle.kern_model.specs.State.{object_at, process_at};
+ghost use Rattle.kern_model.specs.TreeRows.{asks_name, link_row, name_spot};
+ghost use Rattle.kern_model.specs.Valid.{IsValid};
 ghost use Rattle.kern_model.specs.declared.limits.TheConstants.{MAX_LINKS};
-ghost use Rattle.chk_rules.specs.CheckLog.{CheckLog};
 ghost use Rattle.chk_rules.specs.Ends.{GoesOn};
-ghost use Rattle.fs_dirs.specs.Tree.{MayBeAdded};
 ghost use Rattle.sys_lookup.specs.PlaysRow.{PlaysRow};
-ghost use Rattle.sys_lookup.specs.Shared.{process_of, state_of};
 ghost use Rattle.sys_lookup.specs.Walks.{IsEntry};
 
 use chk_rules::{Checks, Stop, refuse_if};
-use fs_dirs::AddError;
 use kern_model::limits::MAX_LINKS;
-use kern_model::{Answer, Errno, Name, Oid, Path, Pid, Place};
-use sys_lookup::{Caller, Effect, PathArgument, Shared, living};
+use kern_model::{Errno, Name, Oid, Path, Pid, Place};
+use sys_lookup::{Caller, Effect, PathArgument, Shared};
 
 /// `link`: an object that is no directory gets one more name.
 pub fn link(
@@ -29,33 +25,29 @@ pub fn link(
     path: &Path,
     to: &Path,
 ) -> Result<Effect, Stop>
-    requires valid { ∥ IsValid (state_of shared.old) ∥₁ }
-    requires living { IsSome (map.get (state_of shared.old).procs who.now) }
-    ensures played { (p : Process) → map.get (state_of shared.old).procs who.now ≡ Some p → PlaysRow (state_of shared.old) checks.old (link_row (state_of shared.old) who.now p path.now to.now) result (state_of shared.new) checks.new }
+    requires valid { ∥ IsValid shared.old ∥₁ }
+    requires living { IsSome (map.get shared.old.procs who.now) }
+    ensures played { PlaysRow shared.old checks.old (link_row shared.old who.now (process_at shared.old who.now) path.now to.now) result shared.new checks.new }
     ensures names { are_names to.now ≡ true }
 {
     let _names = to.components();
-    let process = living(shared, who);
-    let caller = Caller {
-        shared,
-        who: *who,
-        process,
-    };
+    let caller = Caller::new(shared, who);
     let (id, place) = caller.reach(checks, PathArgument::First, path)?;
     ask_name(&caller, checks, &id, place)?;
     let (dir, name) = name_spot(&caller, checks, &id, to)?;
-    add_entry(shared, &dir, &name, &id)
+    shared.add_entry(&dir, &name, &id)?;
+    Ok(Effect::done())
 }
 
 // Asks for one more name of an object.
 fn ask_name(caller: &Caller<'_>, checks: &mut Checks, id: &Oid, place: Place) -> Result<(), Stop>
-    ensures step { GoesOn checks.old (λ rest. asks_name (state_of caller.now.shared.now) (process_of caller.now) id.now place (rest tt)) result checks.new }
-    ensures no_dir { OnOk result (is_dir (object_at (state_of caller.now.shared.now) id.now).kind ≡ false) }
-    ensures few { OnOk result (nat_le MAX_LINKS (link_count (state_of caller.now.shared.now) id.now) ≡ false) }
+    ensures step { GoesOn checks.old (λ rest. asks_name caller.now.state caller.now.process id.now place (rest tt)) result checks.new }
+    ensures no_dir { OnOk result (is_dir (object_at caller.now.state id.now).kind ≡ false) }
+    ensures few { OnOk result (nat_le MAX_LINKS (link_count caller.now.state id.now) ≡ false) }
 {
     let object = caller.write_object(checks, id, place)?;
     caller.link_dir(checks, &object, place)?;
-    let names = caller.shared.tree.name_count(id) as usize;
+    let names = caller.name_count(id) as usize;
     refuse_if(names >= MAX_LINKS, Errno::EMLINK)
 }
 
@@ -66,9 +58,9 @@ fn name_spot(
     id: &Oid,
     to: &Path,
 ) -> Result<(Oid, Name), Stop>
-    ensures step { GoesOn checks.old (name_spot (state_of caller.now.shared.now) (process_of caller.now) to.now id.now) result checks.new }
-    ensures entry { IfOk result (λ e. IsEntry (state_of caller.now.shared.now) e.0 e.1 None) }
-    ensures stands { IfOk result (λ e. is_removed (state_of caller.now.shared.now) e.0 ≡ false) }
+    ensures step { GoesOn checks.old (name_spot caller.now.state caller.now.process to.now id.now) result checks.new }
+    ensures entry { IfOk result (λ e. IsEntry caller.now.state e.0 e.1 None) }
+    ensures stands { IfOk result (λ e. is_removed caller.now.state e.0 ≡ false) }
 {
     let (dir, name) = caller
         .walk(checks, PathArgument::Second, to)?
@@ -76,22 +68,4 @@ fn name_spot(
     let place = PathArgument::Second.dir_place(to);
     caller.enter_in(checks, &dir, place, &caller.held_order(id, &dir, place))?;
     Ok((dir, name))
-}
-
-// Has a new name lead to an object.
-fn add_entry(shared: &mut Shared, dir: &Oid, name: &Name, id: &Oid) -> Result<Effect, Stop>
-    requires dir { IsDir (state_of shared.old).objects dir.now }
-    requires may { MayBeAdded shared.old.tree id.now }
-    requires absent { look (state_of shared.old) dir.now name.now ≡ None }
-    requires stands { is_removed (state_of shared.old) dir.now ≡ false }
-    ensures { (log : CheckLog) → PlaysRow (state_of shared.old) log (add_entry id.now (dir.now, name.now)) result (state_of shared.new) log }
-{
-    match shared.tree.add(dir, name, id) {
-        Ok(()) => Ok(Effect {
-            answer: Answer::Nothing,
-            own: None,
-        }),
-        Err(AddError::NoMemory(e)) => Err(Stop::NoMemory(e)),
-        Err(AddError::Exists | AddError::Removed) => unreachable!(),
-    }
 }

@@ -1,12 +1,11 @@
 // The call `mkdir`.
-ghost use Rattle.std.specs.Prelude.{◌≡◌, Some, IsSome, true};
+ghost use Rattle.std.specs.Prelude.{◌≡◌, IsSome, true};
 ghost use Rattle.std.specs.FinMap as map;
 ghost use Rattle.kern_model.specs.Arguments.{are_names};
-ghost use Rattle.kern_model.specs.State.{Process};
+ghost use Rattle.kern_model.specs.State.{process_at};
 ghost use Rattle.kern_model.specs.TreeRows.{mkdir_row};
 ghost use Rattle.kern_model.specs.Valid.{IsValid};
 ghost use Rattle.sys_lookup.specs.PlaysRow.{PlaysRow};
-ghost use Rattle.sys_lookup.specs.Shared.{state_of};
 
 use chk_rules::{Checks, Stop};
 use kern_model::{Body, Mode, Path, Pid};
@@ -20,9 +19,9 @@ pub fn mkdir(
     path: &Path,
     mode: Mode,
 ) -> Result<Effect, Stop>
-    requires valid { ∥ IsValid (state_of shared.old) ∥₁ }
-    requires living { IsSome (map.get (state_of shared.old).procs who.now) }
-    ensures played { (p : Process) → map.get (state_of shared.old).procs who.now ≡ Some p → PlaysRow (state_of shared.old) checks.old (mkdir_row (state_of shared.old) who.now p path.now mode) result (state_of shared.new) checks.new }
+    requires valid { ∥ IsValid shared.old ∥₁ }
+    requires living { IsSome (map.get shared.old.procs who.now) }
+    ensures played { PlaysRow shared.old checks.old (mkdir_row shared.old who.now (process_at shared.old who.now) path.now mode) result shared.new checks.new }
     ensures names { are_names path.now ≡ true }
 {
     make(shared, checks, who, path, mode, Body::Dir)

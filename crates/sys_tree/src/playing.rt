@@ -1,12 +1,11 @@
 // The calls on directories and names, as one.
-ghost use Rattle.std.specs.Prelude.{◌≡◌, Some, IsSome, true};
+ghost use Rattle.std.specs.Prelude.{◌≡◌, IsSome, true};
 ghost use Rattle.std.specs.FinMap as map;
 ghost use Rattle.kern_model.specs.Arguments.{has_names};
-ghost use Rattle.kern_model.specs.State.{Process};
+ghost use Rattle.kern_model.specs.State.{process_at};
 ghost use Rattle.kern_model.specs.Table.{row};
 ghost use Rattle.kern_model.specs.Valid.{IsValid};
 ghost use Rattle.sys_lookup.specs.PlaysRow.{PlaysRow};
-ghost use Rattle.sys_lookup.specs.Shared.{state_of};
 ghost use Rattle.sys_tree.specs.Playing.{is_tree_call};
 
 use crate::linking::link;
@@ -17,7 +16,7 @@ use crate::renaming::rename;
 use crate::standing::chdir;
 use chk_rules::{Checks, Stop};
 use kern_model::{Call, Pid};
-use sys_lookup::{Caller, Effect, Shared, living};
+use sys_lookup::{Caller, Effect, Shared};
 
 /// Plays a call of a living process on directories and names.
 #[inline(never)]
@@ -28,9 +27,9 @@ pub fn play(
     call: &Call,
 ) -> Result<Effect, Stop>
     requires call { is_tree_call call.now ≡ true }
-    requires valid { ∥ IsValid (state_of shared.old) ∥₁ }
-    requires living { IsSome (map.get (state_of shared.old).procs who.now) }
-    ensures played { (p : Process) → map.get (state_of shared.old).procs who.now ≡ Some p → PlaysRow (state_of shared.old) checks.old (row (state_of shared.old) who.now p call.now) result (state_of shared.new) checks.new }
+    requires valid { ∥ IsValid shared.old ∥₁ }
+    requires living { IsSome (map.get shared.old.procs who.now) }
+    ensures played { PlaysRow shared.old checks.old (row shared.old who.now (process_at shared.old who.now) call.now) result shared.new checks.new }
     ensures names { has_names call.now ≡ true }
 {
     match call {
@@ -40,30 +39,8 @@ pub fn play(
         Call::Unlink(path) => unlink(shared, checks, who, path),
         Call::Rename(path, to) => rename(shared, checks, who, path, to),
         Call::Chdir(path) => chdir(shared, checks, who, path),
-        Call::Readdir(path) => {
-            let process = living(shared, who);
-            readdir(
-                &Caller {
-                    shared,
-                    who: *who,
-                    process,
-                },
-                checks,
-                path,
-            )
-        }
-        Call::Stat(path) => {
-            let process = living(shared, who);
-            stat(
-                &Caller {
-                    shared,
-                    who: *who,
-                    process,
-                },
-                checks,
-                path,
-            )
-        }
+        Call::Readdir(path) => readdir(&Caller::new(shared, who), checks, path),
+        Call::Stat(path) => stat(&Caller::new(shared, who), checks, path),
         _ => unreachable!(),
     }
 }

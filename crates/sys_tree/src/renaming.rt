@@ -2,23 +2,21 @@
 ghost use Rattle.std.specs.Prelude.{◌≡◌, ◌&&◌, Some, IfOk, IsSome, not, true};
 ghost use Rattle.std.specs.FinMap as map;
 ghost use Rattle.kern_model.specs.Arguments.{are_names};
-ghost use Rattle.kern_model.specs.State.{Process, look};
-ghost use Rattle.kern_model.specs.TreeRows.{gives_way, may_replace, move_row, rename_row, target_entry};
+ghost use Rattle.kern_model.specs.State.{look, process_at};
+ghost use Rattle.kern_model.specs.TreeRows.{move_row, rename_row, target_entry};
 ghost use Rattle.kern_model.specs.Valid.{IsDir};
-ghost use Rattle.kern_model.specs.Walk.{last_place};
 ghost use Rattle.kern_model.specs.declared.numbers.Oid.{Oid as Number};
 ghost use Rattle.chk_rules.specs.CheckLog.{CheckLog};
 ghost use Rattle.chk_rules.specs.Ends.{GoesOn};
 ghost use Rattle.sys_lookup.specs.PlaysRow.{PlaysRow};
-ghost use Rattle.sys_lookup.specs.Shared.{metadata_of, process_of, state_of};
-ghost use Rattle.sys_lookup.specs.Walks.{IsEntry, place_in};
-ghost use Rattle.sys_lookup.specs.declared.argument.PathArgument.TheVariants as argument;
+ghost use Rattle.sys_lookup.specs.Walks.{IsEntry};
+ghost use Rattle.sys_tree.specs.Entries.{IsReadBy, replaces, target_left};
 
 use crate::removing::old_entry;
 use chk_rules::{Checks, Stop, refuse_if};
 use fs_dirs::MoveError;
-use kern_model::{Answer, Errno, Name, Oid, Path, Pid};
-use sys_lookup::{Caller, Effect, Metadata, PathArgument, Shared, living};
+use kern_model::{Errno, Name, Oid, Path, Pid};
+use sys_lookup::{Caller, Effect, Metadata, PathArgument, Shared};
 
 /// `rename`: an entry moves to another name, in place of what is there.
 pub fn rename(
@@ -28,27 +26,19 @@ pub fn rename(
     path: &Path,
     to: &Path,
 ) -> Result<Effect, Stop>
-    requires living { IsSome (map.get (state_of shared.old).procs who.now) }
-    ensures played { (p : Process) → map.get (state_of shared.old).procs who.now ≡ Some p → PlaysRow (state_of shared.old) checks.old (rename_row (state_of shared.old) who.now p path.now to.now) result (state_of shared.new) checks.new }
+    requires living { IsSome (map.get shared.old.procs who.now) }
+    ensures played { PlaysRow shared.old checks.old (rename_row shared.old who.now (process_at shared.old who.now) path.now to.now) result shared.new checks.new }
     ensures names { are_names to.now ≡ true }
 {
     let _names = to.components();
-    let process = living(shared, who);
-    let caller = Caller {
-        shared,
-        who: *who,
-        process,
-    };
+    let caller = Caller::new(shared, who);
     let (dir, name, object) = old_entry(&caller, checks, path)?;
     let (into, new, target) = target_entry(&caller, checks, &object.id, to)?;
     let moves = give_way(&caller, checks, &object, target, to)?;
     if moves {
         move_entry(shared, &dir, &name, &into, &new)
     } else {
-        Ok(Effect {
-            answer: Answer::Nothing,
-            own: None,
-        })
+        Ok(Effect::done())
     }
 }
 
@@ -59,8 +49,8 @@ fn target_entry(
     id: &Oid,
     to: &Path,
 ) -> Result<(Oid, Name, Option<Oid>), Stop>
-    ensures step { GoesOn checks.old (target_entry (state_of caller.now.shared.now) (process_of caller.now) to.now id.now) result checks.new }
-    ensures entry { IfOk result (λ e. IsEntry (state_of caller.now.shared.now) e.0 e.1 e.2) }
+    ensures step { GoesOn checks.old (target_entry caller.now.state caller.now.process to.now id.now) result checks.new }
+    ensures entry { IfOk result (λ e. IsEntry caller.now.state e.0 e.1 e.2) }
 {
     let (dir, name, target) = caller.walk(checks, PathArgument::Second, to)?.into_entry()?;
     let place = PathArgument::Second.dir_place(to);
@@ -77,7 +67,7 @@ fn give_way(
     target: Option<Oid>,
     to: &Path,
 ) -> Result<bool, Stop>
-    ensures { object.now ≡ metadata_of (state_of caller.now.shared.now) object.now.id → GoesOn checks.old (gives_way (state_of caller.now.shared.now) (process_of caller.now) object.now.id target (last_place (place_in argument.Second) to.now)) result checks.new }
+    ensures { IsReadBy caller.now object.now → GoesOn checks.old (target_left caller.now to.now object.now.id target) result checks.new }
 {
     let Some(id) = target else {
         return Ok(true);
@@ -86,19 +76,19 @@ fn give_way(
     if id.is_same(&object.id) {
         return Ok(false);
     }
-    may_replace(caller.shared, object, &target)?;
+    may_replace(caller, object, &target)?;
     Ok(true)
 }
 
 // Refuses that an object takes the place of another one that is of another sort, or is a directory with entries.
-fn may_replace(shared: &Shared, object: &Metadata, target: &Metadata) -> Result<(), Stop>
-    ensures { (id t : Number) (log : CheckLog) → object.now ≡ metadata_of (state_of shared.now) id → target.now ≡ metadata_of (state_of shared.now) t → GoesOn log (λ rest. may_replace (state_of shared.now) id t (rest tt)) result log }
+fn may_replace(caller: &Caller<'_>, object: &Metadata, target: &Metadata) -> Result<(), Stop>
+    ensures { (log : CheckLog) → IsReadBy caller.now object.now → IsReadBy caller.now target.now → GoesOn log (replaces caller.now object.now target.now) result log }
 {
     let moves = object.is_directory();
     let goes = target.is_directory();
     refuse_if(only_first(moves, goes), Errno::ENOTDIR)?;
     refuse_if(only_first(goes, moves), Errno::EISDIR)?;
-    let empty = shared.tree.is_empty(&target.id);
+    let empty = caller.is_empty(&target.id);
     refuse_if(only_first(goes, empty), Errno::ENOTEMPTY)
 }
 
@@ -117,15 +107,12 @@ fn move_entry(
     into: &Oid,
     new: &Name,
 ) -> Result<Effect, Stop>
-    requires into { IsDir (state_of shared.old).objects into.now }
-    requires there { IsSome (look (state_of shared.old) dir.now name.now) }
-    ensures { (id : Number) (log : CheckLog) → look (state_of shared.old) dir.now name.now ≡ Some id → PlaysRow (state_of shared.old) log (move_row (state_of shared.old) dir.now name.now id into.now new.now) result (state_of shared.new) log }
+    requires into { IsDir shared.old.objects into.now }
+    requires there { IsSome (look shared.old dir.now name.now) }
+    ensures { (id : Number) (log : CheckLog) → look shared.old dir.now name.now ≡ Some id → PlaysRow shared.old log (move_row shared.old dir.now name.now id into.now new.now) result shared.new log }
 {
     match shared.tree.move_entry(dir, name, into, new) {
-        Ok(()) => Ok(Effect {
-            answer: Answer::Nothing,
-            own: None,
-        }),
+        Ok(()) => Ok(Effect::done()),
         Err(MoveError::Loop) => Err(Stop::Refused(Errno::EINVAL)),
         Err(MoveError::Removed) => Err(Stop::Refused(Errno::ENOENT)),
         Err(MoveError::NoMemory(e)) => Err(Stop::NoMemory(e)),

@@ -22,10 +22,11 @@ use Rattle.kern_model.specs.Arguments.{are_flags}
 use Rattle.kern_model.specs.Create.{attr_of, made}
 use Rattle.kern_model.specs.Descriptors.{lowest_free, with_descriptor}
 use Rattle.kern_model.specs.FileRows.{opening, rewritten, cleared}
-use Rattle.kern_model.specs.OpenRows.{open_row, open_found, open_present, open_absent, allowed_by_label, allowed_by_kind, allowed_by_mode, to_emptied, label_writes, opens, opens_present}
+use Rattle.kern_model.specs.OpenRows.{open_row, open_found, open_present, open_absent, allowed_by_label, allowed_by_kind, allowed_by_mode, to_emptied, opens, opens_present}
 use Rattle.kern_model.specs.Isolation.{low, crosses, Kept}
 use Rattle.kern_model.specs.Kinds.{object_with, masked}
 use Rattle.kern_model.specs.Row.{Row, need_if}
+use Rattle.kern_model.specs.Rules.{mac_write_of}
 use Rattle.kern_model.specs.State.{State, Process, Change, SetProcess, SetDescription, DrawDescription, next_object, object_at}
 use Rattle.kern_model.specs.Step.{subject}
 use Rattle.kern_model.specs.Valid.{IsValid, IsThere, IsDir}
@@ -66,7 +67,7 @@ module _ (l : Label) (s : State) (kept : Kept l s) (valid : IsValid s) (who : Pi
       (λ _. low_enter_in l s kept valid who p is is_low dir h is_dir _ _ _ (same_created l s kept valid who p is is_low dir place h) _ _
       (alike_refuse (crosses l) l s.top (subject who p) errno.ENOSPC _ _ _ _ (ap not (same_room l s kept valid who p is is_low))
       (λ _. low_opens (next_object s p.label) (next_object part_s p.label) (λ i. record { label = p.label; n = drawn_low l s p.label is_low i + 1 })
-      (made s p dir name o) _ (seen_made l s kept valid who p is is_low dir name o h))))
+      (made s p.label dir name o) _ (seen_made l s kept valid who p is is_low dir name o h))))
 
   -- a check that is made where it is asked for
   where_asked : (b : Bool) (c : Check) (r r' : Row) → Same l s who p r r' → Same l s who p (need_if b c r) (need_if b c r')
@@ -98,8 +99,8 @@ module _ (l : Label) (s : State) (kept : Kept l s) (valid : IsValid s) (who : Pi
       (allowed_by_label p (record flags { r = r; w = w }) (shown l s.top id) place (object_at part_s (shown l s.top id)) (rest' (shown l s.top id)))
   unfolding need_if
   low_by_label true w asked id place there rest rest' h =
-      alike_mac_read l s kept valid who p is_low id there place _ (λ d. need_if w (label_writes p d place (object_at part_s d)) (rest' d))
-      (λ low_id. alike_need_if (crosses l) l s.top (subject who p) _ _ _ _ _ _ refl (ap (label_writes p id place) (object_low l s id low_id)) (h low_id))
+      alike_mac_read l s kept valid who p is_low id there place _ (λ d. need_if w (mac_write_of p d (object_at part_s d) place) (rest' d))
+      (λ low_id. alike_need_if (crosses l) l s.top (subject who p) _ _ _ _ _ _ refl (ap (λ o. mac_write_of p id o place) (object_low l s id low_id)) (h low_id))
   low_by_label false true asked id place there rest rest' h = alike_mac_write l s kept valid who p is_low id there place rest rest' h
   low_by_label false false asked id place there rest rest' h = let none : false ≡ true = asked in cc
 

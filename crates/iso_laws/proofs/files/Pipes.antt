@@ -61,7 +61,7 @@ module _ (s : State) (valid : IsValid s) (who : Pid) (p : Process) (is : map.get
       distinct q new (λ same. never_some (map.get s.objects new) entry.object (next_absent s valid p.label) (ap (map.get s.objects) (sym same) ∙ entry.object_is)))
 
   -- a state stays valid where a pipe is made
-  pub valid_drawn : has_object_number s p ≡ true → IsValid (changed_by s (drawing s p pipe))
+  pub valid_drawn : has_object_number s p.label ≡ true → IsValid (changed_by s (drawing s p.label pipe))
   valid_drawn left =
       let below : dominates s.top p.label ≡ true = (valid.procs who p is).below in
       valid_tree s more_objects s.entries more_numbers still valid
@@ -100,7 +100,7 @@ one_more p did =
 
 module _ (s : State) (valid : IsValid s) (who : Pid) (p : Process) (is : map.get s.procs who ≡ Some p) where
   abbrev made_state : State
-  made_state = changed_by s (drawing s p (object_with p.label (attr_of p pipe_mode) body.Pipe))
+  made_state = changed_by s (drawing s p.label (object_with p.label (attr_of p pipe_mode) body.Pipe))
 
   abbrev first : Did
   first = next_description s p.label
@@ -117,7 +117,7 @@ module _ (s : State) (valid : IsValid s) (who : Pid) (p : Process) (is : map.get
   whole_state n = changed_by half_state (DrawDescription p.label n ∷ SetDescription (record { label = p.label; n = n }) (on_pipe s p false) ∷ SetProcess who (with_descriptor one_end (record { label = p.label; n = n })) ∷ [])
 
   -- a valid state stays valid where a pipe is made and opened at both ends
-  pub valid_piped : has_object_number s p ≡ true → open_count p + 2 ≤ MAX_DESCRIPTORS → drawn s.description_numbers p.label + 2 ≤ MAX_DESCRIPTIONS → IsValid (changed_by s (piped s who p))
+  pub valid_piped : has_object_number s p.label ≡ true → open_count p + 2 ≤ MAX_DESCRIPTORS → drawn s.description_numbers p.label + 2 ≤ MAX_DESCRIPTIONS → IsValid (changed_by s (piped s who p))
   valid_piped left room numbers =
       let n : ℕ = drawn s.description_numbers p.label in
       let o : Object = object_with p.label (attr_of p pipe_mode) body.Pipe in

@@ -73,7 +73,7 @@ module _ (Known : Check → Type 0) (Not : Bool → Type 0) (Given : Premise →
   -- what the row says of it
   making : (path : PathValue) → (Given HasNames → are_names path ≡ true) → (mode : ℕ) (dir : Oid) (name : Name) (place : Place)
       → IsEntry Not s p path.names dir name None
-      → Known (mac_write s p dir place) → Known (created_order s p dir place) → Not (is_removed s dir) → Not (not (has_object_number s p))
+      → Known (mac_write s p dir place) → Known (created_order s p dir place) → Not (is_removed s dir) → Not (not (has_object_number s p.label))
       → Making Known Not Given s who p dir name (new_file mode) place
   making path names mode dir name place e written order standing left = record {
     walked = e.walked;

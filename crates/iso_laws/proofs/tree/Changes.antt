@@ -412,11 +412,11 @@ module _ (s : State) (valid : IsValid s) (p : Process) (dir : Oid) (name : Name)
             valid.one_entry a b q x (old_entry s valid more_objects more_numbers dir name new dir_is free standing a q e other) (old_entry s valid more_objects more_numbers dir name new dir_is free standing b q g other) (was_there q x q_is other) q_dir
       ] refl
 
-  few_numbers : dominates s.top p.label ≡ true → has_object_number s p ≡ true → AreFew s.top more_numbers MAX_OBJECTS
+  few_numbers : dominates s.top p.label ≡ true → has_object_number s p.label ≡ true → AreFew s.top more_numbers MAX_OBJECTS
   few_numbers below left = record {
     below = still_below s.object_numbers p.label s.top below valid.object_numbers.below;
     few = each_set_at label_cmp_total label_cmp_exact (λ (l : Label) (n : ℕ). n ≤ MAX_OBJECTS) 0 s.object_numbers p.label (drawn s.object_numbers p.label + 1) (omega (arith, ltb-true (drawn s.object_numbers p.label) MAX_OBJECTS left)) valid.object_numbers.few;
   }
 
-  pub valid_made : dominates s.top p.label ≡ true → has_object_number s p ≡ true → dominates p.label dir_is.object.label ≡ true → is_name name ≡ true → IsValid (changed_by s (made s p dir name o))
+  pub valid_made : dominates s.top p.label ≡ true → has_object_number s p.label ≡ true → dominates p.label dir_is.object.label ≡ true → is_name name ≡ true → IsValid (changed_by s (made s p.label dir name o))
   valid_made below left order named = valid_tree s more_objects entries_now more_numbers still valid (made_object below) (made_entry order named) one_made (few_numbers below left)

@@ -109,15 +109,15 @@ module _ (l : Label) (s : State) (kept : Kept l s) (valid : IsValid s) (who : Pi
   made_at dir name o n =
       DrawObject p.label (n + 1) ∷ SetObject (record { label = p.label; n = n + 1 }) o ∷ SetEntry (dir, name) (record { label = p.label; n = n + 1 }) ∷ []
 
-  pub seen_made : (dir : Oid) (name : Name) (o : Object) → low l dir.label ≡ true → made part_s p dir name o ≡ part_changes l s.top (made s p dir name o)
+  pub seen_made : (dir : Oid) (name : Name) (o : Object) → low l dir.label ≡ true → made part_s p.label dir name o ≡ part_changes l s.top (made s p.label dir name o)
   seen_made dir name o h =
       let n : ℕ = drawn s.object_numbers p.label in
       ap (made_at dir name o) (drawn_low l s p.label is_low)
       ∙ ap (λ (q : Oid). DrawObject p.label (n + 1) ∷ SetObject (next_object s p.label) o ∷ SetEntry (dir, name) q ∷ [])
       (sym (shown_low l s (next_object s p.label) is_low))
-      ∙ sym (part_of_low l s.top (made s p dir name o) (is_low, (is_low, (h, tt))))
+      ∙ sym (part_of_low l s.top (made s p.label dir name o) (is_low, (is_low, (h, tt))))
 
-  pub same_room : has_object_number part_s p ≡ has_object_number s p
+  pub same_room : has_object_number part_s p.label ≡ has_object_number s p.label
   same_room = ap (λ n. nat_lt n MAX_OBJECTS) (drawn_low l s p.label is_low)
 
   make_low : (path : PathValue) (mode : ℕ) (b : Body) → Same l s who p (make_row s who p path mode b) (make_row part_s who p path mode b)

@@ -27,7 +27,7 @@ load-requires c =
     let whole : state_loaded c.boot_objects.new.self ≡ furnished w = c.in_ok-boot_objects.ensures ∙ (λ i. boot_objects (c.in_ok-loading.ensures i) (c.items.ensures i)) in
     valid_entries (state_loaded c.boot_objects.new.self) (subst IsValid (sym whole) (valid_furnished w c.requires))
 
-pub returns-clause-state : goal.returns-clause-state
-returns-clause-state c =
+pub returns : goal.returns
+returns c =
     let whole : state_loaded c.boot_objects.new.self ≡ furnished c.args.world.now = c.in_ok-boot_objects.ensures ∙ (λ i. boot_objects (c.in_ok-loading.ensures i) (c.items.ensures i)) in
-    IfOk-weaker c.load.result _ _ (λ shared e. e ∙ whole) c.load.ensures.state
+    IfOk-weaker c.load.result _ _ (λ shared e. e ∙ whole) c.load.ensures

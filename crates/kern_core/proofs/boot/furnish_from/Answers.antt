@@ -27,4 +27,4 @@ load-requires c =
 pub returns-clause-state : goal.returns-clause-state
 returns-clause-state c =
     let whole : state_loaded c.take_objects.new.self ≡ furnished c.args.world = c.in_ok-take_objects.ensures ∙ (λ i. boot_objects (c.in_ok-loading.ensures i) c.args.world.objects) in
-    c.in_ok-shared.ensures.state ∙ whole
+    c.in_ok-shared.ensures ∙ whole

@@ -7,7 +7,6 @@ use Rattle.chk_rules.specs.CheckLog.{CheckLog}
 use Rattle.chk_rules.specs.Ends.{GoesOn}
 use Rattle.chk_rules.specs.declared.stop.Stop.{Stop}
 use Rattle.chk_rules.proofs.Steps.{gives, need_goes, need_stops}
-use Rattle.sys_lookup.specs.Shared.{state_of}
 use Rattle.sys_lookup.specs.declared.shared.Metadata.{Metadata}
 use Rattle.sys_attr.proofs.labels.ask_label.Goals as goal
 
@@ -19,17 +18,17 @@ left_in : {a z : CheckLog} {r : Result ⊤ Stop} (b : Bool) (part : Row → Row)
 left_in {a = a} {z = z} {r = r} b part e step = subst (λ x. GoesOn a (λ (rest : ⊤ → Row). cond x (rest tt) (part (rest tt))) r z) (sym e) step
 
 pub returns-in_err-owner : goal.returns-in_err-owner
-returns-in_err-owner c id is = need_stops c.from_residual.result c.from_residual.ensures.1 (c.in_err-owner.ensures (state_of c.args.caller.now.shared.now) id is)
+returns-in_err-owner c id is = need_stops c.from_residual.result c.from_residual.ensures.1 (c.in_err-owner.ensures c.args.caller.now.state id is)
 
 pub returns-then-equal : goal.returns-then-equal
 returns-then-equal c id is =
-    let s = state_of c.args.caller.now.shared.now in
+    let s = c.args.caller.now.state in
     need_goes (c.in_ok-owner.ensures s id is)
     (left_out _ (change_label s c.args.label.now id c.args.place) (ap (λ (m : Metadata). same_label c.args.label.now m.label) (sym is) ∙ sym c.equal.ensures ∙ c.if-equal.true))
 
 pub returns : goal.returns
 returns c id is =
-    let s = state_of c.args.caller.now.shared.now in
+    let s = c.args.caller.now.state in
     need_goes (c.in_ok-owner.ensures s id is)
     (left_in _ (change_label s c.args.label.now id c.args.place) (ap (λ (m : Metadata). same_label c.args.label.now m.label) (sym is) ∙ sym c.equal.ensures ∙ c.if-equal.false)
     (c.may_change.ensures id is))

@@ -1,39 +1,39 @@
-use Rattle.std.proofs.Common.{◌∙◌, ap, refl}
+use Rattle.std.proofs.Common.{◌∙◌, ap}
 use Rattle.kern_model.specs.AttrRows.{change_mode, chmod_row, set_mode, with_attr}
 use Rattle.kern_model.specs.State.{changed, object_at}
-use Rattle.sys_lookup.proofs.PlayLemmas.{caller_plays, then_plays, stops_row, commits}
-use Rattle.sys_lookup.specs.Shared.{holding, state_of}
+use Rattle.sys_lookup.proofs.PlayLemmas.{called, then_plays, stops_row, commits_as}
 use Rattle.sys_lookup.specs.declared.shared.Metadata.{Metadata}
 use Rattle.sys_attr.specs.Objects.{on_written}
+use Rattle.sys_attr.proofs.CallLemmas.{change_is, object_there, state_is}
 use Rattle.sys_attr.proofs.modes.chmod.Goals as goal
 
 pub give_attr-requires : goal.give_attr-requires
-give_attr-requires c = c.in_ok-object.ensures.there
+give_attr-requires c = object_there c.new-caller.ensures.caller c.in_ok-object.ensures.there
 
 pub returns-in_err-object : goal.returns-in_err-object
-returns-in_err-object c p there =
-    let s = state_of c.args.shared.now in
-    let q = holding c.args.shared.now.fds.rows c.args.who.now c.living-process.result.now in
-    caller_plays (λ x. chmod_row s c.args.who.now x c.args.path.now c.args.mode) c.args.who.now q p c.living-process.ensures.found there
-    (stops_row {rest = on_written s (change_mode q c.args.mode)} c.from_residual.result c.from_residual.ensures.1 refl c.in_err-object.ensures.step)
+returns-in_err-object c =
+    let k = c.new-caller.result in
+    let same = c.new-caller.ensures.caller in
+    called (λ x. chmod_row x.state x.who x.process c.args.path.now c.args.mode) same
+    (stops_row {rest = on_written k.state (change_mode k.process c.args.mode)} c.from_residual.result c.from_residual.ensures.1 (state_is same) c.in_err-object.ensures.step)
 
 pub returns-in_err-mode : goal.returns-in_err-mode
-returns-in_err-mode c p there =
-    let s = state_of c.args.shared.now in
-    let q = holding c.args.shared.now.fds.rows c.args.who.now c.living-process.result.now in
+returns-in_err-mode c =
+    let k = c.new-caller.result in
+    let same = c.new-caller.ensures.caller in
     let id = c.in_ok-object.object.id in
-    caller_plays (λ x. chmod_row s c.args.who.now x c.args.path.now c.args.mode) c.args.who.now q p c.living-process.ensures.found there
-    (then_plays {rest = on_written s (change_mode q c.args.mode)} c.in_ok-object.ensures.step
-    (stops_row {rest = set_mode id (object_at s id)} c.from_residual-in_err-mode.result c.from_residual-in_err-mode.ensures.1 refl (c.in_err-mode.ensures s id c.in_ok-object.ensures.object)))
+    called (λ x. chmod_row x.state x.who x.process c.args.path.now c.args.mode) same
+    (then_plays {rest = on_written k.state (change_mode k.process c.args.mode)} c.in_ok-object.ensures.step
+    (stops_row {rest = set_mode id (object_at k.state id)} c.from_residual-in_err-mode.result c.from_residual-in_err-mode.ensures.1 (state_is same) (c.in_err-mode.ensures k.state id c.in_ok-object.ensures.object)))
 
 pub returns : goal.returns
-returns c p there =
-    let s = state_of c.args.shared.now in
-    let q = holding c.args.shared.now.fds.rows c.args.who.now c.living-process.result.now in
+returns c =
+    let k = c.new-caller.result in
+    let same = c.new-caller.ensures.caller in
     let id = c.in_ok-object.object.id in
     let is = c.in_ok-object.ensures.object in
-    caller_plays (λ x. chmod_row s c.args.who.now x c.args.path.now c.args.mode) c.args.who.now q p c.living-process.ensures.found there
-    (then_plays {rest = on_written s (change_mode q c.args.mode)} c.in_ok-object.ensures.step
-    (then_plays {rest = set_mode id (object_at s id)} (c.in_ok-mode.ensures s id is)
-    (commits _ _ _ _ _ _
-    (c.give_attr.ensures ∙ ap (λ (m : Metadata). changed s (with_attr id (object_at s id) (record m.attr { mode = c.in_ok-mode.mode }))) is))))
+    let attr = λ (m : Metadata). record m.attr { mode = c.in_ok-mode.mode } in
+    called (λ x. chmod_row x.state x.who x.process c.args.path.now c.args.mode) same
+    (then_plays {rest = on_written k.state (change_mode k.process c.args.mode)} c.in_ok-object.ensures.step
+    (then_plays {rest = set_mode id (object_at k.state id)} (c.in_ok-mode.ensures k.state id is)
+    (commits_as c.done.ensures (change_is same (λ s. with_attr id (object_at s id) (attr c.in_ok-object.object)) c.give_attr.ensures ∙ ap (λ m. changed k.state (with_attr id (object_at k.state id) (attr m))) is))))

@@ -6,7 +6,7 @@ use Rattle.kern_model.specs.FileRows.{open_object, to_seek}
 use Rattle.kern_model.specs.Kinds.{is_stream}
 use Rattle.kern_model.specs.State.{State, object_at}
 use Rattle.chk_rules.proofs.Steps.{then_goes, stops_there, need_goes, need_stops, refuse_goes, refuse_stops, equal_refusal, gives}
-use Rattle.sys_lookup.specs.Shared.{metadata_of, process_of, state_of}
+use Rattle.sys_lookup.specs.Shared.{metadata_of}
 use Rattle.sys_lookup.specs.declared.shared.Metadata.{Metadata}
 use Rattle.sys_lookup.proofs.CheckLemmas.{not_refused}
 use Rattle.sys_file.proofs.ReferLemmas.{read_there}
@@ -18,12 +18,12 @@ same_kind s id f object is found read same = found ∙ ap (λ (m : Metadata). is
 
 pub returns-in_err-opened-clause-step : goal.returns-in_err-opened-clause-step
 returns-in_err-opened-clause-step c =
-    stops_there {next = to_seek (state_of c.args.caller.now.shared.now) (process_of c.args.caller.now)} c.from_residual.result c.from_residual.ensures.1 (c.in_err-opened.ensures.step c.args.checks.now)
+    stops_there {next = to_seek c.args.caller.now.state c.args.caller.now.process} c.from_residual.result c.from_residual.ensures.1 (c.in_err-opened.ensures.step c.args.checks.now)
 
 pub returns-in_err-object-clause-step : goal.returns-in_err-object-clause-step
 returns-in_err-object-clause-step c =
-    let s = state_of c.args.caller.now.shared.now in
-    let p = process_of c.args.caller.now in
+    let s = c.args.caller.now.state in
+    let p = c.args.caller.now.process in
     let log = c.args.checks.now in
     then_goes {next = to_seek s p} (c.in_ok-opened.ensures.step log)
     (need_stops c.from_residual-in_err-object.result c.from_residual-in_err-object.ensures.1
@@ -31,8 +31,8 @@ returns-in_err-object-clause-step c =
 
 pub returns-in_err-refuse_if-clause-step : goal.returns-in_err-refuse_if-clause-step
 returns-in_err-refuse_if-clause-step c =
-    let s = state_of c.args.caller.now.shared.now in
-    let p = process_of c.args.caller.now in
+    let s = c.args.caller.now.state in
+    let p = c.args.caller.now.process in
     let log = c.args.checks.now in
     let f = c.in_ok-opened.opened in
     then_goes {next = to_seek s p} (c.in_ok-opened.ensures.step log)
@@ -42,8 +42,8 @@ returns-in_err-refuse_if-clause-step c =
 
 pub returns-clause-step : goal.returns-clause-step
 returns-clause-step c =
-    let s = state_of c.args.caller.now.shared.now in
-    let p = process_of c.args.caller.now in
+    let s = c.args.caller.now.state in
+    let p = c.args.caller.now.process in
     let log = c.args.checks.now in
     let f = c.in_ok-opened.opened in
     then_goes {next = to_seek s p} (c.in_ok-opened.ensures.step log)
@@ -52,7 +52,7 @@ returns-clause-step c =
 
 pub returns-clause-no_stream : goal.returns-clause-no_stream
 returns-clause-no_stream c =
-    let s = state_of c.args.caller.now.shared.now in
+    let s = c.args.caller.now.state in
     let f = c.in_ok-opened.opened in
     let log = c.read_object.new.checks in
     not_refused log log ESPIPE (is_stream (open_object s f).kind)

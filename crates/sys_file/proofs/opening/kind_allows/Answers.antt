@@ -2,7 +2,7 @@ use Rattle.std.proofs.Common.{◌≡◌, ◌∙◌, ◌&&◌, ap, subst, Bool, R
 use Rattle.std.specs.Prelude.{⊤}
 use Rattle.kern_model.specs.declared.checks.Check.{Check}
 use Rattle.kern_model.specs.Kinds.{is_dir, is_fifo}
-use Rattle.kern_model.specs.OpenRows.{label_writes}
+use Rattle.kern_model.specs.Rules.{mac_write_of}
 use Rattle.kern_model.specs.Row.{Row, need_if}
 use Rattle.kern_model.specs.State.{object_at}
 use Rattle.chk_rules.specs.CheckLog.{CheckLog}
@@ -10,7 +10,6 @@ use Rattle.chk_rules.specs.Ends.{GoesOn}
 use Rattle.chk_rules.specs.declared.stop.Stop.{Stop}
 use Rattle.chk_rules.proofs.Steps.{equal_refusal, refuse_goes, refuse_stops}
 use Rattle.sys_lookup.specs.declared.shared.Metadata.{Metadata}
-use Rattle.sys_lookup.specs.Shared.{process_of}
 use Rattle.sys_file.proofs.opening.kind_allows.Goals as goal
 
 equal_asked : {a b : CheckLog} {r : Result ⊤ Stop} (check : Check) {x y : Bool} → x ≡ y → GoesOn a (λ (rest : ⊤ → Row). need_if x check (rest tt)) r b → GoesOn a (λ (rest : ⊤ → Row). need_if y check (rest tt)) r b
@@ -34,4 +33,4 @@ returns c = λ s id same.
     let drains = c.both-drains.ensures ∙ (λ i. (c.is_fifo.ensures ∙ ap (λ (m : Metadata). is_fifo m.kind) same) i && c.args.flags.r) in
     refuse_goes (equal_refusal (c.is_directory.ensures ∙ ap (λ (m : Metadata). is_dir m.kind) same) (c.in_ok-refuse_if.ensures log))
     (refuse_goes (equal_refusal (c.both.ensures ∙ (λ i. drains i && c.args.flags.w)) (c.in_ok-refuse_if-2.ensures log))
-    (equal_asked (label_writes (process_of c.args.caller.now) id c.args.place (object_at s id)) drains (c.mac_write_if.ensures s id same)))
+    (equal_asked (mac_write_of c.args.caller.now.process id (object_at s id) c.args.place) drains (c.mac_write_if.ensures s id same)))

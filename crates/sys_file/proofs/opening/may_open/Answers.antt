@@ -1,7 +1,6 @@
 use Rattle.kern_model.specs.OpenRows.{allowed_by_kind, allowed_by_label, allowed_by_mode}
 use Rattle.kern_model.specs.State.{object_at}
 use Rattle.chk_rules.proofs.Steps.{equal_refusal, item_goes, item_stops, refuse_goes, refuse_stops}
-use Rattle.sys_lookup.specs.Shared.{process_of, state_of}
 use Rattle.sys_file.proofs.opening.may_open.Goals as goal
 
 pub returns-in_err-refuse_if-clause-step : goal.returns-in_err-refuse_if-clause-step
@@ -9,16 +8,16 @@ returns-in_err-refuse_if-clause-step c = refuse_stops c.from_residual.result c.f
 
 pub returns-in_err-label_allows-clause-step : goal.returns-in_err-label_allows-clause-step
 returns-in_err-label_allows-clause-step c =
-    let s = state_of c.args.caller.now.shared.now in
-    let p = process_of c.args.caller.now in
+    let s = c.args.caller.now.state in
+    let p = c.args.caller.now.process in
     let id = c.args.id.now in
     refuse_goes (equal_refusal c.both.ensures (c.in_ok-refuse_if.ensures c.args.checks.now))
     (item_stops (allowed_by_label p c.args.flags id c.args.place (object_at s id)) c.from_residual-in_err-label_allows.result c.from_residual-in_err-label_allows.ensures.1 (c.in_err-label_allows.ensures s id c.metadata-object.ensures))
 
 pub returns-in_err-kind_allows-clause-step : goal.returns-in_err-kind_allows-clause-step
 returns-in_err-kind_allows-clause-step c =
-    let s = state_of c.args.caller.now.shared.now in
-    let p = process_of c.args.caller.now in
+    let s = c.args.caller.now.state in
+    let p = c.args.caller.now.process in
     let id = c.args.id.now in
     refuse_goes (equal_refusal c.both.ensures (c.in_ok-refuse_if.ensures c.args.checks.now))
     (item_goes (allowed_by_label p c.args.flags id c.args.place (object_at s id)) (c.in_ok-label_allows.ensures s id c.metadata-object.ensures)
@@ -26,8 +25,8 @@ returns-in_err-kind_allows-clause-step c =
 
 pub returns-in_err-mode_allows-clause-step : goal.returns-in_err-mode_allows-clause-step
 returns-in_err-mode_allows-clause-step c =
-    let s = state_of c.args.caller.now.shared.now in
-    let p = process_of c.args.caller.now in
+    let s = c.args.caller.now.state in
+    let p = c.args.caller.now.process in
     let id = c.args.id.now in
     refuse_goes (equal_refusal c.both.ensures (c.in_ok-refuse_if.ensures c.args.checks.now))
     (item_goes (allowed_by_label p c.args.flags id c.args.place (object_at s id)) (c.in_ok-label_allows.ensures s id c.metadata-object.ensures)
@@ -36,8 +35,8 @@ returns-in_err-mode_allows-clause-step c =
 
 pub returns-clause-step : goal.returns-clause-step
 returns-clause-step c =
-    let s = state_of c.args.caller.now.shared.now in
-    let p = process_of c.args.caller.now in
+    let s = c.args.caller.now.state in
+    let p = c.args.caller.now.process in
     let id = c.args.id.now in
     refuse_goes (equal_refusal c.both.ensures (c.in_ok-refuse_if.ensures c.args.checks.now))
     (item_goes (allowed_by_label p c.args.flags id c.args.place (object_at s id)) (c.in_ok-label_allows.ensures s id c.metadata-object.ensures)

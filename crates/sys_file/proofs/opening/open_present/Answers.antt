@@ -8,12 +8,12 @@ use Rattle.kern_model.specs.declared.objects.Object.{Object}
 use Rattle.kern_model.specs.FileRows.{opening}
 use Rattle.kern_model.specs.OpenRows.{emptying}
 use Rattle.kern_model.specs.Keys.{oid_cmp}
-use Rattle.kern_model.specs.State.{State, Process, changed_by, object_at}
+use Rattle.kern_model.specs.State.{State, Process, changed_by, object_at, process_at}
 use Rattle.std.proofs.Common.{◌≡◌}
 use Rattle.std.specs.FinMap.{FinMap}
 use Rattle.fs_nodes.specs.Nodes.{IsFile}
-use Rattle.sys_lookup.proofs.PlayLemmas.{commits, equal_answer, no_memory_row}
-use Rattle.sys_lookup.specs.Shared.{state_of}
+use Rattle.sys_lookup.proofs.PlayLemmas.{commits_as, no_memory_row}
+use Rattle.sys_file.proofs.BranchLemmas.{answering}
 use Rattle.sys_file.specs.Opening.{CanBeEmptied}
 use Rattle.sys_file.proofs.opening.open_present.Goals as goal
 
@@ -30,16 +30,16 @@ either s who p id flags None = refl
 either s who p id flags (Some attr) = refl
 
 pub set_content-requires : goal.set_content-requires
-set_content-requires c = still (state_of c.args.shared.now) (state_of c.describe.new.shared) c.args.id.now c.args.emptied c.in_ok-fd.ensures.objects c.requires.file
+set_content-requires c = still c.args.shared.now c.describe.new.shared c.args.id.now c.args.emptied c.in_ok-fd.ensures.objects c.requires.file
 
 pub returns-in_err-fd : goal.returns-in_err-fd
-returns-in_err-fd c = λ p log there. no_memory_row c.from_residual.result c.from_residual.ensures.1
+returns-in_err-fd c = λ log. no_memory_row c.from_residual.result c.from_residual.ensures.1
 
 pub returns : goal.returns
-returns c = λ p log there.
-    let s = state_of c.args.shared.now in
+returns c = λ log.
+    let s = c.args.shared.now in
     let who = c.args.who.now in
+    let p = process_at s who in
     let id = c.args.id.now in
-    equal_answer (ap answer.Number (c.in_ok-fd.ensures.fd p there))
-    (commits s (state_of c.set_content.new.shared) log (emptying id (object_at s id) c.args.emptied ++ opening s who p id c.args.flags) (answer.Number c.in_ok-fd.fd) None
-    (c.set_content.ensures ∙ ap (λ (u : State). changed_by u (emptying id (object_at u id) c.args.emptied)) (c.in_ok-fd.ensures.described p there) ∙ either s who p id c.args.flags c.args.emptied))
+    commits_as {changes = emptying id (object_at s id) c.args.emptied ++ opening s who p id c.args.flags} (answering c.answers.ensures (ap answer.Number c.in_ok-fd.ensures.fd))
+    (c.set_content.ensures ∙ ap (λ (u : State). changed_by u (emptying id (object_at u id) c.args.emptied)) c.in_ok-fd.ensures.described ∙ either s who p id c.args.flags c.args.emptied)

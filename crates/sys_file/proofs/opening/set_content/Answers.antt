@@ -5,22 +5,21 @@ use Rattle.kern_model.specs.FileRows.{rewritten}
 use Rattle.kern_model.specs.OpenRows.{emptying}
 use Rattle.kern_model.specs.State.{changed, changed_by, object_at}
 use Rattle.fs_nodes.specs.Nodes.{IsFile}
-use Rattle.sys_lookup.specs.Shared.{state_of}
 use Rattle.sys_file.proofs.ObjectLemmas.{object_is}
 use Rattle.sys_file.specs.Opening.{CanBeEmptied}
 use Rattle.sys_file.proofs.opening.set_content.Goals as goal
 
 pub empty-requires : goal.empty-requires
-empty-requires c = subst (CanBeEmptied (state_of c.args.shared.now) c.args.id.now) c.in-Some.is c.requires
+empty-requires c = subst (CanBeEmptied c.args.shared.now c.args.id.now) c.in-Some.is c.requires
 
 pub returns-in-None : goal.returns-in-None
 returns-in-None c =
-    let s = state_of c.args.shared.now in
+    let s = c.args.shared.now in
     ap (λ (e : Option Attr). changed_by s (emptying c.args.id.now (object_at s c.args.id.now) e)) (sym c.in-None.is)
 
 pub returns-in-Some : goal.returns-in-Some
 returns-in-Some c =
-    let s = state_of c.args.shared.now in
+    let s = c.args.shared.now in
     let id = c.args.id.now in
     let file : IsFile s.objects id = subst (CanBeEmptied s id) c.in-Some.is c.requires in
     c.empty.ensures file.object file.is

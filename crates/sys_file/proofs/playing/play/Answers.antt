@@ -2,80 +2,78 @@ use Rattle.std.proofs.Common.{refl, rules, subst, ℕ, List, ℤ, w64}
 use Rattle.std.proofs.lemmas.Int.{to_z-of_z}
 use Rattle.kern_model.specs.Arguments.{has_names}
 use Rattle.kern_model.specs.FileRows.{fstat_row, lseek_row, write_row}
-use Rattle.kern_model.specs.State.{Process}
+use Rattle.kern_model.specs.State.{process_at}
+use Rattle.sys_lookup.specs.Callers.{CallerView}
 use Rattle.sys_lookup.specs.PlaysRow.{PlaysRow}
-use Rattle.sys_lookup.specs.Shared.{holding, state_of}
-use Rattle.sys_lookup.proofs.PlayLemmas.{caller_plays}
 use Rattle.sys_lookup.proofs.PlayingLemmas.{plays_as, names_as}
 use Rattle.sys_file.proofs.playing.play.Goals as goal
 
 pub returns-in-OpenPath-clause-played : goal.returns-in-OpenPath-clause-played
-returns-in-OpenPath-clause-played c p there = plays_as (state_of c.args.shared.now) c.args.who.now p c.in-OpenPath.is (c.open.ensures.played p there)
+returns-in-OpenPath-clause-played c = plays_as c.args.shared.now c.args.who.now _ c.in-OpenPath.is (c.open.ensures.played)
 
 pub returns-in-OpenPath-clause-names : goal.returns-in-OpenPath-clause-names
 unfolding has_names
 returns-in-OpenPath-clause-names c = names_as c.in-OpenPath.is c.open.ensures.names
 
 pub returns-in-Close-clause-played : goal.returns-in-Close-clause-played
-returns-in-Close-clause-played c p there = plays_as (state_of c.args.shared.now) c.args.who.now p c.in-Close.is (c.close.ensures.played p c.args.checks.now there)
+returns-in-Close-clause-played c = plays_as c.args.shared.now c.args.who.now _ c.in-Close.is (c.close.ensures.played c.args.checks.now)
 
 pub returns-in-Close-clause-names : goal.returns-in-Close-clause-names
 unfolding has_names
 returns-in-Close-clause-names c = names_as c.in-Close.is refl
 
 pub returns-in-Read-clause-played : goal.returns-in-Read-clause-played
-returns-in-Read-clause-played c p there = plays_as (state_of c.args.shared.now) c.args.who.now p c.in-Read.is (c.read.ensures p there)
+returns-in-Read-clause-played c = plays_as c.args.shared.now c.args.who.now _ c.in-Read.is (c.read.ensures)
 
 pub returns-in-Read-clause-names : goal.returns-in-Read-clause-names
 unfolding has_names
 returns-in-Read-clause-names c = names_as c.in-Read.is refl
 
 pub returns-in-Write-clause-played : goal.returns-in-Write-clause-played
-returns-in-Write-clause-played c p there =
-    plays_as (state_of c.args.shared.now) c.args.who.now p c.in-Write.is
-    (subst (λ (bytes : List ℕ). PlaysRow (state_of c.args.shared.now) c.args.checks.now (write_row (state_of c.args.shared.now) c.args.who.now p c.in-Write.fd bytes) c.write.result (state_of c.write.new.shared) c.write.new.checks) c.items.ensures
-    (c.write.ensures p there))
+returns-in-Write-clause-played c =
+    plays_as c.args.shared.now c.args.who.now _ c.in-Write.is
+    (subst (λ (bytes : List ℕ). PlaysRow c.args.shared.now c.args.checks.now (write_row c.args.shared.now c.args.who.now (process_at c.args.shared.now c.args.who.now) c.in-Write.fd bytes) c.write.result c.write.new.shared c.write.new.checks) c.items.ensures
+    (c.write.ensures))
 
 pub returns-in-Write-clause-names : goal.returns-in-Write-clause-names
 unfolding has_names
 returns-in-Write-clause-names c = names_as c.in-Write.is refl
 
 pub returns-in-Lseek-clause-played : goal.returns-in-Lseek-clause-played
-returns-in-Lseek-clause-played c p there =
-    plays_as (state_of c.args.shared.now) c.args.who.now p c.in-Lseek.is
-    (subst (λ (z : ℤ). PlaysRow (state_of c.args.shared.now) c.args.checks.now (lseek_row (state_of c.args.shared.now) c.args.who.now p c.in-Lseek.fd c.in-Lseek.from z) c.lseek.result (state_of c.lseek.new.shared) c.lseek.new.checks) (to_z-of_z w64 c.in-Lseek.offset (search rules))
-    (c.lseek.ensures p there))
+returns-in-Lseek-clause-played c =
+    plays_as c.args.shared.now c.args.who.now _ c.in-Lseek.is
+    (subst (λ (z : ℤ). PlaysRow c.args.shared.now c.args.checks.now (lseek_row c.args.shared.now c.args.who.now (process_at c.args.shared.now c.args.who.now) c.in-Lseek.fd c.in-Lseek.from z) c.lseek.result c.lseek.new.shared c.lseek.new.checks) (to_z-of_z w64 c.in-Lseek.offset (search rules))
+    (c.lseek.ensures))
 
 pub returns-in-Lseek-clause-names : goal.returns-in-Lseek-clause-names
 unfolding has_names
 returns-in-Lseek-clause-names c = names_as c.in-Lseek.is refl
 
 pub returns-in-Dup-clause-played : goal.returns-in-Dup-clause-played
-returns-in-Dup-clause-played c p there = plays_as (state_of c.args.shared.now) c.args.who.now p c.in-Dup.is (c.dup.ensures.played p c.args.checks.now there)
+returns-in-Dup-clause-played c = plays_as c.args.shared.now c.args.who.now _ c.in-Dup.is (c.dup.ensures.played c.args.checks.now)
 
 pub returns-in-Dup-clause-names : goal.returns-in-Dup-clause-names
 unfolding has_names
 returns-in-Dup-clause-names c = names_as c.in-Dup.is refl
 
 pub returns-in-Pipe-clause-played : goal.returns-in-Pipe-clause-played
-returns-in-Pipe-clause-played c p there = plays_as (state_of c.args.shared.now) c.args.who.now p c.in-Pipe.is (c.pipe.ensures p c.args.checks.now there)
+returns-in-Pipe-clause-played c = plays_as c.args.shared.now c.args.who.now _ c.in-Pipe.is (c.pipe.ensures c.args.checks.now)
 
 pub returns-in-Pipe-clause-names : goal.returns-in-Pipe-clause-names
 unfolding has_names
 returns-in-Pipe-clause-names c = names_as c.in-Pipe.is refl
 
 pub returns-in-Mkfifo-clause-played : goal.returns-in-Mkfifo-clause-played
-returns-in-Mkfifo-clause-played c p there = plays_as (state_of c.args.shared.now) c.args.who.now p c.in-Mkfifo.is (c.mkfifo.ensures.played p there)
+returns-in-Mkfifo-clause-played c = plays_as c.args.shared.now c.args.who.now _ c.in-Mkfifo.is (c.mkfifo.ensures.played)
 
 pub returns-in-Mkfifo-clause-names : goal.returns-in-Mkfifo-clause-names
 unfolding has_names
 returns-in-Mkfifo-clause-names c = names_as c.in-Mkfifo.is c.mkfifo.ensures.names
 
 pub returns-in-Fstat-clause-played : goal.returns-in-Fstat-clause-played
-returns-in-Fstat-clause-played c p there =
-    let s = state_of c.args.shared.now in
-    plays_as s c.args.who.now p c.in-Fstat.is
-    (caller_plays (λ (x : Process). fstat_row s c.args.who.now x c.in-Fstat.fd) c.args.who.now (holding c.args.shared.now.fds.rows c.args.who.now c.living-process.result.now) p c.living-process.ensures.found there (c.fstat.ensures c.args.who.now))
+returns-in-Fstat-clause-played c =
+    plays_as c.args.shared.now c.args.who.now _ c.in-Fstat.is
+    (subst (λ (k : CallerView). PlaysRow k.state c.args.checks.now (fstat_row k.state c.args.who.now k.process c.in-Fstat.fd) c.fstat.result k.state c.fstat.new.checks) c.new.ensures.caller (c.fstat.ensures c.args.who.now))
 
 pub returns-in-Fstat-clause-names : goal.returns-in-Fstat-clause-names
 unfolding has_names

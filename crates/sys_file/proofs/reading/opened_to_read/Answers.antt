@@ -1,25 +1,24 @@
 use Rattle.std.proofs.Common.{refl, not}
 use Rattle.kern_model.specs.FileRows.{to_read}
 use Rattle.chk_rules.proofs.Steps.{then_goes, stops_there, need_goes, need_stops, refuse_goes, refuse_stops, equal_refusal, gives}
-use Rattle.sys_lookup.specs.Shared.{process_of, state_of}
 use Rattle.sys_file.proofs.ReferLemmas.{read_there}
 use Rattle.sys_file.proofs.reading.opened_to_read.Goals as goal
 
 pub returns-in_err-opened-clause-step : goal.returns-in_err-opened-clause-step
 returns-in_err-opened-clause-step c =
-    stops_there {next = to_read (state_of c.args.caller.now.shared.now) (process_of c.args.caller.now)} c.from_residual.result c.from_residual.ensures.1 (c.in_err-opened.ensures.step c.args.checks.now)
+    stops_there {next = to_read c.args.caller.now.state c.args.caller.now.process} c.from_residual.result c.from_residual.ensures.1 (c.in_err-opened.ensures.step c.args.checks.now)
 
 pub returns-in_err-refuse_if-clause-step : goal.returns-in_err-refuse_if-clause-step
 returns-in_err-refuse_if-clause-step c =
     let log = c.args.checks.now in
-    then_goes {next = to_read (state_of c.args.caller.now.shared.now) (process_of c.args.caller.now)} (c.in_ok-opened.ensures.step log)
+    then_goes {next = to_read c.args.caller.now.state c.args.caller.now.process} (c.in_ok-opened.ensures.step log)
     (refuse_stops c.from_residual-in_err-refuse_if.result c.from_residual-in_err-refuse_if.ensures.1
     (equal_refusal (λ i. not (c.opened-2.view_is i).description.reads) (c.in_err-refuse_if.ensures log)))
 
 pub returns-in_err-read_object-clause-step : goal.returns-in_err-read_object-clause-step
 returns-in_err-read_object-clause-step c =
-    let s = state_of c.args.caller.now.shared.now in
-    let p = process_of c.args.caller.now in
+    let s = c.args.caller.now.state in
+    let p = c.args.caller.now.process in
     let log = c.args.checks.now in
     then_goes {next = to_read s p} (c.in_ok-opened.ensures.step log)
     (refuse_goes (equal_refusal (λ i. not (c.opened-2.view_is i).description.reads) (c.in_ok-refuse_if.ensures log))
@@ -28,8 +27,8 @@ returns-in_err-read_object-clause-step c =
 
 pub returns-clause-step : goal.returns-clause-step
 returns-clause-step c =
-    let s = state_of c.args.caller.now.shared.now in
-    let p = process_of c.args.caller.now in
+    let s = c.args.caller.now.state in
+    let p = c.args.caller.now.process in
     let log = c.args.checks.now in
     then_goes {next = to_read s p} (c.in_ok-opened.ensures.step log)
     (refuse_goes (equal_refusal (λ i. not (c.opened-2.view_is i).description.reads) (c.in_ok-refuse_if.ensures log))

@@ -1,15 +1,11 @@
-use Rattle.std.proofs.Common.{◌≡◌, ◌∙◌, ◌+◌, ◌-◌, ap, sym, refl, subst, arith, min, ℕ, List, [], ◌∷◌, None, Ok, Result, drop, length, take}
+use Rattle.std.proofs.Common.{◌≡◌, ◌∙◌, ◌+◌, ◌-◌, ap, sym, refl, subst, arith, min, ℕ, List, [], ◌∷◌, Ok, drop, length, take}
 use Rattle.std.specs.FinMap as map
 use Rattle.std.proofs.lemmas.List.{length-drop, length-take}
-use Rattle.kern_model.specs.declared.calls.Answer.TheVariants as answer
 use Rattle.kern_model.specs.FileRows.{from_file, moved}
 use Rattle.kern_model.specs.State.{changed}
-use Rattle.chk_rules.specs.declared.stop.Stop.{Stop}
-use Rattle.sys_lookup.specs.declared.effect.Effect.{Effect}
-use Rattle.sys_lookup.proofs.PlayLemmas.{no_memory_row, commits, refuse_plays}
+use Rattle.sys_lookup.proofs.PlayLemmas.{commits_as, no_memory_row, refuse_plays}
 use Rattle.sys_lookup.proofs.RefuseLemmas.{lets_on}
 use Rattle.sys_lookup.specs.PlaysRow.{PlaysRow}
-use Rattle.sys_lookup.specs.Shared.{state_of}
 use Rattle.sys_file.proofs.ObjectLemmas.{few_bytes, object_is}
 use Rattle.sys_file.proofs.reading.read_file.Goals as goal
 
@@ -23,31 +19,27 @@ returns-in_err-bytes c = λ log. no_memory_row c.from_residual.result c.from_res
 pub overflow_cast-end : goal.overflow_cast-end
 overflow_cast-end c =
     let file = c.requires.file in
-    let bytes = c.in_ok-bytes.ensures file.object ((λ i. map.get (c.nodes.ensures i).table.objects (c.opened.view_is i).description.object) ∙ file.is) in
+    let bytes = c.in_ok-bytes.ensures file.object ((λ i. map.get c.args.shared.now.objects (c.opened.view_is i).description.object) ∙ file.is) in
     let few = ap length (c.items.ensures ∙ bytes) ∙ read_few file.object.bytes c.opened.inside.offset c.args.n in
     omega (arith, few)
 
 pub overflow_add-end : goal.overflow_add-end
 overflow_add-end c =
     let file = c.requires.file in
-    let bytes = c.in_ok-bytes.ensures file.object ((λ i. map.get (c.nodes.ensures i).table.objects (c.opened.view_is i).description.object) ∙ file.is) in
+    let bytes = c.in_ok-bytes.ensures file.object ((λ i. map.get c.args.shared.now.objects (c.opened.view_is i).description.object) ∙ file.is) in
     let few = ap length (c.items.ensures ∙ bytes) ∙ read_few file.object.bytes c.opened.inside.offset c.args.n in
-    let small = few_bytes (state_of c.args.shared.now) c.requires.valid c.args.opened.now.description.object file.object file.is file.file in
+    let small = few_bytes c.args.shared.now c.requires.valid c.args.opened.now.description.object file.object file.is file.file in
     omega (arith, few, small)
 
 pub returns : goal.returns
 returns c = λ log.
-    let h = c.args.shared.now in
-    let s = state_of h in
+    let s = c.args.shared.now in
     let f = c.args.opened.now in
     let file = c.requires.file in
     let same = object_is s f.description.object file.object file.is in
-    let there = (λ i. map.get (c.nodes.ensures i).table.objects (c.opened.view_is i).description.object) ∙ file.is in
-    let bytes = c.in_ok-bytes.ensures file.object there in
+    let bytes = c.in_ok-bytes.ensures file.object ((λ i. map.get s.objects (c.opened.view_is i).description.object) ∙ file.is) in
     let is = bytes ∙ (λ i. take c.args.n (drop (c.opened.view_is i).description.offset (sym same i).bytes)) in
-    let r : Result Effect Stop = Ok (record { answer = answer.Bytes c.in_ok-bytes.bytes; own = None }) in
-    let t = state_of c.set_offset.new.shared in
     refuse_plays (lets_on refl)
-    (subst (λ (taken : List ℕ). PlaysRow s log (from_file f taken) r t log) is
-    (commits s t log (moved f (f.description.offset + length c.in_ok-bytes.bytes) ∷ []) (answer.Bytes c.in_ok-bytes.bytes) None
+    (subst (λ (taken : List ℕ). PlaysRow s log (from_file f taken) (Ok c.answers.result) c.set_offset.new.shared log) is
+    (commits_as {changes = moved f (f.description.offset + length c.in_ok-bytes.bytes) ∷ []} c.answers.ensures
     (c.set_offset.ensures f c.requires.open ∙ (λ i. changed s (moved f ((c.opened.view_is i).description.offset + length (c.items.ensures i)))))))

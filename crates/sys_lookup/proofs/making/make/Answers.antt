@@ -1,75 +1,59 @@
-use Rattle.std.proofs.Common.{◌≡◌, ◌∙◌, refl, subst, ℕ, None, nat_lt, not, Result, Ok}
+use Rattle.std.proofs.Common.{◌≡◌, ◌∙◌, ap, refl, subst, ℕ, None, Ok}
 use Rattle.fs_path.specs.Name.{Name}
 use Rattle.lab_lattice.specs.Label.{Label}
 use Rattle.kern_model.specs.declared.calls.Answer.TheVariants.{Nothing}
-use Rattle.kern_model.specs.declared.calls.Errno.TheVariants.{ENOSPC}
-use Rattle.kern_model.specs.declared.limits.TheConstants.{MAX_OBJECTS}
 use Rattle.kern_model.specs.declared.objects.Attr.{Attr}
 use Rattle.kern_model.specs.declared.objects.Body.{Body}
 use Rattle.kern_model.specs.declared.numbers.Oid.{Oid}
-use Rattle.kern_model.specs.Create.{attr_of}
-use Rattle.kern_model.specs.Kinds.{masked}
-use Rattle.kern_model.specs.Row.{Row, Commit, Refuse}
-use Rattle.kern_model.specs.State.{State, Process, drawn}
-use Rattle.kern_model.specs.TreeRows.{make_row}
-use Rattle.sys_lookup.proofs.PlayLemmas.{caller_plays, then_plays, stops_keeping, stops_row, commits}
-use Rattle.chk_rules.specs.declared.stop.Stop.{Stop}
-use Rattle.sys_lookup.specs.declared.effect.Effect.{Effect}
-use Rattle.sys_lookup.specs.Making.{making}
+use Rattle.kern_model.specs.declared.numbers.Pid.{Pid}
+use Rattle.kern_model.specs.Create.{attr_of, made, to_number}
+use Rattle.kern_model.specs.Kinds.{masked, object_with}
+use Rattle.kern_model.specs.Row.{Row, Commit}
+use Rattle.kern_model.specs.State.{State, Process, process_at}
+use Rattle.kern_model.specs.TreeRows.{make_object, make_spot}
+use Rattle.sys_lookup.specs.Callers.{CallerView, caller_in}
 use Rattle.sys_lookup.specs.PlaysRow.{PlaysRow}
-use Rattle.sys_lookup.specs.Shared.{holding, state_of}
+use Rattle.sys_lookup.proofs.PlayLemmas.{commits_as, step_called, stops_keeping, stops_row, then_plays}
 use Rattle.sys_lookup.proofs.making.make.Goals as goal
 
 -- the object is made, and a name leads to it
 abbrev commit : State → Label → Attr → Body → Oid × Name → Row
-commit s label attr body e = Commit (making s label attr body e.0 e.1) Nothing None
+commit s label attr body e = Commit (made s label e.0 e.1 (object_with label attr body)) Nothing None
 
--- the row after its checks
-abbrev creating : State → Label → Attr → Body → Oid × Name → Row
-creating s label attr body e = Refuse ENOSPC (not (nat_lt (drawn s.object_numbers label) MAX_OBJECTS)) (commit s label attr body e)
+-- the row after the spot was found
+abbrev creating : State → Body → Oid × Name → Label × Attr → Row
+creating s body e x = to_number s x.0 (λ _. commit s x.0 x.1 body e)
 
--- the same of what a process makes with a mode
-abbrev creating_by : State → Process → ℕ → Body → Oid × Name → Row
-creating_by s p mode body e = creating s p.label (attr_of p (masked mode p.umask)) body e
+-- the label and the attributes of what a process makes with a mode
+abbrev like : Process → ℕ → Label × Attr
+like p mode = (p.label, attr_of p (masked mode p.umask))
+
+-- the same, as they are had from the caller
+like_is : (s : State) (who : Pid) (k : CallerView) (mode : ℕ) (label : Label) (attr : Attr) → label ≡ k.process.label → attr ≡ attr_of k.process (masked mode k.process.umask) → k ≡ caller_in s who → ◌≡◌ {A = Label × Attr} (label, attr) (like (process_at s who) mode)
+like_is s who k mode label attr label_is attr_is same = (λ i. (label_is i, attr_is i)) ∙ ap (λ (x : CallerView). like x.process mode) same
 
 pub returns-in_err-dir-clause-played : goal.returns-in_err-dir-clause-played
-returns-in_err-dir-clause-played c = λ p there.
-    let s = state_of c.args.shared.now in
-    let q = holding c.args.shared.now.fds.rows c.args.who.now c.living-process.result.now in
-    caller_plays (λ x. make_row s c.args.who.now x c.args.path.now c.args.mode c.args.body) c.args.who.now q p c.living-process.ensures.found there
-    (stops_row {rest = creating_by s q c.args.mode c.args.body} c.from_residual.result c.from_residual.ensures.1 refl c.in_err-dir.ensures.step)
+returns-in_err-dir-clause-played c =
+    let s = c.args.shared.now in
+    stops_row {rest = make_object s (process_at s c.args.who.now) c.args.mode c.args.body} c.from_residual.result c.from_residual.ensures.1 refl
+    (step_called (λ k. make_spot k.state k.process c.args.path.now) c.new-caller.ensures.caller c.in_err-dir.ensures.step)
 
 pub returns-in_err-create-clause-played : goal.returns-in_err-create-clause-played
-returns-in_err-create-clause-played c = λ p there.
-    let s = state_of c.args.shared.now in
-    let q = holding c.args.shared.now.fds.rows c.args.who.now c.living-process.result.now in
+returns-in_err-create-clause-played c =
+    let s = c.args.shared.now in
     let log = c.new_spot.new.checks in
-    let body = c.args.body in
     let e : Oid × Name = (c.in_ok-dir.dir, c.in_ok-dir.name) in
-    let label = c.process-inside.inside.0.0.label in
-    let label_is : label ≡ q.label = (λ i. (c.process-inside.view_is i).creds.label) ∙ (λ i. (c.process.view_is i).label) in
-    let t = state_of c.create.new.shared in
     let r = c.from_residual-in_err-create.result in
-    caller_plays (λ x. make_row s c.args.who.now x c.args.path.now c.args.mode body) c.args.who.now q p c.living-process.ensures.found there
-    (then_plays {rest = creating_by s q c.args.mode body} c.in_ok-dir.ensures.step
-    (subst (λ (l : Label). PlaysRow s log (creating s l (attr_of q (masked c.args.mode q.umask)) body e) r t log) label_is
-    (subst (λ (attr : Attr). PlaysRow s log (creating s label attr body e) r t log) c.new_attr-attr.ensures
-    (stops_keeping {rest = λ _. commit s label c.new_attr-attr.result body e} r c.from_residual-in_err-create.ensures.1 c.in_err-create.ensures.kept (c.in_err-create.ensures.step log)))))
+    then_plays {rest = make_object s (process_at s c.args.who.now) c.args.mode c.args.body} (step_called (λ k. make_spot k.state k.process c.args.path.now) c.new-caller.ensures.caller c.in_ok-dir.ensures.step)
+    (subst (λ x. PlaysRow s log (creating s c.args.body e x) r c.create.new.shared log) (like_is s c.args.who.now _ c.args.mode _ _ c.label-label.ensures c.new_attr-attr.ensures c.new-caller.ensures.caller)
+    (stops_keeping {rest = λ _. commit s c.label-label.result c.new_attr-attr.result c.args.body e} r c.from_residual-in_err-create.ensures.1 c.in_err-create.ensures.kept (c.in_err-create.ensures.step log)))
 
 pub returns-clause-played : goal.returns-clause-played
-returns-clause-played c = λ p there.
-    let s = state_of c.args.shared.now in
-    let q = holding c.args.shared.now.fds.rows c.args.who.now c.living-process.result.now in
+returns-clause-played c =
+    let s = c.args.shared.now in
     let log = c.new_spot.new.checks in
-    let body = c.args.body in
     let e : Oid × Name = (c.in_ok-dir.dir, c.in_ok-dir.name) in
-    let label = c.process-inside.inside.0.0.label in
-    let label_is : label ≡ q.label = (λ i. (c.process-inside.view_is i).creds.label) ∙ (λ i. (c.process.view_is i).label) in
-    let t = state_of c.create.new.shared in
-    let r : Result Effect Stop = Ok (record { answer = Nothing; own = None }) in
-    caller_plays (λ x. make_row s c.args.who.now x c.args.path.now c.args.mode body) c.args.who.now q p c.living-process.ensures.found there
-    (then_plays {rest = creating_by s q c.args.mode body} c.in_ok-dir.ensures.step
-    (subst (λ (l : Label). PlaysRow s log (creating s l (attr_of q (masked c.args.mode q.umask)) body e) r t log) label_is
-    (subst (λ (attr : Attr). PlaysRow s log (creating s label attr body e) r t log) c.new_attr-attr.ensures
-    (then_plays {rest = λ _. commit s label c.new_attr-attr.result body e} (c.in_ok-create.ensures.step log)
-    (commits s t log (making s label c.new_attr-attr.result body e.0 e.1) Nothing None c.in_ok-create.ensures.made)))))
+    then_plays {rest = make_object s (process_at s c.args.who.now) c.args.mode c.args.body} (step_called (λ k. make_spot k.state k.process c.args.path.now) c.new-caller.ensures.caller c.in_ok-dir.ensures.step)
+    (subst (λ x. PlaysRow s log (creating s c.args.body e x) (Ok c.done.result) c.create.new.shared log) (like_is s c.args.who.now _ c.args.mode _ _ c.label-label.ensures c.new_attr-attr.ensures c.new-caller.ensures.caller)
+    (then_plays {rest = λ _. commit s c.label-label.result c.new_attr-attr.result c.args.body e} (c.in_ok-create.ensures.step log)
+    (commits_as c.done.ensures c.in_ok-create.ensures.made)))

@@ -8,7 +8,6 @@ use Rattle.kern_model.specs.State.{State, Process}
 use Rattle.kern_model.specs.Walk.{Found, dir_place, to_new_name}
 use Rattle.chk_rules.specs.Ends.{GoesOn}
 use Rattle.chk_rules.proofs.Steps.{then_goes, stops_there, item_goes, item_stops, gives}
-use Rattle.sys_lookup.specs.Shared.{process_of, state_of}
 use Rattle.sys_lookup.specs.Walks.{place_in}
 use Rattle.sys_lookup.specs.declared.argument.PathArgument.TheVariants.{First}
 use Rattle.sys_lookup.proofs.making.new_spot.Goals as goal
@@ -23,16 +22,16 @@ walked s p at found rest = to_new_name found (λ dir name. entered s p at (dir, 
 
 pub returns-in_err-dir-clause-step : goal.returns-in_err-dir-clause-step
 returns-in_err-dir-clause-step c =
-    let s = state_of c.args.caller.now.shared.now in
-    let p = process_of c.args.caller.now in
+    let s = c.args.caller.now.state in
+    let p = c.args.caller.now.process in
     let at = dir_place (place_in First) c.args.path.now in
     then_goes {next = walked s p at} c.in_ok-walk.ensures.step
     (stops_there {next = entered s p at} c.from_residual-in_err-dir.result c.from_residual-in_err-dir.ensures.1 (c.in_err-dir.ensures.step c.walk.new.checks))
 
 pub returns-in_err-make_in-clause-step : goal.returns-in_err-make_in-clause-step
 returns-in_err-make_in-clause-step c =
-    let s = state_of c.args.caller.now.shared.now in
-    let p = process_of c.args.caller.now in
+    let s = c.args.caller.now.state in
+    let p = c.args.caller.now.process in
     let at = dir_place (place_in First) c.args.path.now in
     let dir = c.in_ok-dir.dir in
     then_goes {next = walked s p at} c.in_ok-walk.ensures.step
@@ -42,8 +41,8 @@ returns-in_err-make_in-clause-step c =
 
 pub returns-clause-step : goal.returns-clause-step
 returns-clause-step c =
-    let s = state_of c.args.caller.now.shared.now in
-    let p = process_of c.args.caller.now in
+    let s = c.args.caller.now.state in
+    let p = c.args.caller.now.process in
     let at = dir_place (place_in First) c.args.path.now in
     let dir = c.in_ok-dir.dir in
     let name = c.in_ok-dir.name in
@@ -53,4 +52,4 @@ returns-clause-step c =
     (item_goes (make_in s p dir c.dir_place.result) c.in_ok-make_in.ensures.step (gives refl))))
 
 pub returns-clause-entry : goal.returns-clause-entry
-returns-clause-entry c = c.in_ok-dir.ensures.entry (state_of c.args.caller.now.shared.now) _ c.in_ok-walk.ensures.found
+returns-clause-entry c = c.in_ok-dir.ensures.entry c.args.caller.now.state _ c.in_ok-walk.ensures.found

@@ -1,12 +1,11 @@
-use Rattle.std.proofs.Common.{◌≡◌, ◌∙◌, ap, refl, nat_le, true, false, Result, Ok, Err}
+use Rattle.std.proofs.Common.{◌≡◌, ◌∙◌, ap, refl, subst, sym, nat_le, true, false, Result, Ok, Err}
 use Rattle.std.specs.FinMap as map
 use Rattle.std.proofs.lemmas.Bool.{le-leb, leb-true}
-use Rattle.kern_model.specs.declared.calls.Errno.TheVariants.{EAGAIN}
 use Rattle.kern_model.specs.declared.limits.TheConstants.{MAX_PROCS}
 use Rattle.kern_model.specs.declared.numbers.Pid.{Pid}
 use Rattle.kern_model.specs.ProcessRows.{child_of, fork_row}
-use Rattle.kern_model.specs.State.{drawn}
-use Rattle.kern_model.specs.Valid.{IsThere}
+use Rattle.kern_model.specs.State.{State, drawn}
+use Rattle.kern_model.specs.Valid.{IsThere, IsValid}
 use Rattle.kern_model.proofs.KeyLaws.{pid_cmp_total}
 use Rattle.kern_model.proofs.MapLemmas.{get-insert_same}
 use Rattle.chk_rules.specs.declared.stop.Stop.TheVariants as stop
@@ -14,66 +13,76 @@ use Rattle.fd_table.specs.Rows.{row_of}
 use Rattle.proc_table.specs.declared.procs.ProcError.{ProcError}
 use Rattle.proc_table.specs.declared.procs.ProcError.TheVariants.{Full}
 use Rattle.proc_table.specs.Procs.{ProcTable, next_in}
-use Rattle.sys_lookup.specs.Shared.{state_of, with_fds}
-use Rattle.sys_lookup.proofs.PlayLemmas.{no_memory_row, refuse_stops_row}
-use Rattle.sys_lookup.proofs.RefuseLemmas.{refuses}
-use Rattle.sys_proc.proofs.ChildLemmas.{forks, new_row, owners_copied, owners_forked}
+use Rattle.sys_lookup.specs.Owners.{HasOwners}
+use Rattle.sys_lookup.proofs.PlayLemmas.{no_memory_row}
+use Rattle.sys_proc.proofs.ChildLemmas.{forks, new_row, owners_copied, owners_forked, refuses_child}
 use Rattle.sys_proc.proofs.StandLemmas.{in_procs, stands_plays}
+use Rattle.sys_proc.proofs.children.fork.Goals.{After-copy_process, After-fork}
 use Rattle.sys_proc.proofs.children.fork.Goals as goal
 
 pub fork-requires : goal.fork-requires
-fork-requires c = in_procs c.args.shared.now c.args.who.now c.requires.living
+fork-requires c = in_procs c.shared.inside c.args.shared.now c.shared.view_is c.args.who.now c.requires.living
+
+-- whether or not a child was added, each descriptor has its process
+owners_after : (c : After-fork) → ∥ HasOwners c.fork.new.self.procs c.shared.inside.fds.rows ∥₁
+owners_after c =
+    let q = in_procs c.shared.inside c.args.shared.now c.shared.view_is c.args.who.now c.requires.living in
+    owners_forked c.shared.inside c.shared.invariant c.args.who.now q.value c.fork.result c.fork.new.self (c.fork.ensures.made q.value q.is) c.fork.ensures.err
 
 pub invariant_of-shared : goal.invariant_of-shared
-invariant_of-shared c =
-    let q = in_procs c.args.shared.now c.args.who.now c.requires.living in
-    record { owners = owners_forked c.args.shared.now c.args.who.now q.value c.fork.result c.fork.new.self (c.fork.ensures.made q.value q.is) c.fork.ensures.err }
+invariant_of-shared c = owners_after c.before
+
+pub invariant_of-shared-in-Err-NoMemory : goal.invariant_of-shared-in-Err-NoMemory
+invariant_of-shared-in-Err-NoMemory c = owners_after c.before
 
 pub returns-in-Err-Full : goal.returns-in-Err-Full
-returns-in-Err-Full c = λ p log there.
-    let h = c.args.shared.now in
-    let s = state_of h in
+returns-in-Err-Full c = λ log.
+    let h = c.shared.inside in
     let who = c.args.who.now in
-    let same = c.in-Err-Full.ensures.err in
-    stands_plays h who p there (fork_row s who) (λ q is.
+    stands_plays h c.args.shared.now c.shared.view_is who c.requires.living (λ x. fork_row x who) (λ q is.
     let full : nat_le MAX_PROCS (drawn h.procs.numbers q.label) ≡ true = le-leb _ _ ((c.in-Err-Full.ensures.full q is).0 (ap (λ (e : ProcError). Err e) c.in-Err-Full.field-0-is)) in
-    refuse_stops_row (Err (stop.Refused EAGAIN)) refl (λ i. record s { procs = with_fds (same i).procs h.fds.rows; process_numbers = (same i).numbers }) (refuses full))
+    refuses_child h log who q c.fork.new.self full c.in-Err-Full.ensures.err)
 
 pub returns-in-Err-NoMemory : goal.returns-in-Err-NoMemory
-returns-in-Err-NoMemory c = λ p log there. no_memory_row (Err (stop.NoMemory c.in-Err-NoMemory.e)) refl
+returns-in-Err-NoMemory c = λ log. no_memory_row (Err (stop.NoMemory c.in-Err-NoMemory.e)) refl
 
 pub copy_process-requires : goal.copy_process-requires
 copy_process-requires c =
-    let h = c.args.shared.now in
-    let q = in_procs h c.args.who.now c.requires.living in
-    ap (map.get h.fds.rows) (c.in-Ok.ensures.who q.value q.is) ∙ new_row h c.requires.valid q.value.label
+    let h = c.shared.inside in
+    let q = in_procs h c.args.shared.now c.shared.view_is c.args.who.now c.requires.living in
+    let valid = subst (λ (x : State). ∥ IsValid x ∥₁) (sym c.shared.view_is) c.requires.valid in
+    ap (map.get h.fds.rows) (c.in-Ok.ensures.who q.value q.is) ∙ new_row h c.shared.invariant valid q.value.label
 
-pub invariant_of-shared-2 : goal.invariant_of-shared-2
-invariant_of-shared-2 c =
-    let h = c.args.shared.now in
+-- whether or not its descriptors were added, each descriptor has its process
+owners_last : (c : After-copy_process) → ∥ HasOwners c.fork.new.self.procs c.copy_process.new.self.rows ∥₁
+owners_last c =
+    let h = c.shared.inside in
     let who = c.args.who.now in
-    let q = in_procs h who c.requires.living in
+    let q = in_procs h c.args.shared.now c.shared.view_is who c.requires.living in
     let made = c.in-Ok.ensures.made q.value q.is in
     let next = next_in h.procs q.value.label in
     let there : IsThere c.fork.new.self.procs c.in-Ok.child = record {
       value = child_of who q.value;
       is = ap (λ (t : ProcTable). map.get t.procs c.in-Ok.child) made ∙ ap (map.get (map.insert h.procs.procs next (child_of who q.value))) (c.in-Ok.ensures.who q.value q.is) ∙ get-insert_same pid_cmp_total h.procs.procs next (child_of who q.value);
     } in
-    record {
-      owners = owners_copied c.fork.new.self.procs h.fds c.copy_process.new.self c.in-Ok.child (row_of h.fds.rows who) c.copy_process.result there
-          (owners_forked h who q.value (Ok c.in-Ok.child) c.fork.new.self made tt) c.copy_process.ensures.ok c.copy_process.ensures.err;
-    }
+    owners_copied c.fork.new.self.procs h.fds c.copy_process.new.self c.in-Ok.child (row_of h.fds.rows who) c.copy_process.result there
+    (owners_forked h c.shared.invariant who q.value (Ok c.in-Ok.child) c.fork.new.self made tt) c.copy_process.ensures.ok c.copy_process.ensures.err
+
+pub invariant_of-shared-in_err-copy_process : goal.invariant_of-shared-in_err-copy_process
+invariant_of-shared-in_err-copy_process c = owners_last c.before.before.before
+
+pub invariant_of-shared-2 : goal.invariant_of-shared-2
+invariant_of-shared-2 c = owners_last c.before.before.before
 
 pub returns-in_err-copy_process : goal.returns-in_err-copy_process
-returns-in_err-copy_process c = λ p log there. no_memory_row c.from_residual.result c.from_residual.ensures.1
+returns-in_err-copy_process c = λ log. no_memory_row c.from_residual.result c.from_residual.ensures.1
 
 pub returns : goal.returns
-returns c = λ p log there.
-    let h = c.args.shared.now in
-    let s = state_of h in
+returns c = λ log.
+    let h = c.shared.inside in
     let who = c.args.who.now in
     let child : Pid = c.in-Ok.child in
-    stands_plays h who p there (fork_row s who) (λ q is.
+    stands_plays h c.args.shared.now c.shared.view_is who c.requires.living (λ x. fork_row x who) (λ q is.
     let full = c.in-Ok.ensures.full q is in
     let left : nat_le MAX_PROCS (drawn h.procs.numbers q.label) ≡ false =
     elim (nat_le MAX_PROCS (drawn h.procs.numbers q.label)) as (λ b. nat_le MAX_PROCS (drawn h.procs.numbers q.label) ≡ b → b ≡ false) [

@@ -1,65 +1,35 @@
-use Rattle.std.proofs.Common.{◌∙◌, ap, sym, subst, drop, Result, Err}
-use Rattle.kern_model.specs.ProcessRows.{await_child, wait_row}
-use Rattle.kern_model.specs.State.{State, Process}
-use Rattle.kern_model.specs.declared.numbers.Pid.{Pid}
+use Rattle.std.proofs.Common.{◌∙◌, ap, sym, drop, Err}
+use Rattle.kern_model.specs.ProcessRows.{wait_row}
 use Rattle.proc_table.specs.declared.procs.ReapError.{ReapError}
-use Rattle.proc_table.specs.Procs.{has_living_child}
-use Rattle.chk_rules.specs.CheckLog.{CheckLog}
-use Rattle.chk_rules.specs.declared.stop.Stop.{Stop}
-use Rattle.sys_lookup.specs.declared.effect.Effect.{Effect}
-use Rattle.sys_lookup.specs.declared.shared.Shared.{Shared}
-use Rattle.sys_lookup.specs.PlaysRow.{PlaysRow}
-use Rattle.sys_lookup.specs.Shared.{holding, state_of, with_fds}
-use Rattle.sys_lookup.proofs.FdLemmas.{with_fds-process}
-use Rattle.sys_proc.proofs.ChildLemmas.{child_shown, has_none, owners_reaped, takes, takes_none}
+use Rattle.sys_proc.proofs.ChildLemmas.{owners_reaped, waits_for_none, waits_taking, waits_without}
 use Rattle.sys_proc.proofs.StandLemmas.{in_procs, stands_plays}
+use Rattle.sys_proc.proofs.children.wait.Goals.{in-Ok, in-Err-NoChild, in-Err-NoneEnded}
 use Rattle.sys_proc.proofs.children.wait.Goals as goal
 
 pub reap-requires : goal.reap-requires
-reap-requires c = in_procs c.args.shared.now c.args.who.now c.requires
+reap-requires c = in_procs c.shared.inside c.args.shared.now c.shared.view_is c.args.who.now c.requires
 
 pub invariant_of-shared : goal.invariant_of-shared
 invariant_of-shared c =
-    let q = in_procs c.args.shared.now c.args.who.now c.requires in
-    record { owners = owners_reaped c.args.shared.now c.args.who.now (record q.value { ended = drop 1 q.value.ended }) c.reap.result c.reap.new.self (c.reap.ensures.taken q.value q.is) c.reap.ensures.err }
-
--- the row, whose test is made in the table
-waits : (h : Shared) (who : Pid) (q : Process) (log : CheckLog) (r : Result Effect Stop) (t : State)
-    → PlaysRow (state_of h) log (await_child (has_living_child h.procs.procs who) who (holding h.fds.rows who q) q.ended) r t log
-    → PlaysRow (state_of h) log (wait_row (state_of h) who (holding h.fds.rows who q)) r t log
-waits h who q log r t plays = subst (λ b. PlaysRow (state_of h) log (await_child b who (holding h.fds.rows who q) q.ended) r t log) (sym (child_shown h who)) plays
-
-pub returns-in-Ok-clause-played : goal.returns-in-Ok-clause-played
-returns-in-Ok-clause-played c = λ p log there.
-    let h = c.args.shared.now in
-    let s = state_of h in
+    let h = c.shared.inside in
     let who = c.args.who.now in
-    let rows = h.fds.rows in
-    stands_plays h who p there (wait_row s who) (λ q is.
-    let taken = c.in-Ok.ensures.taken q is in
-    waits h who q log _ _
-    (takes s _ log who (holding rows who q) (has_living_child h.procs.procs who) q.ended (c.in-Ok.child, c.in-Ok.ending) (c.in-Ok.ensures.answer q is)
-    ((λ i. record s { procs = with_fds (taken i).procs rows; process_numbers = (taken i).numbers })
-    ∙ (λ i. record s { procs = with_fds-process h.procs.procs rows who (record q { ended = drop 1 q.ended }) i }))))
+    let q = in_procs h c.args.shared.now c.shared.view_is who c.requires in
+    owners_reaped h c.shared.invariant who (record q.value { ended = drop 1 q.value.ended }) c.reap.result c.reap.new.self (c.reap.ensures.taken q.value q.is) c.reap.ensures.err
 
-pub returns-in-Err-NoChild-clause-played : goal.returns-in-Err-NoChild-clause-played
-returns-in-Err-NoChild-clause-played c = λ p log there.
-    let h = c.args.shared.now in
-    let s = state_of h in
+pub returns-clause-played : goal.returns-clause-played
+returns-clause-played c = λ log.
+    let h = c.shared.inside in
     let who = c.args.who.now in
-    let same = c.in-Err-NoChild.ensures.err in
-    stands_plays h who p there (wait_row s who) (λ q is.
-    waits h who q log _ _
-    (has_none s _ log who (holding h.fds.rows who q) (has_living_child h.procs.procs who) q.ended (sym (ap (λ (e : ReapError). Err e) c.in-Err-NoChild.field-0-is) ∙ c.in-Err-NoChild.ensures.answer q is)
-    (λ i. record s { procs = with_fds (same i).procs h.fds.rows; process_numbers = (same i).numbers })))
-
-pub returns-in-Err-NoneEnded-clause-played : goal.returns-in-Err-NoneEnded-clause-played
-returns-in-Err-NoneEnded-clause-played c = λ p log there.
-    let h = c.args.shared.now in
-    let s = state_of h in
-    let who = c.args.who.now in
-    let same = c.in-Err-NoneEnded.ensures.err in
-    stands_plays h who p there (wait_row s who) (λ q is.
-    waits h who q log _ _
-    (takes_none s _ log who (holding h.fds.rows who q) (has_living_child h.procs.procs who) q.ended (sym (ap (λ (e : ReapError). Err e) c.in-Err-NoneEnded.field-0-is) ∙ c.in-Err-NoneEnded.ensures.answer q is)
-    (λ i. record s { procs = with_fds (same i).procs h.fds.rows; process_numbers = (same i).numbers })))
+    let r = c.match-reap.result in
+    let procs = c.reap.new.self in
+    stands_plays h c.args.shared.now c.shared.view_is who c.requires (λ x. wait_row x who) (λ q is.
+    elim c.match-reap.branch [
+      | in-Ok w ↦
+          waits_taking h log who q procs r (w.in-Ok.child, w.in-Ok.ending) w.answers.result w.result-is w.answers.ensures (w.in-Ok.ensures.answer q is) (w.in-Ok.ensures.taken q is)
+      | in-Err-NoChild w ↦
+          let reaps = sym (ap (λ (e : ReapError). Err e) w.in-Err-NoChild.field-0-is) ∙ w.in-Err-NoChild.ensures.answer q is in
+          waits_without h log who q procs r w.result-is reaps w.in-Err-NoChild.ensures.err
+      | in-Err-NoneEnded w ↦
+          let reaps = sym (ap (λ (e : ReapError). Err e) w.in-Err-NoneEnded.field-0-is) ∙ w.in-Err-NoneEnded.ensures.answer q is in
+          waits_for_none h log who q procs r w.result-is reaps w.in-Err-NoneEnded.ensures.err
+    ])

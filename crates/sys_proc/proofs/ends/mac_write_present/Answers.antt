@@ -12,5 +12,5 @@ returns-then-mac_write_ok c =
 pub returns : goal.returns
 returns c =
     let same : c.mac_write_ok.result ≡ same_label c.args.receiver.now.label c.args.target.now.label = search rules in
-    let check : c.mac_write.result ≡ mac_write_process c.args.sender.now c.args.target.now c.args.receiver.now.label = search rules in
+    let check : c.mac_write.result ≡ mac_write_process c.args.sender.now.process c.args.target.now c.args.receiver.now.label = search rules in
     asked (ap not (sym same ∙ c.if-mac_write_ok.false)) (equal_check check c.must.ensures)

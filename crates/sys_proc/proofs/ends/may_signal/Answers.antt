@@ -6,7 +6,7 @@ use Rattle.sys_proc.proofs.ends.may_signal.Goals as goal
 
 pub returns-in_err-mac_write_present : goal.returns-in_err-mac_write_present
 returns-in_err-mac_write_present c =
-    let sender = c.args.sender.now in
+    let sender = c.args.sender.now.process in
     let target = c.args.target.now in
     let receiver = c.args.receiver.now in
     item_stops (writes_present sender target receiver) {part = λ rest. Need (kill_rule sender target receiver) (rest tt)}
@@ -14,7 +14,7 @@ returns-in_err-mac_write_present c =
 
 pub returns : goal.returns
 returns c =
-    let sender = c.args.sender.now in
+    let sender = c.args.sender.now.process in
     let target = c.args.target.now in
     let receiver = c.args.receiver.now in
     item_goes (writes_present sender target receiver) {part = λ rest. Need (kill_rule sender target receiver) (rest tt)}

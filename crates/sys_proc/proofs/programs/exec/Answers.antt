@@ -1,56 +1,64 @@
-use Rattle.std.proofs.Common.{refl, sym}
+use Rattle.std.proofs.Common.{◌∙◌, ap, refl}
 use Rattle.kern_model.specs.declared.checks.Place.{Place}
 use Rattle.kern_model.specs.declared.numbers.Oid.{Oid}
-use Rattle.kern_model.specs.ProcessRows.{asks_program, exec_row, execute, run, take_on}
-use Rattle.kern_model.specs.State.{object_at}
-use Rattle.sys_lookup.specs.Shared.{holding, state_of}
+use Rattle.kern_model.specs.ProcessRows.{asks_program, execute, run, take_on}
+use Rattle.kern_model.specs.Row.{Need}
+use Rattle.kern_model.specs.Rules.{mac_read}
+use Rattle.kern_model.specs.State.{object_at, process_at}
+use Rattle.kern_model.specs.Walk.{on_path}
+use Rattle.sys_lookup.specs.Callers.{CallerView}
+use Rattle.sys_lookup.specs.Shared.{metadata_of}
 use Rattle.sys_lookup.specs.declared.shared.Metadata.{Metadata}
-use Rattle.sys_lookup.proofs.PlayLemmas.{caller_plays, then_plays, stops_row}
+use Rattle.sys_lookup.proofs.PlayLemmas.{step_called, then_plays, stops_row}
 use Rattle.sys_proc.proofs.programs.exec.Goals as goal
 
 pub returns-in_err-id : goal.returns-in_err-id
-returns-in_err-id c p there =
-    let h = c.args.shared.now in
-    let s = state_of h in
+returns-in_err-id c =
+    let s = c.args.shared.now in
     let who = c.args.who.now in
-    let q = holding h.fds.rows who c.living-process.result.now in
-    caller_plays (λ x. exec_row s who x c.args.path.now) who q p c.living-process.ensures.found there
-    (stops_row {rest = λ (r : Oid × Place). execute s who q r.0 r.1} c.from_residual.result c.from_residual.ensures.1 refl c.in_err-id.ensures.step)
+    stops_row {rest = λ (r : Oid × Place). execute s who (process_at s who) r.0 r.1} c.from_residual.result c.from_residual.ensures.1 refl
+    (step_called (λ k rest. on_path k.state k.process c.args.path.now (λ id place. rest (id, place))) c.new-caller.ensures.caller c.in_err-id.ensures.step)
 
 pub returns-in_err-program : goal.returns-in_err-program
-returns-in_err-program c p there =
-    let h = c.args.shared.now in
-    let s = state_of h in
+returns-in_err-program c =
+    let s = c.args.shared.now in
     let who = c.args.who.now in
-    let q = holding h.fds.rows who c.living-process.result.now in
-    caller_plays (λ x. exec_row s who x c.args.path.now) who q p c.living-process.ensures.found there
-    (then_plays {rest = λ (r : Oid × Place). execute s who q r.0 r.1} c.in_ok-id.ensures.step
-    (stops_row {rest = λ _. take_on s.bound who q c.in_ok-id.id c.in_ok-id.place (object_at s c.in_ok-id.id)}
-    c.from_residual-in_err-program.result c.from_residual-in_err-program.ensures.1 refl c.in_err-program.ensures.step))
+    let p = process_at s who in
+    let id = c.in_ok-id.id in
+    let place = c.in_ok-id.place in
+    then_plays {rest = λ (r : Oid × Place). execute s who p r.0 r.1}
+    (step_called (λ k rest. on_path k.state k.process c.args.path.now (λ id place. rest (id, place))) c.new-caller.ensures.caller c.in_ok-id.ensures.step)
+    (stops_row {rest = λ _. take_on s.bound who p id place (object_at s id)} c.from_residual-in_err-program.result c.from_residual-in_err-program.ensures.1 refl
+    (step_called (λ k rest. Need (mac_read k.state k.process id place) (rest (metadata_of k.state id))) c.new-caller.ensures.caller c.in_err-program.ensures.step))
 
 pub returns-in_err-ask_program : goal.returns-in_err-ask_program
-returns-in_err-ask_program c p there =
-    let h = c.args.shared.now in
-    let s = state_of h in
+returns-in_err-ask_program c =
+    let s = c.args.shared.now in
     let who = c.args.who.now in
-    let q = holding h.fds.rows who c.living-process.result.now in
+    let p = process_at s who in
     let id = c.in_ok-id.id in
-    caller_plays (λ x. exec_row s who x c.args.path.now) who q p c.living-process.ensures.found there
-    (then_plays {rest = λ (r : Oid × Place). execute s who q r.0 r.1} c.in_ok-id.ensures.step
-    (then_plays {rest = λ (m : Metadata). asks_program q id c.in_ok-id.place (object_at s id) (run s.bound who q m.id m.attr)} c.in_ok-program.ensures.step
-    (stops_row {rest = λ _. run s.bound who q c.in_ok-program.program.id c.in_ok-program.program.attr}
-    c.from_residual-in_err-ask_program.result c.from_residual-in_err-ask_program.ensures.1 refl (c.in_err-ask_program.ensures s id c.in_ok-program.ensures.object))))
+    let place = c.in_ok-id.place in
+    let object = c.in_ok-program.ensures.object ∙ ap (λ (k : CallerView). metadata_of k.state id) c.new-caller.ensures.caller in
+    then_plays {rest = λ (r : Oid × Place). execute s who p r.0 r.1}
+    (step_called (λ k rest. on_path k.state k.process c.args.path.now (λ id place. rest (id, place))) c.new-caller.ensures.caller c.in_ok-id.ensures.step)
+    (then_plays {rest = λ (m : Metadata). asks_program p id place (object_at s id) (run s.bound who p m.id m.attr)}
+    (step_called (λ k rest. Need (mac_read k.state k.process id place) (rest (metadata_of k.state id))) c.new-caller.ensures.caller c.in_ok-program.ensures.step)
+    (stops_row {rest = λ _. run s.bound who p c.in_ok-program.program.id c.in_ok-program.program.attr}
+    c.from_residual-in_err-ask_program.result c.from_residual-in_err-ask_program.ensures.1 refl
+    (step_called (λ k rest. asks_program k.process id place (object_at s id) (rest tt)) c.new-caller.ensures.caller (c.in_err-ask_program.ensures s id object))))
 
 pub returns : goal.returns
-returns c p there =
-    let h = c.args.shared.now in
-    let s = state_of h in
+returns c =
+    let s = c.args.shared.now in
     let who = c.args.who.now in
-    let q = holding h.fds.rows who c.living-process.result.now in
+    let p = process_at s who in
     let id = c.in_ok-id.id in
-    caller_plays (λ x. exec_row s who x c.args.path.now) who q p c.living-process.ensures.found there
-    (then_plays {rest = λ (r : Oid × Place). execute s who q r.0 r.1} c.in_ok-id.ensures.step
-    (then_plays {rest = λ (m : Metadata). asks_program q id c.in_ok-id.place (object_at s id) (run s.bound who q m.id m.attr)} c.in_ok-program.ensures.step
-    (then_plays {rest = λ _. run s.bound who q c.in_ok-program.program.id c.in_ok-program.program.attr}
-    (c.in_ok-ask_program.ensures s id c.in_ok-program.ensures.object)
-    (c.run.ensures c.ask_program.new.checks q (sym c.living-process.ensures.found)))))
+    let place = c.in_ok-id.place in
+    let object = c.in_ok-program.ensures.object ∙ ap (λ (k : CallerView). metadata_of k.state id) c.new-caller.ensures.caller in
+    then_plays {rest = λ (r : Oid × Place). execute s who p r.0 r.1}
+    (step_called (λ k rest. on_path k.state k.process c.args.path.now (λ id place. rest (id, place))) c.new-caller.ensures.caller c.in_ok-id.ensures.step)
+    (then_plays {rest = λ (m : Metadata). asks_program p id place (object_at s id) (run s.bound who p m.id m.attr)}
+    (step_called (λ k rest. Need (mac_read k.state k.process id place) (rest (metadata_of k.state id))) c.new-caller.ensures.caller c.in_ok-program.ensures.step)
+    (then_plays {rest = λ _. run s.bound who p c.in_ok-program.program.id c.in_ok-program.program.attr}
+    (step_called (λ k rest. asks_program k.process id place (object_at s id) (rest tt)) c.new-caller.ensures.caller (c.in_ok-ask_program.ensures s id object))
+    (c.run.ensures c.ask_program.new.checks)))

@@ -1,37 +1,36 @@
 use Rattle.std.proofs.Common.{◌≡◌, ◌∙◌, sym, ap, Some}
 use Rattle.std.specs.Option.{option_copied_mut}
+use Rattle.kern_model.specs.declared.calls.Answer.TheVariants.{Nothing}
 use Rattle.kern_model.specs.declared.records.Rec.TheVariants.{Exec}
 use Rattle.kern_model.specs.Exec.{exec_caps, exec_ids}
 use Rattle.proc_creds.specs.Credentials.{Credentials, taken_on}
 use Rattle.proc_creds.proofs.ExecLemmas.{taken_from_file}
-use Rattle.sys_lookup.proofs.LendLemmas.{creds_there}
 use Rattle.sys_lookup.proofs.OwnerLemmas.{owners_creds}
-use Rattle.sys_proc.proofs.LentLemmas.{equal_record, lent_is, plays_becoming}
+use Rattle.sys_lookup.proofs.PlayLemmas.{commits, equal_record}
+use Rattle.sys_proc.proofs.LentLemmas.{left_changed, lent_is, some_lent}
 use Rattle.sys_proc.proofs.programs.run.Goals as goal
 
 pub unreachable-requires : goal.unreachable-requires
 unreachable-requires c =
-    let h = c.args.shared.now in
-    creds_there h.procs.procs h.fds.rows c.args.who.now c.requires.living (sym c.creds_mut.ensures.value ∙ ap option_copied_mut c.in_default.is)
-
-pub returns : goal.returns
-returns c = λ log p there.
-    let h = c.args.shared.now in
-    let who = c.args.who.now in
-    let m = c.args.program.now in
-    let lent = c.in-Some.creds.now in
-    let same = lent_is h who p there lent c.in-Some.ensures.value in
-    let caps = exec_caps lent.caps m.attr.caps h.bound in
-    let left : c.exec_transform.new.self ≡ record lent { ids = exec_ids lent.ids m.attr; caps = caps } =
-    c.exec_transform.ensures
-    ∙ (λ i. record lent { ids = taken_on lent.ids (c.user_of.ensures i) (c.group_of.ensures i); caps = caps })
-    ∙ (λ i. record lent { ids = taken_from_file lent.ids m.attr i; caps = caps }) in
-    equal_record
-    (ap (λ (x : Credentials). Some (Exec who m.id m.attr.caps x.caps)) (c.creds.view_is ∙ left) ∙ ap (λ (x : Credentials). Some (Exec who m.id m.attr.caps (exec_caps x.caps m.attr.caps h.bound))) (sym same))
-    (plays_becoming h who p there lent c.in-Some.ensures.value log (Some (Exec who m.id m.attr.caps c.creds.inside.caps))
-    (λ (x : Credentials). record x { ids = exec_ids x.ids m.attr; caps = exec_caps x.caps m.attr.caps h.bound }) c.exec_transform.new.self left)
+    some_lent c.shared.inside c.args.shared.now c.shared.view_is c.args.who.now c.requires.living (sym c.creds_mut.ensures.value ∙ ap option_copied_mut c.in_default.is)
 
 pub invariant_of-shared : goal.invariant_of-shared
 invariant_of-shared c =
-    let h = c.args.shared.now in
-    record { owners = owners_creds h.procs.procs h.fds.rows c.args.who.now c.exec_transform.new.self h.owners }
+    let h = c.shared.inside in
+    owners_creds h.procs.procs h.fds.rows c.args.who.now c.exec_transform.new.self c.shared.invariant
+
+pub returns : goal.returns
+returns c = λ log.
+    let s = c.args.shared.now in
+    let who = c.args.who.now in
+    let m = c.args.program.now in
+    let lent = c.in-Some.creds.now in
+    let change : Credentials → Credentials = λ x. record x { ids = exec_ids x.ids m.attr; caps = exec_caps x.caps m.attr.caps s.bound } in
+    let left : c.exec_transform.new.self ≡ change lent =
+    c.exec_transform.ensures
+    ∙ (λ i. record lent { ids = taken_on lent.ids (c.user_of.ensures i) (c.group_of.ensures i); caps = exec_caps lent.caps m.attr.caps (c.shared.view_is i).bound })
+    ∙ (λ i. record lent { ids = taken_from_file lent.ids m.attr i; caps = exec_caps lent.caps m.attr.caps s.bound }) in
+    let same = lent_is c.shared.inside s c.shared.view_is who c.requires.living lent c.in-Some.ensures.value in
+    equal_record
+    (ap (λ (x : Credentials). Some (Exec who m.id m.attr.caps x.caps)) (c.creds.view_is ∙ left ∙ ap change (sym same)))
+    (commits _ _ _ _ Nothing (Some (Exec who m.id m.attr.caps c.creds.inside.caps)) (left_changed c.shared.inside s c.shared.view_is who c.requires.living lent c.in-Some.ensures.value change c.exec_transform.new.self left))

@@ -1,19 +1,16 @@
-use Rattle.std.proofs.Common.{Ok, None, [], Result, refl, subst, sym}
+use Rattle.std.proofs.Common.{Ok, refl, subst, sym}
 use Rattle.kern_model.specs.Row.{Row}
-use Rattle.chk_rules.specs.declared.stop.Stop.{Stop}
-use Rattle.sys_lookup.specs.declared.effect.Effect.{Effect}
 use Rattle.sys_lookup.specs.PlaysRow.{PlaysRow}
-use Rattle.sys_lookup.proofs.PlayLemmas.{commits, no_memory_row}
+use Rattle.sys_lookup.proofs.PlayLemmas.{commits_as, no_memory_row}
 use Rattle.sys_proc.proofs.OwnLemmas.{own_names}
 use Rattle.sys_proc.proofs.reporting.report.Goals as goal
 
 pub returns-clause-played : goal.returns-clause-played
-returns-clause-played c = λ s rows log.
-    let r : Result Effect Stop = Ok (record { answer = c.in_ok-answer.answer; own = None }) in
-    subst (λ (x : Row). PlaysRow s log x r s log) (sym (c.in_ok-answer.ensures.answer s rows)) (commits s s log [] c.in_ok-answer.answer None refl)
+returns-clause-played c = λ s log.
+    subst (λ (x : Row). PlaysRow s log x (Ok c.answers.result) s log) (sym (c.in_ok-answer.ensures.answer s)) (commits_as c.answers.ensures refl)
 
 pub returns-in_err-answer-clause-played : goal.returns-in_err-answer-clause-played
-returns-in_err-answer-clause-played c = λ s rows log. no_memory_row c.from_residual.result c.from_residual.ensures.1
+returns-in_err-answer-clause-played c = λ s log. no_memory_row c.from_residual.result c.from_residual.ensures.1
 
 pub returns-in_err-answer-clause-names : goal.returns-in_err-answer-clause-names
 returns-in_err-answer-clause-names c = own_names c.args.call.now c.requires

@@ -1,33 +1,28 @@
-use Rattle.std.proofs.Common.{◌≡◌, ◌∙◌, ◌||◌, true, refl, sym, ap}
+use Rattle.std.proofs.Common.{◌≡◌, ◌∙◌, ◌||◌, true, sym, ap}
 use Rattle.kern_model.specs.declared.checks.Check.{Check}
-use Rattle.kern_model.specs.Rules.{cap_of}
-use Rattle.kern_model.specs.State.{root}
-use Rattle.proc_creds.specs.Credentials.{may_be_user}
-use Rattle.proc_table.specs.Procs.{starting}
+use Rattle.kern_model.specs.Rules.{cap_of, may_be_user}
 use Rattle.chk_rules.proofs.Steps.{equal_check}
 use Rattle.sys_lookup.proofs.CheckLemmas.{holds_where_passed}
 use Rattle.sys_proc.proofs.StepLemmas.{soft_stops, soft_granted, else_stops, else_goes}
 use Rattle.sys_proc.proofs.users.sets_all.Goals as goal
 
 pub returns-in_err-all-clause-step : goal.returns-in_err-all-clause-step
-returns-in_err-all-clause-step c = λ p same.
-    soft_stops (c.setuid_all.ensures p same) c.from_residual.result c.from_residual.ensures.1 c.in_err-all.ensures
+returns-in_err-all-clause-step c = soft_stops c.setuid_all.ensures c.from_residual.result c.from_residual.ensures.1 c.in_err-all.ensures
 
 pub returns-in_err-must-clause-step : goal.returns-in_err-must-clause-step
-returns-in_err-must-clause-step c = λ p same.
-    else_stops (c.setuid_all.ensures p same) c.in_ok-all.ensures c.from_residual-in_err-must.result c.from_residual-in_err-must.ensures.1 c.if-not-all.true
-    (equal_check (c.setuid_rule.ensures p same) c.in_err-must.ensures)
+returns-in_err-must-clause-step c =
+    else_stops c.setuid_all.ensures c.in_ok-all.ensures c.from_residual-in_err-must.result c.from_residual-in_err-must.ensures.1 c.if-not-all.true
+    (equal_check c.setuid_rule.ensures c.in_err-must.ensures)
 
 pub returns-in_ok-must-clause-step : goal.returns-in_ok-must-clause-step
-returns-in_ok-must-clause-step c = λ p same.
-    else_goes (c.setuid_all.ensures p same) c.in_ok-all.ensures c.if-not-all.true (equal_check (c.setuid_rule.ensures p same) c.in_ok-must.ensures)
+returns-in_ok-must-clause-step c = else_goes c.setuid_all.ensures c.in_ok-all.ensures c.if-not-all.true (equal_check c.setuid_rule.ensures c.in_ok-must.ensures)
 
 pub returns-in_ok-must-clause-allowed : goal.returns-in_ok-must-clause-allowed
 returns-in_ok-must-clause-allowed c =
-    let check_is = c.setuid_rule.ensures (starting c.args.creds.now root) refl in
+    let check_is = c.setuid_rule.ensures in
     let holds : c.setuid_rule.result.holds ≡ true =
     holds_where_passed c.prefer.new.checks c.must.new.checks c.setuid_rule.result (ap (λ (k : Check). cap_of k.name) check_is) c.in_ok-must.ensures in
-    ap (λ all. all || may_be_user c.args.creds.now.ids c.args.user) c.if-not-all.true ∙ sym (ap (λ (k : Check). k.holds) check_is) ∙ holds
+    ap (λ all. all || may_be_user c.args.caller.now.process.ids c.args.user) c.if-not-all.true ∙ sym (ap (λ (k : Check). k.holds) check_is) ∙ holds
 
 pub returns-else-not-all-clause-step : goal.returns-else-not-all-clause-step
-returns-else-not-all-clause-step c = λ p same. soft_granted (c.setuid_all.ensures p same) c.in_ok-all.ensures c.if-not-all.false
+returns-else-not-all-clause-step c = soft_granted c.setuid_all.ensures c.in_ok-all.ensures c.if-not-all.false

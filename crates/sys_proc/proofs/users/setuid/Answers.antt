@@ -1,43 +1,23 @@
-use Rattle.std.proofs.Common.{◌∙◌, sym, ap, None}
-use Rattle.std.specs.Option.{option_copied_mut}
-use Rattle.kern_model.specs.ProcessRows.{set_user, with_user}
-use Rattle.proc_creds.specs.Credentials.{Credentials}
-use Rattle.sys_lookup.proofs.LendLemmas.{creds_there}
-use Rattle.sys_lookup.proofs.OwnerLemmas.{owners_creds}
-use Rattle.sys_lookup.proofs.PlayLemmas.{then_plays, stops_row}
-use Rattle.sys_proc.proofs.LentLemmas.{lent_is, left_same, plays_becoming}
+use Rattle.std.proofs.Common.{◌∙◌, ◌||◌, ap, refl, sym}
+use Rattle.kern_model.specs.ProcessRows.{asks_user, set_user}
+use Rattle.kern_model.specs.Rules.{may_be_user}
+use Rattle.kern_model.specs.State.{process_at}
+use Rattle.sys_lookup.specs.Callers.{CallerView}
+use Rattle.sys_lookup.proofs.PlayLemmas.{commits_as, step_called, stops_row, then_plays}
 use Rattle.sys_proc.proofs.users.setuid.Goals as goal
 
-pub unreachable-requires : goal.unreachable-requires
-unreachable-requires c =
-    let h = c.args.shared.now in
-    creds_there h.procs.procs h.fds.rows c.args.who.now c.requires.living (sym c.creds_mut.ensures.value ∙ ap option_copied_mut c.in_default.is)
-
 pub returns-in_err-all : goal.returns-in_err-all
-returns-in_err-all c = λ p there.
-    let h = c.args.shared.now in
+returns-in_err-all c =
     let who = c.args.who.now in
-    let lent = c.in-Some.creds.now in
-    let same = lent_is h who p there lent c.in-Some.ensures.value in
-    stops_row {rest = set_user who p c.args.user} c.from_residual.result c.from_residual.ensures.1 (left_same h who p there lent c.in-Some.ensures.value) (c.in_err-all.ensures.step p same)
+    stops_row {rest = set_user who (process_at c.args.shared.now who) c.args.user} c.from_residual.result c.from_residual.ensures.1 refl
+    (step_called (λ k. asks_user who k.process c.args.user) c.new-caller.ensures.caller c.in_err-all.ensures.step)
+
+pub set_user-requires-clause-may : goal.set_user-requires-clause-may
+set_user-requires-clause-may c = ap (λ (k : CallerView). c.in_ok-all.all || may_be_user k.process.ids c.args.user) (sym c.new-caller.ensures.caller) ∙ c.in_ok-all.ensures.allowed
 
 pub returns : goal.returns
-returns c = λ p there.
-    let h = c.args.shared.now in
+returns c =
     let who = c.args.who.now in
-    let user = c.args.user in
-    let all = c.in_ok-all.all in
-    let lent = c.in-Some.creds.now in
-    let same = lent_is h who p there lent c.in-Some.ensures.value in
-    then_plays {rest = set_user who p user} (c.in_ok-all.ensures.step p same)
-    (plays_becoming h who p there lent c.in-Some.ensures.value _ None (λ (x : Credentials). record x { ids = with_user x.ids user all }) c.setuid.new.self c.in-Ok.ensures.set.1)
-
-pub invariant_of-shared : goal.invariant_of-shared
-invariant_of-shared c =
-    let h = c.args.shared.now in
-    record { owners = owners_creds h.procs.procs h.fds.rows c.args.who.now c.in-Some.creds.now h.owners }
-
-pub invariant_of-shared-2 : goal.invariant_of-shared-2
-invariant_of-shared-2 c =
-    let h = c.args.shared.now in
-    record { owners = owners_creds h.procs.procs h.fds.rows c.args.who.now c.setuid.new.self h.owners }
+    then_plays {rest = set_user who (process_at c.args.shared.now who) c.args.user}
+    (step_called (λ k. asks_user who k.process c.args.user) c.new-caller.ensures.caller c.in_ok-all.ensures.step)
+    (commits_as c.done.ensures c.set_user.ensures)

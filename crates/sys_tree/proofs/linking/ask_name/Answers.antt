@@ -7,7 +7,6 @@ use Rattle.kern_model.specs.Rules.{link_dir}
 use Rattle.kern_model.specs.State.{object_at}
 use Rattle.std.proofs.lemmas.Bool.{not-true}
 use Rattle.chk_rules.proofs.Steps.{need_goes, need_stops, equal_refusal}
-use Rattle.sys_lookup.specs.Shared.{state_of}
 use Rattle.sys_lookup.proofs.CheckLemmas.{holds_where_passed, not_refused_where_ok}
 use Rattle.sys_tree.proofs.linking.ask_name.Goals as goal
 
@@ -17,17 +16,17 @@ returns-in_err-object-clause-step c = need_stops c.from_residual.result c.from_r
 pub returns-in_err-link_dir-clause-step : goal.returns-in_err-link_dir-clause-step
 returns-in_err-link_dir-clause-step c =
     need_goes c.in_ok-object.ensures.step
-    (need_stops c.from_residual-in_err-link_dir.result c.from_residual-in_err-link_dir.ensures.1 (c.in_err-link_dir.ensures (state_of c.args.caller.now.shared.now) c.args.id.now c.in_ok-object.ensures.object))
+    (need_stops c.from_residual-in_err-link_dir.result c.from_residual-in_err-link_dir.ensures.1 (c.in_err-link_dir.ensures c.args.caller.now.state c.args.id.now c.in_ok-object.ensures.object))
 
 pub returns-clause-step : goal.returns-clause-step
 returns-clause-step c =
     need_goes c.in_ok-object.ensures.step
-    (need_goes (c.in_ok-link_dir.ensures (state_of c.args.caller.now.shared.now) c.args.id.now c.in_ok-object.ensures.object)
+    (need_goes (c.in_ok-link_dir.ensures c.args.caller.now.state c.args.id.now c.in_ok-object.ensures.object)
     (equal_refusal (ap (nat_le MAX_LINKS) c.name_count-names.ensures) (c.refuse_if.ensures c.link_dir.new.checks)))
 
 pub returns-clause-no_dir : goal.returns-clause-no_dir
 returns-clause-no_dir c =
-    let s = state_of c.args.caller.now.shared.now in
+    let s = c.args.caller.now.state in
     let id = c.args.id.now in
     elim c.refuse_if.result as (λ r. OnOk r (is_dir (object_at s id).kind ≡ false)) [
       | Ok x ↦ not-true _ (holds_where_passed c.write_object.new.checks c.link_dir.new.checks (link_dir s id c.args.place) refl (c.in_ok-link_dir.ensures s id c.in_ok-object.ensures.object))

@@ -1,52 +1,74 @@
-use Rattle.std.proofs.Common.{refl, sym}
-use Rattle.kern_model.specs.TreeRows.{add_entry, asks_name, link_row, link_to}
-use Rattle.sys_lookup.proofs.PlayLemmas.{caller_plays, then_plays, stops_row, item_plays, item_stops_row}
-use Rattle.sys_lookup.specs.Shared.{holding, state_of}
-use Rattle.sys_tree.proofs.EntryLemmas.{may_be_added, on_reached}
+use Rattle.std.proofs.Common.{◌∙◌, ap, refl, subst, sym}
+use Rattle.kern_model.specs.Entries.{is_removed}
+use Rattle.kern_model.specs.State.{process_at}
+use Rattle.kern_model.specs.TreeRows.{add_entry, asks_name, link_to, name_spot}
+use Rattle.kern_model.specs.Valid.{IsValid}
+use Rattle.fs_dirs.specs.Tree.{MayBeAdded}
+use Rattle.sys_lookup.specs.Callers.{CallerView}
+use Rattle.sys_lookup.proofs.PlayLemmas.{commits_as, item_plays, item_stops_row, no_memory_row, step_called, stops_row, then_plays}
+use Rattle.sys_tree.proofs.EntryLemmas.{entry_in, may_be_added, on_reached, reached}
 use Rattle.sys_tree.proofs.linking.link.Goals as goal
 
 pub returns-in_err-id-clause-played : goal.returns-in_err-id-clause-played
-returns-in_err-id-clause-played c = λ p there.
-    let s = state_of c.args.shared.now in
-    let q = holding c.args.shared.now.fds.rows c.args.who.now c.living-process.result.now in
-    caller_plays (λ x. link_row s c.args.who.now x c.args.path.now c.args.to.now) c.args.who.now q p c.living-process.ensures.found there
-    (stops_row {rest = on_reached (link_to s q c.args.to.now)} c.from_residual.result c.from_residual.ensures.1 refl c.in_err-id.ensures.step)
+returns-in_err-id-clause-played c =
+    let s = c.args.shared.now in
+    let p = process_at s c.args.who.now in
+    let same = c.new-caller.ensures.caller in
+    stops_row {rest = on_reached (link_to s p c.args.to.now)} c.from_residual.result c.from_residual.ensures.1 refl
+    (step_called (λ k. reached k c.args.path.now) same c.in_err-id.ensures.step)
 
 pub returns-in_err-ask_name-clause-played : goal.returns-in_err-ask_name-clause-played
-returns-in_err-ask_name-clause-played c = λ p there.
-    let s = state_of c.args.shared.now in
-    let q = holding c.args.shared.now.fds.rows c.args.who.now c.living-process.result.now in
-    caller_plays (λ x. link_row s c.args.who.now x c.args.path.now c.args.to.now) c.args.who.now q p c.living-process.ensures.found there
-    (then_plays {rest = on_reached (link_to s q c.args.to.now)} c.in_ok-id.ensures.step
-    (item_stops_row (asks_name s q c.in_ok-id.id c.in_ok-id.place) c.from_residual-in_err-ask_name.result c.from_residual-in_err-ask_name.ensures.1 refl c.in_err-ask_name.ensures.step))
+returns-in_err-ask_name-clause-played c =
+    let s = c.args.shared.now in
+    let p = process_at s c.args.who.now in
+    let same = c.new-caller.ensures.caller in
+    let id = c.in_ok-id.id in
+    let place = c.in_ok-id.place in
+    then_plays {rest = on_reached (link_to s p c.args.to.now)} (step_called (λ k. reached k c.args.path.now) same c.in_ok-id.ensures.step)
+    (item_stops_row (asks_name s p id place) c.from_residual-in_err-ask_name.result c.from_residual-in_err-ask_name.ensures.1 refl
+    (step_called (λ k rest. asks_name k.state k.process id place (rest tt)) same c.in_err-ask_name.ensures.step))
 
 pub returns-in_err-dir-clause-played : goal.returns-in_err-dir-clause-played
-returns-in_err-dir-clause-played c = λ p there.
-    let s = state_of c.args.shared.now in
-    let q = holding c.args.shared.now.fds.rows c.args.who.now c.living-process.result.now in
-    caller_plays (λ x. link_row s c.args.who.now x c.args.path.now c.args.to.now) c.args.who.now q p c.living-process.ensures.found there
-    (then_plays {rest = on_reached (link_to s q c.args.to.now)} c.in_ok-id.ensures.step
-    (item_plays (asks_name s q c.in_ok-id.id c.in_ok-id.place) c.in_ok-ask_name.ensures.step
-    (stops_row {rest = add_entry c.in_ok-id.id} c.from_residual-in_err-dir.result c.from_residual-in_err-dir.ensures.1 refl c.in_err-dir.ensures.step)))
+returns-in_err-dir-clause-played c =
+    let s = c.args.shared.now in
+    let p = process_at s c.args.who.now in
+    let same = c.new-caller.ensures.caller in
+    let id = c.in_ok-id.id in
+    let place = c.in_ok-id.place in
+    then_plays {rest = on_reached (link_to s p c.args.to.now)} (step_called (λ k. reached k c.args.path.now) same c.in_ok-id.ensures.step)
+    (item_plays (asks_name s p id place) (step_called (λ k rest. asks_name k.state k.process id place (rest tt)) same c.in_ok-ask_name.ensures.step)
+    (stops_row {rest = add_entry id} c.from_residual-in_err-dir.result c.from_residual-in_err-dir.ensures.1 refl
+    (step_called (λ k. name_spot k.state k.process c.args.to.now id) same c.in_err-dir.ensures.step)))
+
+pub returns-in_err-add_entry-clause-played : goal.returns-in_err-add_entry-clause-played
+returns-in_err-add_entry-clause-played c = no_memory_row c.from_residual-in_err-add_entry.result c.from_residual-in_err-add_entry.ensures.1
 
 pub returns-clause-played : goal.returns-clause-played
-returns-clause-played c = λ p there.
-    let s = state_of c.args.shared.now in
-    let q = holding c.args.shared.now.fds.rows c.args.who.now c.living-process.result.now in
-    caller_plays (λ x. link_row s c.args.who.now x c.args.path.now c.args.to.now) c.args.who.now q p c.living-process.ensures.found there
-    (then_plays {rest = on_reached (link_to s q c.args.to.now)} c.in_ok-id.ensures.step
-    (item_plays (asks_name s q c.in_ok-id.id c.in_ok-id.place) c.in_ok-ask_name.ensures.step
-    (then_plays {rest = add_entry c.in_ok-id.id} c.in_ok-dir.ensures.step (c.add_entry.ensures c.name_spot.new.checks))))
+returns-clause-played c =
+    let s = c.args.shared.now in
+    let p = process_at s c.args.who.now in
+    let same = c.new-caller.ensures.caller in
+    let id = c.in_ok-id.id in
+    let place = c.in_ok-id.place in
+    then_plays {rest = on_reached (link_to s p c.args.to.now)} (step_called (λ k. reached k c.args.path.now) same c.in_ok-id.ensures.step)
+    (item_plays (asks_name s p id place) (step_called (λ k rest. asks_name k.state k.process id place (rest tt)) same c.in_ok-ask_name.ensures.step)
+    (then_plays {rest = add_entry id} (step_called (λ k. name_spot k.state k.process c.args.to.now id) same c.in_ok-dir.ensures.step)
+    (commits_as c.done.ensures c.in_ok-add_entry.ensures)))
 
 pub add_entry-requires-clause-dir : goal.add_entry-requires-clause-dir
-add_entry-requires-clause-dir c = c.in_ok-dir.ensures.entry.is_dir
+add_entry-requires-clause-dir c = (entry_in c.new-caller.ensures.caller c.in_ok-dir.ensures.entry).is_dir
+
+pub add_entry-requires-clause-stands : goal.add_entry-requires-clause-stands
+add_entry-requires-clause-stands c = ap (λ (k : CallerView). is_removed k.state c.in_ok-dir.dir) (sym c.new-caller.ensures.caller) ∙ c.in_ok-dir.ensures.stands
+
+pub add_entry-requires-clause-absent : goal.add_entry-requires-clause-absent
+add_entry-requires-clause-absent c = (entry_in c.new-caller.ensures.caller c.in_ok-dir.ensures.entry).leads
 
 pub add_entry-requires-clause-may : goal.add_entry-requires-clause-may
 add_entry-requires-clause-may c =
-    may_be_added c.args.shared.now c.requires.valid c.args.who.now (holding c.args.shared.now.fds.rows c.args.who.now c.living-process.result.now) (sym c.living-process.ensures.found) c.args.path.now c.in_ok-id.id c.in_ok-id.ensures.led c.in_ok-ask_name.ensures.no_dir c.in_ok-ask_name.ensures.few
-
-pub add_entry-requires-clause-absent : goal.add_entry-requires-clause-absent
-add_entry-requires-clause-absent c = c.in_ok-dir.ensures.entry.leads
-
-pub add_entry-requires-clause-stands : goal.add_entry-requires-clause-stands
-add_entry-requires-clause-stands c = c.in_ok-dir.ensures.stands
+    let same = c.new-caller.ensures.caller in
+    let k = c.new-caller.result in
+    let id = c.in_ok-id.id in
+    let valid = subst (λ (x : CallerView). ∥ IsValid x.state ∥₁) (sym same) c.requires.valid in
+    subst (λ (x : CallerView). MayBeAdded x.state id) same
+    (may_be_added k.state valid k.who k.process c.new-caller.ensures.living c.args.path.now id c.in_ok-id.ensures.led c.in_ok-ask_name.ensures.no_dir c.in_ok-ask_name.ensures.few)

@@ -4,22 +4,21 @@ use Rattle.kern_model.specs.Create.{enter_in}
 use Rattle.kern_model.specs.Rules.{held_order}
 use Rattle.kern_model.specs.TreeRows.{enter_end, new_spot_found}
 use Rattle.chk_rules.proofs.Steps.{then_goes, stops_there, item_goes, item_stops, gives}
-use Rattle.sys_lookup.specs.Shared.{process_of, state_of}
 use Rattle.sys_tree.proofs.EntryLemmas.{equal_directory}
 use Rattle.sys_tree.proofs.linking.name_spot.Goals as goal
 
 pub returns-in_err-dir-clause-step : goal.returns-in_err-dir-clause-step
 returns-in_err-dir-clause-step c =
-    let s = state_of c.args.caller.now.shared.now in
-    let p = process_of c.args.caller.now in
+    let s = c.args.caller.now.state in
+    let p = c.args.caller.now.process in
     let id = c.args.id.now in
     then_goes {next = new_spot_found s p (λ n. Second n) c.args.to.now (held_order s id)} c.in_ok-walk.ensures.step
     (stops_there {next = λ e rest. enter_end s p (λ n. Second n) c.args.to.now (held_order s id) e.0 (rest e)} c.from_residual-in_err-dir.result c.from_residual-in_err-dir.ensures.1 (c.in_err-dir.ensures.step c.walk.new.checks))
 
 pub returns-in_err-enter_in-clause-step : goal.returns-in_err-enter_in-clause-step
 returns-in_err-enter_in-clause-step c =
-    let s = state_of c.args.caller.now.shared.now in
-    let p = process_of c.args.caller.now in
+    let s = c.args.caller.now.state in
+    let p = c.args.caller.now.process in
     let id = c.args.id.now in
     let dir = c.in_ok-dir.dir in
     then_goes {next = new_spot_found s p (λ n. Second n) c.args.to.now (held_order s id)} c.in_ok-walk.ensures.step
@@ -29,8 +28,8 @@ returns-in_err-enter_in-clause-step c =
 
 pub returns-clause-step : goal.returns-clause-step
 returns-clause-step c =
-    let s = state_of c.args.caller.now.shared.now in
-    let p = process_of c.args.caller.now in
+    let s = c.args.caller.now.state in
+    let p = c.args.caller.now.process in
     let id = c.args.id.now in
     let dir = c.in_ok-dir.dir in
     then_goes {next = new_spot_found s p (λ n. Second n) c.args.to.now (held_order s id)} c.in_ok-walk.ensures.step
@@ -39,4 +38,4 @@ returns-clause-step c =
     (equal_directory (enter_in s p dir) s id dir c.dir_place-place.ensures c.held_order.ensures c.in_ok-enter_in.ensures.step) (gives refl)))
 
 pub returns-clause-entry : goal.returns-clause-entry
-returns-clause-entry c = c.in_ok-dir.ensures.entry (state_of c.args.caller.now.shared.now) _ c.in_ok-walk.ensures.found
+returns-clause-entry c = c.in_ok-dir.ensures.entry c.args.caller.now.state _ c.in_ok-walk.ensures.found

@@ -1,36 +1,33 @@
-use Rattle.std.proofs.Common.{◌∙◌, ap, refl, not, [], None}
+use Rattle.std.proofs.Common.{◌∙◌, None, ap, not, refl}
 use Rattle.kern_model.specs.declared.calls.Answer.TheVariants as answer
 use Rattle.kern_model.specs.Kinds.{is_dir}
 use Rattle.kern_model.specs.TreeRows.{read_dir}
 use Rattle.chk_rules.proofs.Steps.{equal_refusal}
-use Rattle.fs_dirs.proofs.SameEntries.{names_in-same}
-use Rattle.fs_dirs.specs.Tree.{state_of_tree}
-use Rattle.sys_lookup.proofs.PlayLemmas.{then_plays, stops_row, need_plays, need_stops_row, refuse_plays, refuse_stops_row, no_memory_row, commits, equal_answer}
-use Rattle.sys_lookup.specs.Shared.{process_of, state_of}
+use Rattle.sys_lookup.proofs.PlayLemmas.{commits_as, need_plays, need_stops_row, no_memory_row, refuse_plays, refuse_stops_row, stops_row, then_plays}
 use Rattle.sys_lookup.specs.declared.shared.Metadata.{Metadata}
 use Rattle.sys_tree.proofs.EntryLemmas.{on_reached}
 use Rattle.sys_tree.proofs.reading.readdir.Goals as goal
 
 pub returns-in_err-id : goal.returns-in_err-id
 returns-in_err-id c = λ who.
-    stops_row {rest = on_reached (read_dir (state_of c.args.caller.now.shared.now) (process_of c.args.caller.now))} c.from_residual.result c.from_residual.ensures.1 refl c.in_err-id.ensures.step
+    stops_row {rest = on_reached (read_dir c.args.caller.now.state c.args.caller.now.process)} c.from_residual.result c.from_residual.ensures.1 refl c.in_err-id.ensures.step
 
 pub returns-in_err-dir : goal.returns-in_err-dir
 returns-in_err-dir c = λ who.
-    then_plays {rest = on_reached (read_dir (state_of c.args.caller.now.shared.now) (process_of c.args.caller.now))} c.in_ok-id.ensures.step
+    then_plays {rest = on_reached (read_dir c.args.caller.now.state c.args.caller.now.process)} c.in_ok-id.ensures.step
     (need_stops_row c.from_residual-in_err-dir.result c.from_residual-in_err-dir.ensures.1 refl c.in_err-dir.ensures.step)
 
 pub returns-in_err-refuse_if : goal.returns-in_err-refuse_if
 returns-in_err-refuse_if c = λ who.
-    then_plays {rest = on_reached (read_dir (state_of c.args.caller.now.shared.now) (process_of c.args.caller.now))} c.in_ok-id.ensures.step
+    then_plays {rest = on_reached (read_dir c.args.caller.now.state c.args.caller.now.process)} c.in_ok-id.ensures.step
     (need_plays c.in_ok-dir.ensures.step
     (refuse_stops_row c.from_residual-in_err-refuse_if.result c.from_residual-in_err-refuse_if.ensures.1 refl
     (equal_refusal (ap not (c.is_directory.ensures ∙ ap (λ (m : Metadata). is_dir m.kind) c.in_ok-dir.ensures.object)) (c.in_err-refuse_if.ensures c.read_object.new.checks))))
 
 pub returns-in_err-dac_read : goal.returns-in_err-dac_read
 returns-in_err-dac_read c = λ who.
-    let s = state_of c.args.caller.now.shared.now in
-    then_plays {rest = on_reached (read_dir s (process_of c.args.caller.now))} c.in_ok-id.ensures.step
+    let s = c.args.caller.now.state in
+    then_plays {rest = on_reached (read_dir s c.args.caller.now.process)} c.in_ok-id.ensures.step
     (need_plays c.in_ok-dir.ensures.step
     (refuse_plays (equal_refusal (ap not (c.is_directory.ensures ∙ ap (λ (m : Metadata). is_dir m.kind) c.in_ok-dir.ensures.object)) (c.in_ok-refuse_if.ensures c.read_object.new.checks))
     (need_stops_row c.from_residual-in_err-dac_read.result c.from_residual-in_err-dac_read.ensures.1 refl (c.in_err-dac_read.ensures s c.in_ok-id.id c.in_ok-dir.ensures.object))))
@@ -40,9 +37,9 @@ returns-in_err-names c = λ who. no_memory_row c.from_residual-in_err-names.resu
 
 pub returns : goal.returns
 returns c = λ who.
-    let s = state_of c.args.caller.now.shared.now in
-    then_plays {rest = on_reached (read_dir s (process_of c.args.caller.now))} c.in_ok-id.ensures.step
+    let s = c.args.caller.now.state in
+    then_plays {rest = on_reached (read_dir s c.args.caller.now.process)} c.in_ok-id.ensures.step
     (need_plays c.in_ok-dir.ensures.step
     (refuse_plays (equal_refusal (ap not (c.is_directory.ensures ∙ ap (λ (m : Metadata). is_dir m.kind) c.in_ok-dir.ensures.object)) (c.in_ok-refuse_if.ensures c.read_object.new.checks))
     (need_plays (c.in_ok-dac_read.ensures s c.in_ok-id.id c.in_ok-dir.ensures.object)
-    (equal_answer (ap answer.Names (c.in_ok-names.ensures ∙ names_in-same (state_of_tree c.args.caller.now.shared.now.tree) s refl c.in_ok-id.id)) (commits s s c.dac_read.new.checks [] (answer.Names c.in_ok-names.names) None refl)))))
+    (commits_as (c.answers.ensures ∙ ap (λ names. record { answer = answer.Names names; own = None }) c.in_ok-names.ensures) refl))))

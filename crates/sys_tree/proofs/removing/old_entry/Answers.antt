@@ -1,24 +1,24 @@
-use Rattle.std.proofs.Common.{◌∙◌, Some, ap, subst, sym}
+use Rattle.std.proofs.Common.{Some, subst, sym}
 use Rattle.kern_model.specs.TreeRows.{leave_from, old_entry_found}
 use Rattle.chk_rules.proofs.Steps.{then_goes, stops_there, item_goes, item_stops, gives}
-use Rattle.sys_lookup.specs.Shared.{metadata_of, process_of, state_of}
 use Rattle.sys_lookup.specs.Walks.{IsEntry}
 use Rattle.sys_lookup.specs.declared.shared.Metadata.{Metadata}
 use Rattle.sys_tree.specs.Entries.{with_metadata}
+use Rattle.sys_tree.proofs.EntryLemmas.{read_by}
 use Rattle.sys_tree.proofs.removing.old_entry.Goals as goal
 
 pub returns-in_err-dir-clause-step : goal.returns-in_err-dir-clause-step
 returns-in_err-dir-clause-step c =
-    let s = state_of c.args.caller.now.shared.now in
-    let p = process_of c.args.caller.now in
+    let s = c.args.caller.now.state in
+    let p = c.args.caller.now.process in
     let path = c.args.path.now in
     then_goes {next = λ found rest. old_entry_found s p path found (with_metadata s rest)} c.in_ok-walk.ensures.step
     (stops_there {next = λ e rest. leave_from s p path e.0 e.2 (with_metadata s rest e)} c.from_residual-in_err-dir.result c.from_residual-in_err-dir.ensures.1 (c.in_err-dir.ensures.step c.walk.new.checks))
 
 pub returns-in_err-object-clause-step : goal.returns-in_err-object-clause-step
 returns-in_err-object-clause-step c =
-    let s = state_of c.args.caller.now.shared.now in
-    let p = process_of c.args.caller.now in
+    let s = c.args.caller.now.state in
+    let p = c.args.caller.now.process in
     let path = c.args.path.now in
     then_goes {next = λ found rest. old_entry_found s p path found (with_metadata s rest)} c.in_ok-walk.ensures.step
     (then_goes {next = λ e rest. leave_from s p path e.0 e.2 (with_metadata s rest e)} (c.in_ok-dir.ensures.step c.walk.new.checks)
@@ -26,8 +26,8 @@ returns-in_err-object-clause-step c =
 
 pub returns-clause-step : goal.returns-clause-step
 returns-clause-step c =
-    let s = state_of c.args.caller.now.shared.now in
-    let p = process_of c.args.caller.now in
+    let s = c.args.caller.now.state in
+    let p = c.args.caller.now.process in
     let path = c.args.path.now in
     then_goes {next = λ found rest. old_entry_found s p path found (with_metadata s rest)} c.in_ok-walk.ensures.step
     (then_goes {next = λ e rest. leave_from s p path e.0 e.2 (with_metadata s rest e)} (c.in_ok-dir.ensures.step c.walk.new.checks)
@@ -36,10 +36,8 @@ returns-clause-step c =
 
 pub returns-clause-entry : goal.returns-clause-entry
 returns-clause-entry c =
-    let s = state_of c.args.caller.now.shared.now in
+    let s = c.args.caller.now.state in
     subst (λ (m : Metadata). IsEntry s c.in_ok-dir.dir c.in_ok-dir.name (Some m.id)) (sym c.in_ok-object.ensures.object) (c.in_ok-dir.ensures.entry s _ c.in_ok-walk.ensures.found)
 
 pub returns-clause-object : goal.returns-clause-object
-returns-clause-object c =
-    let is = c.in_ok-object.ensures.object in
-    is ∙ ap (metadata_of (state_of c.args.caller.now.shared.now)) (sym (ap (λ (m : Metadata). m.id) is))
+returns-clause-object c = read_by c.args.caller.now c.in_ok-dir.id c.in_ok-object.ensures.object

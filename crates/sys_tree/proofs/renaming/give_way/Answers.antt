@@ -1,4 +1,4 @@
-use Rattle.std.proofs.Common.{◌≡◌, ◌∙◌, Bool, true, false, Option, Result, Ok, refl, sym, subst}
+use Rattle.std.proofs.Common.{◌≡◌, ◌∙◌, Bool, true, false, Option, Result, Ok, Err, ap, refl, sym, subst}
 use Rattle.kern_model.specs.declared.checks.Place.{Place}
 use Rattle.kern_model.specs.declared.numbers.Oid.{Oid}
 use Rattle.kern_model.specs.Keys.{same_oid}
@@ -8,7 +8,8 @@ use Rattle.chk_rules.specs.CheckLog.{CheckLog}
 use Rattle.chk_rules.specs.Ends.{GoesOn}
 use Rattle.chk_rules.specs.declared.stop.Stop.{Stop}
 use Rattle.chk_rules.proofs.Steps.{need_goes, need_stops, item_goes, item_stops, gives}
-use Rattle.sys_lookup.specs.Shared.{process_of, state_of}
+use Rattle.sys_lookup.specs.declared.shared.Metadata.{Metadata}
+use Rattle.sys_tree.proofs.EntryLemmas.{read_by}
 use Rattle.sys_tree.proofs.renaming.give_way.Goals as goal
 
 -- the same step for an equal target, at an equal place
@@ -18,41 +19,45 @@ at_target s p id {o = o} {place = place} {a = a} {b = b} {r = r} same here step 
 
 pub returns-in_err-target : goal.returns-in_err-target
 returns-in_err-target c = λ is.
-    let s = state_of c.args.caller.now.shared.now in
+    let s = c.args.caller.now.state in
     let id = c.args.object.now.id in
     let t = c.in-Some.id in
-    at_target s (process_of c.args.caller.now) id (sym c.in-Some.is) c.last_place.ensures
+    at_target s c.args.caller.now.process id (sym c.in-Some.is) c.last_place.ensures
     (need_stops {part = over_other s id t (same_oid t id)} c.from_residual.result c.from_residual.ensures.1 c.in_err-target.ensures.step)
 
 pub returns-then-is_same : goal.returns-then-is_same
 returns-then-is_same c = λ is.
-    let s = state_of c.args.caller.now.shared.now in
+    let s = c.args.caller.now.state in
     let id = c.args.object.now.id in
     let t = c.in-Some.id in
     let log = c.write_object.new.checks in
-    at_target s (process_of c.args.caller.now) id (sym c.in-Some.is) c.last_place.ensures
+    at_target s c.args.caller.now.process id (sym c.in-Some.is) c.last_place.ensures
     (need_goes {part = over_other s id t (same_oid t id)} c.in_ok-target.ensures.step
     (subst (λ (b : Bool). GoesOn log (over_other s id t b) (Ok false) log) (sym (sym c.is_same.ensures ∙ c.if-is_same.true)) (gives refl)))
 
 pub returns-in_err-may_replace : goal.returns-in_err-may_replace
 returns-in_err-may_replace c = λ is.
-    let s = state_of c.args.caller.now.shared.now in
+    let s = c.args.caller.now.state in
     let id = c.args.object.now.id in
     let t = c.in-Some.id in
     let log = c.write_object.new.checks in
     let r = c.from_residual-in_err-may_replace.result in
-    at_target s (process_of c.args.caller.now) id (sym c.in-Some.is) c.last_place.ensures
+    let there = read_by c.args.caller.now t c.in_ok-target.ensures.object in
+    let step = subst (λ (x : Oid). GoesOn log (λ rest. may_replace s id x (rest tt)) (Err c.in_err-may_replace.field-0.0) log) (ap (λ (m : Metadata). m.id) c.in_ok-target.ensures.object) (c.in_err-may_replace.ensures log is there) in
+    at_target s c.args.caller.now.process id (sym c.in-Some.is) c.last_place.ensures
     (need_goes {part = over_other s id t (same_oid t id)} c.in_ok-target.ensures.step
     (subst (λ (b : Bool). GoesOn log (over_other s id t b) r log) (sym (sym c.is_same.ensures ∙ c.if-is_same.false))
-    (item_stops (may_replace s id t) r c.from_residual-in_err-may_replace.ensures.1 (c.in_err-may_replace.ensures id t log is c.in_ok-target.ensures.object))))
+    (item_stops (may_replace s id t) r c.from_residual-in_err-may_replace.ensures.1 step)))
 
 pub returns : goal.returns
 returns c = λ is.
-    let s = state_of c.args.caller.now.shared.now in
+    let s = c.args.caller.now.state in
     let id = c.args.object.now.id in
     let t = c.in-Some.id in
     let log = c.write_object.new.checks in
-    at_target s (process_of c.args.caller.now) id (sym c.in-Some.is) c.last_place.ensures
+    let there = read_by c.args.caller.now t c.in_ok-target.ensures.object in
+    let step = subst (λ (x : Oid). GoesOn log (λ rest. may_replace s id x (rest tt)) (Ok c.in_ok-may_replace.field-0) log) (ap (λ (m : Metadata). m.id) c.in_ok-target.ensures.object) (c.in_ok-may_replace.ensures log is there) in
+    at_target s c.args.caller.now.process id (sym c.in-Some.is) c.last_place.ensures
     (need_goes {part = over_other s id t (same_oid t id)} c.in_ok-target.ensures.step
     (subst (λ (b : Bool). GoesOn log (over_other s id t b) (Ok true) log) (sym (sym c.is_same.ensures ∙ c.if-is_same.false))
-    (item_goes (may_replace s id t) (c.in_ok-may_replace.ensures id t log is c.in_ok-target.ensures.object) (gives refl))))
+    (item_goes (may_replace s id t) step (gives refl))))

@@ -1,33 +1,47 @@
-use Rattle.std.proofs.Common.{◌∙◌, ◌∷◌, [], None, Err, ap, refl}
-use Rattle.kern_model.specs.declared.calls.Answer.TheVariants.{Nothing}
-use Rattle.kern_model.specs.State.{SetEntry, DropEntry}
+use Rattle.std.specs.FinMap as map
+use Rattle.std.proofs.Common.{◌≡◌, ◌∙◌, Err, Result, ap, refl, subst, sym}
 use Rattle.std.proofs.lemmas.Bool.{false_from_ne_true}
+use Rattle.kern_model.specs.Entries.{is_removed}
+use Rattle.kern_model.specs.Row.{Row}
+use Rattle.kern_model.specs.State.{State, look}
+use Rattle.chk_rules.specs.CheckLog.{CheckLog}
+use Rattle.chk_rules.specs.declared.stop.Stop.{Stop}
 use Rattle.fs_dirs.specs.Tree.{state_of_tree, would_loop}
-use Rattle.sys_lookup.proofs.PlayLemmas.{refuse_plays, refuse_stops_row, no_memory_row, commits}
-use Rattle.sys_lookup.specs.Shared.{state_of}
-use Rattle.sys_tree.proofs.EntryLemmas.{with_tree, lets_on, loops_same, refuses}
+use Rattle.sys_lookup.specs.declared.effect.Effect.{Effect}
+use Rattle.sys_lookup.specs.PlaysRow.{PlaysRow}
+use Rattle.sys_lookup.proofs.PlayLemmas.{commits_as, no_memory_row, refuse_plays, refuse_stops_row}
+use Rattle.sys_lookup.proofs.RefuseLemmas.{lets_on, refuses}
+use Rattle.sys_tree.proofs.EntryLemmas.{entries_changed, loops_same}
+use Rattle.sys_tree.proofs.renaming.move_entry.Goals.{in-Ok, in-Err-Loop, in-Err-Removed, in-Err-NoMemory}
 use Rattle.sys_tree.proofs.renaming.move_entry.Goals as goal
 
-pub returns-in-Ok : goal.returns-in-Ok
-returns-in-Ok c = λ id log at.
-    let h = c.args.shared.now in
-    let s = state_of h in
-    let apart = false_from_ne_true (would_loop (state_of_tree h.tree) id c.args.into.now) (λ loops. let no = (c.in-Ok.ensures.loops id at).1 loops in cc) in
-    refuse_plays (lets_on (loops_same h id c.args.into.now ∙ apart))
-    (refuse_plays (lets_on (false_from_ne_true _ (λ gone. let no = (c.in-Ok.ensures.removed id at).1 (apart, gone) in cc)))
-    (commits s _ log (DropEntry (c.args.dir.now, c.args.name.now) ∷ SetEntry (c.args.into.now, c.args.new.now) id ∷ []) Nothing None (ap (with_tree s) (c.in-Ok.ensures.moved id at))))
+-- an equal result plays the same row
+equal_result : {s t : State} {log : CheckLog} {row : Row} {r r' : Result Effect Stop} → r' ≡ r → PlaysRow s log row r t log → PlaysRow s log row r' t log
+equal_result {s = s} {t = t} {log = log} {row = row} same plays = subst (λ x. PlaysRow s log row x t log) (sym same) plays
 
-pub returns-in-Err-Loop : goal.returns-in-Err-Loop
-returns-in-Err-Loop c = λ id log at.
-    let h = c.args.shared.now in
-    refuse_stops_row _ refl (ap (with_tree (state_of h)) c.in-Err-Loop.ensures.err) (refuses (loops_same h id c.args.into.now ∙ (c.in-Err-Loop.ensures.loops id at).0 (ap Err c.in-Err-Loop.field-0-is)))
-
-pub returns-in-Err-Removed : goal.returns-in-Err-Removed
-returns-in-Err-Removed c = λ id log at.
-    let h = c.args.shared.now in
-    let both = (c.in-Err-Removed.ensures.removed id at).0 (ap Err c.in-Err-Removed.field-0-is) in
-    refuse_plays (lets_on (loops_same h id c.args.into.now ∙ both.0))
-    (refuse_stops_row _ refl (ap (with_tree (state_of h)) c.in-Err-Removed.ensures.err) (refuses both.1))
-
-pub returns-in-Err-NoMemory : goal.returns-in-Err-NoMemory
-returns-in-Err-NoMemory c = λ id log at. no_memory_row _ refl
+pub returns : goal.returns
+returns c = λ id log at.
+    let h = c.shared.inside in
+    let is = c.shared.view_is in
+    let into = c.args.into.now in
+    let leads = ap (λ (s : State). look s c.args.dir.now c.args.name.now) is ∙ at in
+    let loops = loops_same h is id into in
+    let gone = ap (λ (s : State). is_removed s into) (sym is) in
+    elim c.match-move_entry.branch [
+      | in-Ok w ↦
+          let apart = false_from_ne_true (would_loop (state_of_tree h.tree) id into) (λ e. let no = (w.in-Ok.ensures.loops id leads).1 e in cc) in
+          let stands = false_from_ne_true (is_removed (state_of_tree h.tree) into) (λ e. let no = (w.in-Ok.ensures.removed id leads).1 (apart, e) in cc) in
+          equal_result w.result-is
+          (refuse_plays (lets_on (loops ∙ apart))
+          (refuse_plays (lets_on (gone ∙ stands))
+          (commits_as w.done.ensures (entries_changed h is (λ m. map.insert (map.remove m (c.args.dir.now, c.args.name.now)) (into, c.args.new.now) id) (w.in-Ok.ensures.moved id leads)))))
+      | in-Err-Loop w ↦
+          equal_result w.result-is
+          (refuse_stops_row _ refl (entries_changed h is (λ m. m) w.in-Err-Loop.ensures.err) (refuses (loops ∙ (w.in-Err-Loop.ensures.loops id leads).0 (ap Err w.in-Err-Loop.field-0-is))))
+      | in-Err-Removed w ↦
+          let both = (w.in-Err-Removed.ensures.removed id leads).0 (ap Err w.in-Err-Removed.field-0-is) in
+          equal_result w.result-is
+          (refuse_plays (lets_on (loops ∙ both.0))
+          (refuse_stops_row _ refl (entries_changed h is (λ m. m) w.in-Err-Removed.ensures.err) (refuses (gone ∙ both.1))))
+      | in-Err-NoMemory w ↦ equal_result w.result-is (no_memory_row _ refl)
+    ]

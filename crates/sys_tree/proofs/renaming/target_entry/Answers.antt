@@ -2,22 +2,21 @@ use Rattle.std.proofs.Common.{refl}
 use Rattle.kern_model.specs.Create.{write_directory}
 use Rattle.kern_model.specs.TreeRows.{target_found, write_end}
 use Rattle.chk_rules.proofs.Steps.{then_goes, stops_there, item_goes, item_stops, gives}
-use Rattle.sys_lookup.specs.Shared.{process_of, state_of}
 use Rattle.sys_tree.proofs.EntryLemmas.{equal_directory}
 use Rattle.sys_tree.proofs.renaming.target_entry.Goals as goal
 
 pub returns-in_err-dir-clause-step : goal.returns-in_err-dir-clause-step
 returns-in_err-dir-clause-step c =
-    let s = state_of c.args.caller.now.shared.now in
-    let p = process_of c.args.caller.now in
+    let s = c.args.caller.now.state in
+    let p = c.args.caller.now.process in
     let id = c.args.id.now in
     then_goes {next = target_found s p c.args.to.now id} c.in_ok-walk.ensures.step
     (stops_there {next = λ e rest. write_end s p c.args.to.now id e.0 (rest e)} c.from_residual-in_err-dir.result c.from_residual-in_err-dir.ensures.1 (c.in_err-dir.ensures.step c.walk.new.checks))
 
 pub returns-in_err-write_directory-clause-step : goal.returns-in_err-write_directory-clause-step
 returns-in_err-write_directory-clause-step c =
-    let s = state_of c.args.caller.now.shared.now in
-    let p = process_of c.args.caller.now in
+    let s = c.args.caller.now.state in
+    let p = c.args.caller.now.process in
     let id = c.args.id.now in
     let dir = c.in_ok-dir.dir in
     then_goes {next = target_found s p c.args.to.now id} c.in_ok-walk.ensures.step
@@ -27,8 +26,8 @@ returns-in_err-write_directory-clause-step c =
 
 pub returns-clause-step : goal.returns-clause-step
 returns-clause-step c =
-    let s = state_of c.args.caller.now.shared.now in
-    let p = process_of c.args.caller.now in
+    let s = c.args.caller.now.state in
+    let p = c.args.caller.now.process in
     let id = c.args.id.now in
     let dir = c.in_ok-dir.dir in
     then_goes {next = target_found s p c.args.to.now id} c.in_ok-walk.ensures.step
@@ -36,4 +35,4 @@ returns-clause-step c =
     (item_goes (write_end s p c.args.to.now id dir) (equal_directory (write_directory s p dir) s id dir c.dir_place-place.ensures c.held_order.ensures c.in_ok-write_directory.ensures) (gives refl)))
 
 pub returns-clause-entry : goal.returns-clause-entry
-returns-clause-entry c = c.in_ok-dir.ensures.entry (state_of c.args.caller.now.shared.now) _ c.in_ok-walk.ensures.found
+returns-clause-entry c = c.in_ok-dir.ensures.entry c.args.caller.now.state _ c.in_ok-walk.ensures.found

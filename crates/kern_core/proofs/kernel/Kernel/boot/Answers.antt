@@ -7,7 +7,6 @@ use Rattle.kern_model.specs.declared.records.Rec.{Rec}
 use Rattle.kern_model.specs.declared.world.WorldProc.{WorldProc}
 use Rattle.kern_model.specs.Boot.{boot_processes, nothing, started}
 use Rattle.kern_model.specs.State.{State}
-use Rattle.sys_lookup.specs.Shared as held
 use Rattle.kern_core.specs.Starts.{CanStart}
 use Rattle.kern_core.specs.Kernel.{state_of}
 use Rattle.kern_core.proofs.BootLemmas.{all_can, objects_keep}
@@ -17,24 +16,24 @@ use Rattle.kern_core.proofs.kernel.Kernel.boot.Goals as goal
 pub start-requires-clause-start : goal.start-requires-clause-start
 start-requires-clause-start c =
     let w = c.args.world.now in
-    let none_drawn : c.in_ok-shared.shared.procs.numbers ≡ map.empty =
-    ap (λ (s : State). s.process_numbers) c.in_ok-shared.ensures.state ∙ objects_keep (nothing w.bound w.top) w.objects in
+    let none_drawn : c.in_ok-shared.shared.process_numbers ≡ map.empty =
+    ap (λ (s : State). s.process_numbers) c.in_ok-shared.ensures ∙ objects_keep (nothing w.bound w.top) w.objects in
     subst (λ (m : FinMap label_cmp ℕ). CanStart m c.items.result.now) (sym none_drawn)
     (subst (λ (ws : List WorldProc). CanStart map.empty ws) (sym (c.items.ensures)) (all_can w c.requires.world))
 
 pub start-requires-clause-valid : goal.start-requires-clause-valid
 start-requires-clause-valid c =
-    let made = held.state_of c.in_ok-shared.shared in
-    valid_started c.args.world.now c.requires.world made (boot_processes made c.items.result.now) c.items.result.now c.in_ok-shared.ensures.state (c.items.ensures) refl
+    let made = c.in_ok-shared.shared in
+    valid_started c.args.world.now c.requires.world made (boot_processes made c.items.result.now) c.items.result.now c.in_ok-shared.ensures (c.items.ensures) refl
 
 pub returns-clause-state : goal.returns-clause-state
 returns-clause-state c =
-    let furnishes = c.in_ok-shared.ensures.state in
+    let furnishes = c.in_ok-shared.ensures in
     let procs : c.items.result.now ≡ c.args.world.now.procs = c.items.ensures in
     subst (λ (t : State). IfOk c.start.result (λ b. state_of b.0 ≡ t)) (λ i. boot_processes (furnishes i) (procs i)) c.start.ensures.state
 
 pub returns-clause-recs : goal.returns-clause-recs
 returns-clause-recs c =
-    let furnishes = c.in_ok-shared.ensures.state in
+    let furnishes = c.in_ok-shared.ensures in
     let procs : c.items.result.now ≡ c.args.world.now.procs = c.items.ensures in
     subst (λ (rs : List Rec). IfOk c.start.result (λ b. b.1 ≡ rs)) (λ i. started (furnishes i) (procs i)) c.start.ensures.recs

@@ -7,7 +7,6 @@ use Rattle.kern_model.specs.declared.records.Rec.{Rec}
 use Rattle.kern_model.specs.declared.world.WorldProc.{WorldProc}
 use Rattle.kern_model.specs.Boot.{boot_processes, nothing, started}
 use Rattle.kern_model.specs.State.{State}
-use Rattle.sys_lookup.specs.Shared as held
 use Rattle.kern_core.specs.Starts.{CanStart}
 use Rattle.kern_core.specs.Kernel.{state_of}
 use Rattle.kern_core.proofs.BootLemmas.{all_can, objects_keep}
@@ -17,14 +16,14 @@ use Rattle.kern_core.proofs.kernel.Kernel.boot_from.Goals as goal
 pub start-requires-clause-start : goal.start-requires-clause-start
 start-requires-clause-start c =
     let w = c.args.world in
-    let none_drawn : c.in_ok-shared.shared.procs.numbers ≡ map.empty =
+    let none_drawn : c.in_ok-shared.shared.process_numbers ≡ map.empty =
     ap (λ (s : State). s.process_numbers) c.in_ok-shared.ensures.state ∙ objects_keep (nothing w.bound w.top) w.objects in
     subst (λ (m : FinMap label_cmp ℕ). CanStart m c.items.result.now) (sym none_drawn)
     (subst (λ (ws : List WorldProc). CanStart map.empty ws) (sym (c.items.ensures ∙ c.in_ok-shared.ensures.procs)) (all_can w c.requires.world))
 
 pub start-requires-clause-valid : goal.start-requires-clause-valid
 start-requires-clause-valid c =
-    let made = held.state_of c.in_ok-shared.shared in
+    let made = c.in_ok-shared.shared in
     valid_started c.args.world c.requires.world made (boot_processes made c.items.result.now) c.items.result.now c.in_ok-shared.ensures.state (c.items.ensures ∙ c.in_ok-shared.ensures.procs) refl
 
 pub returns-clause-state : goal.returns-clause-state

@@ -7,8 +7,8 @@ use Rattle.sys_lookup.proofs.FdLemmas.{with_fds-none}
 use Rattle.kern_core.specs.Starts.{state_loaded}
 use Rattle.kern_core.proofs.loading.Loading.load.Goals as goal
 
-pub returns-clause-state : goal.returns-clause-state
-returns-clause-state c =
+pub returns : goal.returns
+returns c =
     let s = state_loaded c.args.self in
     (λ i. record {
       objects = (c.in_ok-load.ensures.nodes i).table.objects;
@@ -24,4 +24,4 @@ returns-clause-state c =
     ∙ (λ i. record s { procs = with_fds-none map.empty i })
 
 pub invariant_of-result : goal.invariant_of-result
-invariant_of-result c = record { owners = owners_none c.new-2.result.procs c.new.result.rows (ap (λ (t : OpenFiles). t.rows) c.new.ensures) }
+invariant_of-result c = owners_none c.new-2.result.procs c.new.result.rows (ap (λ (t : OpenFiles). t.rows) c.new.ensures)

@@ -1,20 +1,30 @@
-use Rattle.std.proofs.Common.{◌∙◌, ap, sym}
-use Rattle.kern_model.specs.State.{look}
-use Rattle.kern_model.specs.Walk.{Entry, enter}
-use Rattle.chk_rules.proofs.Steps.{item_goes, item_stops, gives}
-use Rattle.sys_lookup.specs.Shared.{process_of, state_of}
-use Rattle.sys_lookup.specs.Walks.{found_by}
-use Rattle.sys_lookup.proofs.WalkLemmas.{walk_stops}
+use Rattle.std.specs.FinMap as map
+use Rattle.std.proofs.Common.{◌≡◌, ◌∙◌, Some, ap, option_copied, sym}
+use Rattle.kern_model.specs.State.{State, Process}
+use Rattle.sys_lookup.specs.Shared.{holding}
+use Rattle.sys_lookup.proofs.CallerLemmas.{kept_is, kept_lives, none_match}
+use Rattle.sys_lookup.proofs.FdLemmas.{found, not_found}
+use Rattle.sys_lookup.proofs.caller.Caller.find.Goals.{In_ok-process}
 use Rattle.sys_lookup.proofs.caller.Caller.find.Goals as goal
 
-pub returns-in_err-enter-clause-step : goal.returns-in_err-enter-clause-step
-returns-in_err-enter-clause-step c =
-    item_stops (enter (state_of c.args.self.now.shared.now) (process_of c.args.self.now) c.args.dir c.args.place) (found_by c.from_residual.result) (walk_stops _ c.from_residual.result c.from_residual.ensures.1) c.in_err-enter.ensures.step
+-- the process that was found, with its descriptors
+there : (c : In_ok-process) → map.get c.args.shared.now.procs c.args.who.now ≡ Some (holding c.shared.inside.fds.rows c.args.who.now c.in_ok-process.process.now)
+there c =
+    let h = c.shared.inside in
+    ap (λ (s : State). map.get s.procs c.args.who.now) (sym c.shared.view_is) ∙ found h.procs.procs h.fds.rows c.args.who.now c.in_ok-process.process.now (sym c.find.ensures ∙ ap option_copied c.in_ok-process.was)
 
-pub returns-clause-step : goal.returns-clause-step
-returns-clause-step c =
-    item_goes (enter (state_of c.args.self.now.shared.now) (process_of c.args.self.now) c.args.dir c.args.place) c.in_ok-enter.ensures.step
-    (gives (λ i. Entry c.args.dir (c.in_ok-copy.ensures i) (c.look-object.ensures i)))
+pub returns : goal.returns
+returns c =
+    let s = c.args.shared.now in
+    let who = c.args.who.now in
+    let q = c.in_ok-process.process.now in
+    (ap (λ (p : Process). record { state = s; who = who; process = p }) (kept_is s who q _ (there c.before)), kept_lives s who q _ (there c.before))
 
-pub returns-clause-found : goal.returns-clause-found
-returns-clause-found c = λ start. record { is_dir = c.in_ok-enter.ensures.dir; leads = ap (look (state_of c.args.self.now.shared.now) c.args.dir) c.in_ok-copy.ensures ∙ sym c.look-object.ensures }
+pub invariant_of-result : goal.invariant_of-result
+invariant_of-result c = kept_lives c.args.shared.now c.args.who.now c.in_ok-process.process.now _ (there c.before)
+
+pub returns-in_err-process : goal.returns-in_err-process
+returns-in_err-process c =
+    let h = c.shared.inside in
+    none_match _ c.from_residual.ensures
+    (ap (λ (s : State). map.get s.procs c.args.who.now) (sym c.shared.view_is) ∙ not_found h.procs.procs h.fds.rows c.args.who.now (sym c.find.ensures ∙ ap option_copied c.in_err-process.was))

@@ -7,7 +7,7 @@ use Rattle.kern_model.specs.State.{State, Process}
 use Rattle.kern_model.specs.Walk.{last_place}
 use Rattle.chk_rules.specs.Ends.{GoesOn}
 use Rattle.chk_rules.proofs.Steps.{need_goes, need_stops}
-use Rattle.sys_lookup.specs.Shared.{metadata_of, process_of, state_of}
+use Rattle.sys_lookup.specs.Shared.{metadata_of}
 use Rattle.sys_lookup.specs.Walks.{place_in}
 use Rattle.sys_lookup.specs.declared.argument.PathArgument.TheVariants.{First}
 use Rattle.sys_lookup.specs.declared.shared.Metadata.{Metadata}
@@ -19,23 +19,23 @@ leaving s p dir id in_dir at rest = Need (mac_write s p dir in_dir) (Need (dac_w
 
 pub returns-in_err-parent-clause-step : goal.returns-in_err-parent-clause-step
 returns-in_err-parent-clause-step c =
-    let s = state_of c.args.self.now.shared.now in
+    let s = c.args.self.now.state in
     let at = last_place (place_in First) c.args.path.now in
-    subst (λ place. GoesOn c.args.checks.now (leaving s (process_of c.args.self.now) c.args.dir.now c.args.id.now place at) c.from_residual.result c.write_object.new.checks) c.dir_place-place.ensures
+    subst (λ place. GoesOn c.args.checks.now (leaving s c.args.self.now.process c.args.dir.now c.args.id.now place at) c.from_residual.result c.write_object.new.checks) c.dir_place-place.ensures
     (need_stops c.from_residual.result c.from_residual.ensures.1 c.in_err-parent.ensures.step)
 
 pub returns-in_err-dac_write-clause-step : goal.returns-in_err-dac_write-clause-step
 returns-in_err-dac_write-clause-step c =
-    let s = state_of c.args.self.now.shared.now in
+    let s = c.args.self.now.state in
     let at = last_place (place_in First) c.args.path.now in
-    subst (λ place. GoesOn c.args.checks.now (leaving s (process_of c.args.self.now) c.args.dir.now c.args.id.now place at) c.from_residual-in_err-dac_write.result c.dac_write.new.checks) c.dir_place-place.ensures
+    subst (λ place. GoesOn c.args.checks.now (leaving s c.args.self.now.process c.args.dir.now c.args.id.now place at) c.from_residual-in_err-dac_write.result c.dac_write.new.checks) c.dir_place-place.ensures
     (need_goes c.in_ok-parent.ensures.step
     (need_stops c.from_residual-in_err-dac_write.result c.from_residual-in_err-dac_write.ensures.1 (c.in_err-dac_write.ensures s c.args.dir.now c.in_ok-parent.ensures.object)))
 
 pub returns-clause-step : goal.returns-clause-step
 returns-clause-step c =
-    let s = state_of c.args.self.now.shared.now in
-    let p = process_of c.args.self.now in
+    let s = c.args.self.now.state in
+    let p = c.args.self.now.process in
     subst (λ place. GoesOn c.args.checks.now (leaving s p c.args.dir.now c.args.id.now place (last_place (place_in First) c.args.path.now)) c.write_object-2.result c.write_object-2.new.checks) c.dir_place-place.ensures
     (subst (λ at. GoesOn c.args.checks.now (leaving s p c.args.dir.now c.args.id.now c.dir_place-place.result at) c.write_object-2.result c.write_object-2.new.checks) c.last_place.ensures
     (need_goes c.in_ok-parent.ensures.step

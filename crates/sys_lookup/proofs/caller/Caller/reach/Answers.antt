@@ -1,6 +1,5 @@
 use Rattle.kern_model.specs.Walk.{last_place, start_of, to_object}
 use Rattle.chk_rules.proofs.Steps.{then_goes, stops_there, gives}
-use Rattle.sys_lookup.specs.Shared.{process_of, state_of}
 use Rattle.sys_lookup.specs.Walks.{place_in}
 use Rattle.sys_lookup.proofs.caller.Caller.reach.Goals as goal
 
@@ -17,4 +16,4 @@ returns-clause-step c =
     (then_goes {next = λ id rest. rest (id, place)} (c.in_ok-id.ensures.step c.walk.new.checks) (gives (λ i. (c.in_ok-id.id, c.last_place.ensures i))))
 
 pub returns-clause-led : goal.returns-clause-led
-returns-clause-led c = c.in_ok-id.ensures.led (state_of c.args.self.now.shared.now) (start_of (process_of c.args.self.now) c.args.path.now) c.in_ok-found.ensures.found
+returns-clause-led c = c.in_ok-id.ensures.led c.args.self.now.state (start_of c.args.self.now.process c.args.path.now) c.in_ok-found.ensures.found

@@ -1,0 +1,18 @@
+-- Steps on an object whose metadata are at hand.
+use Rattle.std.specs.Prelude.{◌≡◌, Result}
+use Rattle.kern_model.specs.declared.numbers.Oid.{Oid}
+use Rattle.kern_model.specs.Row.{Row}
+use Rattle.kern_model.specs.State.{State}
+use Rattle.chk_rules.specs.CheckLog.{CheckLog}
+use Rattle.chk_rules.specs.Ends.{GoesOn}
+use Rattle.chk_rules.specs.declared.stop.Stop.{Stop}
+use Rattle.sys_lookup.specs.Shared.{metadata_of}
+use Rattle.sys_lookup.specs.declared.shared.Metadata.{Metadata}
+
+-- the step is made on the object of a state that has these metadata
+abbrev pub StepIn : {X : Type 0} → State → CheckLog → Metadata → (Oid → (X → Row) → Row) → Result X Stop → CheckLog → Type 0
+StepIn s before object part step after = (id : Oid) → object ≡ metadata_of s id → GoesOn before (part id) step after
+
+-- the same in each state in which an object has them
+abbrev pub StepOn : {X : Type 0} → CheckLog → Metadata → (State → Oid → (X → Row) → Row) → Result X Stop → CheckLog → Type 0
+StepOn before object part step after = (s : State) → StepIn s before object (part s) step after

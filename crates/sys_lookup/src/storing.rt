@@ -1,0 +1,51 @@
+// How the objects and entries of the state change.
+ghost use Rattle.std.specs.Prelude.{◌≡◌, None, IfOk, OnOk, true, false};
+ghost use Rattle.kern_model.specs.Create.{drawing, has_object_number};
+ghost use Rattle.kern_model.specs.Entries.{is_removed};
+ghost use Rattle.kern_model.specs.Kinds.{object_with};
+ghost use Rattle.kern_model.specs.State.{SetEntry, changed, changed_by, look, next_object};
+ghost use Rattle.kern_model.specs.Valid.{IsDir};
+ghost use Rattle.fs_dirs.specs.Tree.{MayBeAdded};
+
+use crate::shared::Shared;
+use fs_dirs::AddError;
+use fs_nodes::NodeError;
+use kern_model::{Attr, Body, Name, NoMemory, Oid};
+use lab_lattice::Label;
+
+impl Shared {
+    /// Whether a number of an object is left at a label.
+    pub fn can_create(&self, label: &Label) -> bool
+        ensures { result ≡ has_object_number self.now label.now }
+    {
+        self.tree.nodes().can_create(label)
+    }
+
+    /// Makes an object that has no name yet, under the next number of a label, and returns the number.
+    pub fn create(&mut self, label: Label, attr: Attr, body: Body) -> Result<Oid, NoMemory>
+        requires { has_object_number self.old label ≡ true }
+        ensures id { IfOk result (λ id. id ≡ next_object self.old label) }
+        ensures drawn { OnOk result (self.new ≡ changed_by self.old (drawing self.old label (object_with label attr body))) }
+    {
+        match self.tree.create(label, attr, body) {
+            Ok(id) => Ok(id),
+            Err(NodeError::NoMemory(e)) => Err(e),
+            Err(NodeError::Full) => unreachable!(),
+        }
+    }
+
+    /// Has a new name in a directory that is not removed lead to an object.
+    pub fn add_entry(&mut self, dir: &Oid, name: &Name, id: &Oid) -> Result<(), NoMemory>
+        requires dir { IsDir self.old.objects dir.now }
+        requires stands { is_removed self.old dir.now ≡ false }
+        requires absent { look self.old dir.now name.now ≡ None }
+        requires may { MayBeAdded self.old id.now }
+        ensures { OnOk result (self.new ≡ changed self.old (SetEntry (dir.now, name.now) id.now)) }
+    {
+        match self.tree.add(dir, name, id) {
+            Ok(()) => Ok(()),
+            Err(AddError::NoMemory(e)) => Err(e),
+            Err(AddError::Exists | AddError::Removed) => unreachable!(),
+        }
+    }
+}

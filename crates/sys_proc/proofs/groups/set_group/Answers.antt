@@ -1,0 +1,29 @@
+use Rattle.std.proofs.Common.{◌≡◌, ◌∙◌, ◌||◌, ap, sym, true}
+use Rattle.std.specs.Option.{option_copied_mut}
+use Rattle.kern_model.specs.ProcessRows.{with_group}
+use Rattle.kern_model.specs.Rules.{may_be_group}
+use Rattle.proc_creds.specs.Credentials.{Credentials}
+use Rattle.sys_lookup.proofs.OwnerLemmas.{owners_creds}
+use Rattle.sys_proc.proofs.LentLemmas.{left_changed, lent_is, some_lent}
+use Rattle.sys_proc.proofs.groups.set_group.Goals as goal
+
+pub unreachable-requires : goal.unreachable-requires
+unreachable-requires c =
+    some_lent c.shared.inside c.args.shared.now c.shared.view_is c.args.who.now c.requires.living (sym c.creds_mut.ensures.value ∙ ap option_copied_mut c.in_default.is)
+
+pub unreachable-requires-in-Err : goal.unreachable-requires-in-Err
+unreachable-requires-in-Err c =
+    let lent = c.in-Some.creds.now in
+    let same = lent_is c.shared.inside c.args.shared.now c.shared.view_is c.args.who.now c.requires.living lent c.in-Some.ensures.value in
+    let may : (c.args.all || may_be_group lent.ids c.args.group) ≡ true = ap (λ (x : Credentials). c.args.all || may_be_group x.ids c.args.group) (sym same) ∙ c.requires.may in
+    cc (may, c.in-Err.ensures.refused.0)
+
+pub invariant_of-shared : goal.invariant_of-shared
+invariant_of-shared c =
+    let h = c.shared.inside in
+    owners_creds h.procs.procs h.fds.rows c.args.who.now c.setgid.new.self c.shared.invariant
+
+pub returns : goal.returns
+returns c =
+    left_changed c.shared.inside c.args.shared.now c.shared.view_is c.args.who.now c.requires.living c.in-Some.creds.now c.in-Some.ensures.value
+    (λ (x : Credentials). record x { ids = with_group x.ids c.args.group c.args.all }) c.setgid.new.self c.in-Ok.ensures.set.1
