@@ -206,7 +206,7 @@ oid_round_trip p oid h fits = ap (option_map (λ (x : ℕ × Label). record { la
 
 -- ---- what a check is about
 
-prefix_is : (prefix word rest : List ℕ) → after_prefix prefix word ≡ Some rest → word ≡ prefix ++ rest
+pub prefix_is : (prefix word rest : List ℕ) → after_prefix prefix word ≡ Some rest → word ≡ prefix ++ rest
 prefix_is [] word rest h = same_Some word rest h
 prefix_is (f ∷ fs) [] rest h = absurd (cc)
 prefix_is (f ∷ fs) (b ∷ bs) rest h = by_test (f == b) refl h (λ h. prefix_is fs bs rest h)

@@ -13,8 +13,8 @@ use Rattle.kern_model.specs.declared.checks.Thing.TheVariants as thing
 use Rattle.kern_model.specs.declared.records.Rec.{Rec}
 use Rattle.kern_model.specs.declared.records.Rec.TheVariants as rec
 use Rattle.line_text.specs.Ranges.{count_of, PlaceInRange, EndingInRange}
-use Rattle.aud_record.specs.Events.{who_of}
-use Rattle.aud_record.specs.Fits.{label_of, label_if, rest_labels, has_valid_labels, RestInRange, IsInRange, numbered_fits, pid_fits, thing_fits, new_label_fits, place_fits, ending_fits, rest_tests, all_hold, rec_fits}
+use Rattle.kern_model.specs.Records.{who_of, label_of, label_if, rest_labels}
+use Rattle.aud_record.specs.Fits.{has_valid_labels, RestInRange, IsInRange, numbered_fits, pid_fits, thing_fits, new_label_fits, place_fits, ending_fits, rest_tests, all_hold, rec_fits}
 
 -- ---- from labels and ranges
 
@@ -52,11 +52,13 @@ rest_fit p (rec.MacSetProc who old new) valid range = valid
 rest_fit p (rec.MacSetFile who object old new) valid range =
     let parts = and_parts (is_valid p object.label) (list_all (is_valid p) (rest_labels (rec.MacSetProc who old new))) valid in
     and_from _ _ (numbered_fit p object.n object.label parts.0 range) parts.1
-rest_fit p (rec.Exercise who label cap check t thing_label new_label at) valid range =
-    let one = and_parts (is_valid p label) (is_valid p (label_of t) && (is_valid p thing_label && list_all (is_valid p) (label_if new_label))) valid in
-    let two = and_parts (is_valid p (label_of t)) (is_valid p thing_label && list_all (is_valid p) (label_if new_label)) one.1 in
-    let three = and_parts (is_valid p thing_label) (list_all (is_valid p) (label_if new_label)) two.1 in
-    and_from _ _ one.0 (and_from _ _ (thing_fit p t two.0 range.0) (and_from _ _ three.0 (and_from _ _ (new_label_fit p new_label three.1) (and_from _ _ (place_fit at range.1) refl))))
+rest_fit p (rec.Exercise e) valid range =
+    let one = and_parts (is_valid p e.label) (is_valid p (label_of e.thing) && (is_valid p e.thing_label && list_all (is_valid p) (label_if e.new_label))) valid in
+    let two = and_parts (is_valid p (label_of e.thing)) (is_valid p e.thing_label && list_all (is_valid p) (label_if e.new_label)) one.1 in
+    let three = and_parts (is_valid p e.thing_label) (list_all (is_valid p) (label_if e.new_label)) two.1 in
+    and_from _ _ one.0
+    (and_from _ _ (thing_fit p e.thing two.0 range.0)
+    (and_from _ _ three.0 (and_from _ _ (new_label_fit p e.new_label three.1) (and_from _ _ (place_fit e.place range.1) refl))))
 rest_fit p (rec.Deny who call errno check at) valid range = and_from _ _ (place_fit at range) refl
 rest_fit p (rec.Switch who on) valid range = refl
 rest_fit p (rec.Note who bytes) valid range = and_from _ _ range refl
@@ -95,12 +97,13 @@ rest_valid p (rec.MacSetProc who old new) fits = fits
 rest_valid p (rec.MacSetFile who object old new) fits =
     let parts = and_parts (numbered_fits p object.n object.label) (all_hold (is_valid p old ∷ is_valid p new ∷ [])) fits in
     and_from _ _ (numbered_valid p object.n object.label parts.0) parts.1
-rest_valid p (rec.Exercise who label cap check t thing_label new_label at) fits =
-    let one = and_parts (is_valid p label) (all_hold (thing_fits p t ∷ is_valid p thing_label ∷ new_label_fits p new_label ∷ place_fits at ∷ [])) fits in
-    let two = and_parts (thing_fits p t) (all_hold (is_valid p thing_label ∷ new_label_fits p new_label ∷ place_fits at ∷ [])) one.1 in
-    let three = and_parts (is_valid p thing_label) (all_hold (new_label_fits p new_label ∷ place_fits at ∷ [])) two.1 in
-    let four = and_parts (new_label_fits p new_label) (all_hold (place_fits at ∷ [])) three.1 in
-    and_from _ _ one.0 (and_from _ _ (thing_valid p t two.0) (and_from _ _ three.0 (new_label_valid p new_label four.0)))
+rest_valid p (rec.Exercise e) fits =
+    let last : List Bool = place_fits e.place ∷ [] in
+    let one = and_parts (is_valid p e.label) (all_hold (thing_fits p e.thing ∷ is_valid p e.thing_label ∷ new_label_fits p e.new_label ∷ last)) fits in
+    let two = and_parts (thing_fits p e.thing) (all_hold (is_valid p e.thing_label ∷ new_label_fits p e.new_label ∷ last)) one.1 in
+    let three = and_parts (is_valid p e.thing_label) (all_hold (new_label_fits p e.new_label ∷ last)) two.1 in
+    let four = and_parts (new_label_fits p e.new_label) (all_hold last) three.1 in
+    and_from _ _ one.0 (and_from _ _ (thing_valid p e.thing two.0) (and_from _ _ three.0 (new_label_valid p e.new_label four.0)))
 rest_valid p (rec.Deny who call errno check at) fits = refl
 rest_valid p (rec.Switch who on) fits = refl
 rest_valid p (rec.Note who bytes) fits = refl

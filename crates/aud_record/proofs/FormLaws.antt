@@ -17,7 +17,7 @@ use Rattle.fs_path.proofs.RoundTrip.{spaces_apart}
 -- ---- one word
 
 -- where two steps, one after the other, have a result, each of them has one
-pub bound_is : {A B : Type 0} (r : Result A Fault) (f : A → Result B Fault) (y : B) → (r >>= f) ≡ Ok y → (x : A) × (r ≡ Ok x) × (f x ≡ Ok y)
+pub bound_is : {A B E : Type 0} (r : Result A E) (f : A → Result B E) (y : B) → (r >>= f) ≡ Ok y → (x : A) × (r ≡ Ok x) × (f x ≡ Ok y)
 bound_is (Ok x) f y h = (x, refl, h)
 bound_is (Err e) f y h = absurd (cc)
 

@@ -1,12 +1,14 @@
 -- The forms of all kinds of records.
 use Rattle.std.specs.Prelude.{◌≡◌, Bool, true, false, None, Some, refl}
+use Rattle.std.proofs.Common.{sym}
 use Rattle.fs_path.specs.Words.{after_spaces}
 use Rattle.lab_text.specs.Policy.{PolicyNames}
 use Rattle.kern_model.specs.declared.calls.Ending.TheVariants as ending
 use Rattle.kern_model.specs.declared.numbers.Pid.{Pid}
 use Rattle.kern_model.specs.declared.records.Rec.{Rec}
 use Rattle.kern_model.specs.declared.records.Rec.TheVariants as rec
-use Rattle.aud_record.specs.Events.{event_of, who_of}
+use Rattle.kern_model.specs.Records.{who_of}
+use Rattle.aud_record.specs.Events.{event_of}
 use Rattle.aud_record.specs.Fits.{rest_tests, all_hold}
 use Rattle.aud_record.proofs.FormLaws.{Values, made, words_in, values_fit, IsWide}
 use Rattle.aud_record.specs.Forms.{exit_form, form_of}
@@ -72,8 +74,17 @@ made_by (rec.CapSetProc who caps) = record { values = (caps, tt); makes = refl }
 made_by (rec.CapSetFile who file caps) = record { values = (file, (caps, tt)); makes = refl }
 made_by (rec.MacSetProc who old new) = record { values = (old, (new, tt)); makes = refl }
 made_by (rec.MacSetFile who object old new) = record { values = (object, (old, (new, tt))); makes = refl }
-made_by (rec.Exercise who label cap check thing thing_label None place) = record { values = (label, (cap, (check, (thing, (thing_label, (new.Absent, (place, tt))))))); makes = refl }
-made_by (rec.Exercise who label cap check thing thing_label (Some new_label) place) = record { values = (label, (cap, (check, (thing, (thing_label, (new.Given new_label, (place, tt))))))); makes = refl }
+made_by (rec.Exercise e) =
+    elim e.new_label as (λ n. e.new_label ≡ n → IsMade (rec.Exercise e)) [
+      | None ↦ λ is. record {
+        values = (e.label, (e.cap, (e.check, (e.thing, (e.thing_label, (new.Absent, (e.place, tt)))))));
+        makes = λ i. rec.Exercise (record e { new_label = sym is i });
+      }
+      | Some label ↦ λ is. record {
+        values = (e.label, (e.cap, (e.check, (e.thing, (e.thing_label, (new.Given label, (e.place, tt)))))));
+        makes = λ i. rec.Exercise (record e { new_label = sym is i });
+      }
+    ] refl
 made_by (rec.Deny who call errno check place) = record { values = (call, (errno, (check, (place, tt)))); makes = refl }
 made_by (rec.Switch who on) = record { values = (on, tt); makes = refl }
 made_by (rec.Note who bytes) = record { values = (bytes, tt); makes = refl }

@@ -10,3 +10,5 @@ pub mod ListedLaws
 pub mod Numbers
 pub mod Quoted
 pub mod WordLaws
+pub mod HeaderLaws
+pub mod HeaderLines

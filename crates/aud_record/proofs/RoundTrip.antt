@@ -12,7 +12,8 @@ use Rattle.kern_model.specs.declared.numbers.Pid.{Pid}
 use Rattle.kern_model.specs.declared.records.Rec.{Rec}
 use Rattle.kern_model.specs.Named.{named}
 use Rattle.line_text.specs.Words.{pid_text}
-use Rattle.aud_record.specs.Events.{event_of, event_word, who_of, all_events}
+use Rattle.kern_model.specs.Records.{who_of}
+use Rattle.aud_record.specs.Events.{event_of, event_word, all_events}
 use Rattle.aud_record.proofs.FieldLaws.{canonical_is, canonical_round_trip, field_word}
 use Rattle.aud_record.specs.Fits.{pid_fits, rest_tests, all_hold, rec_fits}
 use Rattle.aud_record.proofs.FormLaws.{bound_is, word_round_trip, field_round_trip, Reads, word_is, field_is, after_text_is, made, values_fit, form_round_trip, words_lack, IsFormed, form_is}
@@ -128,7 +129,7 @@ line_is p line call r h =
     let third = bound_is (parse_field false (canonical_pid p) second.0.1) (from_who p first.0.0 second.0.0) (call, r) second.2 in
     let last = bound_is (parse_form p (form_of second.0.0 third.0.0) third.0.1) (λ r. Ok (first.0.0, r)) (call, r) third.2 in
     let same : ◌≡◌ {A = ℕ × Rec} (first.0.0, last.0) (call, r) = cc in
-    subst (λ (x : ℕ × Rec). IsLine p line x.0 x.1) same
+    subst (λ (x : ℕ × Rec). IsLine p line x.0 x.1) {x = (first.0.0, last.0)} same
     (line_made p line first.0.1 second.0.1 third.0.1 first.0.0 second.0.0 third.0.0 last.0 (word_is false (canonical_number (2 ^ 64)) line first.0.1 first.0.0 first.1)
     (field_is true (named event_word all_events) first.0.1 second.0.1 second.0.0 second.1) (field_is false (canonical_pid p) second.0.1 third.0.1 third.0.0 third.1) (form_is p (form_of second.0.0 third.0.0) third.0.1 last.0 last.1))
 

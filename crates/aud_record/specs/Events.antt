@@ -1,6 +1,5 @@
 -- The kinds of records.
 use Rattle.std.specs.Prelude.{ℕ, List, [], ◌∷◌, codes}
-use Rattle.kern_model.specs.declared.numbers.Pid.{Pid}
 use Rattle.kern_model.specs.declared.records.Rec.{Rec}
 use Rattle.kern_model.specs.declared.records.Rec.TheVariants as rec
 use Rattle.aud_record.specs.declared.event.Event.{Event}
@@ -16,7 +15,7 @@ event_of (rec.CapSetProc who caps) = event.CapSetProc
 event_of (rec.CapSetFile who file caps) = event.CapSetFile
 event_of (rec.MacSetProc who old new) = event.MacSetProc
 event_of (rec.MacSetFile who object old new) = event.MacSetFile
-event_of (rec.Exercise who label cap check thing thing_label new_label place) = event.Exercise
+event_of (rec.Exercise exercise) = event.Exercise
 event_of (rec.Deny who call errno check place) = event.Deny
 event_of (rec.Switch who on) = event.Switch
 event_of (rec.Note who bytes) = event.Note
@@ -40,18 +39,3 @@ event_word event.Note = codes "note"
 abbrev pub all_events : List Event
 all_events =
     event.Boot ∷ event.Fork ∷ event.Exec ∷ event.Exit ∷ event.CapSetProc ∷ event.CapSetFile ∷ event.MacSetProc ∷ event.MacSetFile ∷ event.Exercise ∷ event.Deny ∷ event.Switch ∷ event.Note ∷ []
-
--- the process that a record is about
-abbrev pub who_of : Rec → Pid
-who_of (rec.Boot who label caps) = who
-who_of (rec.Fork who child) = who
-who_of (rec.Exec who file file_caps caps) = who
-who_of (rec.Exit who ending) = who
-who_of (rec.CapSetProc who caps) = who
-who_of (rec.CapSetFile who file caps) = who
-who_of (rec.MacSetProc who old new) = who
-who_of (rec.MacSetFile who object old new) = who
-who_of (rec.Exercise who label cap check thing thing_label new_label place) = who
-who_of (rec.Deny who call errno check place) = who
-who_of (rec.Switch who on) = who
-who_of (rec.Note who bytes) = who

@@ -11,43 +11,23 @@ use Rattle.kern_model.specs.declared.checks.Thing.{Thing}
 use Rattle.kern_model.specs.declared.checks.Thing.TheVariants as thing
 use Rattle.kern_model.specs.declared.numbers.Oid.{Oid}
 use Rattle.kern_model.specs.declared.numbers.Pid.{Pid}
+use Rattle.kern_model.specs.declared.records.Exercise.{Exercise}
 use Rattle.kern_model.specs.declared.records.Rec.{Rec}
 use Rattle.kern_model.specs.declared.records.Rec.TheVariants as rec
+use Rattle.kern_model.specs.Records.{who_of, labels_in}
 use Rattle.line_text.specs.Ranges.{are_bytes, count_of, PlaceInRange, EndingInRange}
-use Rattle.aud_record.specs.Events.{who_of}
 
 -- ---- labels
 
--- the label of the number of an object or a process
-abbrev pub label_of : Thing → Label
-label_of (thing.Object oid) = oid.label
-label_of (thing.Process pid) = pid.label
-
--- a label that may be none
-abbrev pub label_if : Option Label → List Label
-label_if None = []
-label_if (Some label) = label ∷ []
-
--- the labels that stand after the number of the process
-abbrev pub rest_labels : Rec → List Label
-rest_labels (rec.Boot who label caps) = label ∷ []
-rest_labels (rec.Fork who child) = child.label ∷ []
-rest_labels (rec.Exec who file file_caps caps) = file.label ∷ []
-rest_labels (rec.Exit who ending) = []
-rest_labels (rec.CapSetProc who caps) = []
-rest_labels (rec.CapSetFile who file caps) = file.label ∷ []
-rest_labels (rec.MacSetProc who old new) = old ∷ new ∷ []
-rest_labels (rec.MacSetFile who object old new) = object.label ∷ old ∷ new ∷ []
-rest_labels (rec.Exercise who label cap check thing thing_label new_label place) = label ∷ label_of thing ∷ thing_label ∷ label_if new_label
-rest_labels (rec.Deny who call errno check place) = []
-rest_labels (rec.Switch who on) = []
-rest_labels (rec.Note who bytes) = []
-
 -- each label of a record is valid in the policy, those of its numbers too
 unfoldable pub has_valid_labels : PolicyNames → Rec → Bool
-has_valid_labels p r = list_all (is_valid p) ((who_of r).label ∷ rest_labels r)
+has_valid_labels p r = list_all (is_valid p) (labels_in r)
 
 -- ---- numbers and bytes
+
+-- the numbers of an exercise after that of the process are in the ranges of their types
+abbrev pub ExerciseInRange : Exercise → Type 0
+ExerciseInRange e = (count_of e.thing < 2 ^ 16) × PlaceInRange e.place
 
 -- the numbers and bytes after the number of the process are in the ranges of their types
 abbrev pub RestInRange : Rec → Type 0
@@ -59,7 +39,7 @@ RestInRange (rec.CapSetProc who caps) = Unit {0}
 RestInRange (rec.CapSetFile who file caps) = file.n < 2 ^ 16
 RestInRange (rec.MacSetProc who old new) = Unit {0}
 RestInRange (rec.MacSetFile who object old new) = object.n < 2 ^ 16
-RestInRange (rec.Exercise who label cap check thing thing_label new_label place) = (count_of thing < 2 ^ 16) × PlaceInRange place
+RestInRange (rec.Exercise exercise) = ExerciseInRange exercise
 RestInRange (rec.Deny who call errno check place) = PlaceInRange place
 RestInRange (rec.Switch who on) = Unit {0}
 RestInRange (rec.Note who bytes) = are_bytes bytes ≡ true
@@ -110,8 +90,7 @@ rest_tests p (rec.CapSetProc who caps) = []
 rest_tests p (rec.CapSetFile who file caps) = oid_fits p file ∷ []
 rest_tests p (rec.MacSetProc who old new) = is_valid p old ∷ is_valid p new ∷ []
 rest_tests p (rec.MacSetFile who object old new) = oid_fits p object ∷ is_valid p old ∷ is_valid p new ∷ []
-rest_tests p (rec.Exercise who label cap check thing thing_label new_label place) =
-    is_valid p label ∷ thing_fits p thing ∷ is_valid p thing_label ∷ new_label_fits p new_label ∷ place_fits place ∷ []
+rest_tests p (rec.Exercise e) = is_valid p e.label ∷ thing_fits p e.thing ∷ is_valid p e.thing_label ∷ new_label_fits p e.new_label ∷ place_fits e.place ∷ []
 rest_tests p (rec.Deny who call errno check place) = place_fits place ∷ []
 rest_tests p (rec.Switch who on) = []
 rest_tests p (rec.Note who bytes) = are_bytes bytes ∷ []

@@ -139,7 +139,17 @@ form_of event.MacSetProc who = Next Mark (λ old. Next Mark (λ new. Done (rec.M
 form_of event.MacSetFile who = Next Object (λ object. Next Mark (λ old. Next Mark (λ new. Done (rec.MacSetFile who object old new))))
 form_of event.Exercise who =
     Next Mark (λ label. Next Capability (λ cap. Next Check (λ check. Next About (λ thing. Next Mark (λ thing_label. Next NewMark (λ new_label. Next Where (λ place.
-    Done (rec.Exercise who label cap check thing thing_label (label_given new_label) place))))))))
+    Done
+    (rec.Exercise (record {
+      who = who;
+      label = label;
+      cap = cap;
+      check = check;
+      thing = thing;
+      thing_label = thing_label;
+      new_label = label_given new_label;
+      place = place;
+    })))))))))
 form_of event.Deny who = Next Call (λ call. Next Error (λ errno. Next Check (λ check. Next Where (λ place. Done (rec.Deny who call errno check place)))))
 form_of event.Switch who = Next (Either OnOrOff) (λ on. Done (rec.Switch who on))
 form_of event.Note who = Next Bytes (λ bytes. Done (rec.Note who bytes))

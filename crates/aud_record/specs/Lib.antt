@@ -5,3 +5,4 @@ pub mod Words
 pub mod Canonical
 pub mod Forms
 pub mod Parsed
+pub mod Header

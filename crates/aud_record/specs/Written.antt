@@ -9,10 +9,12 @@ use Rattle.fs_path.specs.Words.{quoted_text, line_text}
 use Rattle.lab_text.specs.Policy.{PolicyNames}
 use Rattle.lab_text.specs.Text.{label_text}
 use Rattle.kern_model.specs.Names.{word_of, check_word, errno_word, place_text, ending_text}
+use Rattle.kern_model.specs.Records.{who_of}
+use Rattle.kern_model.specs.declared.records.Exercise.{Exercise}
 use Rattle.kern_model.specs.declared.records.Rec.{Rec}
 use Rattle.kern_model.specs.declared.records.Rec.TheVariants as rec
 use Rattle.line_text.specs.Words.{pid_text, oid_text, caps_word, thing_text, new_label_text}
-use Rattle.aud_record.specs.Events.{event_of, event_word, who_of}
+use Rattle.aud_record.specs.Events.{event_of, event_word}
 
 -- whether the trail is on
 abbrev pub switch_word : Bool → List ℕ
@@ -21,6 +23,18 @@ switch_word on = cond on (codes "on") (codes "off")
 -- words with one space between them, and a line feed
 unfoldable pub line_of : List (List ℕ) → List ℕ
 line_of words = line_text words ++ 10 ∷ []
+
+-- the words of an exercise after the number of the process
+abbrev pub exercise_words : PolicyNames → Exercise → List (List ℕ)
+exercise_words p e =
+    label_text p e.label
+    ∷ cap_name e.cap
+    ∷ check_word e.check
+    ∷ thing_text p e.thing
+    ∷ label_text p e.thing_label
+    ∷ new_label_text p e.new_label
+    ∷ place_text e.place
+    ∷ []
 
 -- the words after the number of the process that a record is about; an ending is two words
 abbrev pub rest_words : PolicyNames → Rec → List (List ℕ)
@@ -32,8 +46,7 @@ rest_words p (rec.CapSetProc who caps) = caps_word caps ∷ []
 rest_words p (rec.CapSetFile who file caps) = oid_text p file ∷ caps_word caps ∷ []
 rest_words p (rec.MacSetProc who old new) = label_text p old ∷ label_text p new ∷ []
 rest_words p (rec.MacSetFile who object old new) = oid_text p object ∷ label_text p old ∷ label_text p new ∷ []
-rest_words p (rec.Exercise who label cap check thing thing_label new_label place) =
-    label_text p label ∷ cap_name cap ∷ check_word check ∷ thing_text p thing ∷ label_text p thing_label ∷ new_label_text p new_label ∷ place_text place ∷ []
+rest_words p (rec.Exercise exercise) = exercise_words p exercise
 rest_words p (rec.Deny who call errno check place) = word_of call ∷ errno_word errno ∷ check_word check ∷ place_text place ∷ []
 rest_words p (rec.Switch who on) = switch_word on ∷ []
 rest_words p (rec.Note who bytes) = quoted_text bytes ∷ []

@@ -1,7 +1,8 @@
 // The kinds of records.
 ghost use Rattle.std.specs.Prelude.{◌≡◌};
 ghost use Rattle.kern_model.specs.Named.{named};
-ghost use Rattle.aud_record.specs.Events.{event_of, event_word, all_events, who_of};
+ghost use Rattle.kern_model.specs.Records.{who_of};
+ghost use Rattle.aud_record.specs.Events.{event_of, event_word, all_events};
 
 use kern_model::{Pid, Rec};
 
@@ -51,18 +52,18 @@ impl Event {
         ensures { result ≡ event_of rec.now }
     {
         match rec {
-            Rec::Boot(_, _, _) => Event::Boot,
-            Rec::Fork(_, _) => Event::Fork,
-            Rec::Exec(_, _, _, _) => Event::Exec,
-            Rec::Exit(_, _) => Event::Exit,
-            Rec::CapSetProc(_, _) => Event::CapSetProc,
-            Rec::CapSetFile(_, _, _) => Event::CapSetFile,
-            Rec::MacSetProc(_, _, _) => Event::MacSetProc,
-            Rec::MacSetFile(_, _, _, _) => Event::MacSetFile,
-            Rec::Exercise(_, _, _, _, _, _, _, _) => Event::Exercise,
-            Rec::Deny(_, _, _, _, _) => Event::Deny,
-            Rec::Switch(_, _) => Event::Switch,
-            Rec::Note(_, _) => Event::Note,
+            Rec::Boot { .. } => Event::Boot,
+            Rec::Fork { .. } => Event::Fork,
+            Rec::Exec { .. } => Event::Exec,
+            Rec::Exit { .. } => Event::Exit,
+            Rec::CapSetProc { .. } => Event::CapSetProc,
+            Rec::CapSetFile { .. } => Event::CapSetFile,
+            Rec::MacSetProc { .. } => Event::MacSetProc,
+            Rec::MacSetFile { .. } => Event::MacSetFile,
+            Rec::Exercise(_) => Event::Exercise,
+            Rec::Deny { .. } => Event::Deny,
+            Rec::Switch { .. } => Event::Switch,
+            Rec::Note { .. } => Event::Note,
         }
     }
 
@@ -92,17 +93,17 @@ pub fn who(rec: &Rec) -> Pid
     ensures { result ≡ who_of rec.now }
 {
     match rec {
-        Rec::Boot(who, _, _)
-        | Rec::Fork(who, _)
-        | Rec::Exec(who, _, _, _)
-        | Rec::Exit(who, _)
-        | Rec::CapSetProc(who, _)
-        | Rec::CapSetFile(who, _, _)
-        | Rec::MacSetProc(who, _, _)
-        | Rec::MacSetFile(who, _, _, _)
-        | Rec::Exercise(who, _, _, _, _, _, _, _)
-        | Rec::Deny(who, _, _, _, _)
-        | Rec::Switch(who, _)
-        | Rec::Note(who, _) => *who,
+        Rec::Exercise(exercise) => exercise.who,
+        Rec::Boot { who, .. }
+        | Rec::Fork { who, .. }
+        | Rec::Exec { who, .. }
+        | Rec::Exit { who, .. }
+        | Rec::CapSetProc { who, .. }
+        | Rec::CapSetFile { who, .. }
+        | Rec::MacSetProc { who, .. }
+        | Rec::MacSetFile { who, .. }
+        | Rec::Deny { who, .. }
+        | Rec::Switch { who, .. }
+        | Rec::Note { who, .. } => *who,
     }
 }

@@ -7,7 +7,7 @@ ghost use Rattle.aud_record.specs.declared.event.Event.TheVariants as event;
 use crate::event::Event;
 use crate::fault::Fault;
 use crate::words::Words;
-use kern_model::{Ending, Pid, Rec};
+use kern_model::{Ending, Exercise, Pid, Rec};
 use lab_text::Policy;
 use std::alloc::Global;
 
@@ -16,14 +16,14 @@ fn boot(alloc: Global, policy: &Policy, who: Pid, words: &mut Words) -> Result<R
 {
     let label = words.label(alloc, policy)?;
     let caps = words.caps(alloc)?;
-    words.ended(Rec::Boot(who, label, caps))
+    words.ended(Rec::Boot { who, label, caps })
 }
 
 fn fork(alloc: Global, policy: &Policy, who: Pid, words: &mut Words) -> Result<Rec, Fault>
     ensures { Gives (λ r. r) result (parse_form policy.now (form_of event.Fork who) words.old.left.now) }
 {
     let child = words.pid(alloc, policy)?;
-    words.ended(Rec::Fork(who, child))
+    words.ended(Rec::Fork { who, child })
 }
 
 fn exec(alloc: Global, policy: &Policy, who: Pid, words: &mut Words) -> Result<Rec, Fault>
@@ -32,7 +32,12 @@ fn exec(alloc: Global, policy: &Policy, who: Pid, words: &mut Words) -> Result<R
     let file = words.oid(alloc, policy)?;
     let file_caps = words.caps(alloc)?;
     let caps = words.caps(alloc)?;
-    words.ended(Rec::Exec(who, file, file_caps, caps))
+    words.ended(Rec::Exec {
+        who,
+        file,
+        file_caps,
+        caps,
+    })
 }
 
 fn exit(alloc: Global, policy: &Policy, who: Pid, words: &mut Words) -> Result<Rec, Fault>
@@ -41,18 +46,19 @@ fn exit(alloc: Global, policy: &Policy, who: Pid, words: &mut Words) -> Result<R
     let exits = words.choice(b"exit", b"kill")?;
     if exits {
         let code = words.status(alloc)?;
-        return words.ended(Rec::Exit(who, Ending::Exit(code)));
+        let ending = Ending::Exit(code);
+        return words.ended(Rec::Exit { who, ending });
     }
     let term = words.choice(b"TERM", b"KILL")?;
     let ending = if term { Ending::Term } else { Ending::Kill };
-    words.ended(Rec::Exit(who, ending))
+    words.ended(Rec::Exit { who, ending })
 }
 
 fn cap_set_proc(alloc: Global, policy: &Policy, who: Pid, words: &mut Words) -> Result<Rec, Fault>
     ensures { Gives (λ r. r) result (parse_form policy.now (form_of event.CapSetProc who) words.old.left.now) }
 {
     let caps = words.caps(alloc)?;
-    words.ended(Rec::CapSetProc(who, caps))
+    words.ended(Rec::CapSetProc { who, caps })
 }
 
 fn cap_set_file(alloc: Global, policy: &Policy, who: Pid, words: &mut Words) -> Result<Rec, Fault>
@@ -60,7 +66,7 @@ fn cap_set_file(alloc: Global, policy: &Policy, who: Pid, words: &mut Words) -> 
 {
     let file = words.oid(alloc, policy)?;
     let caps = words.caps(alloc)?;
-    words.ended(Rec::CapSetFile(who, file, caps))
+    words.ended(Rec::CapSetFile { who, file, caps })
 }
 
 fn mac_set_proc(alloc: Global, policy: &Policy, who: Pid, words: &mut Words) -> Result<Rec, Fault>
@@ -68,7 +74,7 @@ fn mac_set_proc(alloc: Global, policy: &Policy, who: Pid, words: &mut Words) -> 
 {
     let old = words.label(alloc, policy)?;
     let new = words.label(alloc, policy)?;
-    words.ended(Rec::MacSetProc(who, old, new))
+    words.ended(Rec::MacSetProc { who, old, new })
 }
 
 fn mac_set_file(alloc: Global, policy: &Policy, who: Pid, words: &mut Words) -> Result<Rec, Fault>
@@ -77,21 +83,34 @@ fn mac_set_file(alloc: Global, policy: &Policy, who: Pid, words: &mut Words) -> 
     let object = words.oid(alloc, policy)?;
     let old = words.label(alloc, policy)?;
     let new = words.label(alloc, policy)?;
-    words.ended(Rec::MacSetFile(who, object, old, new))
+    words.ended(Rec::MacSetFile {
+        who,
+        object,
+        old,
+        new,
+    })
 }
 
 fn exercise(alloc: Global, policy: &Policy, who: Pid, words: &mut Words) -> Result<Rec, Fault>
     ensures { Gives (λ r. r) result (parse_form policy.now (form_of event.Exercise who) words.old.left.now) }
 {
-    let own = words.label(alloc, policy)?;
+    let label = words.label(alloc, policy)?;
     let cap = words.cap()?;
     let check = words.check()?;
     let thing = words.thing(alloc, policy)?;
-    let label = words.label(alloc, policy)?;
+    let thing_label = words.label(alloc, policy)?;
     let new_label = words.new_label(alloc, policy)?.label();
     let place = words.place(alloc)?;
-    let rec = Rec::Exercise(who, own, cap, check, thing, label, new_label, place);
-    words.ended(rec)
+    words.ended(Rec::Exercise(Exercise {
+        who,
+        label,
+        cap,
+        check,
+        thing,
+        thing_label,
+        new_label,
+        place,
+    }))
 }
 
 fn deny(alloc: Global, policy: &Policy, who: Pid, words: &mut Words) -> Result<Rec, Fault>
@@ -101,21 +120,27 @@ fn deny(alloc: Global, policy: &Policy, who: Pid, words: &mut Words) -> Result<R
     let errno = words.errno()?;
     let check = words.check()?;
     let place = words.place(alloc)?;
-    words.ended(Rec::Deny(who, call, errno, check, place))
+    words.ended(Rec::Deny {
+        who,
+        call,
+        errno,
+        check,
+        place,
+    })
 }
 
 fn switch(policy: &Policy, who: Pid, words: &mut Words) -> Result<Rec, Fault>
     ensures { Gives (λ r. r) result (parse_form policy.now (form_of event.Switch who) words.old.left.now) }
 {
     let on = words.choice(b"on", b"off")?;
-    words.ended(Rec::Switch(who, on))
+    words.ended(Rec::Switch { who, on })
 }
 
 fn note(alloc: Global, policy: &Policy, who: Pid, words: &mut Words) -> Result<Rec, Fault>
     ensures { Gives (λ r. r) result (parse_form policy.now (form_of event.Note who) words.old.left.now) }
 {
     let bytes = words.bytes(alloc)?;
-    words.ended(Rec::Note(who, bytes))
+    words.ended(Rec::Note { who, bytes })
 }
 
 /// The record of a kind that is about a process.

@@ -6,10 +6,13 @@ mod event;
 mod fault;
 mod fields;
 mod forms;
+mod header;
 mod reading;
 mod words;
 mod written;
 
+pub use event::Event;
+pub use header::{Header, HeaderError, header_read, header_text};
 pub use reading::{ReadRec, RecError, rec_read};
 pub use std::alloc::AllocError as NoMemory;
-pub use written::{header_text, rec_text};
+pub use written::rec_text;

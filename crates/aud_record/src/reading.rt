@@ -1,5 +1,5 @@
 // The reading of a record.
-ghost use Rattle.std.specs.Prelude.{◌≡◌, ℕ, true, List, ◌++◌, length, take, IfOk, Ok};
+ghost use Rattle.std.specs.Prelude.{◌≡◌, ℕ, true, List, ◌++◌, ◌≤◌, length, take, IfOk, Ok};
 ghost use Rattle.kern_model.specs.declared.records.Rec.{Rec};
 ghost use Rattle.aud_record.specs.Fits.{has_valid_labels, IsInRange};
 ghost use Rattle.aud_record.specs.Parsed.{parse_line, placed, parse_rec, Answers};
@@ -75,7 +75,8 @@ fn placed(len: usize, fault: Fault) -> RecError
 // The record with which a text begins.
 #[tactic(auto, unfolding(crate::specs::Parsed::parse_rec))]
 fn first_record(alloc: Global, policy: &Policy, text: &[u8]) -> Result<ReadRec, RecError>
-    ensures { Answers result (parse_rec policy.now text.now) }
+    ensures parsed { Answers result (parse_rec policy.now text.now) }
+    ensures within { IfOk result (λ read. read.used ≤ length text.now) }
 {
     let (line, _) = next_line(text).ok_or(RecError::Truncated)?;
     let (call, rec) = read_line(alloc, policy, line).map_err(|fault| placed(line.len(), fault))?;
@@ -94,6 +95,7 @@ pub fn rec_read(alloc: Global, policy: &Policy, text: &[u8]) -> Result<ReadRec, 
     ensures only { (call : ℕ) (rec : Rec) (rest : List ℕ) → has_valid_labels policy.now rec ≡ true → IsInRange call rec → text.now ≡ rec_text policy.now call rec ++ rest → Answers result (Ok (record { call = call; rec = rec; used = length (rec_text policy.now call rec) })) }
     // Which fault it is.
     ensures cause { Answers result (parse_rec policy.now text.now) }
+    ensures within { IfOk result (λ read. read.used ≤ length text.now) }
 {
     // Its names make a policy, which the clause `only` needs.
     let _names = policy.levels();

@@ -1,22 +1,19 @@
-// The writing of the trail.
+// The writing of a record.
 ghost use Rattle.std.specs.Prelude.{◌≡◌, ◌<◌, ◌^◌, true, List, ℕ, [], ◌∷◌, ◌++◌, length, IfOk, OnOk, Ok};
-ghost use Rattle.cap_clause.specs.Written.{set_text};
 ghost use Rattle.lab_text.specs.Text.{label_text};
 ghost use Rattle.line_text.specs.Reply.{with_words};
 ghost use Rattle.line_text.specs.Words.{caps_word, oid_text};
-ghost use Rattle.aud_record.specs.Fits.{has_valid_labels, RestInRange, IsInRange};
+ghost use Rattle.aud_record.specs.Fits.{has_valid_labels, ExerciseInRange, RestInRange, IsInRange};
 ghost use Rattle.aud_record.specs.Parsed.{parse_rec};
-ghost use Rattle.aud_record.specs.Written.{switch_word, rest_words, rec_text, header_text};
+ghost use Rattle.aud_record.specs.Written.{exercise_words, switch_word, rest_words, rec_text};
 
 use crate::NoMemory;
 use crate::event::{Event, who};
-use cap_bits::{CapSet, CapState};
-use cap_clause::set_to_text;
-use kern_model::{Oid, Rec};
+use cap_bits::CapState;
+use kern_model::{Exercise, Oid, Rec};
 use lab_lattice::Label;
 use lab_text::Policy;
 use line_text::LineWriter;
-use std::alloc::Global;
 
 fn switch_word(on: bool) -> &'static [u8]
     ensures { result.now ≡ switch_word on }
@@ -51,46 +48,68 @@ fn put_labels(
     line.label(policy, new)
 }
 
+// Appends the words of an exercise after the number of the process.
+fn put_exercise(line: &mut LineWriter, policy: &Policy, exercise: &Exercise) -> Result<(), NoMemory>
+    ensures text { OnOk result (line.new ≡ with_words line.old (exercise_words policy.now exercise.now)) }
+    ensures in_range { OnOk result (ExerciseInRange exercise.now) }
+{
+    line.label(policy, &exercise.label)?;
+    line.word(exercise.cap.name())?;
+    line.word(exercise.check.word())?;
+    line.thing(policy, &exercise.thing)?;
+    line.label(policy, &exercise.thing_label)?;
+    line.new_label(policy, &exercise.new_label)?;
+    line.place(exercise.place)
+}
+
 // Appends the words after the number of the process.
 fn put_rest(line: &mut LineWriter, policy: &Policy, rec: &Rec) -> Result<(), NoMemory>
     ensures text { OnOk result (line.new ≡ with_words line.old (rest_words policy.now rec.now)) }
     ensures in_range { OnOk result (RestInRange rec.now) }
 {
     match rec {
-        Rec::Boot(_, label, caps) => {
+        Rec::Boot { label, caps, .. } => {
             line.label(policy, label)?;
             line.caps(caps)
         }
-        Rec::Fork(_, child) => line.pid(policy, child),
-        Rec::Exec(_, file, file_caps, caps) => {
+        Rec::Fork { child, .. } => line.pid(policy, child),
+        Rec::Exec {
+            file,
+            file_caps,
+            caps,
+            ..
+        } => {
             put_file(line, policy, file, file_caps)?;
             line.caps(caps)
         }
-        Rec::Exit(_, ending) => line.ending(*ending),
-        Rec::CapSetProc(_, caps) => line.caps(caps),
-        Rec::CapSetFile(_, file, caps) => put_file(line, policy, file, caps),
-        Rec::MacSetProc(_, old, new) => put_labels(line, policy, old, new),
-        Rec::MacSetFile(_, object, old, new) => {
+        Rec::Exit { ending, .. } => line.ending(*ending),
+        Rec::CapSetProc { caps, .. } => line.caps(caps),
+        Rec::CapSetFile { file, caps, .. } => put_file(line, policy, file, caps),
+        Rec::MacSetProc { old, new, .. } => put_labels(line, policy, old, new),
+        Rec::MacSetFile {
+            object,
+            old,
+            new,
+            ..
+        } => {
             line.oid(policy, object)?;
             put_labels(line, policy, old, new)
         }
-        Rec::Exercise(_, label, cap, check, thing, thing_label, new_label, place) => {
-            line.label(policy, label)?;
-            line.word(cap.name())?;
-            line.word(check.word())?;
-            line.thing(policy, thing)?;
-            line.label(policy, thing_label)?;
-            line.new_label(policy, new_label)?;
-            line.place(*place)
-        }
-        Rec::Deny(_, call, errno, check, place) => {
+        Rec::Exercise(exercise) => put_exercise(line, policy, exercise),
+        Rec::Deny {
+            call,
+            errno,
+            check,
+            place,
+            ..
+        } => {
             line.word(call.word())?;
             line.word(errno.word())?;
             line.word(check.word())?;
             line.place(*place)
         }
-        Rec::Switch(_, on) => line.word(switch_word(*on)),
-        Rec::Note(_, bytes) => line.quoted(bytes.items()),
+        Rec::Switch { on, .. } => line.word(switch_word(*on)),
+        Rec::Note { bytes, .. } => line.quoted(bytes.items()),
     }
 }
 
@@ -120,21 +139,4 @@ pub fn rec_text(room: Vec<u8>, policy: &Policy, call: u64, rec: &Rec) -> Result<
     // Its names make a policy, which the clause `round_trip` needs.
     let _names = policy.levels();
     line_of(room, policy, call, rec)
-}
-
-/// The lines before the records: the format, the names of the world's levels and categories, and its bound.
-#[tactic(auto, unfolding(crate::specs::Written::line_of, crate::specs::Written::header_text))]
-pub fn header_text(alloc: Global, policy: &Policy, bound: &CapSet) -> Result<Vec<u8>, NoMemory>
-    ensures { IfOk result (λ text. text.items ≡ header_text policy.now bound.now) }
-{
-    let bound = set_to_text(alloc, bound)?;
-    let mut line = LineWriter::new(alloc)?;
-    line.bytes(b"trail 1\nlevels")?;
-    line.words(policy.levels())?;
-    line.bytes(b"\ncategories")?;
-    line.words(policy.cats())?;
-    line.bytes(b"\nbound")?;
-    line.word(bound.as_slice())?;
-    line.line_feed()?;
-    Ok(line.into_text())
 }

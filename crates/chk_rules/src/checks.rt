@@ -6,7 +6,7 @@ ghost use Rattle.chk_rules.specs.Ends.{GoesOn};
 
 use crate::Stop;
 use cap_bits::{Cap, CapSet};
-use kern_model::{Check, Errno, NoMemory, Pid, Rec, RecList, Verdict};
+use kern_model::{Check, Errno, Exercise, NoMemory, Pid, Rec, RecList, Verdict};
 use lab_lattice::Label;
 use std::alloc::Global;
 use std::marker::Model;
@@ -84,16 +84,16 @@ impl Checks {
         ensures ok { OnOk result (self.new ≡ record self.old { used = self.old.used ++ exercise_with self.old.subject check.now (Some cap) }) }
         ensures err { OnErr result (self.new ≡ self.old) }
     {
-        self.used.push(Rec::Exercise(
-            self.who,
-            self.label,
+        self.used.push(Rec::Exercise(Exercise {
+            who: self.who,
+            label: self.label,
             cap,
-            check.name,
-            check.thing,
-            check.thing_label,
-            check.new_label,
-            check.place,
-        ))
+            check: check.name,
+            thing: check.thing,
+            thing_label: check.thing_label,
+            new_label: check.new_label,
+            place: check.place,
+        }))
     }
 
     /// The exercises so far, in order.

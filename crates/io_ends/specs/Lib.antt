@@ -1,5 +1,5 @@
 pub mod Faults
-pub mod Sinks
+pub mod Ends
 pub mod Whole
 pub mod LinesState
 pub mod Lines

@@ -80,11 +80,11 @@ impl Buffer {
     pub(crate) fn fill<S: Source>(&mut self, source: &mut S, most: usize) -> Result<usize, Failed>
         requires room { length self.old ≤ MAX_LINE }
         requires some { length self.old < most }
-        ensures fills { IfOk result (λ n. Fills n self.old self.new most (S.left source.old) (S.left source.new)) }
+        ensures fills { IfOk result (λ n. Fills n self.old self.new most (S.view source.old).left (S.view source.new).left) }
         ensures chunk { IfOk result (λ n. n ≤ CHUNK) }
         ensures fails { OnErr result (self.new ≡ self.old) }
-        ensures keeps { OnErr result (Keeps (S.left source.old) (S.left source.new)) }
-        ensures counts { CountsFault (S.faults source.old) (S.faults source.new) result }
+        ensures keeps { OnErr result (Keeps (S.view source.old).left (S.view source.new).left) }
+        ensures counts { CountsFault (S.view source.old).faults (S.view source.new).faults result }
     {
         self.end = move_to_start(&mut self.bytes, self.start, self.end);
         self.start = 0;

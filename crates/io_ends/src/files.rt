@@ -63,9 +63,7 @@ fn read_again<R: Read>(reader: &mut R, buf: &mut [u8]) -> io::Result<usize>
 }
 
 impl<R: Read> Source for FileSource<R> {
-    ghost left = { λ _. None };
-
-    ghost faults = { λ s. s.faults };
+    ghost view = { λ s. record { left = None; faults = s.faults } };
 
     fn read(&mut self, buf: &mut [u8]) -> Result<usize, Failed>
         ensures bound { ReadsAtMost result buf.new }
@@ -182,9 +180,7 @@ fn write_again<R: Files + Print>(
 }
 
 impl<R: Files + Print> Sink for FileSink<R> {
-    ghost held = { λ _. None };
-
-    ghost faults = { λ s. s };
+    ghost view = { λ s. record { held = None; faults = s } };
 
     fn write(&mut self, piece: &[u8]) -> Result<usize, Failed>
         ensures bound { WritesAtMost result piece.now }

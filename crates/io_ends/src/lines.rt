@@ -84,9 +84,9 @@ fn look_at(held: &[u8], room: usize, searched: usize) -> Look
 fn seek<S: Source>(buffer: &mut Buffer, source: &mut S, room: usize) -> Result<Look, Failed>
     requires few { length buffer.old ≤ room + 1 }
     requires small { room ≤ 2 ^ 24 }
-    ensures seeks { Seeks result buffer.old buffer.new room (S.left source.old) (S.left source.new) }
+    ensures seeks { Seeks result buffer.old buffer.new room (S.view source.old).left (S.view source.new).left }
     ensures quiet { HoldsLine buffer.old room → source.new ≡ source.old }
-    ensures counts { CountsFault (S.faults source.old) (S.faults source.new) result }
+    ensures counts { CountsFault (S.view source.old).faults (S.view source.new).faults result }
 {
     let mut searched = 0;
     loop {
@@ -177,10 +177,10 @@ impl Lines {
     /// Reads the next line, which `line` then lends. It does not allocate, so a read that fails is its only error.
     pub fn next<S: Source>(&mut self, source: &mut S) -> Result<Next, ReadError>
         requires { self.old.more ≡ true }
-        ensures advances { Advances result self.old self.new (S.left source.old) (S.left source.new) }
+        ensures advances { Advances result self.old self.new (S.view source.old).left (S.view source.new).left }
         // A line that is held is given without a read.
         ensures quiet { HoldsLine self.old.held self.old.room → source.new ≡ source.old }
-        ensures counts { CountsRead result (S.faults source.old) (S.faults source.new) }
+        ensures counts { CountsRead result (S.view source.old).faults (S.view source.new).faults }
     {
         self.buffer.consume(self.given);
         self.given = 0;

@@ -41,9 +41,7 @@ impl SureSource {
 }
 
 impl Source for SureSource {
-    ghost left = { λ s. Some s };
-
-    ghost faults = { λ _. 0 };
+    ghost view = { λ s. record { left = Some s; faults = 0 } };
 
     fn read(&mut self, buf: &mut [u8]) -> Result<usize, Failed>
         ensures bound { ReadsAtMost result buf.new }
@@ -74,9 +72,7 @@ impl SureSink {
 }
 
 impl Sink for SureSink {
-    ghost held = { λ _. None };
-
-    ghost faults = { λ _. 0 };
+    ghost view = { λ _. record { held = None; faults = 0 } };
 
     fn write(&mut self, piece: &[u8]) -> Result<usize, Failed>
         ensures bound { WritesAtMost result piece.now }

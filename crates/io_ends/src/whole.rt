@@ -42,9 +42,9 @@ pub struct Whole {
 /// Appends a whole piece. It does not allocate. After a fault a proper prefix of the piece is
 /// appended.
 pub fn write_whole<K: Sink>(sink: &mut K, piece: &[u8]) -> Result<(), Failed>
-    ensures ok { OnOk result (Appends (K.held sink.old) (K.held sink.new) piece.now) }
-    ensures err { OnErr result (AppendsPart (K.held sink.old) (K.held sink.new) piece.now) }
-    ensures counts { CountsFault (K.faults sink.old) (K.faults sink.new) result }
+    ensures ok { OnOk result (Appends (K.view sink.old).held (K.view sink.new).held piece.now) }
+    ensures err { OnErr result (AppendsPart (K.view sink.old).held (K.view sink.new).held piece.now) }
+    ensures counts { CountsFault (K.view sink.old).faults (K.view sink.new).faults result }
 {
     let mut rest = piece;
     while !rest.is_empty() {
@@ -58,9 +58,9 @@ pub fn write_whole<K: Sink>(sink: &mut K, piece: &[u8]) -> Result<(), Failed>
 fn fill<S: Source>(bytes: &mut ByteList, source: &mut S, most: usize) -> Result<usize, ReadError>
     requires { length bytes.old < most }
     ensures fills { MatchResult result
-        (λ n. Fills n bytes.old bytes.new most (S.left source.old) (S.left source.new))
-        (λ _. FillFails bytes.old most (S.left source.old) (S.left source.new)) }
-    ensures counts { CountsRead result (S.faults source.old) (S.faults source.new) }
+        (λ n. Fills n bytes.old bytes.new most (S.view source.old).left (S.view source.new).left)
+        (λ _. FillFails bytes.old most (S.view source.old).left (S.view source.new).left) }
+    ensures counts { CountsRead result (S.view source.old).faults (S.view source.new).faults }
 {
     let mut chunk = [0u8; CHUNK];
     let room = (most - bytes.items().len()).min(CHUNK);
@@ -87,8 +87,8 @@ fn whole_of(mut bytes: ByteList, limit: usize) -> Whole
 /// read are lost.
 pub fn read_whole<S: Source>(alloc: Global, source: &mut S, limit: u64) -> Result<Whole, ReadError>
     requires { limit < 2 ^ 32 }
-    ensures reads { ReadsWhole result limit (S.left source.old) (S.left source.new) }
-    ensures counts { CountsRead result (S.faults source.old) (S.faults source.new) }
+    ensures reads { ReadsWhole result limit (S.view source.old).left (S.view source.new).left }
+    ensures counts { CountsRead result (S.view source.old).faults (S.view source.new).faults }
 {
     let limit = limit as usize;
     let mut bytes = ByteList::new(alloc);

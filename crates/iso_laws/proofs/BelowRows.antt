@@ -20,7 +20,8 @@ use Rattle.kern_model.specs.State.{State, Process, object_at, stub_object}
 use Rattle.kern_model.specs.Step.{subject, settled, own_of}
 use Rattle.kern_model.specs.Valid.{IsThere, IsValid}
 use Rattle.kern_model.proofs.MapLemmas.{get_or-found, get_or-absent}
-use Rattle.iso_laws.specs.Labels.{label_of, label_if, AreBelow, HasLabelsBelow}
+use Rattle.kern_model.specs.Records.{label_of, label_if}
+use Rattle.iso_laws.specs.Labels.{AreBelow, HasLabelsBelow}
 use Rattle.iso_laws.proofs.AllLemmas.{all-append, all_if}
 use Rattle.iso_laws.proofs.DrawingLemmas.{LeadsTo, leads_where}
 use Rattle.iso_laws.proofs.Rows.{when}

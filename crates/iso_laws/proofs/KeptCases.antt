@@ -17,14 +17,13 @@ use Rattle.kern_model.specs.declared.numbers.Oid.{Oid}
 use Rattle.kern_model.specs.declared.numbers.Pid.{Pid}
 use Rattle.kern_model.specs.declared.checks.Place.{Place}
 use Rattle.kern_model.specs.declared.objects.Attr.{Attr}
-use Rattle.kern_model.specs.declared.objects.Body.TheVariants as body
 use Rattle.kern_model.specs.declared.objects.Kind.TheVariants as kind
 use Rattle.kern_model.specs.declared.objects.Object.{Object}
-use Rattle.kern_model.specs.Create.{attr_of, drawing, made}
+use Rattle.kern_model.specs.Create.{drawing, made}
 use Rattle.kern_model.specs.Descriptors.{Opened, lowest_free, with_descriptor}
-use Rattle.kern_model.specs.FileRows.{open_object, opening, moved, pipe_mode, on_pipe, second_description, piped}
+use Rattle.kern_model.specs.FileRows.{open_object, opening, moved, new_pipe, on_pipe, second_description, piped}
 use Rattle.kern_model.specs.Keys.{did_cmp}
-use Rattle.kern_model.specs.Kinds.{is_fifo, is_stream, object_with}
+use Rattle.kern_model.specs.Kinds.{is_fifo, is_stream}
 use Rattle.kern_model.specs.ProcessRows.{child_of}
 use Rattle.kern_model.specs.Rules.{same_label, mac_downgrade, mac_subject, mac_upgrade}
 use Rattle.kern_model.specs.State.{State, Process, Description, SetObject, SetProcess, SetDescription, DrawProcess, DrawDescription, changed, changed_by, drawn, next_object, next_description, next_process, object_at, stub_object}
@@ -140,14 +139,14 @@ module _ (l : Label) (s : State) (kept : Kept l s) (valid : IsValid s) (who : Pi
 
   kept_piped : Kept l (changed_by s (piped s who p))
   kept_piped =
-      let o : Object = object_with p.label (attr_of p pipe_mode) body.Pipe in
+      let o : Object = new_pipe p in
       let new : Oid = next_object s p.label in
       let first : Did = next_description s p.label in
       let second : Did = second_description s p in
       let made_t : State = changed_by s (drawing s p.label o ++ DrawDescription p.label (drawn s.description_numbers p.label + 2) ∷ []) in
       let made_is : Kept l made_t = kept_beside l (changed s (SetObject new o)) (kept_new new o refl (next_absent s valid p.label)) s.entries _ s.process_numbers _ in
-      let half_is : Kept l (changed made_t (SetDescription first (on_pipe s p true))) = kept_description l made_t made_is first (on_pipe s p true) (λ h. h) (λ x e stream. refl) in
-      let whole_is : Kept l (changed (changed made_t (SetDescription first (on_pipe s p true))) (SetDescription second (on_pipe s p false))) = kept_description l _ half_is second (on_pipe s p false) (λ h. h) (λ x e stream. refl) in
+      let half_is : Kept l (changed made_t (SetDescription first (on_pipe (next_object s p.label) true))) = kept_description l made_t made_is first (on_pipe (next_object s p.label) true) (λ h. h) (λ x e stream. refl) in
+      let whole_is : Kept l (changed (changed made_t (SetDescription first (on_pipe (next_object s p.label) true))) (SetDescription second (on_pipe (next_object s p.label) false))) = kept_description l _ half_is second (on_pipe (next_object s p.label) false) (λ h. h) (λ x e stream. refl) in
       kept_fds _ whole_is _ (one_beside (with_descriptor p first).fds (one_beside p.fds own.fds first (sym own.label)) second (sym own.label))
 
   kept_forked : Kept l (changed_by s (DrawProcess p.label (drawn s.process_numbers p.label + 1) ∷ SetProcess (next_process s p.label) (child_of who p) ∷ []))

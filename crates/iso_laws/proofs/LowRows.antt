@@ -3,12 +3,11 @@ use Rattle.std.specs.Prelude.{◌≡◌, ℕ, true, List, [], ◌∷◌, Option,
 use Rattle.std.proofs.Common.{sym, ◌∙◌, ap, subst}
 use Rattle.std.specs.FinMap as map
 use Rattle.fs_path.specs.Path.{PathValue}
-use Rattle.lab_lattice.specs.Label.{Label, dominates}
+use Rattle.lab_lattice.specs.Label.{Label}
 use Rattle.kern_model.specs.declared.numbers.Oid.{Oid}
 use Rattle.kern_model.specs.declared.numbers.Pid.{Pid}
 use Rattle.kern_model.specs.declared.calls.Answer.{Answer}
 use Rattle.kern_model.specs.declared.checks.Check.{Check}
-use Rattle.kern_model.specs.declared.checks.CheckName.TheVariants as check
 use Rattle.kern_model.specs.declared.checks.Place.{Place}
 use Rattle.kern_model.specs.declared.checks.Place.TheVariants.{First, Handle}
 use Rattle.kern_model.specs.declared.objects.Object.{Object}
@@ -16,7 +15,7 @@ use Rattle.kern_model.specs.declared.records.Rec.{Rec}
 use Rattle.kern_model.specs.AttrRows.{on_open_object}
 use Rattle.kern_model.specs.Descriptors.{Opened, opened}
 use Rattle.kern_model.specs.FileRows.{or_not_open, on_descriptor}
-use Rattle.kern_model.specs.Rules.{of_object, same_label}
+use Rattle.kern_model.specs.Rules.{mac_read_of, mac_write_of}
 use Rattle.kern_model.specs.Row.{Row, Need, Commit}
 use Rattle.kern_model.specs.State.{State, Process, Change, SetProcess, object_at}
 use Rattle.kern_model.specs.Step.{subject}
@@ -92,7 +91,7 @@ module _ (l : Label) (s : State) (kept : Kept l s) (valid : IsValid s) (who : Pi
       → Same l s who p (on_open_object s p fd (λ id place. read_object s p id place r)) (on_open_object part_s p fd (λ id place. read_object part_s p id place r))
   low_open_object_by fd r gives =
       low_descriptor fd _ _ (λ f _ _ h.
-      low_by f.description.object h (λ o. Need (of_object check.MacRead (dominates p.label o.label) None f.description.object o Handle) (r o)) (gives (object_at s f.description.object)))
+      low_by f.description.object h (λ o. Need (mac_read_of p f.description.object o Handle) (r o)) (gives (object_at s f.description.object)))
 
   -- the row of a call that writes the object of a descriptor
   pub low_open_write : (fd : ℕ) (r r' : Oid → Place → Object → Row) → ((id : Oid) (place : Place) → IsThere s.objects id → low l id.label ≡ true → Same l s who p (r id place (object_at s id)) (r' id place (object_at part_s id)))
@@ -100,7 +99,7 @@ module _ (l : Label) (s : State) (kept : Kept l s) (valid : IsValid s) (who : Pi
   low_open_write fd r r' h =
       low_descriptor fd _ _ (λ f open_is _ low_id.
       let id : Oid = f.description.object in
-      low_check id low_id (λ o. of_object check.MacWrite (same_label p.label o.label) None id o Handle) _ _ (λ _. h id Handle (record { value = object_at s id; is = open_object_is s valid p fd f open_is }) low_id))
+      low_check id low_id (λ o. mac_write_of p id o Handle) _ _ (λ _. h id Handle (record { value = object_at s id; is = open_object_is s valid p fd f open_is }) low_id))
 
   pub same_bound : part_s.bound ≡ s.bound
   unfolding by_number

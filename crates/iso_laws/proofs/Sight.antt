@@ -28,7 +28,7 @@ use Rattle.kern_model.proofs.KeyLaws.{oid_cmp_total, oid_cmp_exact, pid_cmp_tota
 use Rattle.kern_model.specs.Descriptors.{Opened, opened}
 use Rattle.kern_model.specs.Kinds.{is_dir}
 use Rattle.kern_model.specs.State.{State, Process, Description, drawn, object_at, look, stub, stub_object, root}
-use Rattle.kern_model.specs.Rules.{cap_of, same_label, mode_allows, of_object, mac_read, mac_write, dac_search}
+use Rattle.kern_model.specs.Rules.{cap_of, same_label, mode_allows, of_object, mac_read, mac_write, dac_search, mac_read_of, mac_write_of}
 use Rattle.kern_model.specs.Row.{Row, Need, Refuse, Subject, verdict_of, is_denied, noted, exercise_with, may}
 use Rattle.kern_model.specs.Walk.{Found, Start, Entry, walk_from, walk, reach, start_of, enter, or_missing, to_object}
 use Rattle.kern_model.specs.Step.{subject}
@@ -282,7 +282,7 @@ module _ (l : Label) (s : State) (kept : Kept l s) (valid : IsValid s) (who : Pi
       (Need (mac_read (by_number l s) p (cond b id (stub s.top)) place) (r' (cond b id (stub s.top))))) [
         | true ↦ λ h.
             alike_same (crosses l) l s.top (subject who p) _ _ r (r' id)
-            (ap (λ o. of_object check.MacRead (dominates p.label o.label) None id o place) (object_low l s id h)) (λ _. rest h)
+            (ap (λ o. mac_read_of p id o place) (object_low l s id h)) (λ _. rest h)
         | false ↦ λ h.
             let top : low l s.top ≡ false = top_high l s kept who p is_low id there h valid in
             let stub_label : (object_at (by_number l s) (stub s.top)).label ≡ s.top = ap (λ o. o.label) (object_stub l s top) in
@@ -303,7 +303,7 @@ module _ (l : Label) (s : State) (kept : Kept l s) (valid : IsValid s) (who : Pi
       (Need (mac_write (by_number l s) p (cond b id (stub s.top)) place) (r' (cond b id (stub s.top))))) [
         | true ↦ λ h.
             alike_same (crosses l) l s.top (subject who p) _ _ r (r' id)
-            (ap (λ o. of_object check.MacWrite (same_label p.label o.label) None id o place) (object_low l s id h)) (λ _. rest h)
+            (ap (λ o. mac_write_of p id o place) (object_low l s id h)) (λ _. rest h)
         | false ↦ λ h.
             let top : low l s.top ≡ false = top_high l s kept who p is_low id there h valid in
             let stub_label : (object_at (by_number l s) (stub s.top)).label ≡ s.top = ap (λ o. o.label) (object_stub l s top) in

@@ -43,7 +43,7 @@ use Rattle.kern_model.specs.Maps.{any_entry}
 use Rattle.kern_model.specs.ProcessRows.{child_of, has_child, take_ended, survives, left_by, ending_of, set_ids, kill_with, signalled, send}
 use Rattle.kern_model.specs.Row.{Row, Need, Soft, Refuse, Commit, need_if}
 use Rattle.kern_model.specs.Rules.{is_above_holders}
-use Rattle.kern_model.specs.Stat.{stat_of, stat_by, size_of, names_reported}
+use Rattle.kern_model.specs.Stat.{stat_of, stat_by, size_of, names_reported, tell_stat}
 use Rattle.kern_model.specs.State.{State, Process, Change, DropDescription, SetProcess, object_at, look, next_description, next_object, next_process}
 use Rattle.kern_model.specs.Table.{row}
 use Rattle.kern_model.specs.TreeRows.{give_way, leave_from, write_end, move_row}
@@ -261,7 +261,7 @@ module _ (c : Cap) (s : State) (who : Pid) (p : Process) (picks : Pid → Bool) 
   unfolding stat_of
   same_stat id = λ i. record (stat_by s id (object_at s id)) { size = same_size id (object_at s id).kind i; names = same_names id (object_at s id).kind i }
 
-  same_told : (id : Oid) → Same (Commit [] (answer.Stat (stat_of s id)) None) (Commit [] (answer.Stat (stat_of s' id)) None)
+  same_told : (id : Oid) → Same (tell_stat s id) (tell_stat s' id)
   same_told id = ap (λ t. Commit [] (answer.Stat t) None) (same_stat id)
 
   -- ---- calls on processes

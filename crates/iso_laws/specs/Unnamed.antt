@@ -17,7 +17,7 @@ use Rattle.kern_model.specs.Step.{step}
 
 -- whether a record is an exercise of a capability
 abbrev pub names : Cap → Rec → Bool
-names c (rec.Exercise who label with name thing thing_label new_label place) = same_cap with c
+names c (rec.Exercise e) = same_cap e.cap c
 names c _ = false
 
 -- no record is an exercise of a capability

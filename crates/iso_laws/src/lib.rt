@@ -9,7 +9,7 @@ ghost use Rattle.iso_laws.specs.Laws.{KeptBoot, ValidBoot, IsolatedPrefix, Isola
 ghost use Rattle.iso_laws.specs.Laws.{LabelsBelow};
 ghost use Rattle.iso_laws.specs.Laws.{CapsByRecords, CapsStay, DropsByRecords, GrowthByRecords};
 ghost use Rattle.iso_laws.specs.Laws.{RefusalsAreNamed, DrawnStep, NumbersStep, NumbersRun, GoneRun};
-ghost use Rattle.iso_laws.specs.Laws.{UnnamedCapability};
+ghost use Rattle.iso_laws.specs.Laws.{TopBoot, TopStep, UnnamedCapability};
 
 /// A step of a Low process that crosses nothing gives in the part the same reply, the same records, and the
 /// part of the new state. The same holds for a Low tag that names no living process.
@@ -36,6 +36,12 @@ pub fn kept_step()
 pub fn kept_boot()
     ensures kept { KeptBoot }
     ensures valid { ValidBoot }
+{}
+
+/// The highest label of a first state is that of its world, and each step leaves it as it is. For every world and call.
+pub fn top_stays()
+    ensures boot { TopBoot }
+    ensures step { TopStep }
 {}
 
 /// What Low tags are answered up to any call before the first one that crosses is a prefix of what they are answered

@@ -80,5 +80,9 @@ fn boot_process(shared: &mut Shared, process: &WorldProc) -> Result<Pid, NoMemor
 fn note_start(recs: &mut RecList, who: Pid, process: &WorldProc) -> Result<(), NoMemory>
     ensures { OnOk result (recs.new ≡ recs.old ++ rec.Boot who process.now.label process.now.caps ∷ []) }
 {
-    recs.push(Rec::Boot(who, process.label, process.caps))
+    recs.push(Rec::Boot {
+        who,
+        label: process.label,
+        caps: process.caps,
+    })
 }

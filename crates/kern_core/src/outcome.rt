@@ -46,7 +46,13 @@ pub fn report(
         Err(Stop::Denied(check, place)) => {
             let errno = check.errno().unwrap_or(Errno::EPERM);
             if audited {
-                recs.push(Rec::Deny(*who, name, errno, check, place))?;
+                recs.push(Rec::Deny {
+                    who: *who,
+                    call: name,
+                    errno,
+                    check,
+                    place,
+                })?;
             }
             let reply = Reply::Denied {
                 errno,

@@ -39,10 +39,18 @@ to_number s label rest = Refuse errno.ENOSPC (not (has_object_number s label)) (
 abbrev pub attr_of : Process → ℕ → Attr
 attr_of p mode = record { owner = p.ids.euid; group = p.ids.egid; mode = mode; caps = no_flags }
 
--- the next number of a label is drawn for an object
-abbrev pub drawing : State → Label → Object → List Change
-drawing s label object = DrawObject label (drawn s.object_numbers label + 1) ∷ SetObject (next_object s label) object ∷ []
+-- an object gets the number after n of a label
+abbrev pub drawing_after : ℕ → Label → Object → List Change
+drawing_after n label object = DrawObject label (n + 1) ∷ SetObject (record { label = label; n = n + 1 }) object ∷ []
 
--- an object is made at a label, and a name leads to it
+-- an object gets the next number of a label
+abbrev pub drawing : State → Label → Object → List Change
+drawing s label object = drawing_after (drawn s.object_numbers label) label object
+
+-- an object is made with the number after n of a label, and a name leads to it
+abbrev pub made_after : ℕ → Label → Oid → Name → Object → List Change
+made_after n label dir name object = drawing_after n label object ++ SetEntry (dir, name) (record { label = label; n = n + 1 }) ∷ []
+
+-- an object is made with the next number of a label, and a name leads to it
 abbrev pub made : State → Label → Oid → Name → Object → List Change
-made s label dir name object = drawing s label object ++ SetEntry (dir, name) (next_object s label) ∷ []
+made s label dir name object = made_after (drawn s.object_numbers label) label dir name object

@@ -2,6 +2,7 @@
 use Rattle.std.specs.Prelude.{ℕ, ◌+◌, ◌==◌, ◌&&◌, ◌||◌, not, nat_le, nat_lt, int_lt, Bool, true, false, cond, List, [], ◌∷◌, ◌++◌, length, take, drop, Option, None, Some, ℤ, pos, ◌+ℤ◌, unsigned_abs}
 use Rattle.std.specs.FinMap as map
 use Rattle.cap_bits.specs.State.{no_flags}
+use Rattle.lab_lattice.specs.Label.{Label}
 use Rattle.kern_model.specs.declared.limits.TheConstants.{MAX_DESCRIPTIONS, MAX_DESCRIPTORS, MAX_FILE_BYTES, MAX_PIPE_BYTES}
 use Rattle.kern_model.specs.declared.calls.Answer.{Answer}
 use Rattle.kern_model.specs.declared.calls.Answer.TheVariants as answer
@@ -20,13 +21,13 @@ use Rattle.kern_model.specs.declared.objects.Body.TheVariants as body
 use Rattle.kern_model.specs.declared.objects.Object.{Object}
 use Rattle.kern_model.specs.Keys.{same_pid}
 use Rattle.kern_model.specs.Kinds.{is_stream, object_with, permissions}
-use Rattle.kern_model.specs.State.{State, Process, Description, Change, SetObject, SetProcess, SetDescription, DrawDescription, object_at, drawn, next_object, next_description}
+use Rattle.kern_model.specs.State.{State, Process, Description, Change, SetObject, SetProcess, SetDescription, DrawDescription, object_at, drawn}
 use Rattle.kern_model.specs.Descriptors.{Opened, Descriptor, opened, open_count, lowest_free, with_descriptor, any_open, closing}
 use Rattle.kern_model.specs.Rules.{of_object, mac_write, is_plain}
 use Rattle.kern_model.specs.Row.{Row, Soft, Refuse, Fail, Commit, need_if}
 use Rattle.kern_model.specs.Walk.{read_object, write_object}
-use Rattle.kern_model.specs.Create.{attr_of, drawing, to_number}
-use Rattle.kern_model.specs.Stat.{stat_of}
+use Rattle.kern_model.specs.Create.{attr_of, drawing, drawing_after, to_number}
+use Rattle.kern_model.specs.Stat.{tell_stat}
 
 -- ---- what rows of descriptors share
 
@@ -77,12 +78,19 @@ keeps_attr id place o rest = Soft (of_object check.Fsetid (is_plain o.attr) None
 abbrev pub rewritten : Oid → Object → List ℕ → Attr → Change
 rewritten id o bytes attr = SetObject id (record o { bytes = bytes; attr = attr })
 
+-- a description with the number after n of a label is made, with the lowest free descriptor of a process
+abbrev pub described_after : ℕ → Label → Pid → Process → Description → List Change
+described_after n label who p description =
+    let did : Did = record { label = label; n = n + 1 } in
+    DrawDescription label (n + 1) ∷ SetDescription did description ∷ SetProcess who (with_descriptor p did) ∷ []
+
+-- a description of an object that is opened with flags
+abbrev pub opened_with : OpenFlags → Oid → Description
+opened_with flags id = record { object = id; reads = flags.r; writes = flags.w; appends = flags.a; offset = 0 }
+
 -- a description of the caller is made, with its lowest free descriptor
 abbrev pub opening : State → Pid → Process → Oid → OpenFlags → List Change
-opening s who p id flags =
-    DrawDescription p.label (drawn s.description_numbers p.label + 1)
-    ∷ SetDescription (next_description s p.label) (record { object = id; reads = flags.r; writes = flags.w; appends = flags.a; offset = 0 })
-    ∷ SetProcess who (with_descriptor p (next_description s p.label)) ∷ []
+opening s who p id flags = described_after (drawn s.description_numbers p.label) p.label who p (opened_with flags id)
 
 -- ---- close, dup and fstat
 
@@ -107,7 +115,7 @@ dup_row s who p fd = on_descriptor s p fd (repeat who p)
 
 -- what a descriptor refers to is reported, where the caller reads it by label
 abbrev pub report_opened : State → Process → Opened → Row
-report_opened s p f = read_object s p f.description.object Handle (λ _. Commit [] (answer.Stat (stat_of s f.description.object)) None)
+report_opened s p f = read_object s p f.description.object Handle (λ _. tell_stat s f.description.object)
 
 -- `fstat FD`
 abbrev pub fstat_row : State → Pid → Process → ℕ → Row
@@ -119,33 +127,53 @@ fstat_row s who p fd = on_descriptor s p fd (report_opened s p)
 abbrev pub pipe_mode : ℕ
 pipe_mode = 384
 
--- a description on a new pipe, for reading or for writing
-abbrev pub on_pipe : State → Process → Bool → Description
-on_pipe s p reads = record { object = next_object s p.label; reads = reads; writes = not reads; appends = false; offset = 0 }
+-- an empty pipe that the caller makes
+abbrev pub new_pipe : Process → Object
+new_pipe p = object_with p.label (attr_of p pipe_mode) body.Pipe
+
+-- a description on a pipe, for reading or for writing
+abbrev pub on_pipe : Oid → Bool → Description
+on_pipe id reads = record { object = id; reads = reads; writes = not reads; appends = false; offset = 0 }
+
+-- the second number after b of a description of the caller
+abbrev pub second_after : ℕ → Process → Did
+second_after b p = record { label = p.label; n = b + 2 }
+
+-- a pipe is made with the number after a, and descriptions with the two numbers after b: one for reading, and one for writing
+abbrev pub piped_after : ℕ → ℕ → Pid → Process → List Change
+piped_after a b who p =
+    let id : Oid = record { label = p.label; n = a + 1 } in
+    let reading : Did = record { label = p.label; n = b + 1 } in
+    drawing_after a p.label (new_pipe p)
+    ++ (DrawDescription p.label (b + 2)
+    ∷ SetDescription reading (on_pipe id true)
+    ∷ SetDescription (second_after b p) (on_pipe id false)
+    ∷ SetProcess who (with_descriptor (with_descriptor p reading) (second_after b p)) ∷ [])
+
+-- the caller's two lowest free descriptors, where the first gets the number after b
+abbrev pub ends_after : ℕ → Process → Answer
+ends_after b p = answer.Two (lowest_free p.fds) (lowest_free (with_descriptor p (record { label = p.label; n = b + 1 })).fds)
+
+abbrev pub make_pipe_after : ℕ → ℕ → Pid → Process → Row
+make_pipe_after a b who p = Commit (piped_after a b who p) (ends_after b p) None
+
+-- an object gets the next number, as a pipe of the caller
+abbrev pub drawing_pipe : State → Process → List Change
+drawing_pipe s p = drawing s p.label (new_pipe p)
 
 -- the number after the next one of a description
 abbrev pub second_description : State → Process → Did
-second_description s p = record { label = p.label; n = drawn s.description_numbers p.label + 2 }
+second_description s p = second_after (drawn s.description_numbers p.label) p
 
--- a pipe of the caller is made
-abbrev pub drawing_pipe : State → Process → List Change
-drawing_pipe s p = drawing s p.label (object_with p.label (attr_of p pipe_mode) body.Pipe)
-
--- a pipe is made, with a description for reading, and one for writing
+-- a pipe is made with the next numbers, and descriptions for reading and for writing
 abbrev pub piped : State → Pid → Process → List Change
-piped s who p =
-    drawing_pipe s p
-    ++ (DrawDescription p.label (drawn s.description_numbers p.label + 2)
-    ∷ SetDescription (next_description s p.label) (on_pipe s p true)
-    ∷ SetDescription (second_description s p) (on_pipe s p false)
-    ∷ SetProcess who (with_descriptor (with_descriptor p (next_description s p.label)) (second_description s p)) ∷ [])
+piped s who p = piped_after (drawn s.object_numbers p.label) (drawn s.description_numbers p.label) who p
 
--- the caller's two lowest free descriptors
 abbrev pub both_ends : State → Process → Answer
-both_ends s p = answer.Two (lowest_free p.fds) (lowest_free (with_descriptor p (next_description s p.label)).fds)
+both_ends s p = ends_after (drawn s.description_numbers p.label) p
 
 abbrev pub make_pipe : State → Pid → Process → Row
-make_pipe s who p = Commit (piped s who p) (both_ends s p) None
+make_pipe s who p = make_pipe_after (drawn s.object_numbers p.label) (drawn s.description_numbers p.label) who p
 
 -- `pipe`
 abbrev pub pipe_row : State → Pid → Process → Row

@@ -47,8 +47,7 @@ differs_from l b (Some label) = differ b (low l label)
 -- a record crosses l where it is an exercise of one of the five and, of the process's label, the thing's label and the
 -- new label if there is one, some are Low and some are not
 abbrev pub crosses : Label → Rec → Bool
-crosses l (rec.Exercise who label with name thing thing_label new_label place) =
-    is_mac with && (differ (low l label) (low l thing_label) || differs_from l (low l label) new_label)
+crosses l (rec.Exercise e) = is_mac e.cap && (differ (low l e.label) (low l e.thing_label) || differs_from l (low l e.label) e.new_label)
 crosses l _ = false
 
 abbrev pub crossing : Label → List Rec → Bool

@@ -26,6 +26,7 @@ pub mod Step
 pub mod Boot
 pub mod Arguments
 pub mod Run
+pub mod Records
 pub mod Isolation
 pub mod Valid
 pub mod Refusals

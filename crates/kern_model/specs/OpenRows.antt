@@ -42,14 +42,13 @@ allowed_by_mode p flags id place o rest = need_if flags.r (dac_read_of p id o pl
 abbrev pub to_emptied : OpenFlags → Oid → Place → Object → (Option Attr → Row) → Row
 to_emptied flags id place o rest = cond (flags.t && is_file o.kind) (keeps_attr id place o (λ attr. rest (Some attr))) (rest None)
 
+-- the caller may open an object that its label allows
+abbrev pub to_labelled : Process → OpenFlags → Oid → Place → Object → (Option Attr → Row) → Row
+to_labelled p flags id place o rest = allowed_by_kind p flags id place o (allowed_by_mode p flags id place o (to_emptied flags id place o rest))
+
 -- the caller may open an object that is there
 abbrev pub to_present : Process → OpenFlags → Oid → Place → Object → (Option Attr → Row) → Row
-to_present p flags id place o rest =
-    Refuse errno.EEXIST (flags.c && flags.x)
-    (allowed_by_label p flags id place o
-    (allowed_by_kind p flags id place o
-    (allowed_by_mode p flags id place o
-    (to_emptied flags id place o rest))))
+to_present p flags id place o rest = Refuse errno.EEXIST (flags.c && flags.x) (allowed_by_label p flags id place o (to_labelled p flags id place o rest))
 
 -- ---- what is opened
 
@@ -65,6 +64,10 @@ emptying id o (Some attr) = rewritten id o [] attr ∷ []
 -- an object that is there is opened
 abbrev pub opens_present : State → Pid → Process → OpenFlags → Oid → Object → Option Attr → Row
 opens_present s who p flags id o emptied = opens s who p id flags (emptying id o emptied)
+
+-- an object whose label allows it is opened, if the caller may
+abbrev pub open_labelled : State → Pid → Process → OpenFlags → Oid → Place → Object → Row
+open_labelled s who p flags id place o = to_labelled p flags id place o (opens_present s who p flags id o)
 
 -- where an object has the name it is opened, if the caller may
 abbrev pub open_present : State → Pid → Process → OpenFlags → Oid → Place → Row

@@ -54,7 +54,18 @@ is_denied Denied = true
 
 abbrev pub exercise_with : Subject → Check → Option Cap → List Rec
 exercise_with a c None = []
-exercise_with a c (Some with) = Exercise a.who a.label with c.name c.thing c.thing_label c.new_label c.place ∷ []
+exercise_with a c (Some cap) =
+    Exercise (record {
+      who = a.who;
+      label = a.label;
+      cap = cap;
+      check = c.name;
+      thing = c.thing;
+      thing_label = c.thing_label;
+      new_label = c.new_label;
+      place = c.place;
+    })
+    ∷ []
 
 -- the exercises so far, and one more where the check was exercised
 abbrev pub noted : Subject → Check → Verdict → List Rec → List Rec

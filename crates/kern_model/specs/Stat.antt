@@ -1,11 +1,13 @@
 -- What calls report of an object.
-use Rattle.std.specs.Prelude.{ℕ, length}
+use Rattle.std.specs.Prelude.{ℕ, length, [], None}
+use Rattle.kern_model.specs.declared.calls.Answer.TheVariants as answer
 use Rattle.kern_model.specs.declared.numbers.Oid.{Oid}
 use Rattle.kern_model.specs.declared.objects.Kind.{Kind}
 use Rattle.kern_model.specs.declared.objects.Kind.TheVariants as kind
 use Rattle.kern_model.specs.declared.objects.Object.{Object}
 use Rattle.kern_model.specs.declared.objects.StatAnswer.{StatAnswer}
 use Rattle.kern_model.specs.Entries.{entry_count, link_count}
+use Rattle.kern_model.specs.Row.{Row, Commit}
 use Rattle.kern_model.specs.State.{State, object_at}
 
 -- the entries of a directory, or the bytes of anything else
@@ -34,3 +36,7 @@ stat_by s id o = record {
 -- what `stat` reports of an object
 unfoldable pub stat_of : State → Oid → StatAnswer
 stat_of s id = stat_by s id (object_at s id)
+
+-- what an object is like is the answer, and nothing changes
+abbrev pub tell_stat : State → Oid → Row
+tell_stat s id = Commit [] (answer.Stat (stat_of s id)) None

@@ -97,7 +97,7 @@ stub_object top = record { kind = File; label = top; attr = record { owner = 0; 
 abbrev pub stub : Label → Oid
 stub top = record { label = top; n = 0 }
 
--- what is read in place of a process that is not living: one of the highest label that owns nothing and may do nothing
+-- what is read in place of a process that is not living: one of user 0 at the highest label, without capabilities
 abbrev pub stub_process : Label → Process
 stub_process top = record {
   ids = record { ruid = 0; euid = 0; suid = 0; rgid = 0; egid = 0; sgid = 0; groups = [] };

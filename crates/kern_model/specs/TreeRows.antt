@@ -2,6 +2,7 @@
 use Rattle.std.specs.Prelude.{ℕ, ◌&&◌, not, nat_le, Bool, true, false, cond, [], ◌∷◌, Option, None, Some}
 use Rattle.fs_path.specs.Name.{Name}
 use Rattle.fs_path.specs.Path.{PathValue}
+use Rattle.lab_lattice.specs.Label.{Label}
 use Rattle.kern_model.specs.declared.limits.TheConstants.{MAX_LINKS}
 use Rattle.kern_model.specs.declared.calls.Answer.TheVariants as answer
 use Rattle.kern_model.specs.declared.calls.Errno.TheVariants as errno
@@ -13,6 +14,7 @@ use Rattle.kern_model.specs.declared.numbers.Pid.{Pid}
 use Rattle.kern_model.specs.declared.objects.Body.{Body}
 use Rattle.kern_model.specs.declared.objects.Body.TheVariants as body
 use Rattle.kern_model.specs.declared.objects.Object.{Object}
+use Rattle.kern_model.specs.declared.objects.Object.{Object}
 use Rattle.kern_model.specs.Entries.{has_entries, is_empty, is_removed, is_under, link_count, names_in}
 use Rattle.kern_model.specs.Keys.{Spot, same_oid}
 use Rattle.kern_model.specs.Kinds.{is_dir, object_with, masked}
@@ -20,7 +22,7 @@ use Rattle.kern_model.specs.Create.{enter_in, write_directory, attr_of, made, to
 use Rattle.kern_model.specs.Rules.{mac_write, dac_read, dac_write, created_order, held_order, link_dir, unlink_dir}
 use Rattle.kern_model.specs.Row.{Row, Need, Refuse, Commit}
 use Rattle.kern_model.specs.State.{State, Process, SetEntry, DropEntry, SetProcess, object_at}
-use Rattle.kern_model.specs.Stat.{stat_of}
+use Rattle.kern_model.specs.Stat.{tell_stat}
 use Rattle.kern_model.specs.Walk.{Found, enter, walk, on_path, read_object, to_new_name, to_entry, to_entry_of_object, last_place, dir_place}
 
 -- ---- the spot of a new entry
@@ -39,10 +41,17 @@ new_spot s p place path order rest = walk s p place path (λ found. new_spot_fou
 
 -- ---- making
 
+-- an object is made at a label, and the spot leads to it
+abbrev pub put_object : State → Label → Object → Spot → Row
+put_object s label object (dir, name) = Commit (made s label dir name object) answer.Nothing None
+
+-- the same, where a number is left
+abbrev pub make_at : State → Label → Object → Spot → Row
+make_at s label object spot = to_number s label (λ _. put_object s label object spot)
+
 -- an object of the caller is made, and the spot leads to it
 abbrev pub make_object : State → Process → ℕ → Body → Spot → Row
-make_object s p mode body (dir, name) =
-    to_number s p.label (λ _. Commit (made s p.label dir name (object_with p.label (attr_of p (masked mode p.umask)) body)) answer.Nothing None)
+make_object s p mode body spot = make_at s p.label (object_with p.label (attr_of p (masked mode p.umask)) body) spot
 
 -- the spot of what the caller makes
 abbrev pub make_spot : State → Process → PathValue → (Spot → Row) → Row
@@ -63,11 +72,12 @@ mkdir_row s who p path mode = make_row s who p path mode body.Dir
 -- ---- an entry that is taken away, or moves
 
 -- an entry may be taken away: the caller writes the directory, by label and mode, and the object, by label
+abbrev pub leave_at : State → Process → Oid → Place → Oid → Place → Row → Row
+leave_at s p dir dir_at id at rest = Need (mac_write s p dir dir_at) (Need (dac_write s p dir dir_at) (Need (mac_write s p id at) rest))
+
+-- the same, by the places of a path
 abbrev pub leave_from : State → Process → PathValue → Oid → Oid → Row → Row
-leave_from s p path dir id rest =
-    Need (mac_write s p dir (dir_place (λ n. First n) path))
-    (Need (dac_write s p dir (dir_place (λ n. First n) path))
-    (Need (mac_write s p id (last_place (λ n. First n) path)) rest))
+leave_from s p path dir id rest = leave_at s p dir (dir_place (λ n. First n) path) id (last_place (λ n. First n) path) rest
 
 -- a walk found an entry of an object, which may be taken away
 abbrev pub old_entry_found : State → Process → PathValue → Found → (Oid × Name × Oid → Row) → Row
@@ -105,9 +115,13 @@ unlink_row s who p path = old_entry s p path (remove_name s path)
 
 -- ---- linking
 
--- an object may get one more name: the caller writes it, by label, it is no directory, and the names are not too many
+-- an object may get one more name where it is no directory, and its names are not too many
+abbrev pub has_name_left : State → Oid → Place → Row → Row
+has_name_left s id place rest = Need (link_dir s id place) (Refuse errno.EMLINK (nat_le MAX_LINKS (link_count s id)) rest)
+
+-- the caller may give an object one more name: it writes the object, by label
 abbrev pub asks_name : State → Process → Oid → Place → Row → Row
-asks_name s p id place rest = Need (mac_write s p id place) (Need (link_dir s id place) (Refuse errno.EMLINK (nat_le MAX_LINKS (link_count s id)) rest))
+asks_name s p id place rest = Need (mac_write s p id place) (has_name_left s id place rest)
 
 -- the spot of a further name of an object
 abbrev pub name_spot : State → Process → PathValue → Oid → (Spot → Row) → Row
@@ -202,7 +216,7 @@ readdir_row s who p path = on_path s p path (read_dir s p)
 
 -- what an object is like is reported, where it may be read
 abbrev pub report_stat : State → Process → Oid → Place → Row
-report_stat s p id place = read_object s p id place (λ o. Commit [] (answer.Stat (stat_of s id)) None)
+report_stat s p id place = read_object s p id place (λ _. tell_stat s id)
 
 -- `stat PATH`
 abbrev pub stat_row : State → Pid → Process → PathValue → Row

@@ -24,7 +24,7 @@ pub use kernel::Calls;
 pub use label_map::LabelMap;
 pub use numbers::{Did, Fd, Gid, GroupList, Ids, Mode, Oid, Pid, Uid};
 pub use objects::{Attr, Body, Kind, Object, StatAnswer};
-pub use records::{Outcome, Rec, RecList};
+pub use records::{Exercise, Outcome, Rec, RecList};
 pub use valid::world_valid;
 pub use words::{put_ending, put_place};
 pub use world::{

@@ -127,7 +127,11 @@ fn low(n: u16) -> Pid {
 // Whether the record is of a process that starts.
 fn starts(rec: &Rec, by: Pid, caps: CapState) -> bool {
     match rec {
-        Rec::Boot(who, label, sets) => *who == by && *label == by.label && *sets == caps,
+        Rec::Boot {
+            who,
+            label,
+            caps: sets,
+        } => *who == by && *label == by.label && *sets == caps,
         _ => false,
     }
 }

@@ -22,6 +22,7 @@ use Rattle.kern_model.specs.declared.objects.Body.TheVariants as body
 use Rattle.kern_model.specs.declared.world.WorldObject.{WorldObject}
 use Rattle.kern_model.specs.declared.world.WorldProc.{WorldProc}
 use Rattle.kern_model.specs.Kinds.{is_dir, kind_of}
+use Rattle.kern_model.specs.Named.{named}
 use Rattle.kern_model.specs.Rules.{same_label}
 use Rattle.kern_model.specs.World.{given}
 use Rattle.lab_lattice.specs.Label.{Label, bottom, dominates}
@@ -30,19 +31,24 @@ use Rattle.lab_text.specs.Names.{same_bytes}
 use Rattle.lab_text.specs.Policy.{PolicyNames, names_fault, top_of}
 use Rattle.lab_text.specs.Text.{LabelWords, label_of as label_of_words, label_text, label_words, parse_label, places_of}
 use Rattle.lab_text.proofs.Parsed.{parse_text}
+use Rattle.line_text.specs.declared.fault.LineFault.{LineFault}
+use Rattle.line_text.specs.declared.fault.LineFault.TheVariants.{RootLabel, TooMany}
 use Rattle.world_text.specs.declared.expecting.Expecting.{Expecting}
 use Rattle.world_text.specs.declared.expecting.Expecting.TheVariants as at
-use Rattle.world_text.specs.declared.expecting.ObjectFields.{ObjectFields}
+use Rattle.world_text.specs.declared.tree.ObjectFields.{ObjectFields}
+use Rattle.world_text.specs.declared.format.Format.TheVariants.{One}
 use Rattle.world_text.specs.declared.expecting.Parsed.{Parsed}
 use Rattle.world_text.specs.declared.expecting.Parsed.TheVariants.{GoesOn, Begins}
 use Rattle.world_text.specs.declared.expecting.PartialWorld.{PartialWorld}
-use Rattle.world_text.specs.declared.expecting.ProcFields.{ProcFields}
-use Rattle.world_text.specs.declared.expecting.WordValue.{WordValue}
-use Rattle.world_text.specs.declared.expecting.WordValue.TheVariants as value
-use Rattle.world_text.specs.declared.fault.WorldFault.{WorldFault}
-use Rattle.world_text.specs.declared.fault.WorldFault.TheVariants.{RootLabel, TooMany}
+use Rattle.world_text.specs.declared.processes.ProcFields.{ProcFields}
+use Rattle.world_text.specs.declared.values.WordValue.{WordValue}
+use Rattle.world_text.specs.declared.values.WordValue.TheVariants as value
 use Rattle.world_text.specs.declared.world.WorldText.{WorldText}
-use Rattle.world_text.specs.Expecting.{label_of, object_fields_of, parse_line, parse_plain, parse_proc, parse_proc_line, parse_tree, parse_words, proc_caps_of, proc_fields_of, refuse_or, set_of, with_value, world_of}
+use Rattle.world_text.specs.Values.{label_of, refuse_or, with_value}
+use Rattle.world_text.specs.Head.{set_of}
+use Rattle.world_text.specs.TreeLines.{object_fields_of, parse_plain, parse_tree}
+use Rattle.world_text.specs.Processes.{parse_proc, parse_proc_line, proc_caps_of, proc_fields_of}
+use Rattle.world_text.specs.Expecting.{parse_line, parse_words, world_of}
 use Rattle.world_text.specs.Placing.{directory_of, is_above, is_directory, is_root, object_fault, process_fault}
 use Rattle.world_text.specs.Reading.{Accepted, after, reading}
 use Rattle.lab_engine.proofs.GeneratedLines.{policy}
@@ -125,7 +131,7 @@ level_0 = ap (λ (l : Label). value.Known l) bottom_only
 
 -- a line of the tree is expected, after these objects and processes
 abbrev tree_at : List WorldObject → List WorldProc → Expecting
-tree_at objects procs = at.Tree (record { policy = policy; bound = bound_value.0; builder = record { objects = objects; procs = procs } })
+tree_at objects procs = at.Tree (record { format = One; policy = policy; bound = bound_value.0; builder = record { objects = objects; procs = procs } })
 
 -- an absolute path
 abbrev path_at : List Name → PathValue
@@ -166,17 +172,17 @@ dir_words path name = path ∷ codes "0777" ∷ codes "0" ∷ codes "0" ∷ name
 
 -- the line of a directory that has no fault adds it
 dir_line : (done : List WorldObject) (line path name : List ℕ) (names : List Name) (label : Label)
-    → parse_line (tree_at done []) line ≡ parse_plain (record { policy = policy; bound = bound_value.0; builder = record { objects = done; procs = [] } }) body.Dir (dir_words path name)
+    → parse_line (tree_at done []) line ≡ parse_plain (record { format = One; policy = policy; bound = bound_value.0; builder = record { objects = done; procs = [] } }) body.Dir (dir_words path name)
     → object_fields_of policy path (codes "0777") (codes "0") (codes "0") name ≡ Some (record { path = path_at names; mode = 511; owner = 0; group = 0; label = label_of policy name })
     → label_of policy name ≡ value.Known label → object_fault (record { objects = done; procs = [] }) (dir_at names label) ≡ None
     → parse_line (tree_at done []) line ≡ GoesOn (tree_at (done ++ dir_at names label ∷ []) [])
 dir_line done line path name names label words fields labelled fits =
-    let w : PartialWorld = record { policy = policy; bound = bound_value.0; builder = record { objects = done; procs = [] } } in
+    let w : PartialWorld = record { format = One; policy = policy; bound = bound_value.0; builder = record { objects = done; procs = [] } } in
     let f : WordValue Label → ObjectFields = λ v. record { path = path_at names; mode = 511; owner = 0; group = 0; label = v } in
     words
     ∙ ap (λ (o : Option ObjectFields). parse_tree w o (value.Known no_flags) body.Dir) fields
     ∙ ap (λ (v : WordValue Label). parse_tree w (Some (f v)) (value.Known no_flags) body.Dir) labelled
-    ∙ ap (λ (o : Option WorldFault). refuse_or o (GoesOn (tree_at (done ++ dir_at names label ∷ []) []))) fits
+    ∙ ap (λ (o : Option LineFault). refuse_or o (GoesOn (tree_at (done ++ dir_at names label ∷ []) []))) fits
 
 -- the directories after each line
 abbrev after_root : List WorldObject
@@ -195,23 +201,23 @@ abbrev all_dirs : List WorldObject
 all_dirs = after_d2 ++ dir_at (codes "d3" ∷ []) level_3.0 ∷ []
 
 root_line : parse_line (tree_at [] []) (codes "dir / 0777 0 0 l0") ≡ GoesOn (tree_at after_root [])
-unfolding parse_line parse_words words_of is_blank object_fields_of path_fault component_fault components_of parse_path numeral digits_value
+unfolding parse_line named parse_words words_of is_blank object_fields_of path_fault component_fault components_of parse_path numeral digits_value
 root_line = dir_line [] (codes "dir / 0777 0 0 l0") (codes "/") (codes "l0") [] bottom refl refl level_0 root_fits
 
 d0_line : parse_line (tree_at after_root []) (codes "dir /d0 0777 0 0 l0") ≡ GoesOn (tree_at after_d0 [])
-unfolding parse_line parse_words words_of is_blank object_fields_of path_fault component_fault components_of parse_path numeral digits_value
+unfolding parse_line named parse_words words_of is_blank object_fields_of path_fault component_fault components_of parse_path numeral digits_value
 d0_line = dir_line after_root (codes "dir /d0 0777 0 0 l0") (codes "/d0") (codes "l0") (codes "d0" ∷ []) bottom refl refl level_0 (dir_fits [] (codes "d0") bottom refl (omega arith))
 
 d1_line : parse_line (tree_at after_d0 []) (codes "dir /d1 0777 0 0 l1") ≡ GoesOn (tree_at after_d1 [])
-unfolding parse_line parse_words words_of is_blank object_fields_of path_fault component_fault components_of parse_path numeral digits_value
+unfolding parse_line named parse_words words_of is_blank object_fields_of path_fault component_fault components_of parse_path numeral digits_value
 d1_line = dir_line after_d0 (codes "dir /d1 0777 0 0 l1") (codes "/d1") (codes "l1") (codes "d1" ∷ []) level_1.0 refl refl level_1.1 (dir_fits _ (codes "d1") level_1.0 refl (omega arith))
 
 d2_line : parse_line (tree_at after_d1 []) (codes "dir /d2 0777 0 0 l2") ≡ GoesOn (tree_at after_d2 [])
-unfolding parse_line parse_words words_of is_blank object_fields_of path_fault component_fault components_of parse_path numeral digits_value
+unfolding parse_line named parse_words words_of is_blank object_fields_of path_fault component_fault components_of parse_path numeral digits_value
 d2_line = dir_line after_d1 (codes "dir /d2 0777 0 0 l2") (codes "/d2") (codes "l2") (codes "d2" ∷ []) level_2.0 refl refl level_2.1 (dir_fits _ (codes "d2") level_2.0 refl (omega arith))
 
 d3_line : parse_line (tree_at after_d2 []) (codes "dir /d3 0777 0 0 l3") ≡ GoesOn (tree_at all_dirs [])
-unfolding parse_line parse_words words_of is_blank object_fields_of path_fault component_fault components_of parse_path numeral digits_value
+unfolding parse_line named parse_words words_of is_blank object_fields_of path_fault component_fault components_of parse_path numeral digits_value
 d3_line = dir_line after_d2 (codes "dir /d3 0777 0 0 l3") (codes "/d3") (codes "l3") (codes "d3" ∷ []) level_3.0 refl refl level_3.1 (dir_fits _ (codes "d3") level_3.0 refl (omega arith))
 
 -- ---- processes
@@ -226,13 +232,13 @@ proc_words name id = name ∷ id ∷ id ∷ codes "-" ∷ codes "=" ∷ []
 
 -- the line of a process adds it
 proc_line : (done : List WorldProc) (line name word : List ℕ) (id : ℕ) (label : Label)
-    → parse_line (tree_at all_dirs done) line ≡ parse_proc_line (record { policy = policy; bound = bound_value.0; builder = record { objects = all_dirs; procs = done } }) (proc_words name word)
+    → parse_line (tree_at all_dirs done) line ≡ parse_proc_line (record { format = One; policy = policy; bound = bound_value.0; builder = record { objects = all_dirs; procs = done } }) (proc_words name word)
     → proc_fields_of policy name word word (codes "-") ≡ Some (record { label = label_of policy name; user = id; group = id; groups = [] })
     → label_of policy name ≡ value.Known label → length done < MAX_PROCS
     → parse_line (tree_at all_dirs done) line ≡ GoesOn (tree_at all_dirs (done ++ proc_at id label ∷ []))
 unfolding process_fault
 proc_line done line name word id label words fields labelled few =
-    let w : PartialWorld = record { policy = policy; bound = bound_value.0; builder = record { objects = all_dirs; procs = done } } in
+    let w : PartialWorld = record { format = One; policy = policy; bound = bound_value.0; builder = record { objects = all_dirs; procs = done } } in
     let f : WordValue Label → ProcFields = λ v. record { label = v; user = id; group = id; groups = [] } in
     words
     ∙ ap (λ (o : Option ProcFields). parse_proc w o (proc_caps_of (codes "="))) fields
@@ -253,45 +259,45 @@ abbrev all_procs : List WorldProc
 all_procs = after_p2 ++ proc_at 103 level_3.0 ∷ []
 
 p0_line : parse_line (tree_at all_dirs []) (codes "proc l0 100 100 - \"=\"") ≡ GoesOn (tree_at all_dirs after_p0)
-unfolding parse_line parse_words words_of is_blank proc_fields_of groups_of numeral digits_value
+unfolding parse_line named parse_words words_of is_blank proc_fields_of groups_of numeral digits_value
 p0_line = proc_line [] (codes "proc l0 100 100 - \"=\"") (codes "l0") (codes "100") 100 bottom refl refl level_0 (omega arith)
 
 p1_line : parse_line (tree_at all_dirs after_p0) (codes "proc l1 101 101 - \"=\"") ≡ GoesOn (tree_at all_dirs after_p1)
-unfolding parse_line parse_words words_of is_blank proc_fields_of groups_of numeral digits_value
+unfolding parse_line named parse_words words_of is_blank proc_fields_of groups_of numeral digits_value
 p1_line = proc_line after_p0 (codes "proc l1 101 101 - \"=\"") (codes "l1") (codes "101") 101 level_1.0 refl refl level_1.1 (omega arith)
 
 p2_line : parse_line (tree_at all_dirs after_p1) (codes "proc l2 102 102 - \"=\"") ≡ GoesOn (tree_at all_dirs after_p2)
-unfolding parse_line parse_words words_of is_blank proc_fields_of groups_of numeral digits_value
+unfolding parse_line named parse_words words_of is_blank proc_fields_of groups_of numeral digits_value
 p2_line = proc_line after_p1 (codes "proc l2 102 102 - \"=\"") (codes "l2") (codes "102") 102 level_2.0 refl refl level_2.1 (omega arith)
 
 p3_line : parse_line (tree_at all_dirs after_p2) (codes "proc l3 103 103 - \"=\"") ≡ GoesOn (tree_at all_dirs all_procs)
-unfolding parse_line parse_words words_of is_blank proc_fields_of groups_of numeral digits_value
+unfolding parse_line named parse_words words_of is_blank proc_fields_of groups_of numeral digits_value
 p3_line = proc_line after_p2 (codes "proc l3 103 103 - \"=\"") (codes "l3") (codes "103") 103 level_3.0 refl refl level_3.1 (omega arith)
 
 -- ---- the head
 
-format_line : parse_line at.Format (codes "world 1") ≡ GoesOn at.Levels
-unfolding parse_line parse_words words_of is_blank
+format_line : parse_line at.Format (codes "world 1") ≡ GoesOn (at.Levels One)
+unfolding parse_line named parse_words words_of is_blank
 format_line = refl
 
-levels_line : parse_line at.Levels (codes "levels l0 l1 l2 l3") ≡ GoesOn (at.Categories policy.levels)
+levels_line : parse_line (at.Levels One) (codes "levels l0 l1 l2 l3") ≡ GoesOn (at.Categories One policy.levels)
 unfolding parse_line parse_words words_of is_blank
 levels_line = refl
 
-categories_line : parse_line (at.Categories policy.levels) (codes "categories c0 c1") ≡ GoesOn (at.Bound policy)
+categories_line : parse_line (at.Categories One policy.levels) (codes "categories c0 c1") ≡ GoesOn (at.Bound One policy)
 unfolding parse_line parse_words words_of is_blank
 categories_line = refl
 
-bound_line : parse_line (at.Bound policy) (codes "bound all") ≡ GoesOn (tree_at [] [])
+bound_line : parse_line (at.Bound One policy) (codes "bound all") ≡ GoesOn (tree_at [] [])
 unfolding parse_line parse_words words_of is_blank
-bound_line = ap (λ (v : WordValue CapSet). with_value v (λ bound. GoesOn (at.Tree (record { policy = policy; bound = bound; builder = record { objects = []; procs = [] } })))) bound_value.1
+bound_line = ap (λ (v : WordValue CapSet). with_value v (λ bound. GoesOn (at.Tree (record { format = One; policy = policy; bound = bound; builder = record { objects = []; procs = [] } })))) bound_value.1
 
 -- the world of the generated input
 pub generated_world : WorldText
-generated_world = world_of (record { policy = policy; bound = bound_value.0; builder = record { objects = all_dirs; procs = all_procs } })
+generated_world = world_of (record { format = One; policy = policy; bound = bound_value.0; builder = record { objects = all_dirs; procs = all_procs } })
 
 script_line : parse_line (tree_at all_dirs all_procs) (codes "script") ≡ Begins generated_world
-unfolding generated_world parse_line parse_words words_of is_blank
+unfolding generated_world parse_line named parse_words words_of is_blank
 script_line = refl
 
 -- lines lead from what is expected before them to what is expected after them
@@ -320,7 +326,7 @@ tree_reads_on : ReadsOn (tree_at [] []) (drop 4 before_script) (tree_at all_dirs
 tree_reads_on = (tree_at after_root [], root_line, (tree_at after_d0 [], d0_line, (tree_at after_d1 [], d1_line, (tree_at after_d2 [], d2_line, (tree_at all_dirs [], d3_line, procs_read_on)))))
 
 head_reads_on : ReadsOn at.Format before_script (tree_at all_dirs all_procs)
-head_reads_on = (at.Levels, format_line, (at.Categories policy.levels, levels_line, (at.Bound policy, categories_line, (tree_at [] [], bound_line, tree_reads_on))))
+head_reads_on = (at.Levels One, format_line, (at.Categories One policy.levels, levels_line, (at.Bound One policy, categories_line, (tree_at [] [], bound_line, tree_reads_on))))
 
 script_begins : (n : ℕ) (p : List ℕ) (ps : List (List ℕ)) → reading n (tree_at all_dirs all_procs) (codes "script" ∷ p ∷ ps) ≡ Accepted generated_world (n + 1) (p ∷ ps)
 unfolding reading

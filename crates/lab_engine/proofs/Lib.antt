@@ -2,6 +2,7 @@ pub mod ReadLemmas
 pub mod Sending
 pub mod ScriptLemmas
 pub mod ReportLemmas
+pub mod ReporterLemmas
 pub mod RunReports
 pub mod TallyLemmas
 pub mod ReadSoFar

@@ -17,8 +17,10 @@ use Rattle.io_ends.specs.LinesState.{LinesState}
 use Rattle.io_ends.proofs.LineLaws.{over_line, over_past, pieces_line, pieces_long, pieces_part, pieces_past}
 use Rattle.fs_path.specs.declared.words.TheConstants.{MAX_LINE}
 use Rattle.lab_text.specs.Policy.{PolicyNames, top_of}
+use Rattle.line_text.specs.declared.fault.LineFault.{LineFault}
+use Rattle.line_text.specs.declared.fault.LineFault.TheVariants as fault
 use Rattle.script_text.specs.declared.line.Line.{Line}
-use Rattle.script_text.specs.Reading.{IsCause}
+use Rattle.script_text.specs.Reading.{IsCause, IsFaultOf, fault_of}
 use Rattle.script_text.specs.declared.fault.LineError.{LineError}
 use Rattle.script_text.specs.declared.fault.LineError.TheVariants as error
 use Rattle.script_text.specs.Line as script_lines
@@ -27,26 +29,23 @@ use Rattle.script_text.specs.declared.line.Line.TheVariants as line_is
 use Rattle.world_text.specs.declared.expecting.Expecting.{Expecting}
 use Rattle.world_text.specs.declared.expecting.Parsed.{Parsed}
 use Rattle.world_text.specs.declared.expecting.Parsed.TheVariants.{Refuses, GoesOn as More, Begins}
-use Rattle.world_text.specs.declared.fault.WorldFault.{WorldFault}
-use Rattle.world_text.specs.declared.fault.WorldFault.TheVariants as fault
 use Rattle.world_text.specs.declared.world.WorldText.{WorldText}
 use Rattle.fs_path.specs.Words.{is_blank, words_of}
-use Rattle.world_text.specs.Expecting.{parse_line, parse_words, unless, with_form}
+use Rattle.world_text.specs.Values.{unless, with_form}
+use Rattle.world_text.specs.Expecting.{parse_line, parse_words}
 use Rattle.world_text.specs.Reading.{after, reading}
 use Rattle.lab_engine.specs.declared.ending.Fault.{Fault}
 use Rattle.lab_engine.specs.declared.ending.Fault.TheVariants.{NoMemory}
 use Rattle.lab_engine.specs.declared.ending.InputEnd.{InputEnd}
 use Rattle.lab_engine.specs.declared.ending.InputEnd.TheVariants.{Whole, Refused, TooMuch}
 use Rattle.lab_engine.specs.declared.ending.Part.TheVariants as part
-use Rattle.lab_engine.specs.declared.ending.Refusal.{Refusal}
-use Rattle.lab_engine.specs.declared.ending.Refusal.TheVariants as refusal
 use Rattle.lab_engine.specs.declared.reading.NextLine.{NextLine}
 use Rattle.lab_engine.specs.declared.reading.NextLine.TheVariants as next_is
 use Rattle.lab_engine.specs.declared.reading.WorldLine.{WorldLine}
 use Rattle.lab_engine.specs.declared.reading.WorldLine.TheVariants as world_line_is
 use Rattle.lab_engine.specs.Counts.{CountsOnce, counted_by, counts, fault_of_read}
-use Rattle.lab_engine.specs.Input.{Input, Script, after_line, ends_at, input_by, last_piece, no_world, refusal_of, refusal_of_line, script, script_from}
-use Rattle.lab_engine.specs.Reading.{Accepts, BeginsWith, EndsScript, EndsWorld, Follows, GoesOn, IsRefusal, ReadsLine, Takes, input_at, left_of, script_at}
+use Rattle.lab_engine.specs.Input.{Input, Script, after_line, ends_at, input_by, last_piece, no_world, script, script_from}
+use Rattle.lab_engine.specs.Reading.{Accepts, BeginsWith, EndsScript, EndsWorld, Follows, GoesOn, ReadsLine, Takes, input_at, left_of, script_at}
 use Rattle.lab_engine.proofs.FewCalls.{few_calls}
 
 -- ---- bytes
@@ -69,7 +68,7 @@ take_none (suc n) = refl
 
 -- ---- one step of each definition
 
-reading_last : (n : ℕ) (e : Expecting) (last : List ℕ) (ps : List (List ℕ)) → ps ≡ last ∷ [] → (over : Bool) → input_by over (reading n e ps) ≡ no_world (ends_at over n part.World refusal.Syntax last)
+reading_last : (n : ℕ) (e : Expecting) (last : List ℕ) (ps : List (List ℕ)) → ps ≡ last ∷ [] → (over : Bool) → input_by over (reading n e ps) ≡ no_world (ends_at over n part.World fault.Syntax last)
 unfolding reading
 reading_last n e last ps is over = ap (λ (q : List (List ℕ)). input_by over (reading n e q)) is
 
@@ -152,7 +151,7 @@ module _ (before now : LinesState) (got : List ℕ) (number : now.number ≡ bef
       fewer = fewer;
     }
 
-    pub line_refused : (e : Expecting) (parsed : Parsed) → parsed ≡ parse_line e now.line → (why : WorldFault) → parsed ≡ Refuses why → (left : Option (List ℕ)) → EndsWorld e before left got (Refused now.number part.World (refusal_of why))
+    pub line_refused : (e : Expecting) (parsed : Parsed) → parsed ≡ parse_line e now.line → (why : LineFault) → parsed ≡ Refuses why → (left : Option (List ℕ)) → EndsWorld e before left got (Refused now.number part.World why)
     line_refused e parsed is why refuses left = record {
       says = world_line e (left_of left) ∙ ap (λ p. by_parsed p (left_of left)) (sym is ∙ refuses);
       to_the_end = λ h. absurd (cc);
@@ -179,13 +178,13 @@ module _ (before now : LinesState) (got : List ℕ) (number : now.number ≡ bef
     }
 
     module _ (policy : PolicyNames) (left : Option (List ℕ)) where
-      by_word : (why : Refusal) {word : Refusal} → why ≡ word → EndsScript policy before left got (Refused now.number part.Script word) → EndsScript policy before left got (Refused now.number part.Script why)
-      by_word why is ends = subst (λ (w : Refusal). EndsScript policy before left got (Refused now.number part.Script w)) (sym is) ends
+      by_word : (why : LineFault) {word : LineFault} → why ≡ word → EndsScript policy before left got (Refused now.number part.Script word) → EndsScript policy before left got (Refused now.number part.Script why)
+      by_word why is ends = subst (λ (w : LineFault). EndsScript policy before left got (Refused now.number part.Script w)) (sym is) ends
 
-      refused_line : (e : LineError) → script_lines.parse_line policy now.line ≡ Err e → EndsScript policy before left got (Refused now.number part.Script (refusal_of_line e))
+      refused_line : (e : LineError) → script_lines.parse_line policy now.line ≡ Err e → EndsScript policy before left got (Refused now.number part.Script (fault_of e))
       refused_line e is = record { says = script_line policy (Err e) is (left_of left); to_the_end = λ h. absurd (cc) }
 
-      pub line_refused_by : (e : LineError) (why : Refusal) → IsRefusal e why → IsCause (script_lines.parse_line policy now.line) e → EndsScript policy before left got (Refused now.number part.Script why)
+      pub line_refused_by : (e : LineError) (why : LineFault) → IsFaultOf e why → IsCause (script_lines.parse_line policy now.line) e → EndsScript policy before left got (Refused now.number part.Script why)
       line_refused_by (error.NoMemory m) why word is = absurd word
       line_refused_by error.TooLong why word is = by_word why word (refused_line error.TooLong is)
       line_refused_by error.Syntax why word is = by_word why word (refused_line error.Syntax is)
@@ -206,7 +205,7 @@ module _ (before now : LinesState) (got : List ℕ) (number : now.number ≡ bef
 
   module _ (holds : HoldsPart text before.room) (le : length text ≤ before.room) (left : Option (List ℕ)) (end : IsAtEnd left) where
     -- the source ended within the limit
-    world_ended : (e : Expecting) → input_at e before (got ++ left_of left) ≡ no_world (Refused now.number part.World refusal.Syntax)
+    world_ended : (e : Expecting) → input_at e before (got ++ left_of left) ≡ no_world (Refused now.number part.World fault.Syntax)
     world_ended e =
         input_text e (left_of left)
         ∙ ap (λ (t : List ℕ). input_by (nat_lt before.room (length t)) (reading now.number e (pieces 10 (take before.room t)))) (no_more left end)
@@ -220,17 +219,17 @@ module _ (before now : LinesState) (got : List ℕ) (number : now.number ≡ bef
         ∙ ap (λ b. script_from b policy now.number (pieces 10 (take before.room text))) (within_limit before.room (length text) le)
         ∙ script_last false policy now.number text (pieces 10 (take before.room text)) (whole_part holds le)
 
-    pub world_unended : (e : Expecting) → EndsWorld e before left got (Refused now.number part.World refusal.Syntax)
+    pub world_unended : (e : Expecting) → EndsWorld e before left got (Refused now.number part.World fault.Syntax)
     world_unended e = record { says = world_ended e; to_the_end = λ h. absurd (cc) }
 
-    pub script_unended : (policy : PolicyNames) → 0 < length text → EndsScript policy before left got (Refused now.number part.Script refusal.Syntax)
+    pub script_unended : (policy : PolicyNames) → 0 < length text → EndsScript policy before left got (Refused now.number part.Script fault.Syntax)
     script_unended policy some =
         let short : length text ≤ MAX_LINE = subst (λ (t : List ℕ). length t ≤ MAX_LINE) (take_all before.room text le) holds.short in
         record { says = script_ended policy ∙ ap (script []) (unended_piece text some short); to_the_end = λ h. absurd (cc) }
       where
-        unended_piece : (t : List ℕ) → 0 < length t → length t ≤ MAX_LINE → last_piece false now.number t ≡ Refused now.number part.Script refusal.Syntax
+        unended_piece : (t : List ℕ) → 0 < length t → length t ≤ MAX_LINE → last_piece false now.number t ≡ Refused now.number part.Script fault.Syntax
         unended_piece [] some short = absurd (omega (arith, some))
-        unended_piece (x ∷ t) some short = ap (λ b. Refused now.number part.Script (cond b refusal.TooLong refusal.Syntax)) (within_limit MAX_LINE (length (x ∷ t)) short)
+        unended_piece (x ∷ t) some short = ap (λ b. Refused now.number part.Script (cond b fault.TooLong fault.Syntax)) (within_limit MAX_LINE (length (x ∷ t)) short)
 
   -- an empty text is a part of a line
   empty_part : text ≡ [] → HoldsPart text before.room
@@ -240,7 +239,7 @@ module _ (before now : LinesState) (got : List ℕ) (number : now.number ≡ bef
     abbrev le : length text ≤ before.room
     le = subst (λ (t : List ℕ). length t ≤ before.room) (sym none) (omega arith)
 
-    pub world_ends : (e : Expecting) → EndsWorld e before left got (Refused now.number part.World refusal.Syntax)
+    pub world_ends : (e : Expecting) → EndsWorld e before left got (Refused now.number part.World fault.Syntax)
     world_ends e = world_unended (empty_part none) le left end e
 
     pub script_ends : (policy : PolicyNames) → EndsScript policy before left got Whole
@@ -255,7 +254,7 @@ module _ (before now : LinesState) (got : List ℕ) (number : now.number ≡ bef
       says = input_text e (left_of left)
           ∙ ap (λ b. input_by b (reading now.number e (pieces 10 (take before.room (text ++ left_of left))))) (over_past text before.room past (left_of left))
           ∙ reading_last now.number e (take before.room text) (pieces 10 (take before.room (text ++ left_of left))) (pieces_past text before.room holds past (left_of left)) true
-          ∙ ap (λ b. no_world (cond b (Refused now.number part.World refusal.Syntax) TooMuch)) (cut now.number (take before.room text) holds.short);
+          ∙ ap (λ b. no_world (cond b (Refused now.number part.World fault.Syntax) TooMuch)) (cut now.number (take before.room text) holds.short);
       to_the_end = λ h. absurd (cc);
     }
 
@@ -264,28 +263,28 @@ module _ (before now : LinesState) (got : List ℕ) (number : now.number ≡ bef
       says = script_text policy (left_of left)
           ∙ ap (λ b. script_from b policy now.number (pieces 10 (take before.room (text ++ left_of left)))) (over_past text before.room past (left_of left))
           ∙ script_last true policy now.number (take before.room text) (pieces 10 (take before.room (text ++ left_of left))) (pieces_past text before.room holds past (left_of left))
-          ∙ ap (λ b. script [] (cond b (Refused now.number part.Script refusal.TooLong) TooMuch)) (cut now.number (take before.room text) holds.short);
+          ∙ ap (λ b. script [] (cond b (Refused now.number part.Script fault.TooLong) TooMuch)) (cut now.number (take before.room text) holds.short);
       to_the_end = λ h. absurd (cc);
     }
 
   -- a line that is too long is refused, wherever it ends
   module _ (long : HoldsLongLine text before.room) (left : Option (List ℕ)) where
-    world_by_pieces : (over : Bool) (e : Expecting) (line : List ℕ) (ps : List (List ℕ)) → MAX_LINE < length line → input_by over (reading now.number e (line ∷ ps)) ≡ no_world (Refused now.number part.World refusal.Syntax)
+    world_by_pieces : (over : Bool) (e : Expecting) (line : List ℕ) (ps : List (List ℕ)) → MAX_LINE < length line → input_by over (reading now.number e (line ∷ ps)) ≡ no_world (Refused now.number part.World fault.Syntax)
     world_by_pieces false e line [] long = reading_last now.number e line (line ∷ []) refl false
-    world_by_pieces true e line [] long = reading_last now.number e line (line ∷ []) refl true ∙ ap (λ b. no_world (cond b (Refused now.number part.World refusal.Syntax) TooMuch)) (lt-ltb MAX_LINE (length line) long)
+    world_by_pieces true e line [] long = reading_last now.number e line (line ∷ []) refl true ∙ ap (λ b. no_world (cond b (Refused now.number part.World fault.Syntax) TooMuch)) (lt-ltb MAX_LINE (length line) long)
     world_by_pieces over e line (p ∷ ps) long = ap (input_by over) (reading_more now.number e line (p ∷ ps) p ps refl)
         ∙ ap (λ (r : Parsed). input_by over (after r now.number (p ∷ ps) (λ next. reading (now.number + 1) next (p ∷ ps)))) (world_long e line long)
 
-    script_by_pieces : (over : Bool) (policy : PolicyNames) (line : List ℕ) (ps : List (List ℕ)) → MAX_LINE < length line → script_from over policy now.number (line ∷ ps) ≡ script [] (Refused now.number part.Script refusal.TooLong)
+    script_by_pieces : (over : Bool) (policy : PolicyNames) (line : List ℕ) (ps : List (List ℕ)) → MAX_LINE < length line → script_from over policy now.number (line ∷ ps) ≡ script [] (Refused now.number part.Script fault.TooLong)
     script_by_pieces over policy [] ps long = absurd (omega (arith, long))
     script_by_pieces false policy (x ∷ line) [] long = script_last false policy now.number (x ∷ line) ((x ∷ line) ∷ []) refl
-        ∙ ap (λ b. script [] (Refused now.number part.Script (cond b refusal.TooLong refusal.Syntax))) (lt-ltb MAX_LINE (length (x ∷ line)) long)
+        ∙ ap (λ b. script [] (Refused now.number part.Script (cond b fault.TooLong fault.Syntax))) (lt-ltb MAX_LINE (length (x ∷ line)) long)
     script_by_pieces true policy (x ∷ line) [] long = script_last true policy now.number (x ∷ line) ((x ∷ line) ∷ []) refl
-        ∙ ap (λ b. script [] (cond b (Refused now.number part.Script refusal.TooLong) TooMuch)) (lt-ltb MAX_LINE (length (x ∷ line)) long)
+        ∙ ap (λ b. script [] (cond b (Refused now.number part.Script fault.TooLong) TooMuch)) (lt-ltb MAX_LINE (length (x ∷ line)) long)
     script_by_pieces over policy (x ∷ line) (p ∷ ps) long = script_more over policy now.number (x ∷ line) (p ∷ ps) p ps refl
         ∙ ap (λ (r : Result Line LineError). after_line r now.number (script_from over policy (now.number + 1) (p ∷ ps))) (script_long policy (x ∷ line) long)
 
-    pub world_long_line : (e : Expecting) → EndsWorld e before left got (Refused now.number part.World refusal.Syntax)
+    pub world_long_line : (e : Expecting) → EndsWorld e before left got (Refused now.number part.World fault.Syntax)
     world_long_line e =
         let first = pieces_long text before.room long (left_of left) in
         let over = nat_lt before.room (length (text ++ left_of left)) in
@@ -294,7 +293,7 @@ module _ (before now : LinesState) (got : List ℕ) (number : now.number ≡ bef
           to_the_end = λ h. absurd (cc);
         }
 
-    pub script_long_line : (policy : PolicyNames) → EndsScript policy before left got (Refused now.number part.Script refusal.TooLong)
+    pub script_long_line : (policy : PolicyNames) → EndsScript policy before left got (Refused now.number part.Script fault.TooLong)
     script_long_line policy =
         let first = pieces_long text before.room long (left_of left) in
         let over = nat_lt before.room (length (text ++ left_of left)) in
@@ -362,14 +361,14 @@ module _ (before now : LinesState) (left left' : Option (List ℕ)) where
         pub reads_world : (w : WorldText) → parsed ≡ Begins w → ReadsLine (Ok (world_line_is.World w)) e before now left left'
         reads_world w begins = record { taken = a.got; takes = step_takes a; shows = line_accepts before now a.got a.number gives e parsed as_now w begins }
 
-        pub reads_refused : (why : WorldFault) → parsed ≡ Refuses why → (ending : InputEnd) → ending ≡ Refused now.number part.World (refusal_of why) → ReadsLine (Ok (world_line_is.Ended ending)) e before now left left'
-        reads_refused why refuses ending same = ended_line e (Refused now.number part.World (refusal_of why)) (line_refused before now a.got a.number gives e parsed as_now why refuses left') ending same
+        pub reads_refused : (why : LineFault) → parsed ≡ Refuses why → (ending : InputEnd) → ending ≡ Refused now.number part.World why → ReadsLine (Ok (world_line_is.Ended ending)) e before now left left'
+        reads_refused why refuses ending same = ended_line e (Refused now.number part.World why) (line_refused before now a.got a.number gives e parsed as_now why refuses left') ending same
 
       module _ (policy : PolicyNames) where
         pub follows_line : (l : Line) → script_lines.parse_line policy line ≡ Ok l → MayBePlayed (top_of policy) l → Follows (Ok (next_is.Line l)) policy before now left left'
         follows_line l is calls = record { taken = a.got; takes = step_takes a; shows = line_begins before now a.got a.number gives policy l (ap (script_lines.parse_line policy) (sym line_is_now) ∙ is) calls }
 
-        pub follows_refused : (e : LineError) (why : Refusal) → IsRefusal e why → IsCause (script_lines.parse_line policy line) e → (ending : InputEnd) → ending ≡ Refused now.number part.Script why → Follows (Ok (next_is.Ended ending)) policy before now left left'
+        pub follows_refused : (e : LineError) (why : LineFault) → IsFaultOf e why → IsCause (script_lines.parse_line policy line) e → (ending : InputEnd) → ending ≡ Refused now.number part.Script why → Follows (Ok (next_is.Ended ending)) policy before now left left'
         follows_refused e why word is ending same = ended_next policy (Refused now.number part.Script why)
             (line_refused_by before now a.got a.number gives policy left' e why word (subst (λ (l : List ℕ). IsCause (script_lines.parse_line policy l) e) line_is_now is)) ending same
 
@@ -377,7 +376,7 @@ module _ (before now : LinesState) (left left' : Option (List ℕ)) where
     pub reads_too_much : next ≡ next_line.TooMuch → (e : Expecting) → ReadsLine (Ok (world_line_is.Ended TooMuch)) e before now left left'
     reads_too_much is e = let x = answers next_line.TooMuch is in ended_line e TooMuch (world_too_much before now a.got a.number x.1 x.2 left' e) TooMuch refl
 
-    pub reads_no_line : (next ≡ next_line.End) ⊎ ((next ≡ next_line.Unended) ⊎ (next ≡ next_line.LongLine)) → (e : Expecting) (ending : InputEnd) → ending ≡ Refused now.number part.World refusal.Syntax → ReadsLine (Ok (world_line_is.Ended ending)) e before now left left'
+    pub reads_no_line : (next ≡ next_line.End) ⊎ ((next ≡ next_line.Unended) ⊎ (next ≡ next_line.LongLine)) → (e : Expecting) (ending : InputEnd) → ending ≡ Refused now.number part.World fault.Syntax → ReadsLine (Ok (world_line_is.Ended ending)) e before now left left'
     reads_no_line (inl is) e ending same = let x = answers next_line.End is in ended_line e _ (world_ends before now a.got a.number x.1 left' x.2 e) ending same
     reads_no_line (inr (inl is)) e ending same = let x = answers next_line.Unended is in ended_line e _ (world_unended before now a.got a.number x.1 x.3 left' x.4 e) ending same
     reads_no_line (inr (inr is)) e ending same = let x = answers next_line.LongLine is in ended_line e _ (world_long_line before now a.got a.number x.1 left' e) ending same
@@ -385,10 +384,10 @@ module _ (before now : LinesState) (left left' : Option (List ℕ)) where
     pub follows_end : next ≡ next_line.End → (policy : PolicyNames) → Follows (Ok (next_is.Ended Whole)) policy before now left left'
     follows_end is policy = let x = answers next_line.End is in ended_next policy Whole (script_ends before now a.got a.number x.1 left' x.2 policy) Whole refl
 
-    pub follows_unended : next ≡ next_line.Unended → (policy : PolicyNames) (ending : InputEnd) → ending ≡ Refused now.number part.Script refusal.Syntax → Follows (Ok (next_is.Ended ending)) policy before now left left'
+    pub follows_unended : next ≡ next_line.Unended → (policy : PolicyNames) (ending : InputEnd) → ending ≡ Refused now.number part.Script fault.Syntax → Follows (Ok (next_is.Ended ending)) policy before now left left'
     follows_unended is policy ending same = let x = answers next_line.Unended is in ended_next policy _ (script_unended before now a.got a.number x.1 x.3 left' x.4 policy x.2) ending same
 
-    pub follows_long_line : next ≡ next_line.LongLine → (policy : PolicyNames) (ending : InputEnd) → ending ≡ Refused now.number part.Script refusal.TooLong → Follows (Ok (next_is.Ended ending)) policy before now left left'
+    pub follows_long_line : next ≡ next_line.LongLine → (policy : PolicyNames) (ending : InputEnd) → ending ≡ Refused now.number part.Script fault.TooLong → Follows (Ok (next_is.Ended ending)) policy before now left left'
     follows_long_line is policy ending same = let x = answers next_line.LongLine is in ended_next policy _ (script_long_line before now a.got a.number x.1 left' policy) ending same
 
     pub follows_too_much : next ≡ next_line.TooMuch → (policy : PolicyNames) → Follows (Ok (next_is.Ended TooMuch)) policy before now left left'

@@ -2,7 +2,7 @@
 use Rattle.std.proofs.Common.{◌≡◌, ℕ, ◌+◌, ◌≤◌, ◌^◌, List, ◌++◌, length, refl, sym, ap, subst, arith, Option}
 use Rattle.std.specs.Prelude.{IsErrAnd, Result, Ok, Err}
 use Rattle.io_ends.specs.LinesState.{LinesState}
-use Rattle.io_ends.specs.Sinks.{SinkView}
+use Rattle.io_ends.specs.Ends.{SinkView}
 use Rattle.kern_model.specs.Run.{run, state_after_run}
 use Rattle.kern_model.specs.State.{State}
 use Rattle.lab_text.specs.Policy.{PolicyNames}

@@ -4,11 +4,10 @@ use Rattle.std.proofs.lemmas.List.{append-nil, take-append-drop, take_all, take_
 use Rattle.std.proofs.lemmas.Grind.{flat_map-append}
 use Rattle.std.specs.Prelude.{Result, IsErrAnd, Ok, Err}
 use Rattle.std.specs.List.{flat_map}
-use Rattle.std.specs.declared.option.Option.{Option}
 use Rattle.std.specs.Io.KnownBytes.{Appends}
 use Rattle.std.proofs.KnownBytes.{Appends-nil, Appends-trans}
 use Rattle.io_ends.specs.Faults.{AppendsPart, counted}
-use Rattle.io_ends.specs.Sinks.{SinkView, sink_view}
+use Rattle.io_ends.specs.Ends.{SinkView}
 use Rattle.lab_engine.specs.declared.ending.Fault.{Fault}
 use Rattle.lab_engine.specs.declared.ending.Fault.TheVariants.{Write, Trail, NoMemory}
 use Rattle.lab_engine.specs.Counts.{counts, counted_by}
@@ -140,27 +139,27 @@ prefix_of (Err x) order e f w = w.sends
 
 -- ---- one sink
 
-module _ (h h' : Option (List ℕ)) (n n' : ℕ) (bs : List ℕ) where
-  pub noted : Appends h h' bs → n' ≡ n → (source : ℕ) (out : SinkView) → SendsAll (to_trail bs) (ends source out (sink_view h n)) (ends source out (sink_view h' n'))
+module _ (h h' : SinkView) (bs : List ℕ) where
+  pub noted : Appends h.held h'.held bs → h'.faults ≡ h.faults → (source : ℕ) (out : SinkView) → SendsAll (to_trail bs) (ends source out h) (ends source out h')
   noted w still source out = record {
     sends = record {
       to_out = subst (λ r. Appends out.held out.held r) (sym (out_of-to_trail bs)) (Appends-nil out.held);
-      to_trail = subst (λ r. Appends h h' r) (sym (trail_of-to_trail bs)) w;
+      to_trail = subst (λ r. Appends h.held h'.held r) (sym (trail_of-to_trail bs)) w;
     };
     no_fault = ap (counts source out.faults) still;
   }
 
-  pub answered : Appends h h' bs → n' ≡ n → (source : ℕ) (trail : SinkView) → SendsAll (to_out bs) (ends source (sink_view h n) trail) (ends source (sink_view h' n') trail)
+  pub answered : Appends h.held h'.held bs → h'.faults ≡ h.faults → (source : ℕ) (trail : SinkView) → SendsAll (to_out bs) (ends source h trail) (ends source h' trail)
   answered w still source trail = record {
     sends = record {
-      to_out = subst (λ r. Appends h h' r) (sym (out_of-to_out bs)) w;
+      to_out = subst (λ r. Appends h.held h'.held r) (sym (out_of-to_out bs)) w;
       to_trail = subst (λ r. Appends trail.held trail.held r) (sym (trail_of-to_out bs)) (Appends-nil trail.held);
     };
     no_fault = ap (λ k. counts source k trail.faults) still;
   }
 
   -- a part of the piece went out
-  pub note_stops : AppendsPart h h' bs → n' ≡ counted n → (source : ℕ) (out : SinkView) → StopsBy Trail (to_trail bs) (ends source out (sink_view h n)) (ends source out (sink_view h' n'))
+  pub note_stops : AppendsPart h.held h'.held bs → h'.faults ≡ counted h.faults → (source : ℕ) (out : SinkView) → StopsBy Trail (to_trail bs) (ends source out h) (ends source out h')
   unfolding counted_by
   note_stops p once source out = record {
     sends = record {
@@ -169,13 +168,13 @@ module _ (h h' : Option (List ℕ)) (n n' : ℕ) (bs : List ℕ) where
       prefix = ap to_trail p.piece_is ∙ to_trail-append p.part p.rest;
       sends = record {
         to_out = subst (λ r. Appends out.held out.held r) (sym (out_of-to_trail p.part)) (Appends-nil out.held);
-        to_trail = subst (λ r. Appends h h' r) (sym (trail_of-to_trail p.part)) p.wrote;
+        to_trail = subst (λ r. Appends h.held h'.held r) (sym (trail_of-to_trail p.part)) p.wrote;
       };
     };
     one_fault = ap (counts source out.faults) once;
   }
 
-  pub answer_stops : AppendsPart h h' bs → n' ≡ counted n → (source : ℕ) (trail : SinkView) → StopsBy Write (to_out bs) (ends source (sink_view h n) trail) (ends source (sink_view h' n') trail)
+  pub answer_stops : AppendsPart h.held h'.held bs → h'.faults ≡ counted h.faults → (source : ℕ) (trail : SinkView) → StopsBy Write (to_out bs) (ends source h trail) (ends source h' trail)
   unfolding counted_by
   answer_stops p once source trail = record {
     sends = record {
@@ -183,7 +182,7 @@ module _ (h h' : Option (List ℕ)) (n n' : ℕ) (bs : List ℕ) where
       rest = to_out p.rest;
       prefix = ap to_out p.piece_is ∙ to_out-append p.part p.rest;
       sends = record {
-        to_out = subst (λ r. Appends h h' r) (sym (out_of-to_out p.part)) p.wrote;
+        to_out = subst (λ r. Appends h.held h'.held r) (sym (out_of-to_out p.part)) p.wrote;
         to_trail = subst (λ r. Appends trail.held trail.held r) (sym (trail_of-to_out p.part)) (Appends-nil trail.held);
       };
     };

@@ -7,14 +7,14 @@ use Rattle.fs_path.specs.declared.words.TheConstants.{MAX_LINE}
 use Rattle.kern_model.specs.declared.limits.TheConstants.{MAX_INPUT}
 use Rattle.kern_model.specs.Names.{name_of, word_of}
 use Rattle.lab_text.specs.Policy.{PolicyNames}
+use Rattle.line_text.specs.declared.fault.LineFault.{LineFault}
+use Rattle.line_text.specs.declared.fault.LineFault.TheVariants as fault
 use Rattle.script_text.specs.declared.line.Line.{Line}
 use Rattle.script_text.specs.declared.line.Line.TheVariants as line
 use Rattle.script_text.specs.declared.fault.LineError.{LineError}
-use Rattle.script_text.specs.declared.fault.LineError.TheVariants as line_error
 use Rattle.script_text.specs.Line.{parse_line}
+use Rattle.script_text.specs.Reading.{fault_of}
 use Rattle.sec_utils.specs.Items.{items_of}
-use Rattle.world_text.specs.declared.fault.WorldFault.{WorldFault}
-use Rattle.world_text.specs.declared.fault.WorldFault.TheVariants as fault
 use Rattle.world_text.specs.declared.world.WorldText.{WorldText}
 use Rattle.world_text.specs.Reading as world
 use Rattle.world_text.specs.Reading.{read_text}
@@ -22,8 +22,6 @@ use Rattle.lab_engine.specs.declared.ending.InputEnd.{InputEnd}
 use Rattle.lab_engine.specs.declared.ending.InputEnd.TheVariants.{Whole, Refused, TooMuch}
 use Rattle.lab_engine.specs.declared.ending.Part.{Part}
 use Rattle.lab_engine.specs.declared.ending.Part.TheVariants as part
-use Rattle.lab_engine.specs.declared.ending.Refusal.{Refusal}
-use Rattle.lab_engine.specs.declared.ending.Refusal.TheVariants as refusal
 
 -- a world that was accepted, with the names of its labels
 abbrev pub Accepted : Type 0
@@ -46,23 +44,14 @@ abbrev pub no_world : InputEnd → Input
 no_world ending = record { accepted = None; script = script [] ending }
 
 -- how an input ends at a last piece that goes on past the limit: the piece is refused where it is too long for a line
-abbrev pub cut_off : ℕ → Part → Refusal → List ℕ → InputEnd
+abbrev pub cut_off : ℕ → Part → LineFault → List ℕ → InputEnd
 cut_off n p why last = cond (nat_lt MAX_LINE (length last)) (Refused n p why) TooMuch
 
 -- how an input ends inside its world at a last piece that no line feed ends; `over` where the input goes on past the limit
-abbrev pub ends_at : Bool → ℕ → Part → Refusal → List ℕ → InputEnd
+abbrev pub ends_at : Bool → ℕ → Part → LineFault → List ℕ → InputEnd
 ends_at over n p why last = cond over (cut_off n p why last) (Refused n p why)
 
 -- ---- the script
-
--- the word for a fault of a line
-abbrev pub refusal_of_line : LineError → Refusal
-refusal_of_line line_error.TooLong = refusal.TooLong
-refusal_of_line line_error.BadTag = refusal.BadTag
-refusal_of_line line_error.BadPath = refusal.BadPath
-refusal_of_line line_error.BadLabel = refusal.BadLabel
-refusal_of_line line_error.BadCaps = refusal.BadCaps
-refusal_of_line _ = refusal.Syntax
 
 -- a call of a script, whose reply has the word of the call
 abbrev pub item_of : Pid → Call → ScriptItem
@@ -76,18 +65,18 @@ items_in (line.Tool util) = items_of util
 
 -- a script that begins with this line: the line is refused, or its calls come first
 abbrev pub after_line : Result Line LineError → ℕ → Script → Script
-after_line (Err e) n more = script [] (Refused n part.Script (refusal_of_line e))
+after_line (Err e) n more = script [] (Refused n part.Script (fault_of e))
 after_line (Ok line) n more = script (items_in line ++ more.items) more.ending
 
 -- why a last piece is refused that no line feed ends: it is too long, or it does not end
-abbrev pub unended : List ℕ → Refusal
-unended last = cond (nat_lt MAX_LINE (length last)) refusal.TooLong refusal.Syntax
+abbrev pub unended : List ℕ → LineFault
+unended last = cond (nat_lt MAX_LINE (length last)) fault.TooLong fault.Syntax
 
 -- how a script ends at its last piece, which no line feed ends
 abbrev pub last_piece : Bool → ℕ → List ℕ → InputEnd
 last_piece false n [] = Whole
 last_piece false n last = Refused n part.Script (unended last)
-last_piece true n last = cut_off n part.Script refusal.TooLong last
+last_piece true n last = cut_off n part.Script fault.TooLong last
 
 -- the script from line n on: its lines up to the first refused one, or to the end
 unfoldable pub script_from : Bool → PolicyNames → ℕ → List (List ℕ) → Script
@@ -97,24 +86,14 @@ script_from over policy n (line ∷ next ∷ ls) = after_line (parse_line policy
 
 -- ---- the world
 
--- the word for a fault of a world
-abbrev pub refusal_of : WorldFault → Refusal
-refusal_of fault.Syntax = refusal.Syntax
-refusal_of fault.UnknownName = refusal.UnknownName
-refusal_of fault.Repeated = refusal.Repeated
-refusal_of fault.NoParent = refusal.NoParent
-refusal_of fault.RootLabel = refusal.RootLabel
-refusal_of fault.LabelOrder = refusal.LabelOrder
-refusal_of fault.TooMany = refusal.TooMany
-
 abbrev pub of_world : Bool → WorldText → ℕ → List (List ℕ) → Input
 of_world over w n lines = record { accepted = Some w; script = script_from over w.policy n lines }
 
 -- an input, by what was read of its world
 abbrev pub input_by : Bool → world.Reading → Input
 input_by over (world.Accepted w n lines) = of_world over w n lines
-input_by over (world.Refused n why) = no_world (Refused n part.World (refusal_of why))
-input_by over (world.Ended n last) = no_world (ends_at over n part.World refusal.Syntax last)
+input_by over (world.Refused n why) = no_world (Refused n part.World why)
+input_by over (world.Ended n last) = no_world (ends_at over n part.World fault.Syntax last)
 
 -- the input that a text is; `over` where it goes on past the limit
 abbrev pub read_input : Bool → List ℕ → Input

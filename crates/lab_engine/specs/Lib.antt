@@ -3,6 +3,7 @@ pub mod Texts
 pub mod Session
 pub mod Order
 pub mod Report
+pub mod Reporter
 pub mod Counts
 pub mod Readable
 pub mod Reading

@@ -6,8 +6,6 @@ use Rattle.io_ends.specs.LinesState.{LinesState, may_take}
 use Rattle.lab_text.specs.Policy.{PolicyNames, top_of}
 use Rattle.script_text.specs.Line.{MayBePlayed}
 use Rattle.script_text.specs.declared.line.Line.{Line}
-use Rattle.script_text.specs.declared.fault.LineError.{LineError}
-use Rattle.script_text.specs.declared.fault.LineError.TheVariants as line_error
 use Rattle.world_text.specs.declared.expecting.Expecting.{Expecting}
 use Rattle.world_text.specs.declared.expecting.Expecting.TheVariants as at
 use Rattle.world_text.specs.declared.world.WorldText.{WorldText}
@@ -16,14 +14,13 @@ use Rattle.lab_engine.specs.declared.ending.Fault.{Fault}
 use Rattle.lab_engine.specs.declared.ending.Fault.TheVariants.{Read as ReadFault}
 use Rattle.lab_engine.specs.declared.ending.InputEnd.{InputEnd}
 use Rattle.lab_engine.specs.declared.ending.InputEnd.TheVariants.{Whole}
-use Rattle.lab_engine.specs.declared.ending.Refusal.{Refusal}
 use Rattle.lab_engine.specs.declared.reading.ReadWorld.{ReadWorld}
 use Rattle.lab_engine.specs.declared.reading.ReadWorld.TheVariants as world
 use Rattle.lab_engine.specs.declared.reading.WorldLine.{WorldLine}
 use Rattle.lab_engine.specs.declared.reading.WorldLine.TheVariants as world_line
 use Rattle.lab_engine.specs.declared.reading.NextLine.{NextLine}
 use Rattle.lab_engine.specs.declared.reading.NextLine.TheVariants as next
-use Rattle.lab_engine.specs.Input.{Input, Script, input_by, items_in, no_world, refusal_of_line, script, script_from}
+use Rattle.lab_engine.specs.Input.{Input, Script, input_by, items_in, no_world, script, script_from}
 
 -- ---- what is left at a reader, where these bytes come after those that it holds
 
@@ -104,11 +101,6 @@ pub record BeginsWith (policy : PolicyNames) (before now : LinesState) (taken : 
 pub record EndsScript (policy : PolicyNames) (before : LinesState) (left : Option (List ℕ)) (taken : List ℕ) (ending : InputEnd) : Type 0 where
   pub says : script_at policy before (taken ++ left_of left) ≡ script [] ending
   pub to_the_end : ending ≡ Whole → IsAtEnd left
-
--- the refusal of a fault of a line; out of memory is none
-abbrev pub IsRefusal : LineError → Refusal → Type 0
-IsRefusal (line_error.NoMemory e) why = ⊥
-IsRefusal fault why = why ≡ refusal_of_line fault
 
 -- what is next in a script
 abbrev pub SaysNext : PolicyNames → LinesState → LinesState → Option (List ℕ) → List ℕ → NextLine → Type 0

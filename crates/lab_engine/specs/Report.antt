@@ -41,7 +41,7 @@ is_refused _ = false
 
 -- whether a record is an exercise of a capability
 unfoldable pub is_exercise : Rec → Bool
-is_exercise (rec.Exercise who label with name thing thing_label new_label place) = true
+is_exercise (rec.Exercise e) = true
 is_exercise _ = false
 
 -- how many exercises are among records

@@ -9,6 +9,7 @@ use Rattle.fs_path.specs.Words.{line_text}
 use Rattle.lab_lattice.specs.Label.{Label}
 use Rattle.lab_text.specs.Policy.{PolicyNames}
 use Rattle.lab_text.specs.Text.{label_text}
+use Rattle.line_text.specs.Faults.{fault_word}
 use Rattle.line_text.specs.Words.{pid_text, caps_word}
 use Rattle.kern_model.specs.declared.numbers.Pid.{Pid}
 use Rattle.kern_model.specs.Isolation.{low}
@@ -19,8 +20,6 @@ use Rattle.lab_engine.specs.declared.ending.InputEnd.{InputEnd}
 use Rattle.lab_engine.specs.declared.ending.InputEnd.TheVariants.{Whole, Refused, TooMuch}
 use Rattle.lab_engine.specs.declared.ending.Part.{Part}
 use Rattle.lab_engine.specs.declared.ending.Part.TheVariants as part
-use Rattle.lab_engine.specs.declared.ending.Refusal.{Refusal}
-use Rattle.lab_engine.specs.declared.ending.Refusal.TheVariants as refusal
 
 -- the reply line of a call that was played
 unfoldable pub reply_text : PolicyNames → CallRecord → List ℕ
@@ -58,24 +57,10 @@ part_text part.World = codes "world"
 part_text part.Script = codes "script"
 part_text part.View = codes "view"
 
-unfoldable pub refusal_text : Refusal → List ℕ
-refusal_text refusal.Syntax = codes "syntax"
-refusal_text refusal.UnknownName = codes "unknown_name"
-refusal_text refusal.Repeated = codes "repeated"
-refusal_text refusal.NoParent = codes "no_parent"
-refusal_text refusal.RootLabel = codes "root_label"
-refusal_text refusal.LabelOrder = codes "label_order"
-refusal_text refusal.TooMany = codes "too_many"
-refusal_text refusal.TooLong = codes "too_long"
-refusal_text refusal.BadTag = codes "bad_tag"
-refusal_text refusal.BadPath = codes "bad_path"
-refusal_text refusal.BadLabel = codes "bad_label"
-refusal_text refusal.BadCaps = codes "bad_caps"
-
 -- the words of the last line: `done COUNT`, `refused LINE PART WORD` or `too long`
 abbrev pub last_words : ℕ → InputEnd → List (List ℕ)
 last_words count Whole = codes "done" ∷ decimal count ∷ []
-last_words count (Refused n part why) = codes "refused" ∷ decimal n ∷ part_text part ∷ refusal_text why ∷ []
+last_words count (Refused n part why) = codes "refused" ∷ decimal n ∷ part_text part ∷ fault_word why ∷ []
 last_words count TooMuch = codes "too" ∷ codes "long" ∷ []
 
 -- the last line

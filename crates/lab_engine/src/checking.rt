@@ -35,8 +35,8 @@ pub fn check_script<S: Source>(
 ) -> Result<Played, Fault>
     requires more { lines.old.more ≡ true }
     requires small { lines.old.room ≤ 2 ^ 24 }
-    ensures checks { ChecksScript result texts.entry.policy.now lines.old lines.new (S.left source.old) (S.left source.new) }
-    ensures counts { (o t : ℕ) → CountsOnce result (counts (S.faults source.old) o t) (counts (S.faults source.new) o t) }
+    ensures checks { ChecksScript result texts.entry.policy.now lines.old lines.new (S.view source.old).left (S.view source.new).left }
+    ensures counts { (o t : ℕ) → CountsOnce result (counts (S.view source.old).faults o t) (counts (S.view source.new).faults o t) }
 {
     let mut count = 0u64;
     loop {

@@ -6,6 +6,7 @@ ghost use Rattle.lab_engine.specs.Counts.{CountsOnce, counts};
 
 use crate::Fault;
 use crate::playing::play_script;
+use crate::reporter::Reporter;
 use crate::reporting::{Report, Tally};
 use crate::texts::Texts;
 use io_ends::{Lines, Source, SureSink};
@@ -21,14 +22,18 @@ pub fn count_script<C: Calls, S: Source>(
     requires more { lines.old.more ≡ true }
     requires small { lines.old.room ≤ 2 ^ 24 }
     requires top { (C.state kernel.old).top ≡ top_of texts.policy.now }
-    ensures tally { CountsScript result texts.entry.policy.now (C.state kernel.old) (C.state kernel.new) lines.old lines.new (S.left source.old) (S.left source.new) }
-    ensures counts { (o t : ℕ) → CountsOnce result (counts (S.faults source.old) o t) (counts (S.faults source.new) o t) }
+    ensures tally { CountsScript result texts.entry.policy.now (C.state kernel.old) (C.state kernel.new) lines.old lines.new (S.view source.old).left (S.view source.new).left }
+    ensures counts { (o t : ℕ) → CountsOnce result (counts (S.view source.old).faults o t) (counts (S.view source.new).faults o t) }
 {
-    let mut report = Report::Counted(Tally::new());
-    let out = &mut SureSink::new();
-    let trail = &mut SureSink::new();
-    play_script(texts, kernel, lines, source, &mut report, out, trail)?;
-    match report {
+    let report = Report::Counted(Tally::new());
+    let (room, out, trail) = (
+        &mut Vec::new(texts.alloc),
+        &mut SureSink::new(),
+        &mut SureSink::new(),
+    );
+    let mut reporter = Reporter::new(texts, report, room, out, trail);
+    play_script(kernel, lines, source, &mut reporter)?;
+    match reporter.report {
         Report::Counted(tally) => Ok(tally),
         Report::All | Report::Below(..) | Report::Crossed => unreachable!(),
     }

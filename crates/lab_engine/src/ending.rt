@@ -2,7 +2,7 @@
 
 use io_ends::ReadError;
 use kern_model::NoMemory;
-use world_text::WorldFault;
+use line_text::LineFault;
 
 /// A part of an input.
 #[derive(Clone, Copy, Debug, PartialEq, Eq)]
@@ -13,61 +13,13 @@ pub enum Part {
     View,
 }
 
-/// Why a line is refused.
-#[derive(Clone, Copy, Debug, PartialEq, Eq)]
-pub enum Refusal {
-    /// It does not have the form of the line that is expected there, or the input ends inside it or before the world does.
-    Syntax,
-    /// A level, a category or a capability of the world is unknown.
-    UnknownName,
-    /// A level, a category or a path is given twice.
-    Repeated,
-    /// The path's parent is not given or is not a directory, or the root is not given.
-    NoParent,
-    /// The root is not a directory, or its label is not the lowest.
-    RootLabel,
-    /// The label does not dominate that of the path's parent.
-    LabelOrder,
-    /// There are too many levels or categories, or too many objects or processes of one label.
-    TooMany,
-    /// A line of the script has more than 2,048 bytes.
-    TooLong,
-    /// The tag is not a process.
-    BadTag,
-    /// A path of a call is invalid.
-    BadPath,
-    /// A label or a process of a call is invalid.
-    BadLabel,
-    /// A capability text of a call is invalid.
-    BadCaps,
-}
-
-impl From<WorldFault> for Refusal {
-    ghost use Rattle.std.specs.Prelude.{◌≡◌};
-    ghost use Rattle.lab_engine.specs.Input.{refusal_of};
-
-    ghost from_gives = { λ fault why. why ≡ refusal_of fault };
-
-    fn from(fault: WorldFault) -> Self {
-        match fault {
-            WorldFault::Syntax => Refusal::Syntax,
-            WorldFault::UnknownName => Refusal::UnknownName,
-            WorldFault::Repeated => Refusal::Repeated,
-            WorldFault::NoParent => Refusal::NoParent,
-            WorldFault::RootLabel => Refusal::RootLabel,
-            WorldFault::LabelOrder => Refusal::LabelOrder,
-            WorldFault::TooMany => Refusal::TooMany,
-        }
-    }
-}
-
 /// How an input ends.
 #[derive(Clone, Copy, Debug, PartialEq, Eq)]
 pub enum InputEnd {
     /// All of its lines were accepted.
     Whole,
     /// This line was refused. Lines are numbered from 1.
-    Refused(u64, Part, Refusal),
+    Refused(u64, Part, LineFault),
     /// It goes on past the limit, and no line before that was refused.
     TooMuch,
 }

@@ -80,9 +80,7 @@ fn refill(generator: &mut Generator, piece: &mut Vec<u8>) -> Result<(), NoMemory
 }
 
 impl Source for Generated {
-    ghost left = { λ s. Some s.left };
-
-    ghost faults = { λ s. s.faults };
+    ghost view = { λ s. record { left = Some s.left; faults = s.faults } };
 
     fn read(&mut self, buf: &mut [u8]) -> Result<usize, Failed>
         ensures bound { ReadsAtMost result buf.new }

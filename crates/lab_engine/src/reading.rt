@@ -1,13 +1,13 @@
 // An input, read line by line.
-ghost use Rattle.std.specs.Prelude.{◌≡◌, ℕ, true, IfOk};
+ghost use Rattle.std.specs.Prelude.{◌≡◌, ℕ, true};
 ghost use Rattle.lab_engine.specs.Counts.{CountsOnce, counts};
-ghost use Rattle.lab_engine.specs.Reading.{Follows, IsRefusal, ReadsLine, ReadsWorld};
+ghost use Rattle.lab_engine.specs.Reading.{Follows, ReadsLine, ReadsWorld};
 
 use crate::texts::Texts;
-use crate::{Fault, InputEnd, Part, Refusal};
+use crate::{Fault, InputEnd, Part};
 use io_ends::{Lines, Next, Source};
-use kern_model::NoMemory;
-use script_text::{Line, LineError, read_line};
+use line_text::LineFault;
+use script_text::{Line, read_line};
 use std::alloc::Global;
 use world_text::{Expecting, Parsed, WorldText, parse_line};
 
@@ -41,7 +41,7 @@ pub enum NextLine {
 }
 
 // The end of an input at a line that is refused.
-fn refused(lines: &Lines, part: Part, why: Refusal) -> InputEnd
+fn refused(lines: &Lines, part: Part, why: LineFault) -> InputEnd
     ensures { result ≡ InputEnd.Refused lines.now.number part why }
 {
     InputEnd::Refused(u64::from(lines.number()), part, why)
@@ -55,21 +55,21 @@ fn read_world_line<S: Source>(
     source: &mut S,
 ) -> Result<WorldLine, Fault>
     requires { lines.old.more ≡ true }
-    ensures reads { ReadsLine result expecting lines.old lines.new (S.left source.old) (S.left source.new) }
-    ensures counts { (o t : ℕ) → CountsOnce result (counts (S.faults source.old) o t) (counts (S.faults source.new) o t) }
+    ensures reads { ReadsLine result expecting lines.old lines.new (S.view source.old).left (S.view source.new).left }
+    ensures counts { (o t : ℕ) → CountsOnce result (counts (S.view source.old).faults o t) (counts (S.view source.new).faults o t) }
 {
     match lines.next(source)? {
         Next::Line => match parse_line(alloc, expecting, lines.line())? {
             Parsed::GoesOn(after) => Ok(WorldLine::GoesOn(after)),
             Parsed::Begins(world) => Ok(WorldLine::World(world)),
             Parsed::Refuses(fault) => {
-                let ending = refused(lines, Part::World, Refusal::from(fault));
+                let ending = refused(lines, Part::World, fault);
                 Ok(WorldLine::Ended(ending))
             }
         },
         Next::TooMuch => Ok(WorldLine::Ended(InputEnd::TooMuch)),
         Next::End | Next::Unended | Next::LongLine => {
-            let ending = refused(lines, Part::World, Refusal::Syntax);
+            let ending = refused(lines, Part::World, LineFault::Syntax);
             Ok(WorldLine::Ended(ending))
         }
     }
@@ -82,8 +82,8 @@ pub fn read_world<S: Source>(
     source: &mut S,
 ) -> Result<ReadWorld, Fault>
     requires { lines.old.more ≡ true }
-    ensures reads { ReadsWorld result lines.old lines.new (S.left source.old) (S.left source.new) }
-    ensures counts { (o t : ℕ) → CountsOnce result (counts (S.faults source.old) o t) (counts (S.faults source.new) o t) }
+    ensures reads { ReadsWorld result lines.old lines.new (S.view source.old).left (S.view source.new).left }
+    ensures counts { (o t : ℕ) → CountsOnce result (counts (S.view source.old).faults o t) (counts (S.view source.new).faults o t) }
 {
     let mut expecting = Expecting::Format;
     loop {
@@ -95,21 +95,6 @@ pub fn read_world<S: Source>(
     }
 }
 
-// Why a line is refused that `read_line` refuses. Out of memory is no refusal.
-fn refusal_of(fault: LineError) -> Result<Refusal, NoMemory>
-    ensures { IfOk result (IsRefusal fault) }
-{
-    match fault {
-        LineError::TooLong => Ok(Refusal::TooLong),
-        LineError::Syntax => Ok(Refusal::Syntax),
-        LineError::BadTag => Ok(Refusal::BadTag),
-        LineError::BadPath => Ok(Refusal::BadPath),
-        LineError::BadLabel => Ok(Refusal::BadLabel),
-        LineError::BadCaps => Ok(Refusal::BadCaps),
-        LineError::NoMemory(e) => Err(e),
-    }
-}
-
 /// Reads the next line of a script.
 #[inline(always)]
 pub fn read_next<S: Source>(
@@ -118,24 +103,24 @@ pub fn read_next<S: Source>(
     source: &mut S,
 ) -> Result<NextLine, Fault>
     requires { lines.old.more ≡ true }
-    ensures follows { Follows result texts.entry.policy.now lines.old lines.new (S.left source.old) (S.left source.new) }
-    ensures counts { (o t : ℕ) → CountsOnce result (counts (S.faults source.old) o t) (counts (S.faults source.new) o t) }
+    ensures follows { Follows result texts.entry.policy.now lines.old lines.new (S.view source.old).left (S.view source.new).left }
+    ensures counts { (o t : ℕ) → CountsOnce result (counts (S.view source.old).faults o t) (counts (S.view source.new).faults o t) }
 {
     match lines.next(source)? {
         Next::Line => match read_line(texts.alloc, texts.policy, lines.line()) {
             Ok(line) => Ok(NextLine::Line(line)),
-            Err(fault) => {
-                let ending = refused(lines, Part::Script, refusal_of(fault)?);
+            Err(error) => {
+                let ending = refused(lines, Part::Script, error.fault()?);
                 Ok(NextLine::Ended(ending))
             }
         },
         Next::End => Ok(NextLine::Ended(InputEnd::Whole)),
         Next::Unended => {
-            let ending = refused(lines, Part::Script, Refusal::Syntax);
+            let ending = refused(lines, Part::Script, LineFault::Syntax);
             Ok(NextLine::Ended(ending))
         }
         Next::LongLine => {
-            let ending = refused(lines, Part::Script, Refusal::TooLong);
+            let ending = refused(lines, Part::Script, LineFault::TooLong);
             Ok(NextLine::Ended(ending))
         }
         Next::TooMuch => Ok(NextLine::Ended(InputEnd::TooMuch)),

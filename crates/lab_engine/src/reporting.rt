@@ -68,12 +68,13 @@ fn crosses_label(label: &Label, rec: &Rec) -> bool
     ensures { result ≡ crosses label.now rec.now }
 {
     match rec {
-        Rec::Exercise(_, process, with, _, _, thing, new_label, _) => {
-            is_mac(*with)
-                && (parts(label, process, thing)
-                    || new_label
+        Rec::Exercise(exercise) => {
+            is_mac(exercise.cap)
+                && (parts(label, &exercise.label, &exercise.thing_label)
+                    || exercise
+                        .new_label
                         .as_ref()
-                        .is_some_and(|new| parts(label, process, new)))
+                        .is_some_and(|new| parts(label, &exercise.label, new)))
         }
         _ => false,
     }
@@ -92,7 +93,7 @@ fn exercises_in(rec: &Rec) -> usize
     ensures { result ≡ cond (is_exercise rec.now) 1 0 }
 {
     match rec {
-        Rec::Exercise(..) => 1,
+        Rec::Exercise(_) => 1,
         _ => 0,
     }
 }

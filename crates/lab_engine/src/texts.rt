@@ -1,9 +1,9 @@
 // The lines of the output other than replies.
 ghost use Rattle.std.specs.Prelude.{◌≡◌, ◌++◌, IfOk, OnOk};
 ghost use Rattle.fs_path.specs.Words.{line_text};
-ghost use Rattle.lab_engine.specs.Texts.{life_text, part_text, refusal_text, last_text, last_words};
+ghost use Rattle.lab_engine.specs.Texts.{life_text, part_text, last_text, last_words};
 
-use crate::{InputEnd, Part, Refusal};
+use crate::{InputEnd, Part};
 use cap_bits::CapState;
 use kern_model::{NoMemory, Pid};
 use lab_lattice::Label;
@@ -28,29 +28,6 @@ impl Part {
             Part::World => b"world",
             Part::Script => b"script",
             Part::View => b"view",
-        }
-    }
-}
-
-impl Refusal {
-    /// Its word in a last line.
-    #[tactic(auto, unfolding(crate::specs::Texts::refusal_text))]
-    pub fn word(self) -> &'static [u8]
-        ensures { result.now ≡ refusal_text self }
-    {
-        match self {
-            Refusal::Syntax => b"syntax",
-            Refusal::UnknownName => b"unknown_name",
-            Refusal::Repeated => b"repeated",
-            Refusal::NoParent => b"no_parent",
-            Refusal::RootLabel => b"root_label",
-            Refusal::LabelOrder => b"label_order",
-            Refusal::TooMany => b"too_many",
-            Refusal::TooLong => b"too_long",
-            Refusal::BadTag => b"bad_tag",
-            Refusal::BadPath => b"bad_path",
-            Refusal::BadLabel => b"bad_label",
-            Refusal::BadCaps => b"bad_caps",
         }
     }
 }

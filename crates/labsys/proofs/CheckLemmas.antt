@@ -2,7 +2,7 @@
 use Rattle.std.proofs.Common.{◌≡◌, ℕ, List, ◌++◌, length, sym, ◌∙◌, ap, subst}
 use Rattle.std.specs.Prelude.{Option, Some, Result, Ok, IsErrAnd, IfOk}
 use Rattle.io_ends.specs.LinesState.{LinesState}
-use Rattle.io_ends.specs.Sinks.{SinkView}
+use Rattle.io_ends.specs.Ends.{SinkView}
 use Rattle.lab_engine.specs.declared.ending.Fault.{Fault}
 use Rattle.lab_engine.specs.declared.ending.InputEnd.{InputEnd}
 use Rattle.lab_engine.specs.declared.playing.Played.{Played}

@@ -24,7 +24,7 @@ use Rattle.lab_engine.specs.Order.{Sent, calls_by, out_of, trail_of, session_ord
 use Rattle.labsys.specs.Commands.{Due, ends_with, due, reads_source, writes_trail}
 use Rattle.lab_engine.specs.Counts.{counted_by}
 use Rattle.labsys.specs.Counts.{counts_after}
-use Rattle.io_ends.specs.Sinks.{sink_view}
+use Rattle.io_ends.specs.Ends.{sink_view}
 use Rattle.lab_engine.specs.Playing.{Ends, Sends, Writes, faults_of}
 use Rattle.labsys.specs.Playing.{CommandDid}
 use Rattle.lab_engine.specs.Reading.{left_of}
@@ -33,6 +33,7 @@ use Rattle.lab_text.specs.Text.{parse_label}
 use Rattle.kern_model.specs.Isolation.{up_to}
 use Rattle.labsys.specs.Viewing.{text_of_view, viewed_text}
 use Rattle.labsys.specs.Lineage.{PrintedByAny}
+use Rattle.labsys.specs.Promises.{Plays, Views}
 use Rattle.labsys.specs.Readable.{InputReadable}
 use Rattle.labsys.specs.Clauses.{status_of, HasAllCalls, OnWhole, PlayedTaken, Reports, reports, if_used, used, Moved, run_of, WhereReported, WhereAccepted, TakesAtMost, Covered, RepliesFirst, Printed, Dropped, Written, Isolated, IsolatedWhole, SameBelow, TwoInputs, TwoWhole}
 use Rattle.lab_engine.proofs.Sending.{out_of-append, out_of-to_out, trail_of-append, trail_of-to_out, prefix_of}
@@ -327,7 +328,7 @@ module _ (r : Result InputEnd Fault) (l l' : Option (List ℕ)) (entry exit : En
   where_played P f = where_sent Play r l l' entry exit x _ (λ text sent rest e a is. f text a sent rest is (by_session text a sent rest is e))
 
   -- the trail as anyone reads it, where what was played is readable
-  pub run_printed_by_any : ((text : List ℕ) → l ≡ Some text → InputReadable (input_of text) entry exit) → WhereReported before_play after_play (λ text out trail. WhereAccepted text (λ a m. PrintedByAny (session_of a m) out trail))
+  run_printed_by_any : ((text : List ℕ) → l ≡ Some text → InputReadable (input_of text) entry exit) → WhereReported before_play after_play (λ text out trail. WhereAccepted text (λ a m. PrintedByAny (session_of a m) out trail))
   run_printed_by_any readable text before above el eo et =
       let p = prefix_of r (order_of (input_of (x.taken ++ left_of l'))) entry exit x.writes in
       moved l l' entry exit x.taken x.took p.sent p.sends (λ text out trail. WhereAccepted text (λ a m. PrintedByAny (session_of a m) out trail)) text before above el eo et
@@ -337,29 +338,29 @@ module _ (r : Result InputEnd Fault) (l l' : Option (List ℕ)) (entry exit : En
       printed_by_any a m (accepted_input text a is) (out_of p.sent) (trail_of p.sent) (readable_by_then (session_of a m) entry exit p.sent before (readable text el a is) eo p.sends)
       (session_printed a m p.sent p.rest order) (session_dropped a m p.sent p.rest order))
 
-  pub run_covered : WhereReported before_play after_play (λ text out trail. WhereAccepted text (λ a m. Covered (session_of a m) out trail))
+  run_covered : WhereReported before_play after_play (λ text out trail. WhereAccepted text (λ a m. Covered (session_of a m) out trail))
   run_covered = where_played (λ text a m out trail. Covered (session_of a m) out trail) (λ text a sent rest is e. covered (session_of a (input_of text).script) sent rest e)
 
-  pub run_replies_first : WhereReported before_play after_play (λ text out trail. WhereAccepted text (λ a m. RepliesFirst (session_of a m) out trail))
+  run_replies_first : WhereReported before_play after_play (λ text out trail. WhereAccepted text (λ a m. RepliesFirst (session_of a m) out trail))
   run_replies_first = where_played (λ text a m out trail. RepliesFirst (session_of a m) out trail) (λ text a sent rest is e. replies_first (session_of a (input_of text).script) sent rest e)
 
-  pub run_printed : WhereReported before_play after_play (λ text out trail. WhereAccepted text (λ a m. Printed (session_of a m) out trail))
+  run_printed : WhereReported before_play after_play (λ text out trail. WhereAccepted text (λ a m. Printed (session_of a m) out trail))
   run_printed = where_played (λ text a m out trail. Printed (session_of a m) out trail) (λ text a sent rest is e. session_printed a (input_of text).script sent rest e)
 
-  pub run_dropped : WhereReported before_play after_play (λ text out trail. WhereAccepted text (λ a m. Dropped (session_of a m) trail))
+  run_dropped : WhereReported before_play after_play (λ text out trail. WhereAccepted text (λ a m. Dropped (session_of a m) trail))
   run_dropped = where_played (λ text a m out trail. Dropped (session_of a m) trail) (λ text a sent rest is e. session_dropped a (input_of text).script sent rest e)
 
-  pub run_isolated : (k : Label) → WhereReported before_play after_play (λ text out trail. WhereAccepted text (λ a m. Isolated k a m out))
+  run_isolated : (k : Label) → WhereReported before_play after_play (λ text out trail. WhereAccepted text (λ a m. Isolated k a m out))
   run_isolated k = where_played (λ text a m out trail. Isolated k a m out) (λ text a sent rest is e.
       is_isolated k a (input_of text).script (accepted_input text a is) (out_of sent) (session_written (session_of a (input_of text).script) sent rest e))
 
-  pub run_two_inputs : (k : Label) (other : List ℕ) → WhereReported before_play after_play
+  run_two_inputs : (k : Label) (other : List ℕ) → WhereReported before_play after_play
       (λ text out trail. WhereAccepted text (λ a m. WhereAccepted other (λ b m'. SameBelow k a m b m' → TwoInputs k a m b m' out)))
   run_two_inputs k other = where_played (λ text a m out trail. WhereAccepted other (λ b m'. SameBelow k a m b m' → TwoInputs k a m b m' out)) (λ text a sent rest is e b is' same.
       two_agree k a (input_of text).script (accepted_input text a is) b (input_of other).script (accepted_input other b is') same (out_of sent) (session_written (session_of a (input_of text).script) sent rest e))
 
   -- where a read failed, what was taken was played
-  pub run_line_by_line : (s : Status) → s ≡ status_of r → s ≡ ReadFault → WhereReported before_play after_play (λ text out trail. PlayedTaken text l' out trail)
+  run_line_by_line : (s : Status) → s ≡ status_of r → s ≡ ReadFault → WhereReported before_play after_play (λ text out trail. PlayedTaken text l' out trail)
   run_line_by_line s is read text before above el eo et =
       let sends = x.by_line refl (only_read r (sym is ∙ read)) in
       moved l l' entry exit x.taken x.took (order_of_calls (input_of x.taken)) sends (λ text out trail. PlayedTaken text l' out trail) text before above el eo et
@@ -368,14 +369,29 @@ module _ (r : Result InputEnd Fault) (l l' : Option (List ℕ)) (entry exit : En
       subst (λ (t : List ℕ). HasAllCalls (input_of t).accepted (input_of t).script (out_of (order_of_calls (input_of x.taken))) (trail_of (order_of_calls (input_of x.taken)))) (sym same)
       (all_calls (input_of x.taken).accepted (input_of x.taken).script))
 
-  pub run_isolated_whole : (s : Status) → s ≡ status_of r → (k : Label) → OnWhole s (WhereReported before_play after_play (λ text out trail. WhereAccepted text (λ a m. IsolatedWhole k a m out)))
+  run_isolated_whole : (s : Status) → s ≡ status_of r → (k : Label) → OnWhole s (WhereReported before_play after_play (λ text out trail. WhereAccepted text (λ a m. IsolatedWhole k a m out)))
   run_isolated_whole s is k = whole_gives s _ _ (reported_gives before_play after_play _ _ (λ text out trail w a acc.
       is_isolated_whole k a (input_of text).script (accepted_input text a acc) out (all_written text a out acc w.0))) (run_all Play r l l' entry exit x s is)
 
-  pub run_two_whole : (s : Status) → s ≡ status_of r → (k : Label) (other : List ℕ) → OnWhole s (WhereReported before_play after_play
+  run_two_whole : (s : Status) → s ≡ status_of r → (k : Label) (other : List ℕ) → OnWhole s (WhereReported before_play after_play
       (λ text out trail. WhereAccepted text (λ a m. WhereAccepted other (λ b m'. SameBelow k a m b m' → TwoWhole k a m b m' out))))
   run_two_whole s is k other = whole_gives s _ _ (reported_gives before_play after_play _ _ (λ text out trail w a acc b acc' same.
       two_whole k a (input_of text).script (accepted_input text a acc) b (input_of other).script (accepted_input other b acc') same out (all_written text a out acc w.0))) (run_all Play r l l' entry exit x s is)
+
+  -- all that `play` promises, where what was played is readable
+  pub run_play : (s : Status) → s ≡ status_of r → ((text : List ℕ) → l ≡ Some text → InputReadable (input_of text) entry exit) → Plays s before_play after_play
+  run_play s is readable = record {
+    covered = run_covered;
+    replies_first = run_replies_first;
+    line_by_line = run_line_by_line s is;
+    isolated = run_isolated;
+    isolated_whole = run_isolated_whole s is;
+    two_inputs = run_two_inputs;
+    two_whole = run_two_whole s is;
+    printed = run_printed;
+    printed_by_any = run_printed_by_any readable;
+    dropped = run_dropped;
+  }
 
 -- ---- what `view` did
 
@@ -392,7 +408,7 @@ viewed word text k a is named =
     ∙ out_of-to_out (view_text k (session_of a m))
 
 -- where nothing crosses, it is a view of the part below the label alone
-pub run_view_alone : (word : List ℕ) (r : Result InputEnd Fault) (l l' : Option (List ℕ)) (entry exit : Ends) → CommandDid (View word) r l l' entry exit → (s : Status) → s ≡ status_of r → s ≡ Done → (k : Label)
+run_view_alone : (word : List ℕ) (r : Result InputEnd Fault) (l l' : Option (List ℕ)) (entry exit : Ends) → CommandDid (View word) r l l' entry exit → (s : Status) → s ≡ status_of r → s ≡ Done → (k : Label)
     → WhereReported (used (View word) (reports l entry.out.held entry.trail.held)) (used (View word) (reports l' exit.out.held exit.trail.held))
     (λ text out trail. WhereAccepted text (λ a m. parse_label a.policy word ≡ Some k → up_to k (run_of a m) ≡ run_of a m → out ≡ view_text k (session_alone k a m)))
 run_view_alone word r l l' entry exit x s is done k =
@@ -403,3 +419,8 @@ run_view_alone word r l l' entry exit x s is done k =
     reported_gives old now _ _ (λ text out trail w a acc named none.
     let fits = accepted_input text a acc in
     w.0 ∙ viewed word text k a acc named ∙ view_alone k a (input_of text).script fits.world fits.script none) all
+
+-- all that `view` promises
+pub run_view : (word : List ℕ) (r : Result InputEnd Fault) (l l' : Option (List ℕ)) (entry exit : Ends) → CommandDid (View word) r l l' entry exit → (s : Status) → s ≡ status_of r
+    → Views word s (reports l entry.out.held entry.trail.held) (reports l' exit.out.held exit.trail.held)
+run_view word r l l' entry exit x s is = record { view_alone = λ k done. run_view_alone word r l l' entry exit x s is done k }

@@ -3,7 +3,7 @@ use Rattle.std.proofs.Common.{◌≡◌, ◌↔◌, ℕ, ◌<◌, Bool, true, fa
 use Rattle.std.proofs.lemmas.List.{append-nil}
 use Rattle.std.specs.Prelude.{Result, IsErrAnd, IsTrue}
 use Rattle.std.specs.List.{concat}
-use Rattle.io_ends.specs.Sinks.{SinkView}
+use Rattle.io_ends.specs.Ends.{SinkView}
 use Rattle.gen_world.specs.Text.{gen_text, pieces}
 use Rattle.gen_world.proofs.TextLaws.{pieces_joined}
 use Rattle.lab_engine.specs.declared.ending.Fault.{Fault}

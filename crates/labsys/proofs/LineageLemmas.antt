@@ -1,6 +1,5 @@
 -- The trail is of one list of records, and these are the run's.
 use Rattle.std.proofs.Common.{◌≡◌, ℕ, ◌<◌, true, List, [], ◌∷◌, ◌++◌, length, refl, sym, ◌∙◌, ap, subst, arith}
-use Rattle.std.specs.Prelude.{Some, None}
 use Rattle.std.specs.Fmt.{decimal}
 use Rattle.std.specs.List.{AllByRecursion, flat_map, list_all}
 use Rattle.std.proofs.lemmas.Bool.{and_from}
@@ -9,13 +8,11 @@ use Rattle.fs_path.specs.Words.{line_text}
 use Rattle.lab_lattice.specs.Label.{Label, dominates}
 use Rattle.lab_text.specs.Policy.{PolicyNames, MakePolicy, top_of, is_valid}
 use Rattle.aud_record.proofs.RoundTrip.{one_record}
-use Rattle.aud_record.specs.Events.{who_of}
-use Rattle.aud_record.specs.Fits.{rest_labels, has_valid_labels}
+use Rattle.kern_model.specs.Records.{labels_in}
+use Rattle.aud_record.specs.Fits.{has_valid_labels}
 use Rattle.aud_record.specs.Written.{rec_words, line_of, rec_text, header_text}
-use Rattle.kern_model.specs.declared.checks.Thing.TheVariants as thing
 use Rattle.kern_model.specs.declared.records.Rec.{Rec}
-use Rattle.kern_model.specs.declared.records.Rec.TheVariants as rec
-use Rattle.iso_laws.specs.Labels.{HasLabelsBelow, labels_in}
+use Rattle.iso_laws.specs.Labels.{HasLabelsBelow}
 use Rattle.iso_laws.proofs.Laws.{labels_below}
 use Rattle.lab_engine.specs.Input.{Accepted, Script}
 use Rattle.labsys.specs.Clauses.{Printed, Dropped, recs_in}
@@ -52,26 +49,9 @@ all_valid : (policy : PolicyNames) (labels : List Label) → AllByRecursion (λ 
 all_valid policy [] h = refl
 all_valid policy (l ∷ ls) h = and_from _ _ h.0 (all_valid policy ls h.1)
 
-same_labels : (r : Rec) → labels_in r ≡ (who_of r).label ∷ rest_labels r
-same_labels (rec.Boot who label caps) = refl
-same_labels (rec.Fork who child) = refl
-same_labels (rec.Exec who file file_caps caps) = refl
-same_labels (rec.Exit who ending) = refl
-same_labels (rec.CapSetProc who caps) = refl
-same_labels (rec.CapSetFile who file caps) = refl
-same_labels (rec.MacSetProc who old new) = refl
-same_labels (rec.MacSetFile who object old new) = refl
-same_labels (rec.Exercise who label cap check (thing.Object id) thing_label None place) = refl
-same_labels (rec.Exercise who label cap check (thing.Object id) thing_label (Some new) place) = refl
-same_labels (rec.Exercise who label cap check (thing.Process q) thing_label None place) = refl
-same_labels (rec.Exercise who label cap check (thing.Process q) thing_label (Some new) place) = refl
-same_labels (rec.Deny who call errno check place) = refl
-same_labels (rec.Switch who on) = refl
-same_labels (rec.Note who bytes) = refl
-
 valid_labels : (policy : PolicyNames) (r : Rec) → HasLabelsBelow (top_of policy) r → has_valid_labels policy r ≡ true
 unfolding has_valid_labels
-valid_labels policy r h = ap (list_all (is_valid policy)) (sym (same_labels r)) ∙ all_valid policy (labels_in r) h
+valid_labels policy r h = all_valid policy (labels_in r) h
 
 -- readable records with valid labels have lines
 all_lines : (policy : PolicyNames) (recs : List (ℕ × Rec)) → AllByRecursion (HasLabelsBelow (top_of policy)) (recs_in recs) → AllByRecursion (IsReadable policy) recs → AllByRecursion (HasLine policy) recs

@@ -3,7 +3,7 @@ use Rattle.std.proofs.Common.{◌≡◌, ℕ, Bool, true, false, List, [], ◌++
 use Rattle.std.proofs.KnownBytes.{Consumes-nil}
 use Rattle.std.specs.Prelude.{Option, Some, None, Result, Ok, Err, IsErrAnd, IfOk}
 use Rattle.gen_world.specs.Text.{gen_text}
-use Rattle.io_ends.specs.Sinks.{SinkView, sink_view}
+use Rattle.io_ends.specs.Ends.{SinkView, sink_view}
 use Rattle.lab_engine.specs.declared.ending.Fault.{Fault}
 use Rattle.lab_engine.specs.declared.ending.Fault.TheVariants.{Read, Trail}
 use Rattle.lab_engine.specs.declared.ending.InputEnd.{InputEnd}

@@ -6,7 +6,7 @@ use Rattle.std.specs.Prelude.{Option, None, Some, Result, Ok, Err, IsErrAnd, IfO
 use Rattle.std.specs.List.{AllByRecursion, flat_map}
 use Rattle.std.specs.Io.KnownBytes.{IsAtEnd}
 use Rattle.io_ends.specs.LinesState.{LinesState, may_take}
-use Rattle.io_ends.specs.Sinks.{SinkView}
+use Rattle.io_ends.specs.Ends.{SinkView}
 use Rattle.aud_record.specs.Written.{header_text, rec_text}
 use Rattle.kern_model.specs.declared.limits.TheConstants.{MAX_INPUT}
 use Rattle.kern_model.specs.declared.records.Rec.{Rec}
@@ -45,6 +45,8 @@ use Rattle.labsys.specs.declared.command.Command.TheVariants.{Play, Check, View}
 use Rattle.labsys.specs.Commands.{Due, due, due_of_check, due_of_play, due_of_view, ends_with, reads_source}
 use Rattle.labsys.specs.Playing.{ChecksWorld, CommandDid, EndsAs, PlaysWorld, ViewsWorld}
 use Rattle.labsys.specs.Readable.{InputReadable, SessionReadable}
+use Rattle.lab_lattice.specs.Label.{Label}
+use Rattle.lab_text.specs.Policy.{PolicyNames}
 use Rattle.lab_text.specs.Text.{parse_label}
 use Rattle.labsys.proofs.AcceptedLemmas.{IsPlayable, accepted_input}
 use Rattle.labsys.proofs.InputLemmas.{due_without_world, input_starts, no_calls, text_left}
@@ -356,3 +358,33 @@ module _ (lines0 : LinesState) (starts : lines0 ≡ record { line = []; held = [
 
     pub ended_readable : (before after : Ends) (text : List ℕ) → left ≡ Some text → InputReadable (input_of text) before after
     ended_readable = readable_without_world lines0 starts (Ok ending) left between lines ended.taken ended.takes ending ended.shows
+
+-- ---- a run over ends that were lent
+
+-- what is written at the end, by the names of the start, where the trail stays as it was
+module _ (policy now : PolicyNames) (same : now ≡ policy) (s : State) (p : Played) (n : ℕ) (o o' t t' : SinkView) (still : t' ≡ t) where
+  abbrev end_by : PolicyNames → List Sent
+  end_by names = to_out (ends_text None names s ++ last_text p.count p.ending)
+
+  pub end_stops : (fault : Fault) → StopsBy fault (end_by now) (ends n o t) (ends n o' t) → StopsBy fault (end_by policy) (ends n o t) (ends n o' t')
+  end_stops fault x =
+      subst (λ (names : PolicyNames). StopsBy fault (end_by names) (ends n o t) (ends n o' t')) same
+      (subst (λ (u : SinkView). StopsBy fault (end_by now) (ends n o t) (ends n o' u)) (sym still) x)
+
+  pub end_sends : SendsAll (end_by now) (ends n o t) (ends n o' t) → SendsAll (end_by policy) (ends n o t) (ends n o' t')
+  end_sends x =
+      subst (λ (names : PolicyNames). SendsAll (end_by names) (ends n o t) (ends n o' t')) same
+      (subst (λ (u : SinkView). SendsAll (end_by now) (ends n o t) (ends n o' u)) (sym still) x)
+
+-- the names of an accepted world and the sinks are those that were lent
+module _ (a : Accepted) (now : PolicyNames) (same : now ≡ a.policy) (o o0 t t0 : SinkView) (out_is : o0 ≡ o) (trail_is : t0 ≡ t) (r : Result InputEnd Fault) (lines lines' : LinesState) (left left' : Option (List ℕ)) (n : ℕ) (after : Ends) where
+  pub plays_lent : PlaysWorld r (record { policy = now; world = a.world }) lines lines' left left' (ends n o0 t0) after → PlaysWorld r a lines lines' left left' (ends n o t) after
+  plays_lent x =
+      subst (λ (names : PolicyNames). PlaysWorld r (record { policy = names; world = a.world }) lines lines' left left' (ends n o t) after) same
+      (subst (λ (u : SinkView). PlaysWorld r (record { policy = now; world = a.world }) lines lines' left left' (ends n u t) after) out_is
+      (subst (λ (u : SinkView). PlaysWorld r (record { policy = now; world = a.world }) lines lines' left left' (ends n o0 u) after) trail_is x))
+
+  pub views_lent : (l : Option Label) → ViewsWorld l r (record { policy = now; world = a.world }) lines lines' left left' (ends n o0 t) after → ViewsWorld l r a lines lines' left left' (ends n o t) after
+  views_lent l x =
+      subst (λ (names : PolicyNames). ViewsWorld l r (record { policy = names; world = a.world }) lines lines' left left' (ends n o t) after) same
+      (subst (λ (u : SinkView). ViewsWorld l r (record { policy = now; world = a.world }) lines lines' left left' (ends n u t) after) out_is x)

@@ -2,22 +2,20 @@
 use Rattle.std.proofs.Common.{◌≡◌, ◌+◌, ℕ, List, [], refl, inr, arith}
 use Rattle.std.proofs.KnownBytes.{Consumes-nil}
 use Rattle.std.specs.Prelude.{true, IfSome, Option, None, Some, Err}
-use Rattle.io_ends.specs.Sinks.{sink_view}
-use Rattle.lab_lattice.specs.Label.{Label}
+use Rattle.io_ends.specs.Ends.{sink_view}
 use Rattle.kern_model.specs.declared.limits.TheConstants.{MAX_INPUT}
 use Rattle.lab_engine.specs.declared.ending.Fault.TheVariants.{NoMemory}
 use Rattle.lab_engine.specs.Order.{IsInOrder}
 use Rattle.lab_engine.specs.Playing.{Ends, ends}
-use Rattle.lab_engine.specs.Session.{session_of}
 use Rattle.lab_engine.proofs.Sending.{prefix_nothing, stops_at_once}
 use Rattle.labsys.specs.declared.command.Command.{Command}
 use Rattle.labsys.specs.declared.command.Command.TheVariants.{Play, Check, Gen, Drill, View}
 use Rattle.labsys.specs.declared.status.Status.TheVariants as status
-use Rattle.labsys.specs.Clauses.{Covered, Dropped, Isolated, Printed, RepliesFirst, SameBelow, TakesAtMost, TwoInputs, WhereAccepted, WhereReported, reports, used}
+use Rattle.labsys.specs.Clauses.{TakesAtMost, WhereReported, reports, used}
 use Rattle.labsys.specs.Commands.{LeavesAlone, due, reads_source}
-use Rattle.labsys.specs.Lineage.{PrintedByAny}
+use Rattle.labsys.specs.Promises.{Plays}
 use Rattle.labsys.specs.Playing.{CommandDid}
-use Rattle.labsys.proofs.ClauseLemmas.{run_covered, run_dropped, run_isolated, run_order, run_printed, run_printed_by_any, run_replies_first, run_two_inputs}
+use Rattle.labsys.proofs.ClauseLemmas.{run_order, run_play}
 
 -- what holds of each command holds of that which the words name
 pub where_named : (o : Option Command) (P : Command → Type 0) → ((c : Command) → P c) → IfSome o P
@@ -64,24 +62,7 @@ module _ (l out trail : Option (List ℕ)) where
   untouched_order None = tt
   untouched_order (Some c) = run_order c (Err NoMemory) l l still still (did_nothing c l still) (Some c) refl
 
-  pub untouched_covered : WhereReported (reports l out trail) (reports l out trail) (λ text out trail. WhereAccepted text (λ a m. Covered (session_of a m) out trail))
-  untouched_covered = run_covered (Err NoMemory) l l still still (did_nothing Play l still)
-
-  pub untouched_replies_first : WhereReported (reports l out trail) (reports l out trail) (λ text out trail. WhereAccepted text (λ a m. RepliesFirst (session_of a m) out trail))
-  untouched_replies_first = run_replies_first (Err NoMemory) l l still still (did_nothing Play l still)
-
-  pub untouched_isolated : (k : Label) → WhereReported (reports l out trail) (reports l out trail) (λ text out trail. WhereAccepted text (λ a m. Isolated k a m out))
-  untouched_isolated = run_isolated (Err NoMemory) l l still still (did_nothing Play l still)
-
-  pub untouched_two_inputs : (k : Label) (other : List ℕ) → WhereReported (reports l out trail) (reports l out trail)
-      (λ text out trail. WhereAccepted text (λ a m. WhereAccepted other (λ b m'. SameBelow k a m b m' → TwoInputs k a m b m' out)))
-  untouched_two_inputs = run_two_inputs (Err NoMemory) l l still still (did_nothing Play l still)
-
-  pub untouched_printed : WhereReported (reports l out trail) (reports l out trail) (λ text out trail. WhereAccepted text (λ a m. Printed (session_of a m) out trail))
-  untouched_printed = run_printed (Err NoMemory) l l still still (did_nothing Play l still)
-
-  pub untouched_printed_by_any : WhereReported (reports l out trail) (reports l out trail) (λ text out trail. WhereAccepted text (λ a m. PrintedByAny (session_of a m) out trail))
-  untouched_printed_by_any = run_printed_by_any (Err NoMemory) l l still still (did_nothing Play l still) (λ text is a accepted. inr (prefix_nothing _ still.source still.source still.out still.trail))
-
-  pub untouched_dropped : WhereReported (reports l out trail) (reports l out trail) (λ text out trail. WhereAccepted text (λ a m. Dropped (session_of a m) trail))
-  untouched_dropped = run_dropped (Err NoMemory) l l still still (did_nothing Play l still)
+  pub untouched_play : Plays status.NoMemory (reports l out trail) (reports l out trail)
+  untouched_play =
+      run_play (Err NoMemory) l l still still (did_nothing Play l still) status.NoMemory refl
+      (λ text is a accepted. inr (prefix_nothing _ still.source still.source still.out still.trail))

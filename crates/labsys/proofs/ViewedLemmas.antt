@@ -7,18 +7,18 @@ use Rattle.std.specs.List.{flat_map}
 use Rattle.std.specs.Io.KnownBytes.{Appends}
 use Rattle.io_ends.specs.Faults.{counted}
 use Rattle.io_ends.specs.LinesState.{LinesState}
-use Rattle.io_ends.specs.Sinks.{SinkView, sink_view}
+use Rattle.io_ends.specs.Ends.{SinkView, sink_view}
 use Rattle.kern_model.specs.Boot.{boot}
 use Rattle.kern_model.specs.Run.{CallRecord, run, state_after_run}
 use Rattle.kern_model.specs.State.{State}
 use Rattle.lab_lattice.specs.Label.{Label}
 use Rattle.lab_text.specs.Policy.{PolicyNames}
+use Rattle.line_text.specs.declared.fault.LineFault.TheVariants as line_fault
 use Rattle.lab_engine.specs.declared.ending.Fault.{Fault}
 use Rattle.lab_engine.specs.declared.ending.Fault.TheVariants.{Read, Write, Trail, NoMemory}
 use Rattle.lab_engine.specs.declared.ending.InputEnd.{InputEnd}
 use Rattle.lab_engine.specs.declared.ending.InputEnd.TheVariants.{Refused, Whole}
 use Rattle.lab_engine.specs.declared.ending.Part.TheVariants as part
-use Rattle.lab_engine.specs.declared.ending.Refusal.TheVariants as refusal
 use Rattle.lab_engine.specs.declared.playing.Played.{Played}
 use Rattle.lab_engine.specs.declared.reporting.Report.{Report}
 use Rattle.lab_engine.specs.declared.reporting.Report.TheVariants.{Below, Crossed}
@@ -185,7 +185,7 @@ view_named found l is parsed same r a lines lines' left left' before after x = s
 
 -- the refusal of a word that is no label of the world
 abbrev no_label : InputEnd
-no_label = Refused 0 part.View refusal.BadLabel
+no_label = Refused 0 part.View line_fault.BadLabel
 
 refused_ending : (r : Result InputEnd Fault) → IfOk r (λ e. e ≡ no_label) → (left : Option (List ℕ)) → IfOk r (λ e. EndsAs e no_label left)
 refused_ending (Ok e) is left = record { same = is; to_the_end = λ whole. let no : no_label ≡ Whole = sym is ∙ whole in absurd (cc) }
@@ -199,3 +199,11 @@ view_refused found is parsed same r a lines left before after w ends = subst (λ
   writes = w;
   ending = refused_ending r ends left;
 })
+
+-- what follows the replies, by the names of the start
+module _ (policy now : PolicyNames) (same : now ≡ policy) (kept : Report) (s : State) (ending : InputEnd) (e f : Ends) where
+  pub cut_by : (fault : Fault) → StopsBy fault (to_out (after_replies kept now s ending)) e f → StopsBy fault (to_out (after_replies kept policy s ending)) e f
+  cut_by fault x = subst (λ (names : PolicyNames). StopsBy fault (to_out (after_replies kept names s ending)) e f) same x
+
+  pub written_by : SendsAll (to_out (after_replies kept now s ending)) e f → SendsAll (to_out (after_replies kept policy s ending)) e f
+  written_by x = subst (λ (names : PolicyNames). SendsAll (to_out (after_replies kept names s ending)) e f) same x

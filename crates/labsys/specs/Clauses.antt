@@ -3,6 +3,7 @@ use Rattle.std.specs.Prelude.{◌≡◌, ℕ, ◌+◌, ◌≤◌, ◌<◌, Bool,
 use Rattle.std.specs.List.{flat_map}
 use Rattle.std.specs.Io.KnownBytes.{Consumes}
 use Rattle.std.specs.FinMap as finite
+use Rattle.io_ends.specs.Ends.{SinkView, SourceView}
 use Rattle.lab_lattice.specs.Label.{Label}
 use Rattle.aud_record.specs.Written.{rec_text, header_text}
 use Rattle.kern_model.specs.declared.records.Rec.{Rec}
@@ -33,6 +34,9 @@ pub record Reports : Type 0 where
 
 abbrev pub reports : Option (List ℕ) → Option (List ℕ) → Option (List ℕ) → Reports
 reports left out trail = record { left = left; out = out; trail = trail }
+
+abbrev pub reported : SourceView → SinkView → SinkView → Reports
+reported source out trail = reports source.left out.held trail.held
 
 -- what an end reports, where one that is not used counts as one that holds nothing
 abbrev pub if_used : Bool → Option (List ℕ) → Option (List ℕ)

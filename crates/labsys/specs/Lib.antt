@@ -7,4 +7,5 @@ pub mod Readable
 pub mod Playing
 pub mod Clauses
 pub mod Lineage
+pub mod Promises
 pub mod Exit

@@ -4,10 +4,10 @@ use Rattle.kern_model.specs.State.{State}
 use Rattle.lab_lattice.specs.Label.{Label}
 use Rattle.lab_text.specs.Policy.{PolicyNames}
 use Rattle.lab_text.specs.Text.{parse_label}
+use Rattle.line_text.specs.declared.fault.LineFault.TheVariants as line_fault
 use Rattle.lab_engine.specs.declared.ending.InputEnd.{InputEnd}
 use Rattle.lab_engine.specs.declared.ending.InputEnd.TheVariants.{Refused}
 use Rattle.lab_engine.specs.declared.ending.Part.TheVariants as part
-use Rattle.lab_engine.specs.declared.ending.Refusal.TheVariants as refusal
 use Rattle.lab_engine.specs.declared.reporting.Report.{Report}
 use Rattle.lab_engine.specs.declared.reporting.Report.TheVariants.{All, Below, Crossed, Counted}
 use Rattle.lab_engine.specs.Input.{Accepted, Script}
@@ -19,12 +19,12 @@ use Rattle.lab_engine.specs.Viewing.{unless_whole, view_text}
 
 -- how a view ends: the input is refused where the word of the label denotes none of the world, whatever the script has
 abbrev pub viewed_ending : Option Label → InputEnd → InputEnd
-viewed_ending None ending = Refused 0 part.View refusal.BadLabel
+viewed_ending None ending = Refused 0 part.View line_fault.BadLabel
 viewed_ending (Some l) ending = ending
 
 -- what a view of an accepted world and its script writes, by the label that the word denotes; where it denotes none, that refusal alone
 abbrev pub viewed_text : Option Label → Accepted → Script → List ℕ
-viewed_text None a script = last_text 0 (Refused 0 part.View refusal.BadLabel)
+viewed_text None a script = last_text 0 (Refused 0 part.View line_fault.BadLabel)
 viewed_text (Some l) a script = view_text l (session_of a script)
 
 -- what a view writes after the replies, by what was kept of them: where a call has crossed the label, the last line of an input that is not whole, or else the end lines that the label sees and the last line

@@ -1,6 +1,6 @@
 // An input that is read and not played.
 ghost use Rattle.std.specs.Prelude.{◌≡◌, ◌≤◌, ◌^◌, true, IfOk, length};
-ghost use Rattle.io_ends.specs.Sinks.{SinkView, sink_view};
+ghost use Rattle.io_ends.specs.Ends.{SinkView};
 ghost use Rattle.lab_engine.specs.Playing.{WritesOut, ends};
 ghost use Rattle.labsys.specs.Checking.{checked_text, ok_text};
 ghost use Rattle.labsys.specs.Playing.{ChecksWorld, CommandDid};
@@ -40,7 +40,7 @@ fn report_check<K: Sink>(
     checked: Played,
     out: &mut K,
 ) -> Result<(), Fault>
-    ensures { WritesOut result (checked_text world.now checked.count checked.ending) (sink_view (K.held out.old) (K.faults out.old)) (sink_view (K.held out.new) (K.faults out.new)) }
+    ensures { WritesOut result (checked_text world.now checked.count checked.ending) (K.view out.old) (K.view out.new) }
 {
     match checked.ending {
         InputEnd::Whole => {
@@ -61,9 +61,9 @@ fn check_world<S: Source, K: Sink>(
 ) -> Result<InputEnd, Fault>
     requires more { lines.old.more ≡ true }
     requires small { lines.old.room ≤ 2 ^ 24 }
-    ensures { (trail : SinkView) → ChecksWorld result read.now lines.old lines.new (S.left source.old) (S.left source.new)
-        (ends (S.faults source.old) (sink_view (K.held out.old) (K.faults out.old)) trail)
-        (ends (S.faults source.new) (sink_view (K.held out.new) (K.faults out.new)) trail) }
+    ensures { (trail : SinkView) → ChecksWorld result read.now lines.old lines.new (S.view source.old).left (S.view source.new).left
+        (ends (S.view source.old).faults (K.view out.old) trail)
+        (ends (S.view source.new).faults (K.view out.new) trail) }
 {
     let texts = Texts {
         alloc,
@@ -81,9 +81,9 @@ pub fn check<S: Source, K: Sink>(
     source: &mut S,
     out: &mut K,
 ) -> Result<InputEnd, Fault>
-    ensures { (trail : SinkView) → CommandDid Command.Check result (S.left source.old) (S.left source.new)
-        (ends (S.faults source.old) (sink_view (K.held out.old) (K.faults out.old)) trail)
-        (ends (S.faults source.new) (sink_view (K.held out.new) (K.faults out.new)) trail) }
+    ensures { (trail : SinkView) → CommandDid Command.Check result (S.view source.old).left (S.view source.new).left
+        (ends (S.view source.old).faults (K.view out.old) trail)
+        (ends (S.view source.new).faults (K.view out.new) trail) }
 {
     let mut lines = Lines::new(alloc, MAX_INPUT)?;
     match read_world(alloc, &mut lines, source)? {

@@ -2,7 +2,6 @@
 ghost use Rattle.std.specs.Prelude.{◌≡◌, ◌≤◌, ◌^◌, ◌++◌, true, IfOk, OnOk};
 ghost use Rattle.kern_model.specs.World.{IsWorld};
 ghost use Rattle.lab_text.specs.Policy.{top_of};
-ghost use Rattle.io_ends.specs.Sinks.{sink_view};
 ghost use Rattle.gen_world.specs.declared.generator.TheConstants.{MAX_LINES};
 ghost use Rattle.lab_engine.specs.Playing.{WritesOut};
 ghost use Rattle.labsys.specs.Drilling.{count_text, counts_text, drilled_text, tally_text};
@@ -62,7 +61,7 @@ fn drill_world<S: Source>(
     requires top { read.world.top ≡ top_of read.policy }
     requires more { lines.old.more ≡ true }
     requires small { lines.old.room ≤ 2 ^ 24 }
-    ensures { IfOk result (λ text. DrillsWorld text.items number read lines.old lines.new (S.left source.old) (S.left source.new)) }
+    ensures { IfOk result (λ text. DrillsWorld text.items number read lines.old lines.new (S.view source.old).left (S.view source.new).left) }
 {
     let WorldText { policy, world } = read;
     let texts = Texts {
@@ -93,7 +92,7 @@ fn drill_generated(alloc: Global, number: u32) -> Result<Vec<u8>, Fault>
 /// of capabilities were recorded, and how many processes live at its end.
 pub fn drill<K: Sink>(alloc: Global, lines: u32, out: &mut K) -> Result<(), Fault>
     requires { (1 ≤ lines) × (lines ≤ MAX_LINES) }
-    ensures { WritesOut result (drilled_text lines) (sink_view (K.held out.old) (K.faults out.old)) (sink_view (K.held out.new) (K.faults out.new)) }
+    ensures { WritesOut result (drilled_text lines) (K.view out.old) (K.view out.new) }
 {
     match drill_generated(alloc, lines) {
         Ok(text) => answer(out, &text),

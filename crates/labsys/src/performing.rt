@@ -1,6 +1,5 @@
 // What each command does.
 ghost use Rattle.std.specs.Prelude.{◌≡◌, true, ℕ, List, Some, Err};
-ghost use Rattle.io_ends.specs.Sinks.{sink_view};
 ghost use Rattle.lab_engine.specs.Input.{input_of};
 ghost use Rattle.lab_engine.specs.Playing.{ends};
 ghost use Rattle.labsys.specs.Commands.{FitsCommand, LeavesAlone, reads_source, writes_trail};
@@ -26,16 +25,16 @@ pub fn perform<S: Source, K: Sink, T: Sink>(
     trail: &mut T,
 ) -> Result<InputEnd, Fault>
     requires { FitsCommand command }
-    ensures did { CommandDid command.entry result (S.left source.old) (S.left source.new)
-        (ends (S.faults source.old) (sink_view (K.held out.old) (K.faults out.old)) (sink_view (T.held trail.old) (T.faults trail.old)))
-        (ends (S.faults source.new) (sink_view (K.held out.new) (K.faults out.new)) (sink_view (T.held trail.new) (T.faults trail.new))) }
+    ensures did { CommandDid command.entry result (S.view source.old).left (S.view source.new).left
+        (ends (S.view source.old).faults (K.view out.old) (T.view trail.old))
+        (ends (S.view source.new).faults (K.view out.new) (T.view trail.new)) }
     ensures alone { LeavesAlone (Some command.entry) (source.new ≡ source.old) (out.new ≡ out.old) (trail.new ≡ trail.old) }
     // A fault is one of an end that the command uses.
     ensures read_fault { result ≡ Err Fault.Read → reads_source command.entry ≡ true }
     ensures trail_fault { result ≡ Err Fault.Trail → writes_trail command.entry ≡ true }
-    ensures readable { command.entry ≡ Command.Play → (text : List ℕ) → S.left source.old ≡ Some text → InputReadable (input_of text)
-        (ends (S.faults source.old) (sink_view (K.held out.old) (K.faults out.old)) (sink_view (T.held trail.old) (T.faults trail.old)))
-        (ends (S.faults source.new) (sink_view (K.held out.new) (K.faults out.new)) (sink_view (T.held trail.new) (T.faults trail.new))) }
+    ensures readable { command.entry ≡ Command.Play → (text : List ℕ) → (S.view source.old).left ≡ Some text → InputReadable (input_of text)
+        (ends (S.view source.old).faults (K.view out.old) (T.view trail.old))
+        (ends (S.view source.new).faults (K.view out.new) (T.view trail.new)) }
 {
     match command {
         Command::Play => play(alloc, source, out, trail),

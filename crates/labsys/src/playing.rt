@@ -3,9 +3,10 @@ ghost use Rattle.std.specs.Prelude.{◌≡◌, ℕ, ◌≤◌, ◌^◌, ◌++◌
 ghost use Rattle.kern_model.specs.World.{IsWorld};
 ghost use Rattle.kern_core.specs.Kernel.{state_of};
 ghost use Rattle.lab_text.specs.Policy.{top_of};
-ghost use Rattle.io_ends.specs.Sinks.{sink_view};
 ghost use Rattle.lab_engine.specs.Input.{input_of};
+ghost use Rattle.lab_engine.specs.declared.reporting.Report.TheVariants as a_report;
 ghost use Rattle.lab_engine.specs.Playing.{WritesOut, ends};
+ghost use Rattle.lab_engine.specs.Reporter.{SameEnds};
 ghost use Rattle.lab_engine.specs.Texts.{caps_in, end_text, ends_text, is_viewed, label_in, last_text};
 ghost use Rattle.labsys.specs.Playing.{CommandDid, PlaysWorld};
 ghost use Rattle.labsys.specs.Readable.{InputReadable};
@@ -14,10 +15,10 @@ use crate::Command;
 use io_ends::{Lines, Sink, Source};
 use kern_core::Kernel;
 use kern_model::limits::MAX_INPUT;
-use kern_model::{NoMemory, Pid};
+use kern_model::{NoMemory, Pid, World};
 use lab_engine::{
-    Fault, InputEnd, Played, ReadWorld, Report, Texts, answer, begin, end_line, play_script,
-    read_world, report_last,
+    Fault, InputEnd, Played, ReadWorld, Report, Reporter, Texts, end_line, play_script, read_world,
+    report_last,
 };
 use lab_lattice::{Label, Lattice};
 use std::alloc::Global;
@@ -60,65 +61,61 @@ fn end_viewed(
 }
 
 // Writes the end lines.
-fn report_ends<K: Sink>(
-    texts: Texts<'_>,
+fn report_ends<K: Sink, T: Sink>(
     kernel: &Kernel,
     viewer: &Option<Label>,
-    out: &mut K,
+    reporter: &mut Reporter<'_, K, T>,
 ) -> Result<(), Fault>
-    ensures { WritesOut result (ends_text viewer.now texts.entry.policy.now (state_of kernel.now)) (sink_view (K.held out.old) (K.faults out.old)) (sink_view (K.held out.new) (K.faults out.new)) }
+    ensures writes { WritesOut result (ends_text viewer.now reporter.old.texts.policy.now (state_of kernel.now)) (K.view reporter.old.out.now) (K.view reporter.new.out.now) }
+    ensures still { T.view reporter.new.trail.now ≡ T.view reporter.old.trail.now }
+    ensures same { SameEnds reporter.old.texts.policy.now reporter.new.texts.policy.now reporter.old.out reporter.new.out reporter.old.trail reporter.new.trail }
 {
     let numbers = kernel.live()?;
     for who in numbers.items() {
-        let text = end_viewed(texts, kernel, viewer, who)?;
-        answer(out, &text)?;
+        let text = end_viewed(reporter.texts, kernel, viewer, who)?;
+        reporter.answer(&text)?;
     }
     Ok(())
 }
 
 /// Writes the end lines and the last line: those of all that live, or, where a label views the run, of those whose
 /// number's label it dominates.
-pub fn finish<K: Sink>(
-    texts: Texts<'_>,
+pub fn finish<K: Sink, T: Sink>(
     kernel: &Kernel,
     viewer: &Option<Label>,
     played: Played,
-    out: &mut K,
+    reporter: &mut Reporter<'_, K, T>,
 ) -> Result<(), Fault>
-    ensures { WritesOut result (ends_text viewer.now texts.entry.policy.now (state_of kernel.now) ++ last_text played.count played.ending) (sink_view (K.held out.old) (K.faults out.old)) (sink_view (K.held out.new) (K.faults out.new)) }
+    ensures writes { WritesOut result (ends_text viewer.now reporter.old.texts.policy.now (state_of kernel.now) ++ last_text played.count played.ending) (K.view reporter.old.out.now) (K.view reporter.new.out.now) }
+    ensures still { T.view reporter.new.trail.now ≡ T.view reporter.old.trail.now }
+    ensures same { SameEnds reporter.old.texts.policy.now reporter.new.texts.policy.now reporter.old.out reporter.new.out reporter.old.trail reporter.new.trail }
 {
-    report_ends(texts, kernel, viewer, out)?;
-    report_last(texts.alloc, played.count, played.ending, out)
+    report_ends(kernel, viewer, reporter)?;
+    reporter.report_last(played.count, played.ending)
 }
 
 // Plays a world that was accepted, with the script after it. The kernel uses the world up, so that no object is kept twice.
 fn play_world<S: Source, K: Sink, T: Sink>(
-    alloc: Global,
-    read: WorldText,
+    world: World,
     lines: &mut Lines,
     source: &mut S,
-    out: &mut K,
-    trail: &mut T,
+    reporter: &mut Reporter<'_, K, T>,
 ) -> Result<InputEnd, Fault>
-    requires world { IsWorld read.world }
-    requires top { read.world.top ≡ top_of read.policy }
+    requires world { IsWorld world }
+    requires top { world.top ≡ top_of reporter.old.texts.policy.now }
+    requires all { reporter.old.report ≡ a_report.All }
     requires more { lines.old.more ≡ true }
     requires small { lines.old.room ≤ 2 ^ 24 }
-    ensures { PlaysWorld result read lines.old lines.new (S.left source.old) (S.left source.new)
-        (ends (S.faults source.old) (sink_view (K.held out.old) (K.faults out.old)) (sink_view (T.held trail.old) (T.faults trail.old)))
-        (ends (S.faults source.new) (sink_view (K.held out.new) (K.faults out.new)) (sink_view (T.held trail.new) (T.faults trail.new))) }
+    ensures plays { PlaysWorld result (record { policy = reporter.old.texts.policy.now; world = world }) lines.old lines.new (S.view source.old).left (S.view source.new).left
+        (ends (S.view source.old).faults (K.view reporter.old.out.now) (T.view reporter.old.trail.now))
+        (ends (S.view source.new).faults (K.view reporter.new.out.now) (T.view reporter.new.trail.now)) }
+    ensures same { SameEnds reporter.old.texts.policy.now reporter.new.texts.policy.now reporter.old.out reporter.new.out reporter.old.trail reporter.new.trail }
 {
-    let WorldText { policy, world } = read;
     let bound = world.bound;
-    let texts = Texts {
-        alloc,
-        policy: &policy,
-    };
-    let (mut kernel, recs) = Kernel::boot_from(alloc, world)?;
-    begin(texts, &bound, recs.items(), trail)?;
-    let mut report = Report::All;
-    let played = play_script(texts, &mut kernel, lines, source, &mut report, out, trail)?;
-    finish(texts, &kernel, &None, played, out)?;
+    let (mut kernel, recs) = Kernel::boot_from(reporter.texts.alloc, world)?;
+    reporter.begin(&bound, recs.items())?;
+    let played = play_script(&mut kernel, lines, source, reporter)?;
+    finish(&kernel, &None, played, reporter)?;
     Ok(played.ending)
 }
 
@@ -128,7 +125,7 @@ pub fn end_without_world<K: Sink>(
     ending: InputEnd,
     out: &mut K,
 ) -> Result<InputEnd, Fault>
-    ensures writes { WritesOut result (last_text 0 ending) (sink_view (K.held out.old) (K.faults out.old)) (sink_view (K.held out.new) (K.faults out.new)) }
+    ensures writes { WritesOut result (last_text 0 ending) (K.view out.old) (K.view out.new) }
     ensures ending { IfOk result (λ e. e ≡ ending) }
 {
     report_last(alloc, 0, ending, out)?;
@@ -142,16 +139,25 @@ pub fn play<S: Source, K: Sink, T: Sink>(
     out: &mut K,
     trail: &mut T,
 ) -> Result<InputEnd, Fault>
-    ensures did { CommandDid Command.Play result (S.left source.old) (S.left source.new)
-        (ends (S.faults source.old) (sink_view (K.held out.old) (K.faults out.old)) (sink_view (T.held trail.old) (T.faults trail.old)))
-        (ends (S.faults source.new) (sink_view (K.held out.new) (K.faults out.new)) (sink_view (T.held trail.new) (T.faults trail.new))) }
-    ensures readable { (text : List ℕ) → S.left source.old ≡ Some text → InputReadable (input_of text)
-        (ends (S.faults source.old) (sink_view (K.held out.old) (K.faults out.old)) (sink_view (T.held trail.old) (T.faults trail.old)))
-        (ends (S.faults source.new) (sink_view (K.held out.new) (K.faults out.new)) (sink_view (T.held trail.new) (T.faults trail.new))) }
+    ensures did { CommandDid Command.Play result (S.view source.old).left (S.view source.new).left
+        (ends (S.view source.old).faults (K.view out.old) (T.view trail.old))
+        (ends (S.view source.new).faults (K.view out.new) (T.view trail.new)) }
+    ensures readable { (text : List ℕ) → (S.view source.old).left ≡ Some text → InputReadable (input_of text)
+        (ends (S.view source.old).faults (K.view out.old) (T.view trail.old))
+        (ends (S.view source.new).faults (K.view out.new) (T.view trail.new)) }
 {
     let mut lines = Lines::new(alloc, MAX_INPUT)?;
     match read_world(alloc, &mut lines, source)? {
-        ReadWorld::World(read) => play_world(alloc, read, &mut lines, source, out, trail),
+        ReadWorld::World(read) => {
+            let WorldText { policy, world } = read;
+            let texts = Texts {
+                alloc,
+                policy: &policy,
+            };
+            let room = &mut Vec::new(alloc);
+            let mut reporter = Reporter::new(texts, Report::All, room, out, trail);
+            play_world(world, &mut lines, source, &mut reporter)
+        }
         ReadWorld::Ended(ending) => end_without_world(alloc, ending, out),
     }
 }

@@ -1,5 +1,7 @@
 -- What is read of words: a value, or the first fault.
 use Rattle.std.specs.Prelude.{◌≡◌, ℕ, nat_le, cond, Result, Ok, Err}
+use Rattle.line_text.specs.declared.fault.LineFault.{LineFault}
+use Rattle.line_text.specs.declared.fault.LineFault.TheVariants as fault
 use Rattle.script_text.specs.declared.fault.LineError.{LineError}
 use Rattle.script_text.specs.declared.fault.LineError.TheVariants as error
 
@@ -19,6 +21,20 @@ rank error.BadCaps = 6
 -- the first of two faults
 abbrev pub first_of : LineError → LineError → LineError
 first_of e f = cond (nat_le (rank e) (rank f)) e f
+
+-- what is wrong with a refused line; out of memory is no fault of a line, and stands for `syntax` here
+abbrev pub fault_of : LineError → LineFault
+fault_of error.TooLong = fault.TooLong
+fault_of error.BadTag = fault.BadTag
+fault_of error.BadPath = fault.BadPath
+fault_of error.BadLabel = fault.BadLabel
+fault_of error.BadCaps = fault.BadCaps
+fault_of _ = fault.Syntax
+
+-- the fault of a refused line; out of memory is none
+abbrev pub IsFaultOf : LineError → LineFault → Type 0
+IsFaultOf (error.NoMemory m) why = ⊥
+IsFaultOf e why = why ≡ fault_of e
 
 -- two values, or the first fault of both
 unfoldable pub both : {A B : Type 0} → Reading A → Reading B → Reading (A × B)

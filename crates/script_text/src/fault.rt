@@ -1,8 +1,9 @@
 // Why a line is refused, and which of two faults counts.
-ghost use Rattle.std.specs.Prelude.{◌≡◌};
-ghost use Rattle.script_text.specs.Reading.{rank, first_of, both};
+ghost use Rattle.std.specs.Prelude.{◌≡◌, IfOk, IfErr};
+ghost use Rattle.script_text.specs.Reading.{IsFaultOf, rank, first_of, both};
 
 use crate::NoMemory;
+use line_text::LineFault;
 use thiserror::Error;
 
 /// Why a line is refused. Of several faults the first that is listed here counts, whichever word has it.
@@ -39,6 +40,24 @@ impl From<NoMemory> for LineError {
 
     fn from(value: NoMemory) -> Self {
         LineError::NoMemory(value)
+    }
+}
+
+impl LineError {
+    /// What is wrong with the line. Out of memory is no fault of a line.
+    pub fn fault(self) -> Result<LineFault, NoMemory>
+        ensures fault { IfOk result (IsFaultOf self) }
+        ensures memory { IfErr result (λ m. self ≡ LineError.NoMemory m) }
+    {
+        match self {
+            LineError::TooLong => Ok(LineFault::TooLong),
+            LineError::Syntax => Ok(LineFault::Syntax),
+            LineError::BadTag => Ok(LineFault::BadTag),
+            LineError::BadPath => Ok(LineFault::BadPath),
+            LineError::BadLabel => Ok(LineFault::BadLabel),
+            LineError::BadCaps => Ok(LineFault::BadCaps),
+            LineError::NoMemory(e) => Err(e),
+        }
     }
 }
 

@@ -48,7 +48,12 @@ pub fn mac_set(
     give_label(shared, &object.id, label);
     Ok(Effect {
         answer: Answer::Nothing,
-        own: Some(Rec::MacSetFile(*who, object.id, object.label, label)),
+        own: Some(Rec::MacSetFile {
+            who: *who,
+            object: object.id,
+            old: object.label,
+            new: label,
+        }),
     })
 }
 

@@ -66,12 +66,12 @@ module _ (s : State) (who : Pid) (p : Process) (id : Oid) where
       let last = drawn_after s l in
       let reader = with_descriptor p first in
       (λ i. record with_pipe {
-        descriptions = map.insert (map.insert s.descriptions first (record (on_pipe s p true) { object = is i })) (record { label = l; n = last i }) (record (on_pipe s p false) { object = is i });
+        descriptions = map.insert (map.insert s.descriptions first (on_pipe (is i) true)) (record { label = l; n = last i }) (on_pipe (is i) false);
         description_numbers = map.insert (map.insert s.description_numbers l (n + 1)) l (last i);
         procs = map.insert (map.insert s.procs who reader) who (with_descriptor reader (record { label = l; n = last i }));
       })
       ∙ (λ i. record with_pipe {
-        descriptions = map.insert (map.insert s.descriptions first (on_pipe s p true)) (second_description s p) (on_pipe s p false);
+        descriptions = map.insert (map.insert s.descriptions first (on_pipe (next_object s p.label) true)) (second_description s p) (on_pipe (next_object s p.label) false);
         description_numbers = set_twice label_cmp_total label_cmp_exact s.description_numbers l (n + 1) (n + 2) i;
         procs = set_twice pid_cmp_total pid_cmp_exact s.procs who reader (with_descriptor reader (second_description s p)) i;
       })

@@ -23,7 +23,7 @@ use Rattle.sys_lookup.specs.declared.shared.Metadata.{Metadata}
 use Rattle.sys_lookup.specs.declared.shared.Shared.TheInside.{Inside}
 use Rattle.sys_lookup.specs.Shared.{metadata_of, state_of}
 use Rattle.sys_lookup.proofs.FdLemmas.{StandsIn, stands_in}
-use Rattle.sys_lookup.proofs.OpenedLemmas.{RefersTo, refers_to}
+use Rattle.sys_lookup.proofs.OpenedLemmas.{RefersInTables, refers_to}
 use Rattle.sys_lookup.proofs.StandsLemmas.{opened_is}
 
 -- something is there
@@ -72,7 +72,7 @@ module _ (h : Inside) {s : State} (is : state_of h ≡ s) (who : Pid) (fd : ℕ)
   pub opener : StandsIn h.procs.procs h.fds.rows who (process_at s who)
   opener = stands_in h.procs.procs h.fds.rows who (process_at s who) (ap (λ (x : State). map.get x.procs who) is ∙ opener_there s who fd f found)
 
-  pub referred : RefersTo h.fds who fd f
+  pub referred : RefersInTables h.fds who fd f
   referred = refers_to h.fds who fd f (opened_is h (caller_in s who) is (opener_there s who fd f found) fd ∙ found)
 
 -- one more descriptor is free

@@ -17,6 +17,7 @@ ghost use Rattle.fd_table.specs.Files.{is_no_memory};
 ghost use Rattle.fs_nodes.specs.Nodes.{IsFile};
 ghost use Rattle.sys_lookup.specs.PlaysRow.{PlaysRow};
 ghost use Rattle.sys_lookup.specs.Shared.{metadata_of};
+ghost use Rattle.sys_lookup.specs.StepOn.{StepOn};
 ghost use Rattle.sys_file.specs.Opening.{CanBeEmptied, EmptiesFiles};
 
 use chk_rules::{Checks, Stop, refuse_if};
@@ -110,7 +111,7 @@ fn label_allows(
     object: &Metadata,
     place: Place,
 ) -> Result<(), Stop>
-    ensures { (s : State) (id : Number) → object.now ≡ metadata_of s id → GoesOn checks.old (λ rest. allowed_by_label caller.now.process flags id place (object_at s id) (rest tt)) result checks.new }
+    ensures { StepOn checks.old object.now (λ s id rest. allowed_by_label caller.now.process flags id place (object_at s id) (rest tt)) result checks.new }
 {
     caller.mac_read_if(flags.r, checks, object, place)?;
     caller.mac_write_if(flags.w, checks, object, place)
@@ -124,7 +125,7 @@ fn kind_allows(
     object: &Metadata,
     place: Place,
 ) -> Result<(), Stop>
-    ensures { (s : State) (id : Number) → object.now ≡ metadata_of s id → GoesOn checks.old (λ rest. allowed_by_kind caller.now.process flags id place (object_at s id) (rest tt)) result checks.new }
+    ensures { StepOn checks.old object.now (λ s id rest. allowed_by_kind caller.now.process flags id place (object_at s id) (rest tt)) result checks.new }
 {
     refuse_if(object.is_directory(), Errno::EISDIR)?;
     let drains = both(is_fifo(object.kind), flags.r);
@@ -140,7 +141,7 @@ fn mode_allows(
     object: &Metadata,
     place: Place,
 ) -> Result<(), Stop>
-    ensures { (s : State) (id : Number) → object.now ≡ metadata_of s id → GoesOn checks.old (λ rest. allowed_by_mode caller.now.process flags id place (object_at s id) (rest tt)) result checks.new }
+    ensures { StepOn checks.old object.now (λ s id rest. allowed_by_mode caller.now.process flags id place (object_at s id) (rest tt)) result checks.new }
 {
     caller.dac_read_if(flags.r, checks, object, place)?;
     caller.dac_write_if(flags.w, checks, object, place)
@@ -154,7 +155,7 @@ fn emptied_attr(
     object: &Metadata,
     place: Place,
 ) -> Result<Option<Attr>, Stop>
-    ensures step { (s : State) (id : Number) → object.now ≡ metadata_of s id → GoesOn checks.old (to_emptied flags id place (object_at s id)) result checks.new }
+    ensures step { StepOn checks.old object.now (λ s id. to_emptied flags id place (object_at s id)) result checks.new }
     ensures files { (s : State) (id : Number) → object.now ≡ metadata_of s id → IfOk result (EmptiesFiles s id) }
 {
     if both(flags.t, is_file(object.kind)) {

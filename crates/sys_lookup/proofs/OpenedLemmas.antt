@@ -10,16 +10,16 @@ use Rattle.kern_model.proofs.MapLemmas.{never_some, some_same}
 use Rattle.fd_table.specs.Files.{OpenFiles, did_at, opened_at}
 
 -- a descriptor refers to this description
-pub record RefersTo (t : OpenFiles) (who : Pid) (fd : ℕ) (f : Opened) : Type 0 where
+pub record RefersInTables (t : OpenFiles) (who : Pid) (fd : ℕ) (f : Opened) : Type 0 where
   pub did : did_at t who fd ≡ Some f.did
   pub description : map.get t.descriptions f.did ≡ Some f.description
 
-pub refers_to : (t : OpenFiles) (who : Pid) (fd : ℕ) (f : Opened) → opened_at t who fd ≡ Some f → RefersTo t who fd f
+pub refers_to : (t : OpenFiles) (who : Pid) (fd : ℕ) (f : Opened) → opened_at t who fd ≡ Some f → RefersInTables t who fd f
 refers_to t who fd f =
-    elim (did_at t who fd) as (λ w. did_at t who fd ≡ w → option_and_then (λ did. option_map (λ (d : Description). record { did = did; description = d }) (map.get t.descriptions did)) w ≡ Some f → RefersTo t who fd f) [
+    elim (did_at t who fd) as (λ w. did_at t who fd ≡ w → option_and_then (λ did. option_map (λ (d : Description). record { did = did; description = d }) (map.get t.descriptions did)) w ≡ Some f → RefersInTables t who fd f) [
       | None ↦ λ _ h. absurd (never_some None f refl h)
       | Some did ↦ λ at.
-          elim (map.get t.descriptions did) as (λ w. map.get t.descriptions did ≡ w → option_map (λ (d : Description). record { did = did; description = d }) w ≡ Some f → RefersTo t who fd f) [
+          elim (map.get t.descriptions did) as (λ w. map.get t.descriptions did ≡ w → option_map (λ (d : Description). record { did = did; description = d }) w ≡ Some f → RefersInTables t who fd f) [
             | None ↦ λ _ h. absurd (never_some None f refl h)
             | Some d ↦ λ is h.
                 let same = some_same _ f h in

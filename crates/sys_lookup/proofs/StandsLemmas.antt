@@ -36,12 +36,12 @@ module _ (h : Inside) (k : CallerView) (is : state_of h ≡ k.state) (living : I
   pub refusal_is : (n : ℕ) → open_refusal h.fds k.who k.process.label n ≡ refusal (has_free_descriptors k.process n) (has_descriptions k.state k.process n)
   refusal_is n = λ i. refusal (nat_le (fd_count (fds_are i) + n) MAX_DESCRIPTORS) (nat_le (drawn (is i).description_numbers k.process.label + n) MAX_DESCRIPTIONS)
 
--- what is known of both where nothing is refused
-pub record IsFree (free left : Bool) : Type 0 where
+-- a descriptor is free, and a number is left
+pub record HasBoth (free left : Bool) : Type 0 where
   pub is_free : free ≡ true
   pub is_left : left ≡ true
 
-pub none_refused : (free left : Bool) → refusal free left ≡ None → IsFree free left
+pub none_refused : (free left : Bool) → refusal free left ≡ None → HasBoth free left
 none_refused true true e = record { is_free = refl; is_left = refl }
 none_refused true false e = let no : Some error.Full ≡ None = e in cc
 none_refused false left e = let no : Some error.TooMany ≡ None = e in cc
@@ -52,12 +52,12 @@ too_many true true e = let no : None ≡ Some error.TooMany = e in cc
 too_many true false e = let no : Some error.Full ≡ Some error.TooMany = e in cc
 too_many false left e = refl
 
--- what is known of both where all numbers are drawn
-pub record IsDrawn (free left : Bool) : Type 0 where
+-- a descriptor is free, and no number is left
+pub record LacksNumbers (free left : Bool) : Type 0 where
   pub is_free : free ≡ true
   pub none_left : left ≡ false
 
-pub all_drawn : (free left : Bool) → refusal free left ≡ Some error.Full → IsDrawn free left
+pub all_drawn : (free left : Bool) → refusal free left ≡ Some error.Full → LacksNumbers free left
 all_drawn true true e = let no : None ≡ Some error.Full = e in cc
 all_drawn true false e = record { is_free = refl; none_left = refl }
 all_drawn false left e = let no : Some error.TooMany ≡ Some error.Full = e in cc

@@ -110,6 +110,7 @@ impl Caller<'_> {
     }
 
     /// Checks that the caller may search a directory.
+    #[inline(always)]
     pub fn dac_search(&self, checks: &mut Checks, dir: &Metadata, place: Place) -> Result<(), Stop>
         ensures { StepOn checks.old dir.now (λ s id rest. Need (dac_search s self.now.process id place) (rest tt)) result checks.new }
     {
@@ -170,6 +171,7 @@ impl Caller<'_> {
     }
 
     /// Whether the mode of an object lets the caller do what is wanted.
+    #[inline(always)]
     pub(crate) fn mode_lets(&self, object: &Metadata, want: Want) -> bool
         ensures { result ≡ mode_lets object.now.attr self.now.process.ids want }
     {

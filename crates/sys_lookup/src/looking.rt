@@ -65,6 +65,7 @@ impl Caller<'_> {
     }
 
     /// The metadata of an object, or of the stub where there is none.
+    #[inline(always)]
     pub fn metadata(&self, id: &Oid) -> Metadata
         ensures { result ≡ metadata_of self.now.state id.now }
     {

@@ -74,6 +74,7 @@ impl Shared {
     ghost use Rattle.sys_lookup.specs.Shared.{metadata_of};
 
     /// The metadata of an object, or of the stub where there is none.
+    #[inline(always)]
     #[tactic(auto, unfolding(kern_model::specs::Maps::get_or))]
     pub fn metadata(&self, id: &Oid) -> Metadata
         ensures { result ≡ metadata_of self.now id.now }

@@ -29,7 +29,7 @@ pub fn cap_set_proc(
     set_caps(shared, who, caps);
     Ok(Effect {
         answer: Answer::Nothing,
-        own: Some(Rec::CapSetProc(*who, caps)),
+        own: Some(Rec::CapSetProc { who: *who, caps }),
     })
 }
 

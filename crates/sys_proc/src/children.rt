@@ -26,7 +26,7 @@ pub fn fork(shared: &mut Shared, who: &Pid) -> Result<Effect, Stop>
     shared.fds.copy_process(who, &child)?;
     Ok(Effect {
         answer: Answer::Process(child),
-        own: Some(Rec::Fork(*who, child)),
+        own: Some(Rec::Fork { who: *who, child }),
     })
 }
 

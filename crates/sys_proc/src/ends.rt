@@ -141,6 +141,6 @@ fn end(shared: &mut Shared, who: &Pid, ending: Ending) -> Effect
     shared.procs.finish(who, ending);
     Effect {
         answer: Answer::Nothing,
-        own: Some(Rec::Exit(*who, ending)),
+        own: Some(Rec::Exit { who: *who, ending }),
     }
 }

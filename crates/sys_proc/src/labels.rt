@@ -30,7 +30,11 @@ pub fn mac_set_proc(
     set_label(shared, who, label);
     Ok(Effect {
         answer: Answer::Nothing,
-        own: Some(Rec::MacSetProc(*who, old, label)),
+        own: Some(Rec::MacSetProc {
+            who: *who,
+            old,
+            new: label,
+        }),
     })
 }
 

@@ -55,7 +55,12 @@ fn run(shared: &mut Shared, who: &Pid, program: &Metadata) -> Effect
     creds.exec_transform(&attr.caps, &bound, user_of(attr), group_of(attr));
     Effect {
         answer: Answer::Nothing,
-        own: Some(Rec::Exec(*who, program.id, attr.caps, creds.caps)),
+        own: Some(Rec::Exec {
+            who: *who,
+            file: program.id,
+            file_caps: attr.caps,
+            caps: creds.caps,
+        }),
     }
 }
 

@@ -1,4 +1,5 @@
 // What no clause says: which texts are read, and what a header looks like. The cases have the records that runs write.
+use aud_record::HeaderError::{Form, Name};
 use aud_record::RecError::{Syntax, Truncated, UnknownWord};
 use aud_record::*;
 use cap_bits::{Cap, CapSet};
@@ -99,6 +100,60 @@ fn other(alloc: Global, policy: &Policy) -> Option<usize> {
 fn texts(rt: HostRuntime) -> Result<(), Fail> {
     let policy = policy(rt.alloc(), &[b"a", b"b"])?;
     assert_eq!(rt; other(rt.alloc(), &policy), None);
+    Ok(())
+}
+
+// Texts, and how many bytes of each the header has, or which line of it is at fault.
+const HEADERS: [(&[u8], Result<usize, HeaderError>); 14] = [
+    (
+        b"trail 1\nlevels unc sec\ncategories a b\nbound cap_kill,cap_setuid\n0 boot",
+        Ok(64),
+    ),
+    (b"trail 1\nlevels unc\ncategories\nbound all\n", Ok(40)),
+    (b"", Err(Form(1))),
+    (
+        b"trail 2\nlevels unc\ncategories\nbound all\n",
+        Err(Form(1)),
+    ),
+    (b"trail 1\nlevels\ncategories\nbound all\n", Err(Form(2))),
+    (b"trail 1\nlevels unc", Err(Form(2))),
+    (
+        b"trail 1\nlevels unc  sec\ncategories\nbound all\n",
+        Err(Form(2)),
+    ),
+    (
+        b"trail 1\nlevels unc unc\ncategories\nbound all\n",
+        Err(Name(2)),
+    ),
+    (
+        b"trail 1\nlevels unc\ncategory a\nbound all\n",
+        Err(Form(3)),
+    ),
+    (
+        b"trail 1\nlevels unc\ncategories a a\nbound all\n",
+        Err(Name(3)),
+    ),
+    (
+        b"trail 1\nlevels unc\ncategories\nbound ALL\n",
+        Err(Form(4)),
+    ),
+    (b"trail 1\nlevels unc\ncategories\nbound\n", Err(Form(4))),
+    (b"trail 1\nlevels unc\ncategories\nbound all", Err(Form(4))),
+    (
+        b"trail 1\nlevels unc\ncategories\nbound cap_x\n",
+        Err(Name(4)),
+    ),
+];
+
+// The first text whose header comes out otherwise.
+fn other_header(alloc: Global) -> Option<usize> {
+    HEADERS.iter().position(|(text, wanted)| header_read(alloc, text).map(|header| header.used)
+        != *wanted)
+}
+
+#[test]
+fn header_texts(rt: HostRuntime) -> Result<(), Fail> {
+    assert_eq!(rt; other_header(rt.alloc()), None);
     Ok(())
 }
 

@@ -2,9 +2,10 @@
 use fs_path::next_line;
 use kern_model::Body;
 use lab_text::mac_to_text;
+use line_text::LineFault;
+use line_text::LineFault::*;
 use std::alloc::Global;
 use std::test::Fail;
-use world_text::WorldFault::*;
 use world_text::*;
 
 /// What comes of a text.
@@ -12,7 +13,7 @@ use world_text::*;
 enum Answer {
     /// A world, whose script begins at the line with this number.
     World(u64),
-    Refused(u64, WorldFault),
+    Refused(u64, LineFault),
     /// It ends at the line with this number, of which so many bytes are there.
     Ended(u64, usize),
 }

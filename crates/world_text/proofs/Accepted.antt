@@ -1,8 +1,7 @@
 -- An accepted text denotes a world.
-use Rattle.std.specs.Prelude.{◌≡◌, ℕ, ◌+◌, ◌≤◌, ◌==◌, ◌&&◌, ◌||◌, not, nat_le, nat_lt, Bool, true, false, cond, List, [], ◌∷◌, ◌++◌, length, map, Option, None, Some, is_some, is_none, count_by, refl}
+use Rattle.std.specs.Prelude.{◌≡◌, ℕ, ◌+◌, ◌≤◌, ◌==◌, ◌&&◌, ◌||◌, not, nat_le, nat_lt, Bool, true, false, cond, List, [], ◌∷◌, ◌++◌, length, Option, None, Some, is_some, is_none, count_by, refl}
 use Rattle.std.proofs.Common.{ap, sym, ◌∙◌, subst, append-nil, append_assoc, arith}
 use Rattle.std.specs.List.{AllByRecursion, list_all}
-use Rattle.std.specs.Option.{option_map}
 use Rattle.std.proofs.lemmas.Bool.{and_parts, and_from, or_parts, or_from, not-false, leb-false, ltb-false, both_ways, cond-false}
 use Rattle.std.proofs.lemmas.Option.{cond_some, option_and_then_some, same_Some}
 use Rattle.cap_bits.specs.declared.state.CapState.{CapState}
@@ -34,22 +33,31 @@ use Rattle.kern_model.specs.Kinds.{kind_of, bytes_of, is_dir, is_file, is_mode}
 use Rattle.kern_model.specs.Rules.{same_label}
 use Rattle.kern_model.specs.World.{IsWorld, IsWorldObject, IsWorldProc, IsPlaced, ArePlaced, given, parent_names, objects_at, procs_at, same_names}
 use Rattle.line_text.specs.Reading.{path_of}
-use Rattle.world_text.specs.declared.fault.WorldFault.{WorldFault}
-use Rattle.world_text.specs.declared.fault.WorldFault.TheVariants.{Syntax, UnknownName}
+use Rattle.line_text.specs.declared.fault.LineFault.{LineFault}
+use Rattle.line_text.specs.declared.fault.LineFault.TheVariants.{Syntax, UnknownName}
 use Rattle.world_text.specs.declared.expecting.Expecting.{Expecting}
 use Rattle.world_text.specs.declared.expecting.Expecting.TheVariants as at
-use Rattle.world_text.specs.declared.expecting.ObjectFields.{ObjectFields}
+use Rattle.world_text.specs.declared.tree.ObjectFields.{ObjectFields}
 use Rattle.world_text.specs.declared.expecting.PartialWorld.{PartialWorld}
-use Rattle.world_text.specs.declared.expecting.ProcFields.{ProcFields}
-use Rattle.world_text.specs.declared.expecting.WordValue.{WordValue}
-use Rattle.world_text.specs.declared.expecting.WordValue.TheVariants as value
+use Rattle.world_text.specs.declared.processes.ProcFields.{ProcFields}
+use Rattle.world_text.specs.declared.values.WordValue.{WordValue}
+use Rattle.world_text.specs.declared.values.WordValue.TheVariants as value
+use Rattle.world_text.specs.declared.keyword.Keyword.{Keyword}
+use Rattle.world_text.specs.declared.keyword.Keyword.TheVariants as key
 use Rattle.world_text.specs.declared.expecting.Parsed.{Parsed}
 use Rattle.world_text.specs.declared.expecting.Parsed.TheVariants.{Refuses, GoesOn, Begins}
 use Rattle.world_text.specs.declared.world.WorldText.{WorldText}
 use Rattle.world_text.specs.Tree.{Tree}
 use Rattle.world_text.specs.Placing.{is_directory, is_above, directory_of, is_root, object_fault, process_fault}
 use Rattle.world_text.specs.CanBeRead.{IsWorldText}
-use Rattle.world_text.specs.Expecting.{world_of, unless, refuse_or, with_form, with_value, or_else, by_keyword, parse_format, parse_levels, parse_categories, parse_bound, set_of, caps_of, absolute_path, label_value, label_of, both, proc_caps, proc_caps_of, parse_object, object_of, parse_tree, ids_of, parse_process, parse_proc, object_fields_of, proc_fields_of, parse_plain, parse_file, parse_proc_line, parse_script, parse_tree_line, parse_words, parse_line}
+use Rattle.world_text.specs.Values.{unless, refuse_or, with_form, with_value, bytes_in, caps_of, label_value, label_of, both}
+use Rattle.world_text.specs.Head.{parse_format, parse_levels, parse_categories, parse_bound, set_of}
+use Rattle.world_text.specs.TreeLines.{absolute_path, parse_object, object_of, parse_tree, object_fields_of, parse_plain, parse_file}
+use Rattle.world_text.specs.Processes.{proc_caps, proc_caps_of, ids_of, parse_process, parse_proc, proc_fields_of, parse_proc_line}
+use Rattle.world_text.specs.declared.format.Format.{Format}
+use Rattle.world_text.specs.Formats.{format_named}
+use Rattle.world_text.specs.Keywords.{keyword_of}
+use Rattle.world_text.specs.Expecting.{world_of, after_keyword, parse_script, parse_after, parse_tree_line, parse_words, parse_line}
 use Rattle.world_text.specs.Reading.{Reading, Accepted, after, reading, read_text}
 use Rattle.world_text.proofs.BuilderLemmas.{count_more}
 use Rattle.world_text.proofs.RangeLemmas.{all_and_one}
@@ -82,9 +90,9 @@ record SoundLevels (levels : Names) : Type 0 where
 
 abbrev SoundExpecting : Expecting → Type 0
 SoundExpecting at.Format = Unit {0}
-SoundExpecting at.Levels = Unit {0}
-SoundExpecting (at.Categories levels) = SoundLevels levels
-SoundExpecting (at.Bound policy) = MakePolicy policy
+SoundExpecting (at.Levels format) = Unit {0}
+SoundExpecting (at.Categories format levels) = SoundLevels levels
+SoundExpecting (at.Bound format policy) = MakePolicy policy
 SoundExpecting (at.Tree w) = MakePolicy w.policy × SoundTree w.policy w.builder
 
 record SoundWorld (w : WorldText) : Type 0 where
@@ -96,7 +104,7 @@ record SoundParsed (parsed : Parsed) : Type 0 where
   expecting_is : (expecting : Expecting) → parsed ≡ GoesOn expecting → SoundExpecting expecting
   world_is : (w : WorldText) → parsed ≡ Begins w → SoundWorld w
 
-refuses : (fault : WorldFault) → SoundParsed (Refuses fault)
+refuses : (fault : LineFault) → SoundParsed (Refuses fault)
 refuses fault = record { expecting_is = λ expecting e. absurd cc; world_is = λ w e. absurd cc }
 
 goes_on : (expecting : Expecting) → SoundExpecting expecting → SoundParsed (GoesOn expecting)
@@ -111,12 +119,12 @@ begins w h = record {
   world_is = λ other e. let same : w ≡ other = cc in subst (λ w. SoundWorld w) same h;
 }
 
-unless_sound : (b : Bool) (fault : WorldFault) (parsed : Parsed) → (b ≡ false → SoundParsed parsed) → SoundParsed (unless b fault parsed)
+unless_sound : (b : Bool) (fault : LineFault) (parsed : Parsed) → (b ≡ false → SoundParsed parsed) → SoundParsed (unless b fault parsed)
 unless_sound true fault parsed h = refuses fault
 unless_sound false fault parsed h = h refl
 
 -- a test for a fault, before what follows, keeps the result sound
-first_sound : (b : Bool) (fault : WorldFault) (rest : Option WorldFault) (parsed : Parsed) → (b ≡ false → SoundParsed (refuse_or rest parsed)) → SoundParsed (refuse_or (cond b (Some fault) rest) parsed)
+first_sound : (b : Bool) (fault : LineFault) (rest : Option LineFault) (parsed : Parsed) → (b ≡ false → SoundParsed (refuse_or rest parsed)) → SoundParsed (refuse_or (cond b (Some fault) rest) parsed)
 first_sound true fault rest parsed h = refuses fault
 first_sound false fault rest parsed h = h refl
 
@@ -145,17 +153,17 @@ AllFit ws = AllByRecursion (λ (w : LineWord). length w.bytes ≤ MAX_FILE_BYTES
 abbrev NamesFit : Names → Type 0
 NamesFit names = AllByRecursion (λ (name : List ℕ). length name ≤ MAX_FILE_BYTES) names
 
-names_fit : (ws : List LineWord) → AllFit ws → NamesFit (map (λ (w : LineWord). w.bytes) ws)
+names_fit : (ws : List LineWord) → AllFit ws → NamesFit (bytes_in ws)
 names_fit [] fit = tt
 names_fit (w ∷ ws) fit = (fit.0, names_fit ws fit.1)
 
-keyword_sound : (keyword : List ℕ) (ws : List LineWord) (parsed : Names → Parsed) (other : Parsed) → AllFit ws → ((names : Names) → NamesFit names → SoundParsed (parsed names)) → SoundParsed other → SoundParsed (by_keyword keyword ws parsed other)
-keyword_sound keyword [] parsed other fit h k = k
-keyword_sound keyword (w ∷ ws) parsed other fit h k = by_word (not w.quoted && same_bytes w.bytes keyword)
+keyword_sound : (keyword : List ℕ) (ws : List LineWord) (parsed : Names → Parsed) → AllFit ws → ((names : Names) → NamesFit names → SoundParsed (parsed names)) → SoundParsed (with_form (after_keyword keyword ws) parsed)
+keyword_sound keyword [] parsed fit h = refuses Syntax
+keyword_sound keyword (w ∷ ws) parsed fit h = by_word (not w.quoted && same_bytes w.bytes keyword)
   where
-    by_word : (b : Bool) → SoundParsed (or_else (option_map parsed (cond b (Some (map (λ (w : LineWord). w.bytes) ws)) None)) other)
+    by_word : (b : Bool) → SoundParsed (with_form (cond b (Some (bytes_in ws)) None) parsed)
     by_word true = h _ (names_fit ws fit.1)
-    by_word false = k
+    by_word false = refuses Syntax
 
 none_is : {X : Type 0} (o : Option X) → is_some o ≡ false → o ≡ None
 none_is None h = refl
@@ -164,34 +172,34 @@ none_is (Some x) h = absurd (cc)
 -- ---- head lines
 
 format_sound : (names : Names) → SoundParsed (parse_format names)
-format_sound (w ∷ []) = unless_sound _ _ _ (λ _. goes_on at.Levels tt)
+format_sound (w ∷ []) = form_sound (format_named w) _ (λ format _. goes_on (at.Levels format) tt)
 format_sound _ = refuses Syntax
 
-levels_sound : (names : Names) → SoundParsed (parse_levels names)
-levels_sound names =
+levels_sound : (format : Format) (names : Names) → SoundParsed (parse_levels format names)
+levels_sound format names =
     unless_sound (length names == 0 || not (list_all is_label_name names)) _ _ (λ form.
     unless_sound (nat_lt 16 (length names)) _ _ (λ few.
     unless_sound (not (are_distinct names)) _ _ (λ apart.
     let parts = or_parts (length names == 0) (not (list_all is_label_name names)) form in
-    goes_on (at.Categories names) (record { some = parts.0; are_names = not-false _ parts.1; few = few; apart = not-false _ apart }))))
+    goes_on (at.Categories format names) (record { some = parts.0; are_names = not-false _ parts.1; few = few; apart = not-false _ apart }))))
 
-categories_sound : (levels names : Names) → SoundLevels levels → SoundParsed (parse_categories levels names)
+categories_sound : (format : Format) (levels names : Names) → SoundLevels levels → SoundParsed (parse_categories format levels names)
 unfolding names_fault
-categories_sound levels names h =
+categories_sound format levels names h =
     unless_sound (not (list_all is_label_name names)) _ _ (λ form.
     unless_sound (nat_lt 64 (length names)) _ _ (λ few.
     unless_sound (not (are_distinct names)) _ _ (λ apart.
     let counts : (nat_lt 16 (length levels) || nat_lt 64 (length names)) ≡ false = or_from _ _ h.few few in
     let are_names : not (list_all is_label_name levels && list_all is_label_name names) ≡ false = ap not (and_from _ _ h.are_names (not-false _ form)) in
     let are_apart : not (are_distinct levels && are_distinct names) ≡ false = ap not (and_from _ _ h.apart (not-false _ apart)) in
-    goes_on (at.Bound (record { levels = levels; cats = names })) (cond-false _ _ _ h.some ∙ cond-false _ _ _ counts ∙ cond-false _ _ _ are_names ∙ cond-false _ _ _ are_apart))))
+    goes_on (at.Bound format (record { levels = levels; cats = names })) (cond-false _ _ _ h.some ∙ cond-false _ _ _ counts ∙ cond-false _ _ _ are_names ∙ cond-false _ _ _ are_apart))))
 
-bound_sound : (policy : PolicyNames) (names : Names) → MakePolicy policy → SoundParsed (parse_bound policy names)
-bound_sound policy (w ∷ []) h = value_sound (set_of w) _ (λ bound _. goes_on (at.Tree (record { policy = policy; bound = bound; builder = record { objects = []; procs = [] } })) (h, nothing))
+bound_sound : (format : Format) (policy : PolicyNames) (names : Names) → MakePolicy policy → SoundParsed (parse_bound format policy names)
+bound_sound format policy (w ∷ []) h = value_sound (set_of w) _ (λ bound _. goes_on (at.Tree (record { format = format; policy = policy; bound = bound; builder = record { objects = []; procs = [] } })) (h, nothing))
   where
     nothing : SoundTree policy (record { objects = []; procs = [] })
     nothing = record { rooted = tt; objects = tt; procs = tt; objects_room = λ l. omega arith; procs_room = λ l. omega arith }
-bound_sound policy _ h = refuses Syntax
+bound_sound format policy _ h = refuses Syntax
 
 -- ---- the tree
 
@@ -424,21 +432,23 @@ script_sound : (w : PartialWorld) (names : Names) → MakePolicy w.policy → So
 script_sound w [] h s = unless_sound _ _ _ (λ some. begins (world_of w) (tree_world w w.builder.objects h s some))
 script_sound w _ h s = refuses Syntax
 
+keyword_line_sound : (keyword : Keyword) (w : PartialWorld) (names : Names) → MakePolicy w.policy → SoundTree w.policy w.builder → NamesFit names → SoundParsed (parse_after keyword w names)
+keyword_line_sound key.Dir w names h s fit = plain_sound w body.Dir names h s (omega arith) (λ e. absurd (cc))
+keyword_line_sound key.File w names h s fit = file_sound w names h s fit
+keyword_line_sound key.Fifo w names h s fit = plain_sound w body.Fifo names h s (omega arith) (λ e. absurd (cc))
+keyword_line_sound key.Proc w names h s fit = proc_line_sound w names h s
+keyword_line_sound key.Script w names h s fit = script_sound w names h s
+
 tree_line_sound : (w : PartialWorld) (ws : List LineWord) → MakePolicy w.policy → SoundTree w.policy w.builder → AllFit ws → SoundParsed (parse_tree_line w ws)
-tree_line_sound w ws h s fit =
-    keyword_sound _ ws _ _ fit (λ names _. plain_sound w body.Dir names h s (omega arith) (λ e. absurd (cc)))
-    (keyword_sound _ ws _ _ fit (λ names fits. file_sound w names h s fits)
-    (keyword_sound _ ws _ _ fit (λ names _. plain_sound w body.Fifo names h s (omega arith) (λ e. absurd (cc)))
-    (keyword_sound _ ws _ _ fit (λ names _. proc_line_sound w names h s)
-    (keyword_sound _ ws _ _ fit (λ names _. script_sound w names h s)
-    (refuses Syntax)))))
+tree_line_sound w [] h s fit = refuses Syntax
+tree_line_sound w (first ∷ ws) h s fit = form_sound (keyword_of first) _ (λ keyword _. keyword_line_sound keyword w (bytes_in ws) h s (names_fit ws fit.1))
 
 words_sound : (expecting : Expecting) (ws : List LineWord) → SoundExpecting expecting → AllFit ws → SoundParsed (parse_words expecting ws)
 unfolding parse_words
-words_sound at.Format ws h fit = keyword_sound _ ws _ _ fit (λ names _. format_sound names) (refuses Syntax)
-words_sound at.Levels ws h fit = keyword_sound _ ws _ _ fit (λ names _. levels_sound names) (refuses Syntax)
-words_sound (at.Categories levels) ws h fit = keyword_sound _ ws _ _ fit (λ names _. categories_sound levels names h) (refuses Syntax)
-words_sound (at.Bound policy) ws h fit = keyword_sound _ ws _ _ fit (λ names _. bound_sound policy names h) (refuses Syntax)
+words_sound at.Format ws h fit = keyword_sound _ ws _ fit (λ names _. format_sound names)
+words_sound (at.Levels format) ws h fit = keyword_sound _ ws _ fit (λ names _. levels_sound format names)
+words_sound (at.Categories format levels) ws h fit = keyword_sound _ ws _ fit (λ names _. categories_sound format levels names h)
+words_sound (at.Bound format policy) ws h fit = keyword_sound _ ws _ fit (λ names _. bound_sound format policy names h)
 words_sound (at.Tree w) ws h fit = tree_line_sound w ws h.0 h.1 fit
 
 -- no word of a line that is not too long is longer than a file may be

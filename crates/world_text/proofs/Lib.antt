@@ -2,6 +2,8 @@ pub mod RangeLemmas
 pub mod AppendLemmas
 pub mod BuilderLemmas
 pub mod PlacingLemmas
+pub mod FormatLaws
+pub mod KeywordLaws
 pub mod LineLemmas
 pub mod WordLemmas
 pub mod ReadingLemmas
@@ -10,3 +12,4 @@ pub mod WrittenRoundTrip
 pub mod WrittenForms
 pub mod WrittenValues
 pub mod WrittenWords
+pub mod FaultLemmas

@@ -10,16 +10,16 @@ use Rattle.kern_model.specs.declared.world.WorldProc.{WorldProc}
 use Rattle.kern_model.specs.Kinds.{kind_of}
 use Rattle.kern_model.specs.Kinds.{is_dir}
 use Rattle.kern_model.specs.World.{given, objects_at, procs_at}
+use Rattle.line_text.specs.declared.fault.LineFault.{LineFault}
+use Rattle.line_text.specs.declared.fault.LineFault.TheVariants.{Repeated, NoParent, LabelOrder, RootLabel, TooMany}
 use Rattle.world_text.specs.declared.builder.PathEntry.{PathEntry}
-use Rattle.world_text.specs.declared.fault.WorldFault.{WorldFault}
-use Rattle.world_text.specs.declared.fault.WorldFault.TheVariants.{Repeated, NoParent, LabelOrder, RootLabel, TooMany}
 use Rattle.world_text.specs.Tree.{Tree}
 use Rattle.world_text.specs.PathEntry.{path_entry_of, is_dir_entry, is_above_entry}
 use Rattle.world_text.specs.Placing.{is_directory, is_above, directory_of, is_root, object_fault, process_fault}
 use Rattle.world_text.proofs.BuilderLemmas.{stands_as_dir, stands_above}
 
 -- the first fault of an object, from the results of the tests
-abbrev pub first_fault : (repeated parent wrong above full : Bool) → Option WorldFault
+abbrev pub first_fault : (repeated parent wrong above full : Bool) → Option LineFault
 first_fault repeated parent wrong above full =
     cond repeated (Some Repeated) (cond (not parent) (Some NoParent) (cond wrong (Some RootLabel) (cond (not above) (Some LabelOrder) (cond full (Some TooMany) None))))
 

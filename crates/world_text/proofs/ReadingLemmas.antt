@@ -2,10 +2,10 @@
 use Rattle.std.proofs.Common.{◌≡◌, ℕ, ◌+◌, List, ◌∷◌, sym, ◌∙◌, ap, subst, Some, None}
 use Rattle.fs_path.specs.Split.{split_once, pieces}
 use Rattle.fs_path.proofs.SplitLemmas.{pieces_some, pieces_none, pieces_first}
+use Rattle.line_text.specs.declared.fault.LineFault.{LineFault}
+use Rattle.line_text.specs.declared.fault.LineFault.TheVariants as cause
 use Rattle.world_text.specs.declared.fault.WorldError.{WorldError}
 use Rattle.world_text.specs.declared.fault.WorldError.TheVariants as error
-use Rattle.world_text.specs.declared.fault.WorldFault.{WorldFault}
-use Rattle.world_text.specs.declared.fault.WorldFault.TheVariants as cause
 use Rattle.world_text.specs.declared.world.WorldText.{WorldText}
 use Rattle.world_text.specs.declared.expecting.Expecting.{Expecting}
 use Rattle.world_text.specs.declared.expecting.Parsed.{Parsed}
@@ -30,7 +30,7 @@ pub read_on : (r : Reading) (n : ℕ) (expecting next : Expecting) (text line re
 read_on r n expecting next text line rest parsed so_far e is goes =
     so_far ∙ line_read n expecting text line rest parsed e is ∙ ap (λ (s : Parsed). after s n (pieces 10 rest) (λ s. reading (n + 1) s (pieces 10 rest))) goes
 
-pub read_refused : (r : Reading) (n : ℕ) (expecting : Expecting) (text line rest : List ℕ) (parsed : Parsed) (fault : WorldFault) → r ≡ reading n expecting (pieces 10 text) → split_once 10 text ≡ Some (line, rest) → parsed ≡ parse_line expecting line → parsed ≡ Refuses fault
+pub read_refused : (r : Reading) (n : ℕ) (expecting : Expecting) (text line rest : List ℕ) (parsed : Parsed) (fault : LineFault) → r ≡ reading n expecting (pieces 10 text) → split_once 10 text ≡ Some (line, rest) → parsed ≡ parse_line expecting line → parsed ≡ Refuses fault
     → r ≡ Refused n fault
 read_refused r n expecting text line rest parsed fault so_far e is refuses =
     so_far ∙ line_read n expecting text line rest parsed e is ∙ ap (λ (s : Parsed). after s n (pieces 10 rest) (λ s. reading (n + 1) s (pieces 10 rest))) refuses
@@ -46,17 +46,17 @@ read_end r n expecting text so_far e = so_far ∙ ap (reading n expecting) (piec
 
 -- ---- why no world is read
 
-pub refused_for : (n : ℕ) (fault : WorldFault) (e : WorldError) (r : Reading) → e ≡ error_at n fault → r ≡ Refused n fault → IsNotRead r e
+pub refused_for : (n : ℕ) (fault : LineFault) (e : WorldError) (r : Reading) → e ≡ error_at n fault → r ≡ Refused n fault → IsNotRead r e
 refused_for n fault e r is read = subst (λ (e : WorldError). IsNotRead r e) (sym is) (by_fault fault read)
   where
-    by_fault : (fault : WorldFault) → r ≡ Refused n fault → IsNotRead r (error_at n fault)
-    by_fault cause.Syntax read = ap error_of read
+    by_fault : (fault : LineFault) → r ≡ Refused n fault → IsNotRead r (error_at n fault)
     by_fault cause.UnknownName read = ap error_of read
     by_fault cause.Repeated read = ap error_of read
     by_fault cause.NoParent read = ap error_of read
     by_fault cause.LabelOrder read = ap error_of read
     by_fault cause.RootLabel read = ap error_of read
     by_fault cause.TooMany read = ap error_of read
+    by_fault _ read = ap error_of read
 
 pub ended_for : (n : ℕ) (last : List ℕ) (r : Reading) → r ≡ Ended n last → IsNotRead r (error.Syntax n)
 ended_for n last r read = ap error_of read

@@ -5,13 +5,14 @@ use Rattle.cap_bits.specs.State.{no_flags}
 use Rattle.fs_path.specs.declared.words.LineWord.{LineWord}
 use Rattle.kern_model.specs.declared.objects.Body.{Body}
 use Rattle.kern_model.specs.declared.objects.Body.TheVariants as body
-use Rattle.world_text.specs.declared.fault.WorldFault.TheVariants.{Syntax}
+use Rattle.line_text.specs.declared.fault.LineFault.TheVariants.{Syntax}
 use Rattle.world_text.specs.declared.expecting.Parsed.TheVariants.{Refuses}
 use Rattle.world_text.specs.declared.expecting.PartialWorld.{PartialWorld}
-use Rattle.world_text.specs.declared.expecting.WordValue.{WordValue}
-use Rattle.world_text.specs.declared.expecting.WordValue.TheVariants as value
-use Rattle.world_text.specs.Expecting.{caps_of, proc_caps_of, parse_tree, parse_proc, parse_plain, parse_file, parse_proc_line}
-use Rattle.world_text.specs.Lines.{bytes_in, object_fields_in, proc_fields_in}
+use Rattle.world_text.specs.declared.values.WordValue.{WordValue}
+use Rattle.world_text.specs.declared.values.WordValue.TheVariants as value
+use Rattle.world_text.specs.Values.{caps_of, bytes_in}
+use Rattle.world_text.specs.TreeLines.{parse_tree, parse_plain, parse_file, object_fields_in}
+use Rattle.world_text.specs.Processes.{proc_caps_of, parse_proc, parse_proc_line, proc_fields_in}
 
 plain_five : (so_far : PartialWorld) (b : Body) (ws : List LineWord) → length ws ≡ 5 → parse_tree so_far (object_fields_in so_far.policy (bytes_in ws)) (value.Known no_flags) b ≡ parse_plain so_far b (bytes_in ws)
 plain_five so_far b [] h = absurd (omega arith)
@@ -41,6 +42,16 @@ proc_five so_far (a ∷ b ∷ c ∷ []) w e = absurd (omega arith)
 proc_five so_far (a ∷ b ∷ c ∷ d ∷ []) w e = absurd (omega arith)
 proc_five so_far (a ∷ b ∷ c ∷ d ∷ f ∷ []) w e = refl
 proc_five so_far (a ∷ b ∷ c ∷ d ∷ f ∷ g ∷ ws) w e = absurd (omega arith)
+
+-- a line with another number of words is malformed
+pub proc_others : (so_far : PartialWorld) (ws : List LineWord) → (length ws ≡ 5 → ⊥) → Refuses Syntax ≡ parse_proc_line so_far (bytes_in ws)
+proc_others so_far [] h = refl
+proc_others so_far (a ∷ []) h = refl
+proc_others so_far (a ∷ b ∷ []) h = refl
+proc_others so_far (a ∷ b ∷ c ∷ []) h = refl
+proc_others so_far (a ∷ b ∷ c ∷ d ∷ []) h = refl
+proc_others so_far (a ∷ b ∷ c ∷ d ∷ f ∷ []) h = absurd (h refl)
+proc_others so_far (a ∷ b ∷ c ∷ d ∷ f ∷ g ∷ ws) h = refl
 
 file_six : (so_far : PartialWorld) (ws : List LineWord) (w : LineWord) → length ws ≡ 6
     → parse_tree so_far (object_fields_in so_far.policy (bytes_in ws)) (value.Known no_flags) (body.File (get_or ws 5 w).bytes) ≡ parse_file so_far (bytes_in ws)

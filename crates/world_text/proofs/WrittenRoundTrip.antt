@@ -31,6 +31,7 @@ use Rattle.kern_model.specs.declared.objects.Body.{Body}
 use Rattle.kern_model.specs.declared.objects.Body.TheVariants as body
 use Rattle.kern_model.specs.declared.world.WorldObject.{WorldObject}
 use Rattle.kern_model.specs.declared.world.WorldProc.{WorldProc}
+use Rattle.kern_model.specs.Named.{named}
 use Rattle.kern_model.specs.Kinds.{kind_of}
 use Rattle.kern_model.specs.Kinds.{is_dir, is_file}
 use Rattle.kern_model.specs.Rules.{same_label}
@@ -38,14 +39,21 @@ use Rattle.kern_model.specs.World.{IsPlaced, ArePlaced, given, parent_names, obj
 use Rattle.line_text.specs.Ranges.{IsNumber}
 use Rattle.world_text.specs.declared.expecting.Expecting.{Expecting}
 use Rattle.world_text.specs.declared.expecting.Expecting.TheVariants as at
+use Rattle.world_text.specs.declared.format.Format.{Format}
+use Rattle.world_text.specs.declared.format.Format.TheVariants.{One}
 use Rattle.world_text.specs.declared.expecting.Parsed.{Parsed}
 use Rattle.world_text.specs.declared.expecting.Parsed.TheVariants.{GoesOn, Begins}
 use Rattle.world_text.specs.declared.world.WorldText.{WorldText}
 use Rattle.world_text.specs.declared.expecting.PartialWorld.{PartialWorld}
-use Rattle.world_text.specs.declared.expecting.WordValue.{WordValue}
-use Rattle.world_text.specs.declared.expecting.WordValue.TheVariants as value
+use Rattle.world_text.specs.declared.values.WordValue.{WordValue}
+use Rattle.world_text.specs.declared.values.WordValue.TheVariants as value
 use Rattle.world_text.specs.Placing.{is_directory, is_above, directory_of, is_root, object_fault, process_fault}
-use Rattle.world_text.specs.Expecting.{world_of, refuse_or, with_form, with_value, both, label_of, caps_of, proc_caps_of, parse_levels, parse_categories, object_fields_of, proc_fields_of, ids_of, parse_object, parse_tree, parse_process, parse_words, parse_line}
+use Rattle.world_text.specs.Values.{refuse_or, with_form, with_value, both, label_of, caps_of}
+use Rattle.world_text.specs.Head.{parse_levels, parse_categories}
+use Rattle.world_text.specs.TreeLines.{object_fields_of, parse_object, parse_tree}
+use Rattle.world_text.specs.Processes.{proc_caps_of, proc_fields_of, ids_of, parse_process}
+use Rattle.world_text.specs.Expecting.{world_of, parse_words, parse_line}
+use Rattle.world_text.specs.Formats.{format_word}
 use Rattle.world_text.specs.Reading.{Accepted, after, reading, read_text}
 use Rattle.world_text.specs.Written.{bare, quoted, path_text, names_words, head_words, body_keyword, body_words, object_words, process_words, script_words, lines_of, next_number, written}
 use Rattle.world_text.specs.CanBeRead.{IsShort, CanBeRead}
@@ -100,50 +108,53 @@ names_spelling (n ∷ ns) h =
     let parts = and_parts (is_label_name n) (list_all is_label_name ns) h in
     and_from _ _ (label_name_bare n parts.0) (names_spelling ns parts.1)
 
-format_line : parse_line at.Format (text_of (names_words (codes "world") (codes "1" ∷ []))) ≡ GoesOn at.Levels
-unfolding parse_words
-format_line = line_is at.Format (codes "world") (bare (codes "1") ∷ []) refl refl (omega arith)
+format_spelling : (format : Format) → has_spelling (bare (format_word format)) ≡ true
+format_spelling One = refl
 
-levels_line : (policy : PolicyNames) → MakePolicy policy → IsShort (names_words (codes "levels") policy.levels)
-    → parse_line at.Levels (text_of (names_words (codes "levels") policy.levels)) ≡ GoesOn (at.Categories policy.levels)
+format_line : (format : Format) → parse_line at.Format (text_of (names_words (codes "world") (format_word format ∷ []))) ≡ GoesOn (at.Levels format)
+unfolding named parse_words
+format_line One = line_is at.Format (codes "world") (bare (codes "1") ∷ []) refl refl (omega arith)
+
+levels_line : (format : Format) (policy : PolicyNames) → MakePolicy policy → IsShort (names_words (codes "levels") policy.levels)
+    → parse_line (at.Levels format) (text_of (names_words (codes "levels") policy.levels)) ≡ GoesOn (at.Categories format policy.levels)
 unfolding parse_words
-levels_line policy h short =
+levels_line format policy h short =
     let is = policy_facts policy h in
     let some : (length policy.levels == 0) ≡ false = ne_eqb (length policy.levels) 0 (λ e. let some = is.some in omega arith) in
     let form = or_from _ _ some (ap not is.level_names) in
-    line_is at.Levels (codes "levels") (map bare policy.levels) refl (names_spelling policy.levels is.level_names) short ∙ ap parse_levels (canonical_names policy.levels)
+    line_is (at.Levels format) (codes "levels") (map bare policy.levels) refl (names_spelling policy.levels is.level_names) short ∙ ap (parse_levels format) (canonical_names policy.levels)
     ∙ cond-false _ _ _ form ∙ cond-false _ _ _ (le-ltb 16 (length policy.levels) is.few_levels) ∙ cond-false _ _ _ (ap not is.levels_apart)
 
-categories_line : (policy : PolicyNames) → MakePolicy policy → IsShort (names_words (codes "categories") policy.cats)
-    → parse_line (at.Categories policy.levels) (text_of (names_words (codes "categories") policy.cats)) ≡ GoesOn (at.Bound policy)
+categories_line : (format : Format) (policy : PolicyNames) → MakePolicy policy → IsShort (names_words (codes "categories") policy.cats)
+    → parse_line (at.Categories format policy.levels) (text_of (names_words (codes "categories") policy.cats)) ≡ GoesOn (at.Bound format policy)
 unfolding parse_words
-categories_line policy h short =
+categories_line format policy h short =
     let is = policy_facts policy h in
-    line_is (at.Categories policy.levels) (codes "categories") (map bare policy.cats) refl (names_spelling policy.cats is.cat_names) short ∙ ap (parse_categories policy.levels) (canonical_names policy.cats)
+    line_is (at.Categories format policy.levels) (codes "categories") (map bare policy.cats) refl (names_spelling policy.cats is.cat_names) short ∙ ap (parse_categories format policy.levels) (canonical_names policy.cats)
     ∙ cond-false _ _ _ (ap not is.cat_names) ∙ cond-false _ _ _ (le-ltb 64 (length policy.cats) is.few_cats) ∙ cond-false _ _ _ (ap not is.cats_apart)
 
 -- a tree line is expected, after these objects and processes
-abbrev tree_at : PolicyNames → CapSet → List WorldObject → List WorldProc → Expecting
-tree_at policy bound objects procs = at.Tree (record { policy = policy; bound = bound; builder = record { objects = objects; procs = procs } })
+abbrev tree_at : Format → PolicyNames → CapSet → List WorldObject → List WorldProc → Expecting
+tree_at format policy bound objects procs = at.Tree (record { format = format; policy = policy; bound = bound; builder = record { objects = objects; procs = procs } })
 
-bound_line : (policy : PolicyNames) (bound : CapSet) → IsShort (names_words (codes "bound") (set_text bound ∷ []))
-    → parse_line (at.Bound policy) (text_of (names_words (codes "bound") (set_text bound ∷ []))) ≡ GoesOn (tree_at policy bound [] [])
+bound_line : (format : Format) (policy : PolicyNames) (bound : CapSet) → IsShort (names_words (codes "bound") (set_text bound ∷ []))
+    → parse_line (at.Bound format policy) (text_of (names_words (codes "bound") (set_text bound ∷ []))) ≡ GoesOn (tree_at format policy bound [] [])
 unfolding parse_words
-bound_line policy bound short =
-    line_is (at.Bound policy) (codes "bound") (bare (set_text bound) ∷ []) refl (and_from _ _ (bound_bare bound) refl) short
-    ∙ ap (λ (v : WordValue CapSet). with_value v (λ bound. GoesOn (tree_at policy bound [] []))) (bound_known bound)
+bound_line format policy bound short =
+    line_is (at.Bound format policy) (codes "bound") (bare (set_text bound) ∷ []) refl (and_from _ _ (bound_bare bound) refl) short
+    ∙ ap (λ (v : WordValue CapSet). with_value v (λ bound. GoesOn (tree_at format policy bound [] []))) (bound_known bound)
 
 -- after the head lines, a tree line is expected
-head_read : (policy : PolicyNames) (bound : CapSet) (more : List (List LineWord)) → MakePolicy policy → IsShort (names_words (codes "levels") policy.levels)
+head_read : (format : Format) (policy : PolicyNames) (bound : CapSet) (more : List (List LineWord)) → MakePolicy policy → IsShort (names_words (codes "levels") policy.levels)
     → IsShort (names_words (codes "categories") policy.cats) → IsShort (names_words (codes "bound") (set_text bound ∷ []))
-    → reading 1 at.Format (written_pieces (head_words policy bound ++ more)) ≡ reading 5 (tree_at policy bound [] []) (written_pieces more)
-head_read policy bound more h levels cats bounded =
+    → reading 1 at.Format (written_pieces (head_words format policy bound ++ more)) ≡ reading 5 (tree_at format policy bound [] []) (written_pieces more)
+head_read format policy bound more h levels cats bounded =
     let after_cats = names_words (codes "bound") (set_text bound ∷ []) ∷ more in
     let after_levels = names_words (codes "categories") policy.cats ∷ after_cats in
-    step_on 1 at.Format at.Levels (names_words (codes "world") (codes "1" ∷ [])) (names_words (codes "levels") policy.levels ∷ after_levels) format_line
-    ∙ step_on 2 at.Levels (at.Categories policy.levels) (names_words (codes "levels") policy.levels) after_levels (levels_line policy h levels)
-    ∙ step_on 3 (at.Categories policy.levels) (at.Bound policy) (names_words (codes "categories") policy.cats) after_cats (categories_line policy h cats)
-    ∙ step_on 4 (at.Bound policy) (tree_at policy bound [] []) (names_words (codes "bound") (set_text bound ∷ [])) more (bound_line policy bound bounded)
+    step_on 1 at.Format (at.Levels format) (names_words (codes "world") (format_word format ∷ [])) (names_words (codes "levels") policy.levels ∷ after_levels) (format_line format)
+    ∙ step_on 2 (at.Levels format) (at.Categories format policy.levels) (names_words (codes "levels") policy.levels) after_levels (levels_line format policy h levels)
+    ∙ step_on 3 (at.Categories format policy.levels) (at.Bound format policy) (names_words (codes "categories") policy.cats) after_cats (categories_line format policy h cats)
+    ∙ step_on 4 (at.Bound format policy) (tree_at format policy bound [] []) (names_words (codes "bound") (set_text bound ∷ [])) more (bound_line format policy bound bounded)
 
 -- ---- values that are there
 
@@ -199,7 +210,7 @@ file_words policy path label attr bytes none =
 object_says : (w : PartialWorld) (path : PathValue) (label : Label) (attr : Attr) (b : Body) → MakePolicy w.policy → is_valid w.policy label ≡ true
     → IsCanonicalObject (object_from path label attr b) → (is_file (kind_of b) ≡ false → attr.caps ≡ no_flags)
     → parse_words (at.Tree w) (object_words w.policy (object_from path label attr b)) ≡ parse_object w (object_from path label attr b)
-unfolding parse_words object_words
+unfolding named parse_words object_words
 object_says w path label attr body.Dir h valid is plain = tree_says w (object_from path label attr body.Dir) (value.Known no_flags) h valid is (ap (λ (c : CapState). value.Known c) (sym (plain refl)))
 object_says w path label attr body.Fifo h valid is plain = tree_says w (object_from path label attr body.Fifo) (value.Known no_flags) h valid is (ap (λ (c : CapState). value.Known c) (sym (plain refl)))
 object_says w path label attr body.Pipe h valid is plain = absurd is.body
@@ -247,11 +258,11 @@ object_line w o h valid is plain short =
     line_is (at.Tree w) (body_keyword o.body) _ (keyword_begins o.body) (object_spelling w.policy o h valid is) short ∙ object_says w o.path o.label o.attr o.body h valid is plain
 
 -- the root may be given first
-root_adds : (policy : PolicyNames) (bound : CapSet) (o : WorldObject) → o.path.names ≡ [] → o.body ≡ body.Dir → o.label ≡ bottom
-    → parse_object (record { policy = policy; bound = bound; builder = record { objects = []; procs = [] } }) o ≡ GoesOn (tree_at policy bound (o ∷ []) [])
+root_adds : (format : Format) (policy : PolicyNames) (bound : CapSet) (o : WorldObject) → o.path.names ≡ [] → o.body ≡ body.Dir → o.label ≡ bottom
+    → parse_object (record { format = format; policy = policy; bound = bound; builder = record { objects = []; procs = [] } }) o ≡ GoesOn (tree_at format policy bound (o ∷ []) [])
 unfolding object_fault
-root_adds policy bound o no_names dir lowest =
-    ap (λ f. refuse_or f (GoesOn (tree_at policy bound (o ∷ []) []))) (
+root_adds format policy bound o no_names dir lowest =
+    ap (λ f. refuse_or f (GoesOn (tree_at format policy bound (o ∷ []) []))) (
     cond-false _ _ _ (ap (λ (ns : List Name). not (is_root ns || is_directory (directory_of [] ns))) no_names)
     ∙ cond-false _ _ _ (and_right (is_root o.path.names) _ (ap not (and_from _ _ (ap (λ b. is_dir (kind_of b)) dir) (ap (dominates bottom) lowest ∙ dominates_itself bottom))))
     ∙ cond-false _ _ _ (ap (λ (ns : List Name). not (is_above o.label (directory_of [] ns))) no_names))
@@ -266,46 +277,46 @@ below_root first rest o p [] root e =
 below_root first rest o p (n ∷ ns) root e =
     (ap is_root e, ap (directory_of (first ∷ rest)) e ∙ sym (ap (λ ns. given (first ∷ rest) (parent_names ns)) e) ∙ p.parent_given)
 
-placed_adds : (policy : PolicyNames) (bound : CapSet) (first : WorldObject) (rest : List WorldObject) (o : WorldObject) → first.path.names ≡ [] → IsPlaced (first ∷ rest) o
+placed_adds : (format : Format) (policy : PolicyNames) (bound : CapSet) (first : WorldObject) (rest : List WorldObject) (o : WorldObject) → first.path.names ≡ [] → IsPlaced (first ∷ rest) o
     → nat_le MAX_OBJECTS (objects_at o.label (first ∷ rest)) ≡ false
-    → parse_object (record { policy = policy; bound = bound; builder = record { objects = first ∷ rest; procs = [] } }) o ≡ GoesOn (tree_at policy bound (first ∷ (rest ++ o ∷ [])) [])
+    → parse_object (record { format = format; policy = policy; bound = bound; builder = record { objects = first ∷ rest; procs = [] } }) o ≡ GoesOn (tree_at format policy bound (first ∷ (rest ++ o ∷ [])) [])
 unfolding object_fault
-placed_adds policy bound first rest o root p room =
+placed_adds format policy bound first rest o root p room =
     let below = below_root first rest o p o.path.names root refl in
     let dir = ap is_directory below.1 ∙ ap (λ b. is_dir (kind_of b)) p.parent_dir in
-    ap (λ f. refuse_or f (GoesOn (tree_at policy bound (first ∷ (rest ++ o ∷ [])) []))) (
+    ap (λ f. refuse_or f (GoesOn (tree_at format policy bound (first ∷ (rest ++ o ∷ [])) []))) (
     cond-false _ _ _ (ap is_some p.new) ∙ cond-false _ _ _ (ap not (or_right (is_root o.path.names) _ dir)) ∙ cond-false _ _ _ (and_left _ _ below.0)
     ∙ cond-false _ _ _ (ap not (ap (is_above o.label) below.1 ∙ p.order)) ∙ cond-false _ _ _ room)
 
 -- the line of each object after the root adds it
-objects_add : (policy : PolicyNames) (bound : CapSet) (first : WorldObject) (rest os : List WorldObject) → MakePolicy policy → first.path.names ≡ [] → ArePlaced (first ∷ rest) os
+objects_add : (format : Format) (policy : PolicyNames) (bound : CapSet) (first : WorldObject) (rest os : List WorldObject) → MakePolicy policy → first.path.names ≡ [] → ArePlaced (first ∷ rest) os
     → AllByRecursion (λ (o : WorldObject). is_valid policy o.label ≡ true) os → AllByRecursion (λ (o : WorldObject). IsCanonicalObject o) os
     → AllByRecursion (λ (o : WorldObject). is_file (kind_of o.body) ≡ false → o.attr.caps ≡ no_flags) os → AllByRecursion IsShort (map (object_words policy) os)
-    → ((l : Label) → objects_at l (first ∷ (rest ++ os)) ≤ MAX_OBJECTS) → EachAdds (object_words policy) (λ os. tree_at policy bound os []) (first ∷ rest) os
-objects_add policy bound first rest [] h root placed valid written plain short room = tt
-objects_add policy bound first rest (o ∷ os) h root placed valid written plain short room =
+    → ((l : Label) → objects_at l (first ∷ (rest ++ os)) ≤ MAX_OBJECTS) → EachAdds (object_words policy) (λ os. tree_at format policy bound os []) (first ∷ rest) os
+objects_add format policy bound first rest [] h root placed valid written plain short room = tt
+objects_add format policy bound first rest (o ∷ os) h root placed valid written plain short room =
     let left = room_left (λ (o : WorldObject). o.label) (first ∷ rest) o os MAX_OBJECTS room in
     let more : (l : Label) → objects_at l (first ∷ ((rest ++ o ∷ []) ++ os)) ≤ MAX_OBJECTS = λ l. subst (λ (os : List WorldObject). objects_at l (first ∷ os) ≤ MAX_OBJECTS) (sym (append_assoc rest (o ∷ []) os)) (room l) in (
-      object_line (record { policy = policy; bound = bound; builder = record { objects = first ∷ rest; procs = [] } }) o h valid.0 written.0 plain.0 short.0 ∙ placed_adds policy bound first rest o root placed.0 left,
-      objects_add policy bound first (rest ++ o ∷ []) os h root placed.1 valid.1 written.1 plain.1 short.1 more,
+      object_line (record { format = format; policy = policy; bound = bound; builder = record { objects = first ∷ rest; procs = [] } }) o h valid.0 written.0 plain.0 short.0 ∙ placed_adds format policy bound first rest o root placed.0 left,
+      objects_add format policy bound first (rest ++ o ∷ []) os h root placed.1 valid.1 written.1 plain.1 short.1 more,
     )
 
 -- the line of each object of a world adds it
-tree_adds : (policy : PolicyNames) (bound : CapSet) (os : List WorldObject) (first : WorldObject) (others : List WorldObject) → MakePolicy policy → os ≡ first ∷ others
+tree_adds : (format : Format) (policy : PolicyNames) (bound : CapSet) (os : List WorldObject) (first : WorldObject) (others : List WorldObject) → MakePolicy policy → os ≡ first ∷ others
     → first.path.names ≡ [] → first.body ≡ body.Dir → first.label ≡ bottom → ArePlaced (first ∷ []) others
     → AllByRecursion (λ (o : WorldObject). is_valid policy o.label ≡ true) os → AllByRecursion (λ (o : WorldObject). IsCanonicalObject o) os
     → AllByRecursion (λ (o : WorldObject). is_file (kind_of o.body) ≡ false → o.attr.caps ≡ no_flags) os → AllByRecursion IsShort (map (object_words policy) os)
-    → ((l : Label) → objects_at l os ≤ MAX_OBJECTS) → EachAdds (object_words policy) (λ os. tree_at policy bound os []) [] os
-tree_adds policy bound [] first others h e no_names dir lowest placed valid written plain short room = tt
-tree_adds policy bound (o ∷ os) first others h e no_names dir lowest placed valid written plain short room =
+    → ((l : Label) → objects_at l os ≤ MAX_OBJECTS) → EachAdds (object_words policy) (λ os. tree_at format policy bound os []) [] os
+tree_adds format policy bound [] first others h e no_names dir lowest placed valid written plain short room = tt
+tree_adds format policy bound (o ∷ os) first others h e no_names dir lowest placed valid written plain short room =
     let same : first ≡ o = cc in
     let rest : others ≡ os = cc in
     let root = sym (ap (λ (o : WorldObject). o.path.names) same) ∙ no_names in
     let body = sym (ap (λ (o : WorldObject). o.body) same) ∙ dir in
     let label = sym (ap (λ (o : WorldObject). o.label) same) ∙ lowest in
     let after : ArePlaced (o ∷ []) os = subst (λ (os : List WorldObject). ArePlaced (o ∷ []) os) rest (subst (λ (o : WorldObject). ArePlaced (o ∷ []) others) same placed) in (
-      object_line (record { policy = policy; bound = bound; builder = record { objects = []; procs = [] } }) o h valid.0 written.0 plain.0 short.0 ∙ root_adds policy bound o root body label,
-      objects_add policy bound o [] os h root after valid.1 written.1 plain.1 short.1 room,
+      object_line (record { format = format; policy = policy; bound = bound; builder = record { objects = []; procs = [] } }) o h valid.0 written.0 plain.0 short.0 ∙ root_adds format policy bound o root body label,
+      objects_add format policy bound o [] os h root after valid.1 written.1 plain.1 short.1 room,
     )
 
 -- ---- process lines
@@ -323,7 +334,7 @@ ids_round_trip ids label is =
 
 process_says : (w : PartialWorld) (p : WorldProc) → MakePolicy w.policy → is_valid w.policy p.label ≡ true → IsCanonicalIds p.ids → is_within p.caps.e p.caps.p ≡ true
     → parse_words (at.Tree w) (process_words w.policy p) ≡ parse_process w p
-unfolding parse_words process_words
+unfolding named parse_words process_words
 process_says w p h valid is within =
     form_some _ _ _ (proc_fields_round_trip w.policy p is)
     ∙ values_known (label_of w.policy (label_text w.policy p.label)) (proc_caps_of (caps_text p.caps)) p.label p.caps _ (label_round_trip w.policy p.label h valid) (proc_caps_known p.caps within)
@@ -340,25 +351,25 @@ process_line : (w : PartialWorld) (p : WorldProc) → MakePolicy w.policy → is
 unfolding process_words
 process_line w p h valid is within short = line_is (at.Tree w) (codes "proc") _ refl (process_spelling w.policy p h valid is) short ∙ process_says w p h valid is within
 
-processes_add : (policy : PolicyNames) (bound : CapSet) (objects : List WorldObject) (done ps : List WorldProc) → MakePolicy policy → (length objects == 0) ≡ false
+processes_add : (format : Format) (policy : PolicyNames) (bound : CapSet) (objects : List WorldObject) (done ps : List WorldProc) → MakePolicy policy → (length objects == 0) ≡ false
     → AllByRecursion (λ (p : WorldProc). is_valid policy p.label ≡ true) ps → AllByRecursion (λ (p : WorldProc). IsCanonicalIds p.ids) ps → AllByRecursion (λ (p : WorldProc). is_within p.caps.e p.caps.p ≡ true) ps
-    → AllByRecursion IsShort (map (process_words policy) ps) → ((l : Label) → procs_at l (done ++ ps) ≤ MAX_PROCS) → EachAdds (process_words policy) (tree_at policy bound objects) done ps
+    → AllByRecursion IsShort (map (process_words policy) ps) → ((l : Label) → procs_at l (done ++ ps) ≤ MAX_PROCS) → EachAdds (process_words policy) (tree_at format policy bound objects) done ps
 unfolding process_fault
-processes_add policy bound objects done [] h some valid written within short room = tt
-processes_add policy bound objects done (p ∷ ps) h some valid written within short room =
+processes_add format policy bound objects done [] h some valid written within short room = tt
+processes_add format policy bound objects done (p ∷ ps) h some valid written within short room =
     let left = room_left (λ (p : WorldProc). p.label) done p ps MAX_PROCS room in
     let more : (l : Label) → procs_at l ((done ++ p ∷ []) ++ ps) ≤ MAX_PROCS = λ l. subst (λ (ps : List WorldProc). procs_at l ps ≤ MAX_PROCS) (sym (append_assoc done (p ∷ []) ps)) (room l) in (
-      process_line (record { policy = policy; bound = bound; builder = record { objects = objects; procs = done } }) p h valid.0 written.0 within.0 short.0
-          ∙ ap (λ f. refuse_or f (GoesOn (tree_at policy bound objects (done ++ p ∷ [])))) (cond-false _ _ _ some ∙ cond-false _ _ _ left),
-      processes_add policy bound objects (done ++ p ∷ []) ps h some valid.1 written.1 within.1 short.1 more,
+      process_line (record { format = format; policy = policy; bound = bound; builder = record { objects = objects; procs = done } }) p h valid.0 written.0 within.0 short.0
+          ∙ ap (λ f. refuse_or f (GoesOn (tree_at format policy bound objects (done ++ p ∷ [])))) (cond-false _ _ _ some ∙ cond-false _ _ _ left),
+      processes_add format policy bound objects (done ++ p ∷ []) ps h some valid.1 written.1 within.1 short.1 more,
     )
 
 -- ---- the world
 
-script_line : (policy : PolicyNames) (bound : CapSet) (objects : List WorldObject) (procs : List WorldProc) → (length objects == 0) ≡ false
-    → parse_line (tree_at policy bound objects procs) (text_of script_words) ≡ Begins (world_of (record { policy = policy; bound = bound; builder = record { objects = objects; procs = procs } }))
-unfolding parse_words
-script_line policy bound objects procs some = line_is (tree_at policy bound objects procs) (codes "script") [] refl refl (omega arith) ∙ cond-false _ _ _ some
+script_line : (format : Format) (policy : PolicyNames) (bound : CapSet) (objects : List WorldObject) (procs : List WorldProc) → (length objects == 0) ≡ false
+    → parse_line (tree_at format policy bound objects procs) (text_of script_words) ≡ Begins (world_of (record { format = format; policy = policy; bound = bound; builder = record { objects = objects; procs = procs } }))
+unfolding named parse_words
+script_line format policy bound objects procs some = line_is (tree_at format policy bound objects procs) (codes "script") [] refl refl (omega arith) ∙ cond-false _ _ _ some
 
 all_parts : {X : Type 0} (P : X → Type 0) (xs ys : List X) → AllByRecursion P (xs ++ ys) → AllByRecursion P xs × AllByRecursion P ys
 all_parts P [] ys all = (tt, all)
@@ -374,10 +385,10 @@ processes_spelling : (policy : PolicyNames) (ps : List WorldProc) → MakePolicy
 processes_spelling policy [] h valid written = refl
 processes_spelling policy (p ∷ ps) h valid written = and_from _ _ (process_spelling policy p h valid.0 written.0) (processes_spelling policy ps h valid.1 written.1)
 
-head_spelling : (policy : PolicyNames) (bound : CapSet) → MakePolicy policy → list_all (list_all has_spelling) (head_words policy bound) ≡ true
-head_spelling policy bound h =
+head_spelling : (format : Format) (policy : PolicyNames) (bound : CapSet) → MakePolicy policy → list_all (list_all has_spelling) (head_words format policy bound) ≡ true
+head_spelling format policy bound h =
     let is = policy_facts policy h in
-    and_from _ _ (names_spelling policy.levels is.level_names) (and_from _ _ (names_spelling policy.cats is.cat_names) (and_from _ _ (and_from _ _ (bound_bare bound) refl) refl))
+    and_from _ _ (and_from _ _ (format_spelling format) refl) (and_from _ _ (names_spelling policy.levels is.level_names) (and_from _ _ (names_spelling policy.cats is.cat_names) (and_from _ _ (and_from _ _ (bound_bare bound) refl) refl)))
 
 some_objects : (os : List WorldObject) (first : WorldObject) (others : List WorldObject) → os ≡ first ∷ others → (length os == 0) ≡ false
 some_objects [] first others e = absurd (cc)
@@ -388,13 +399,13 @@ pub written_round_trip : (w : WorldText) → CanBeRead w → read_text (written 
 unfolding written
 written_round_trip w h =
     ap (reading 1 at.Format) (pieces_round_trip (lines_of w) canonical)
-    ∙ head_read w.policy w.world.bound (map (object_words w.policy) w.world.objects ++ (map (process_words w.policy) w.world.procs ++ script_words ∷ [])) h.policy h.lines.1.0 h.lines.1.1.0 h.lines.1.1.1.0
-    ∙ steps_on (object_words w.policy) (λ os. tree_at w.policy w.world.bound os []) 5 [] w.world.objects (map (process_words w.policy) w.world.procs ++ script_words ∷ [])
-    (tree_adds w.policy w.world.bound w.world.objects h.is.world.first h.is.world.others h.policy h.is.world.objects_are h.is.world.no_names h.is.world.root_body h.is.world.root_label h.is.world.others_placed
+    ∙ head_read One w.policy w.world.bound (map (object_words w.policy) w.world.objects ++ (map (process_words w.policy) w.world.procs ++ script_words ∷ [])) h.policy h.lines.1.0 h.lines.1.1.0 h.lines.1.1.1.0
+    ∙ steps_on (object_words w.policy) (λ os. tree_at One w.policy w.world.bound os []) 5 [] w.world.objects (map (process_words w.policy) w.world.procs ++ script_words ∷ [])
+    (tree_adds One w.policy w.world.bound w.world.objects h.is.world.first h.is.world.others h.policy h.is.world.objects_are h.is.world.no_names h.is.world.root_body h.is.world.root_label h.is.world.others_placed
     objects_valid written (objects_plain w.world.top w.world.objects h.is.world.objects) tails.0 h.is.world.room.objects)
-    ∙ steps_on (process_words w.policy) (tree_at w.policy w.world.bound w.world.objects) (5 + length w.world.objects) [] w.world.procs (script_words ∷ [])
-    (processes_add w.policy w.world.bound w.world.objects [] w.world.procs h.policy some procs_valid owned (procs_within w.world.top w.world.procs h.is.world.procs) ends.0 h.is.world.room.procs)
-    ∙ step_last (5 + length w.world.objects + length w.world.procs) (tree_at w.policy w.world.bound w.world.objects w.world.procs) world script_words (script_line w.policy w.world.bound w.world.objects w.world.procs some)
+    ∙ steps_on (process_words w.policy) (tree_at One w.policy w.world.bound w.world.objects) (5 + length w.world.objects) [] w.world.procs (script_words ∷ [])
+    (processes_add One w.policy w.world.bound w.world.objects [] w.world.procs h.policy some procs_valid owned (procs_within w.world.top w.world.procs h.is.world.procs) ends.0 h.is.world.room.procs)
+    ∙ step_last (5 + length w.world.objects + length w.world.procs) (tree_at One w.policy w.world.bound w.world.objects w.world.procs) world script_words (script_line One w.policy w.world.bound w.world.objects w.world.procs some)
     ∙ (λ i. Accepted (world_is i) (number i) ([] ∷ []))
   where
     objects_valid : AllByRecursion (λ (o : WorldObject). is_valid w.policy o.label ≡ true) w.world.objects
@@ -422,12 +433,12 @@ written_round_trip w h =
     canonical =
         let objects = map (object_words w.policy) w.world.objects in
         let procs = map (process_words w.policy) w.world.procs in
-        list_all-append (list_all has_spelling) (head_words w.policy w.world.bound) (objects ++ (procs ++ script_words ∷ [])) ∙ and_from _ _ (head_spelling w.policy w.world.bound h.policy)
+        list_all-append (list_all has_spelling) (head_words One w.policy w.world.bound) (objects ++ (procs ++ script_words ∷ [])) ∙ and_from _ _ (head_spelling One w.policy w.world.bound h.policy)
         (list_all-append (list_all has_spelling) objects (procs ++ script_words ∷ []) ∙ and_from _ _ (objects_spelling w.policy w.world.objects h.policy objects_valid written)
         (list_all-append (list_all has_spelling) procs (script_words ∷ []) ∙ and_from _ _ (processes_spelling w.policy w.world.procs h.policy procs_valid owned) refl))
 
     world : WorldText
-    world = world_of (record { policy = w.policy; bound = w.world.bound; builder = record { objects = w.world.objects; procs = w.world.procs } })
+    world = world_of (record { format = One; policy = w.policy; bound = w.world.bound; builder = record { objects = w.world.objects; procs = w.world.procs } })
 
     world_is : world ≡ w
     world_is = ap (λ (top : Label). record { policy = w.policy; world = record { top = top; bound = w.world.bound; objects = w.world.objects; procs = w.world.procs } }) (sym h.is.top)

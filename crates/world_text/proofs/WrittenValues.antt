@@ -36,8 +36,11 @@ use Rattle.lab_text.proofs.Parsed.{parse_text}
 use Rattle.lab_text.specs.Text.{label_text}
 use Rattle.line_text.specs.Ranges.{are_bytes}
 use Rattle.line_text.specs.Reading.{path_of}
-use Rattle.world_text.specs.declared.expecting.WordValue.TheVariants as value
-use Rattle.world_text.specs.Expecting.{caps_value, absolute_path, label_of, caps_of, proc_caps, proc_caps_of, set_of}
+use Rattle.world_text.specs.declared.values.WordValue.TheVariants as value
+use Rattle.world_text.specs.Values.{caps_value, label_of, caps_of}
+use Rattle.world_text.specs.Head.{set_of}
+use Rattle.world_text.specs.TreeLines.{absolute_path}
+use Rattle.world_text.specs.Processes.{proc_caps, proc_caps_of}
 use Rattle.world_text.specs.Written.{quoted, path_text}
 use Rattle.world_text.proofs.LineLemmas.{label_known}
 use Rattle.world_text.proofs.WrittenForms.{IsCanonicalPath}

@@ -11,7 +11,8 @@ use Rattle.fs_path.specs.Split.{pieces}
 use Rattle.fs_path.specs.Words.{is_space, is_plain, is_bare, is_bare_text, is_blank, hex_digit, item_text, quoted_text, has_spelling, spelling, after_spaces, line_text, is_empty_or_comment}
 use Rattle.fs_path.specs.declared.words.TheConstants.{MAX_LINE}
 use Rattle.world_text.specs.declared.expecting.Expecting.{Expecting}
-use Rattle.world_text.specs.Expecting.{with_form, parse_words, parse_line}
+use Rattle.world_text.specs.Values.{with_form}
+use Rattle.world_text.specs.Expecting.{parse_words, parse_line}
 use Rattle.world_text.specs.Written.{bare, line_of}
 
 -- ---- line feeds

@@ -1,8 +1,13 @@
 pub mod Tree
 pub mod Placing
+pub mod Formats
+pub mod Values
+pub mod Head
+pub mod TreeLines
+pub mod Processes
+pub mod Keywords
 pub mod Expecting
 pub mod PathEntry
-pub mod Lines
 pub mod Written
 pub mod CanBeRead
 pub mod Reading

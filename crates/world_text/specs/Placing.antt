@@ -8,8 +8,8 @@ use Rattle.kern_model.specs.declared.world.WorldProc.{WorldProc}
 use Rattle.kern_model.specs.Kinds.{kind_of}
 use Rattle.kern_model.specs.Kinds.{is_dir}
 use Rattle.kern_model.specs.World.{given, parent_names, objects_at, procs_at}
-use Rattle.world_text.specs.declared.fault.WorldFault.{WorldFault}
-use Rattle.world_text.specs.declared.fault.WorldFault.TheVariants.{Repeated, NoParent, LabelOrder, RootLabel, TooMany}
+use Rattle.line_text.specs.declared.fault.LineFault.{LineFault}
+use Rattle.line_text.specs.declared.fault.LineFault.TheVariants.{Repeated, NoParent, LabelOrder, RootLabel, TooMany}
 use Rattle.world_text.specs.Tree.{Tree}
 
 -- a directory that was given
@@ -33,7 +33,7 @@ is_root (n ∷ ns) = false
 
 -- why an object can't come after those before it, if it can't: its path was given, its directory was not, it is the root and
 -- no directory of the bottom label, its label does not dominate the directory's, or no number of its label is left
-unfoldable pub object_fault : Tree → WorldObject → Option WorldFault
+unfoldable pub object_fault : Tree → WorldObject → Option LineFault
 object_fault t o =
     cond (is_some (given t.objects o.path.names)) (Some Repeated)
     (cond (not (is_root o.path.names || is_directory (directory_of t.objects o.path.names))) (Some NoParent)
@@ -42,7 +42,7 @@ object_fault t o =
     (cond (nat_le MAX_OBJECTS (objects_at o.label t.objects)) (Some TooMany) None))))
 
 -- why a process can't come after those before it, if it can't: there is no root yet, or no number of its label is left
-unfoldable pub process_fault : Tree → WorldProc → Option WorldFault
+unfoldable pub process_fault : Tree → WorldProc → Option LineFault
 process_fault t w =
     cond (length t.objects == 0) (Some NoParent)
     (cond (nat_le MAX_PROCS (procs_at w.label t.procs)) (Some TooMany) None)

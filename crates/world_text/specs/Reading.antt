@@ -1,8 +1,8 @@
 -- What a text says of a world, line by line.
 use Rattle.std.specs.Prelude.{◌≡◌, ℕ, ◌+◌, List, [], ◌∷◌, Option, None, Some}
 use Rattle.fs_path.specs.Split.{pieces}
-use Rattle.world_text.specs.declared.fault.WorldFault.{WorldFault}
-use Rattle.world_text.specs.declared.fault.WorldFault.TheVariants as fault
+use Rattle.line_text.specs.declared.fault.LineFault.{LineFault}
+use Rattle.line_text.specs.declared.fault.LineFault.TheVariants as fault
 use Rattle.world_text.specs.declared.fault.WorldError.{WorldError}
 use Rattle.world_text.specs.declared.fault.WorldError.TheVariants as error
 use Rattle.world_text.specs.declared.world.WorldText.{WorldText}
@@ -19,7 +19,7 @@ pub data Reading : Type 0 where
   -- with a world, the number of the first line of its script, and the pieces of the text from there on
   Accepted : (world : WorldText) (n : ℕ) (script : List (List ℕ)) → Reading
   -- at the line of this number, for this fault
-  Refused : (n : ℕ) (fault : WorldFault) → Reading
+  Refused : (n : ℕ) (fault : LineFault) → Reading
   -- before the script, in the line of this number, of which these bytes are there
   Ended : (n : ℕ) (last : List ℕ) → Reading
 
@@ -43,15 +43,15 @@ abbrev pub IsRead : Reading → WorldText → Type 0
 IsRead (Accepted world n script) w = world ≡ w
 IsRead _ w = ⊥
 
--- the error of a line with this number
-abbrev pub error_at : ℕ → WorldFault → WorldError
-error_at n fault.Syntax = error.Syntax n
+-- the error of a line with this number; a fault that no line of a world has gives `syntax`
+abbrev pub error_at : ℕ → LineFault → WorldError
 error_at n fault.UnknownName = error.UnknownName n
 error_at n fault.Repeated = error.Repeated n
 error_at n fault.NoParent = error.NoParent n
 error_at n fault.RootLabel = error.RootLabel n
 error_at n fault.LabelOrder = error.LabelOrder n
 error_at n fault.TooMany = error.TooMany n
+error_at n _ = error.Syntax n
 
 -- why a reading gives no world; a text that ends too early is refused at the line in which it ends, which is the next one after
 -- a line feed

@@ -16,7 +16,10 @@ use Rattle.kern_model.specs.declared.objects.Body.{Body}
 use Rattle.kern_model.specs.declared.objects.Body.TheVariants as body
 use Rattle.kern_model.specs.declared.world.WorldObject.{WorldObject}
 use Rattle.kern_model.specs.declared.world.WorldProc.{WorldProc}
+use Rattle.world_text.specs.declared.format.Format.{Format}
+use Rattle.world_text.specs.declared.format.Format.TheVariants.{One}
 use Rattle.world_text.specs.declared.world.WorldText.{WorldText}
+use Rattle.world_text.specs.Formats.{format_word}
 
 -- ---- words
 
@@ -44,9 +47,9 @@ abbrev pub names_words : List ℕ → List (List ℕ) → List LineWord
 names_words keyword names = bare keyword ∷ map bare names
 
 -- the format, the names and the bound
-abbrev pub head_words : PolicyNames → CapSet → List (List LineWord)
-head_words policy bound =
-    names_words (codes "world") (codes "1" ∷ []) ∷ names_words (codes "levels") policy.levels ∷ names_words (codes "categories") policy.cats
+abbrev pub head_words : Format → PolicyNames → CapSet → List (List LineWord)
+head_words format policy bound =
+    names_words (codes "world") (format_word format ∷ []) ∷ names_words (codes "levels") policy.levels ∷ names_words (codes "categories") policy.cats
     ∷ names_words (codes "bound") (set_text bound ∷ []) ∷ []
 
 -- the keyword of an object; no tree line makes a pipe
@@ -83,7 +86,7 @@ script_words = names_words (codes "script") []
 -- the lines of a world: its head, objects and processes in their order, and the beginning of the script
 abbrev pub lines_of : WorldText → List (List LineWord)
 lines_of w =
-    head_words w.policy w.world.bound ++ (map (object_words w.policy) w.world.objects ++ (map (process_words w.policy) w.world.procs ++ script_words ∷ []))
+    head_words One w.policy w.world.bound ++ (map (object_words w.policy) w.world.objects ++ (map (process_words w.policy) w.world.procs ++ script_words ∷ []))
 
 -- the number of the line after these
 abbrev pub next_number : WorldText → ℕ

@@ -12,12 +12,13 @@ ghost use Rattle.world_text.specs.PathEntry.{path_entry_of, count_in, IsCounted,
 ghost use Rattle.world_text.specs.Placing.{directory_of, is_root, object_fault, process_fault};
 ghost use Rattle.world_text.specs.Written.{path_text};
 
+use crate::NoMemory;
 use crate::writing::path_text;
-use crate::{NoMemory, WorldFault};
 use fs_path::{ByteList, List, Name, Path};
 use kern_model::limits::{MAX_OBJECTS, MAX_PROCS};
 use kern_model::{Body, ObjectList, ProcList, WorldObject, WorldProc};
 use lab_lattice::{Label, Lattice, bottom};
+use line_text::LineFault;
 use std::alloc::Global;
 use std::collections::BTreeMap;
 use std::marker::Model;
@@ -233,39 +234,39 @@ impl WorldBuilder {
         &self,
         alloc: Global,
         object: &WorldObject,
-    ) -> Result<Option<WorldFault>, NoMemory>
+    ) -> Result<Option<LineFault>, NoMemory>
         ensures { IfOk result (λ fault. fault ≡ object_fault self.now object.now) }
     {
         let repeated = self.is_given(alloc, &object.path)?;
         if repeated {
-            return Ok(Some(WorldFault::Repeated));
+            return Ok(Some(LineFault::Repeated));
         }
         let directory = self.directory_of(alloc, &object.path)?;
         if !has_parent(object, &directory) {
-            return Ok(Some(WorldFault::NoParent));
+            return Ok(Some(LineFault::NoParent));
         }
         if is_wrong_root(object) {
-            return Ok(Some(WorldFault::RootLabel));
+            return Ok(Some(LineFault::RootLabel));
         }
         if !is_above_entry(&object.label, &directory) {
-            return Ok(Some(WorldFault::LabelOrder));
+            return Ok(Some(LineFault::LabelOrder));
         }
         if self.is_full_of_objects(&object.label) {
-            return Ok(Some(WorldFault::TooMany));
+            return Ok(Some(LineFault::TooMany));
         }
         Ok(None)
     }
 
     /// Why a process can't come after those before it, if it can't.
     #[tactic(auto, unfolding(crate::specs::Placing::process_fault))]
-    pub fn process_fault(&self, process: &WorldProc) -> Option<WorldFault>
+    pub fn process_fault(&self, process: &WorldProc) -> Option<LineFault>
         ensures { result ≡ process_fault self.now process.now }
     {
         if self.is_empty() {
-            return Some(WorldFault::NoParent);
+            return Some(LineFault::NoParent);
         }
         if self.is_full_of_procs(&process.label) {
-            return Some(WorldFault::TooMany);
+            return Some(LineFault::TooMany);
         }
         None
     }

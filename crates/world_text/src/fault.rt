@@ -3,30 +3,10 @@ ghost use Rattle.std.specs.Prelude.{◌≡◌};
 ghost use Rattle.world_text.specs.Reading.{error_at};
 
 use crate::NoMemory;
+use line_text::LineFault;
 use thiserror::Error;
 
-/// Why a line of a world is refused. Of several faults the first that is listed here counts; in a line of levels or
-/// categories `TooMany` counts before `Repeated`.
-#[derive(Clone, Copy, Debug, PartialEq, Eq)]
-pub enum WorldFault {
-    /// It is longer than 2,048 bytes, has not the form of the line that is due, has capabilities effective in a process
-    /// that are not permitted, or the text ends at it.
-    Syntax,
-    /// A level, a category or a capability is unknown.
-    UnknownName,
-    /// A level or a category is named twice, or the path was given before.
-    Repeated,
-    /// The path's directory was not given or is no directory, or the root was not given.
-    NoParent,
-    /// The root is no directory, or its label is not the lowest.
-    RootLabel,
-    /// The label does not dominate that of the path's directory.
-    LabelOrder,
-    /// There are more than 16 levels, 64 categories, 65,535 objects of a label or 4,095 processes of a label.
-    TooMany,
-}
-
-/// Why no world was read: the fault of a line, and the number of that line, counted from 1. [`WorldFault`] says which of
+/// Why no world was read: the fault of a line, and the number of that line, counted from 1. [`LineFault`] says which of
 /// several faults counts.
 #[derive(Clone, Copy, Debug, PartialEq, Eq, Error)]
 pub enum WorldError {
@@ -69,18 +49,18 @@ impl From<NoMemory> for WorldError {
 }
 
 impl WorldError {
-    // The error of the line with this number.
-    pub(crate) fn at(number: u64, fault: WorldFault) -> WorldError
+    /// The error of the line with this number. A fault that no line of a world has gives `Syntax`.
+    pub fn at(number: u64, fault: LineFault) -> WorldError
         ensures { result ≡ error_at number fault }
     {
         match fault {
-            WorldFault::Syntax => WorldError::Syntax(number),
-            WorldFault::UnknownName => WorldError::UnknownName(number),
-            WorldFault::Repeated => WorldError::Repeated(number),
-            WorldFault::NoParent => WorldError::NoParent(number),
-            WorldFault::RootLabel => WorldError::RootLabel(number),
-            WorldFault::LabelOrder => WorldError::LabelOrder(number),
-            WorldFault::TooMany => WorldError::TooMany(number),
+            LineFault::UnknownName => WorldError::UnknownName(number),
+            LineFault::Repeated => WorldError::Repeated(number),
+            LineFault::NoParent => WorldError::NoParent(number),
+            LineFault::RootLabel => WorldError::RootLabel(number),
+            LineFault::LabelOrder => WorldError::LabelOrder(number),
+            LineFault::TooMany => WorldError::TooMany(number),
+            _ => WorldError::Syntax(number),
         }
     }
 }

@@ -8,6 +8,7 @@ ghost use Rattle.world_text.specs.CanBeRead.{HasBytes, IsWrittenObject, IsWritte
 ghost use Rattle.world_text.specs.Reading.{Accepted, read_text};
 ghost use Rattle.world_text.specs.Written.{path_text, line_of, names_words, head_words, body_keyword, caps_words, body_words, object_words, process_words, next_number, written};
 
+use crate::format::Format;
 use crate::{NoMemory, WorldText};
 use cap_bits::{CapSet, CapState};
 use cap_clause::{cap_to_text, set_to_text};
@@ -182,13 +183,14 @@ fn put_objects_and_processes(
 fn put_head(
     alloc: Global,
     line: &mut LineWriter,
+    format: Format,
     policy: &Policy,
     bound: &CapSet,
 ) -> Result<(), NoMemory>
-    ensures { OnOk result (line.new ≡ line.old ++ flat_map line_of (head_words policy.now bound.now)) }
+    ensures { OnOk result (line.new ≡ line.old ++ flat_map line_of (head_words format policy.now bound.now)) }
 {
     let bound = set_to_text(alloc, bound)?;
-    put_word_line(line, b"world", b"1")?;
+    put_word_line(line, b"world", format.word())?;
     put_names_line(line, b"levels", policy.levels())?;
     put_names_line(line, b"categories", policy.cats())?;
     put_word_line(line, b"bound", bound.as_slice())
@@ -206,7 +208,13 @@ impl WorldText {
         let _names = self.policy.levels();
         let alloc = self.policy.allocator();
         let mut line = LineWriter::new(alloc)?;
-        put_head(alloc, &mut line, &self.policy, &self.world.bound)?;
+        put_head(
+            alloc,
+            &mut line,
+            Format::One,
+            &self.policy,
+            &self.world.bound,
+        )?;
         put_objects_and_processes(
             alloc,
             &mut line,

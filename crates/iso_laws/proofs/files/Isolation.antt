@@ -3,27 +3,23 @@ use Rattle.std.specs.Prelude.{◌≡◌, ℕ, ◌+◌, ◌==◌, ◌&&◌, not, 
 use Rattle.std.proofs.Common.{sym, ◌∙◌, ap, subst}
 use Rattle.std.proofs.lemmas.Bool.{and_parts}
 use Rattle.std.specs.FinMap as map
-use Rattle.lab_lattice.specs.Label.{Label, dominates}
+use Rattle.lab_lattice.specs.Label.{Label}
 use Rattle.kern_model.specs.declared.calls.Answer.TheVariants as answer
 use Rattle.kern_model.specs.declared.calls.Errno.TheVariants as errno
 use Rattle.kern_model.specs.declared.calls.Whence.{Whence}
 use Rattle.kern_model.specs.declared.calls.Whence.TheVariants as whence
-use Rattle.kern_model.specs.declared.checks.CheckName.TheVariants as check
 use Rattle.kern_model.specs.declared.checks.Place.TheVariants.{Handle}
 use Rattle.kern_model.specs.declared.limits.TheConstants.{MAX_DESCRIPTIONS}
-use Rattle.kern_model.specs.declared.numbers.Did.{Did}
 use Rattle.kern_model.specs.declared.numbers.Oid.{Oid}
 use Rattle.kern_model.specs.declared.numbers.Pid.{Pid}
-use Rattle.kern_model.specs.declared.objects.Body.TheVariants as body
 use Rattle.kern_model.specs.declared.objects.Object.{Object}
-use Rattle.kern_model.specs.Create.{attr_of}
-use Rattle.kern_model.specs.Descriptors.{Opened, lowest_free, with_descriptor, any_open, closing}
-use Rattle.kern_model.specs.FileRows.{pipe_row, pipe_mode, piped, close_row, dup_row, fstat_row, lseek_row, seek_opened, moves, base_of, read_row, taking, write_row, putting, into_stream, into_file, place_in, open_object, moved}
+use Rattle.kern_model.specs.Descriptors.{Opened, any_open, closing}
+use Rattle.kern_model.specs.FileRows.{pipe_row, make_pipe, make_pipe_after, piped, close_row, dup_row, fstat_row, lseek_row, seek_opened, moves, base_of, read_row, taking, write_row, putting, into_stream, into_file, place_in, open_object, moved}
 use Rattle.kern_model.specs.Isolation.{low, crosses, Kept}
-use Rattle.kern_model.specs.Kinds.{is_stream, object_with}
-use Rattle.kern_model.specs.Row.{Row, Need, Commit}
-use Rattle.kern_model.specs.Rules.{of_object, same_label, mac_read, mac_write}
-use Rattle.kern_model.specs.State.{State, Process, Change, SetObject, SetProcess, SetDescription, DrawObject, DrawDescription, drawn, object_at}
+use Rattle.kern_model.specs.Kinds.{is_stream}
+use Rattle.kern_model.specs.Row.{Row, Need}
+use Rattle.kern_model.specs.Rules.{mac_read, mac_write, mac_read_of, mac_write_of}
+use Rattle.kern_model.specs.State.{State, Process, Change, SetObject, SetProcess, object_at}
 use Rattle.kern_model.specs.Stat.{stat_of}
 use Rattle.kern_model.specs.Step.{subject}
 use Rattle.kern_model.specs.Valid.{IsValid}
@@ -48,14 +44,14 @@ module _ (l : Label) (s : State) (kept : Kept l s) (valid : IsValid s) (who : Pi
       → Same l s who p (Need (mac_read s p f.description.object Handle) r) (Need (mac_read part_s p f.description.object Handle) r')
   low_handle_read f h r r' rest =
       low_check l s kept valid who p is is_low f.description.object h
-      (λ o. of_object check.MacRead (dominates p.label o.label) None f.description.object o Handle) r r' (λ _. rest)
+      (λ o. mac_read_of p f.description.object o Handle) r r' (λ _. rest)
 
   -- and its mac_write
   low_handle_write : (f : Opened) → low l f.description.object.label ≡ true → (r r' : Row) → Same l s who p r r'
       → Same l s who p (Need (mac_write s p f.description.object Handle) r) (Need (mac_write part_s p f.description.object Handle) r')
   low_handle_write f h r r' rest =
       low_check l s kept valid who p is is_low f.description.object h
-      (λ o. of_object check.MacWrite (same_label p.label o.label) None f.description.object o Handle) r r' (λ _. rest)
+      (λ o. mac_write_of p f.description.object o Handle) r r' (λ _. rest)
 
   pub fstat_low : (fd : ℕ) → Same l s who p (fstat_row s who p fd) (fstat_row part_s who p fd)
   fstat_low fd = low_descriptor l s kept valid who p is is_low fd _ _ (λ f open_is _ h.
@@ -76,19 +72,6 @@ module _ (l : Label) (s : State) (kept : Kept l s) (valid : IsValid s) (who : Pi
       (ap (λ cs. gone ∷ cs) (closing_low l s kept valid (has_fd who fd))
       ∙ sym (first_low l s.top gone (closing s (has_fd who fd)) (kept.procs who p is ∙ is_low))))
 
-  -- a pipe with the next number a of an object, and the next numbers from b on of descriptions
-  abbrev piping : ℕ → ℕ → Row
-  piping a b =
-      let id : Oid = record { label = p.label; n = a + 1 } in
-      let reading : Did = record { label = p.label; n = b + 1 } in
-      let writing : Did = record { label = p.label; n = b + 2 } in
-      Commit
-      (DrawObject p.label (a + 1) ∷ SetObject id (object_with p.label (attr_of p pipe_mode) body.Pipe) ∷ DrawDescription p.label (b + 2)
-      ∷ SetDescription reading (record { object = id; reads = true; writes = false; appends = false; offset = 0 })
-      ∷ SetDescription writing (record { object = id; reads = false; writes = true; appends = false; offset = 0 })
-      ∷ SetProcess who (with_descriptor (with_descriptor p reading) writing) ∷ [])
-      (answer.Two (lowest_free p.fds) (lowest_free (with_descriptor p reading).fds)) None
-
   pub pipe_low : Same l s who p (pipe_row s who p) (pipe_row part_s who p)
   pipe_low =
       let same = descriptions_drawn_low l s p.label is_low in
@@ -96,9 +79,8 @@ module _ (l : Label) (s : State) (kept : Kept l s) (valid : IsValid s) (who : Pi
       (λ _. alike_refuse (crosses l) l s.top (subject who p) errno.ENFILE _ _ _ _ (ap (λ n. not (nat_le (n + 2) MAX_DESCRIPTIONS)) same)
       (λ _. alike_refuse (crosses l) l s.top (subject who p) errno.ENOSPC _ _ _ _ (ap not (same_room l s kept valid who p is is_low))
       (λ _.
-      subst (λ r. Same l s who p (piping (drawn s.object_numbers p.label) (drawn s.description_numbers p.label)) r)
-      (λ i. piping (sym (drawn_low l s p.label is_low) i) (sym same i))
-      (low_itself l s kept valid who p is is_low (piping (drawn s.object_numbers p.label) (drawn s.description_numbers p.label))
+      subst (λ r. Same l s who p (make_pipe s who p) r) (λ i. make_pipe_after (sym (drawn_low l s p.label is_low) i) (sym same i) who p)
+      (low_itself l s kept valid who p is is_low (make_pipe s who p)
       (part_of_low l s.top (piped s who p) (is_low, (is_low, (is_low, (is_low, (is_low, (kept.procs who p is ∙ is_low, tt)))))))))))
 
   same_base : (f : Opened) → low l f.description.object.label ≡ true → (from : Whence) → base_of part_s f from ≡ base_of s f from
@@ -136,7 +118,7 @@ module _ (l : Label) (s : State) (kept : Kept l s) (valid : IsValid s) (who : Pi
       alike_refuse (crosses l) l s.top (subject who p) errno.EBADF _ _ _ _ refl
       (λ _. low_handle_read f h _ _
       (alike_need_if (crosses l) l s.top (subject who p) _ _ _ _ _ _ (λ i. is_stream (same i).kind)
-      (ap (λ (o : Object). of_object check.MacWrite (same_label p.label o.label) None id o Handle) same)
+      (ap (λ (o : Object). mac_write_of p id o Handle) same)
       (alike_refuse (crosses l) l s.top (subject who p) errno.EAGAIN _ _ _ _ (same_again f h)
       (λ _. low_by l s kept valid who p is is_low id h (λ o. taking (is_stream o.kind) n f o)
       (gives_cond (AreSeen l s) (is_stream (open_object s f).kind) _ _ (part_of_low l s.top (SetObject id _ ∷ []) (h, tt))

@@ -20,14 +20,14 @@ use Rattle.kern_model.specs.declared.objects.Body.TheVariants as body
 use Rattle.kern_model.specs.declared.objects.Object.{Object}
 use Rattle.kern_model.specs.Arguments.{are_flags}
 use Rattle.kern_model.specs.Create.{attr_of, made}
-use Rattle.kern_model.specs.Descriptors.{lowest_free, with_descriptor}
-use Rattle.kern_model.specs.FileRows.{opening, rewritten, cleared}
-use Rattle.kern_model.specs.OpenRows.{open_row, open_found, open_present, open_absent, allowed_by_label, allowed_by_kind, allowed_by_mode, to_emptied, opens, opens_present}
+use Rattle.kern_model.specs.Descriptors.{lowest_free}
+use Rattle.kern_model.specs.FileRows.{described_after, opened_with, opening, rewritten, cleared}
+use Rattle.kern_model.specs.OpenRows.{open_row, open_found, open_present, open_absent, allowed_by_label, open_labelled, opens, opens_present}
 use Rattle.kern_model.specs.Isolation.{low, crosses, Kept}
 use Rattle.kern_model.specs.Kinds.{object_with, masked}
 use Rattle.kern_model.specs.Row.{Row, need_if}
 use Rattle.kern_model.specs.Rules.{mac_write_of}
-use Rattle.kern_model.specs.State.{State, Process, Change, SetProcess, SetDescription, DrawDescription, next_object, object_at}
+use Rattle.kern_model.specs.State.{State, Process, Change, next_object, object_at}
 use Rattle.kern_model.specs.Step.{subject}
 use Rattle.kern_model.specs.Valid.{IsValid, IsThere, IsDir}
 use Rattle.kern_model.specs.Walk.{Found, Start, Entry, last_place, dir_place}
@@ -42,19 +42,12 @@ module _ (l : Label) (s : State) (kept : Kept l s) (valid : IsValid s) (who : Pi
   abbrev part_s : State
   part_s = by_number l s
 
-  -- a description with the next number n, on an object
-  abbrev opening_at : Oid → ℕ → List Change
-  opening_at id n =
-      DrawDescription p.label (n + 1)
-      ∷ SetDescription (record { label = p.label; n = n + 1 }) (record { object = id; reads = flags.r; writes = flags.w; appends = flags.a; offset = 0 })
-      ∷ SetProcess who (with_descriptor p (record { label = p.label; n = n + 1 })) ∷ []
-
   -- what was done before is seen, and so is the description
   low_opens : (id id' : Oid) → id' ≡ id → (before before' : List Change) → before' ≡ part_changes l s.top before
       → Same l s who p (opens s who p id flags before) (opens part_s who p id' flags before')
   low_opens id id' same before before' seen =
       let seen_opening : opening part_s who p id' flags ≡ part_changes l s.top (opening s who p id flags) =
-      (λ i. opening_at (same i) (descriptions_drawn_low l s p.label is_low i))
+      (λ i. described_after (descriptions_drawn_low l s p.label is_low i) p.label who p (opened_with flags (same i)))
       ∙ sym (part_of_low l s.top (opening s who p id flags) (is_low, (is_low, (kept.procs who p is ∙ is_low, tt)))) in
       alike_give (crosses l) l s.top (subject who p) _ _ (answer.Number (lowest_free p.fds)) None
       ((λ i. seen i ++ seen_opening i) ∙ sym (part_changes-append l s.top before (opening s who p id flags)))
@@ -73,18 +66,13 @@ module _ (l : Label) (s : State) (kept : Kept l s) (valid : IsValid s) (who : Pi
   where_asked : (b : Bool) (c : Check) (r r' : Row) → Same l s who p r r' → Same l s who p (need_if b c r) (need_if b c r')
   where_asked b c r r' rest = alike_need_if (crosses l) l s.top (subject who p) b b c c r r' refl refl rest
 
-  -- the rest of the row of an object that may be opened by its label
-  abbrev labelled : State → Oid → Place → Object → Row
-  labelled t id place o =
-      allowed_by_kind p flags id place o (allowed_by_mode p flags id place o (to_emptied flags id place o (opens_present t who p flags id o)))
-
   low_labelled : (id : Oid) (place : Place) → low l id.label ≡ true
-      → Same l s who p (labelled s id place (object_at s id)) (labelled part_s id place (object_at part_s id))
+      → Same l s who p (open_labelled s who p flags id place (object_at s id)) (open_labelled part_s who p flags id place (object_at part_s id))
   low_labelled id place h =
       let o : Object = object_at s id in
       let emptied : (attr : Attr) → Same l s who p (opens_present s who p flags id o (Some attr)) (opens_present part_s who p flags id o (Some attr)) =
       λ attr. let empties : List Change = rewritten id o [] attr ∷ [] in low_opens id id refl empties empties (sym (part_of_low l s.top empties (h, tt))) in
-      subst (λ x. Same l s who p (labelled s id place o) (labelled part_s id place x)) (sym (object_low l s id h))
+      subst (λ x. Same l s who p (open_labelled s who p flags id place o) (open_labelled part_s who p flags id place x)) (sym (object_low l s id h))
       (alike_refuse (crosses l) l s.top (subject who p) errno.EISDIR _ _ _ _ refl
       (λ _. alike_refuse (crosses l) l s.top (subject who p) errno.EINVAL _ _ _ _ refl
       (λ _. where_asked _ _ _ _ (where_asked _ _ _ _ (where_asked _ _ _ _
@@ -108,7 +96,7 @@ module _ (l : Label) (s : State) (kept : Kept l s) (valid : IsValid s) (who : Pi
       → Same l s who p (open_present s who p flags id place) (open_present part_s who p flags (shown l s.top id) place)
   low_present asked id place there =
       alike_refuse (crosses l) l s.top (subject who p) errno.EEXIST _ _ _ _ refl
-      (λ _. low_by_label flags.r flags.w asked id place there _ (λ d. labelled part_s d place (object_at part_s d)) (low_labelled id place))
+      (λ _. low_by_label flags.r flags.w asked id place there _ (λ d. open_labelled part_s who p flags d place (object_at part_s d)) (low_labelled id place))
 
   low_found : (path : PathValue) (mode : ℕ) → (flags.r || flags.w) ≡ true → (found : Found) → Seen l s kept valid who p is_low found
       → Same l s who p (open_found s who p path flags mode found) (open_found part_s who p path flags mode (part_found l s kept valid who p is_low found))

@@ -11,15 +11,13 @@ use Rattle.kern_model.specs.declared.limits.TheConstants.{MAX_DESCRIPTIONS, MAX_
 use Rattle.kern_model.specs.declared.numbers.Did.{Did}
 use Rattle.kern_model.specs.declared.numbers.Oid.{Oid}
 use Rattle.kern_model.specs.declared.numbers.Pid.{Pid}
-use Rattle.kern_model.specs.declared.objects.Body.TheVariants as body
 use Rattle.kern_model.specs.declared.objects.Kind.TheVariants as kind
 use Rattle.kern_model.specs.declared.objects.Object.{Object}
-use Rattle.kern_model.specs.Create.{attr_of, drawing, has_object_number}
+use Rattle.kern_model.specs.Create.{drawing, has_object_number}
 use Rattle.kern_model.specs.Descriptors.{open_count, lowest_free, with_descriptor}
 use Rattle.kern_model.specs.Entries.{link_count}
-use Rattle.kern_model.specs.FileRows.{pipe_mode, on_pipe, second_description, piped}
+use Rattle.kern_model.specs.FileRows.{new_pipe, on_pipe, second_description, piped}
 use Rattle.kern_model.specs.Keys.{Spot, oid_cmp, same_oid}
-use Rattle.kern_model.specs.Kinds.{object_with}
 use Rattle.kern_model.specs.State.{State, Process, SetProcess, SetDescription, DrawDescription, changed_by, drawn, next_description, next_object, root}
 use Rattle.kern_model.specs.Valid.{IsValid, IsReached, IsValidObject}
 use Rattle.kern_model.proofs.KeyLaws.{oid_cmp_total, oid_cmp_exact, pid_cmp_total, pid_cmp_exact, spot_cmp_total, spot_cmp_exact}
@@ -35,7 +33,7 @@ use Rattle.iso_laws.proofs.tree.Changes.{distinct, tree_entry, tree_object, vali
 -- ---- an object is made that no entry leads to
 module _ (s : State) (valid : IsValid s) (who : Pid) (p : Process) (is : map.get s.procs who ≡ Some p) where
   abbrev pipe : Object
-  pipe = object_with p.label (attr_of p pipe_mode) body.Pipe
+  pipe = new_pipe p
 
   abbrev new : Oid
   new = next_object s p.label
@@ -100,7 +98,7 @@ one_more p did =
 
 module _ (s : State) (valid : IsValid s) (who : Pid) (p : Process) (is : map.get s.procs who ≡ Some p) where
   abbrev made_state : State
-  made_state = changed_by s (drawing s p.label (object_with p.label (attr_of p pipe_mode) body.Pipe))
+  made_state = changed_by s (drawing s p.label (new_pipe p))
 
   abbrev first : Did
   first = next_description s p.label
@@ -110,23 +108,23 @@ module _ (s : State) (valid : IsValid s) (who : Pid) (p : Process) (is : map.get
 
   -- the state with one end of the pipe
   abbrev half_state : State
-  half_state = changed_by made_state (DrawDescription p.label (drawn s.description_numbers p.label + 1) ∷ SetDescription first (on_pipe s p true) ∷ SetProcess who one_end ∷ [])
+  half_state = changed_by made_state (DrawDescription p.label (drawn s.description_numbers p.label + 1) ∷ SetDescription first (on_pipe (next_object s p.label) true) ∷ SetProcess who one_end ∷ [])
 
   -- and with the other end, whose description has the number n
   abbrev whole_state : ℕ → State
-  whole_state n = changed_by half_state (DrawDescription p.label n ∷ SetDescription (record { label = p.label; n = n }) (on_pipe s p false) ∷ SetProcess who (with_descriptor one_end (record { label = p.label; n = n })) ∷ [])
+  whole_state n = changed_by half_state (DrawDescription p.label n ∷ SetDescription (record { label = p.label; n = n }) (on_pipe (next_object s p.label) false) ∷ SetProcess who (with_descriptor one_end (record { label = p.label; n = n })) ∷ [])
 
   -- a valid state stays valid where a pipe is made and opened at both ends
   pub valid_piped : has_object_number s p.label ≡ true → open_count p + 2 ≤ MAX_DESCRIPTORS → drawn s.description_numbers p.label + 2 ≤ MAX_DESCRIPTIONS → IsValid (changed_by s (piped s who p))
   valid_piped left room numbers =
       let n : ℕ = drawn s.description_numbers p.label in
-      let o : Object = object_with p.label (attr_of p pipe_mode) body.Pipe in
+      let o : Object = new_pipe p in
       let no_dir : o.kind ≡ kind.Dir → ⊥ = λ dir. let no : kind.Pipe ≡ kind.Dir = dir in cc in
       let there : map.get made_state.objects (next_object s p.label) ≡ Some o = get-insert_same oid_cmp_total s.objects (next_object s p.label) o in
-      let half : IsValid half_state = valid_opened made_state (valid_drawn s valid who p is left) who p is (on_pipe s p true) o there no_dir (omega (arith, room)) (omega (arith, numbers)) in
+      let half : IsValid half_state = valid_opened made_state (valid_drawn s valid who p is left) who p is (on_pipe (next_object s p.label) true) o there no_dir (omega (arith, room)) (omega (arith, numbers)) in
       let drawn_now : drawn half_state.description_numbers p.label ≡ n + 1 = get_or-found _ p.label 0 _ (get-insert_same label_cmp_total s.description_numbers p.label (n + 1)) in
       let whole : IsValid (whole_state (drawn half_state.description_numbers p.label + 1)) =
-      valid_opened half_state half who one_end (get-insert_same pid_cmp_total s.procs who one_end) (on_pipe s p false) o there no_dir (omega (arith, room, one_more p first)) (omega (arith, numbers, drawn_now)) in
+      valid_opened half_state half who one_end (get-insert_same pid_cmp_total s.procs who one_end) (on_pipe (next_object s p.label) false) o there no_dir (omega (arith, room, one_more p first)) (omega (arith, numbers, drawn_now)) in
       let second : drawn half_state.description_numbers p.label + 1 ≡ n + 2 = omega (arith, drawn_now) in
       subst IsValid
       (λ i. record (whole_state (n + 2)) {

@@ -1,5 +1,5 @@
 -- The calls on entries: a Low process in the state and in its part.
-use Rattle.std.specs.Prelude.{◌≡◌, ℕ, ◌+◌, ◌&&◌, nat_le, nat_lt, true, false, not, List, [], ◌∷◌, Option, None, Some, refl, cond}
+use Rattle.std.specs.Prelude.{◌≡◌, ℕ, ◌&&◌, nat_le, nat_lt, true, false, not, [], ◌∷◌, ◌++◌, Option, None, Some, refl, cond}
 use Rattle.std.proofs.Common.{sym, ◌∙◌, ap}
 use Rattle.std.specs.Option.{option_map}
 use Rattle.std.specs.FinMap as map
@@ -12,24 +12,23 @@ use Rattle.kern_model.specs.declared.checks.Check.{Check}
 use Rattle.kern_model.specs.declared.checks.CheckName.TheVariants as check
 use Rattle.kern_model.specs.declared.checks.Place.{Place}
 use Rattle.kern_model.specs.declared.checks.Place.TheVariants.{First, Second}
-use Rattle.kern_model.specs.declared.checks.Want.TheVariants as want
 use Rattle.kern_model.specs.declared.numbers.Oid.{Oid}
 use Rattle.kern_model.specs.declared.numbers.Pid.{Pid}
 use Rattle.kern_model.specs.declared.limits.TheConstants.{MAX_LINKS, MAX_OBJECTS}
 use Rattle.kern_model.specs.declared.objects.Body.{Body}
 use Rattle.kern_model.specs.declared.objects.Body.TheVariants as body
 use Rattle.kern_model.specs.declared.objects.Object.{Object}
-use Rattle.kern_model.specs.Create.{made, enter_in, write_directory, has_object_number}
-use Rattle.kern_model.specs.Entries.{names_in, link_count}
+use Rattle.kern_model.specs.Create.{drawing, made, made_after, enter_in, write_directory, has_object_number}
+use Rattle.kern_model.specs.Entries.{names_in}
 use Rattle.kern_model.specs.Isolation.{low, crosses, Kept}
 use Rattle.kern_model.specs.Keys.{Spot, same_oid}
 use Rattle.kern_model.specs.Kinds.{is_dir}
-use Rattle.kern_model.specs.Row.{Row, Need, Refuse, Commit}
-use Rattle.kern_model.specs.Rules.{of_object, mode_allows, same_label, created_order, held_order, link_dir}
-use Rattle.kern_model.specs.Stat.{stat_of}
-use Rattle.kern_model.specs.State.{State, Process, Change, DrawObject, SetObject, SetEntry, DropEntry, drawn, next_object, look}
+use Rattle.kern_model.specs.Row.{Row}
+use Rattle.kern_model.specs.Rules.{of_object, created_order, held_order, mac_write_of, dac_read_of, dac_write_of}
+use Rattle.kern_model.specs.Stat.{stat_of, tell_stat}
+use Rattle.kern_model.specs.State.{State, Process, SetEntry, DropEntry, next_object, look}
 use Rattle.kern_model.specs.Step.{subject}
-use Rattle.kern_model.specs.TreeRows.{chdir_row, stand_in, readdir_row, list_names, stat_row, rmdir_row, remove_dir, unlink_row, remove_name, drop_entry, old_entry_found, old_entry, make_row, make_object, mkdir_row, mkfifo_row, new_spot_found, new_spot, link_row, add_name, add_entry, rename_row, target_found, target_entry, may_replace, if_moves, give_way, move_row, move_over, move_to}
+use Rattle.kern_model.specs.TreeRows.{chdir_row, stand_in, readdir_row, list_names, stat_row, rmdir_row, remove_dir, unlink_row, remove_name, drop_entry, old_entry_found, old_entry, make_row, make_object, mkdir_row, mkfifo_row, new_spot_found, new_spot, link_row, has_name_left, add_name, add_entry, rename_row, target_found, target_entry, may_replace, if_moves, give_way, move_row, move_over, move_to}
 use Rattle.kern_model.specs.Valid.{IsValid, IsThere, IsDir}
 use Rattle.kern_model.specs.Walk.{Found, Start, Entry, last_place, dir_place}
 use Rattle.iso_laws.proofs.LowRows.{Same, seen_self, low_itself, low_check, low_read, low_write, low_answer}
@@ -49,13 +48,12 @@ module _ (l : Label) (s : State) (kept : Kept l s) (valid : IsValid s) (who : Pi
   readdir_low path =
       low_read l s kept valid who p is is_low path (list_names s p) (list_names part_s p)
       (λ id place _ h. alike_refuse (crosses l) l s.top (subject who p) errno.ENOTDIR _ _ _ _ (λ i. not (is_dir (object_low l s id h i).kind))
-      (λ _. low_check l s kept valid who p is is_low id h (λ o. of_object check.DacRead (mode_allows o.attr p.ids want.Read) None id o place) _ _
+      (λ _. low_check l s kept valid who p is is_low id h (λ o. dac_read_of p id o place) _ _
       (λ _. low_answer l s kept valid who p is is_low answer.Names (names_in s id) (names_in part_s id) (names_low l s id h))))
 
   pub stat_low : (path : PathValue) → Same l s who p (stat_row s who p path) (stat_row part_s who p path)
   stat_low path =
-      let told : State → Oid → Place → Object → Row = λ t id _ _. Commit [] (answer.Stat (stat_of t id)) None in
-      low_read l s kept valid who p is is_low path (told s) (told part_s)
+      low_read l s kept valid who p is is_low path (λ id _ _. tell_stat s id) (λ id _ _. tell_stat part_s id)
       (λ id _ there h. low_answer l s kept valid who p is is_low answer.Stat (stat_of s id) (stat_of part_s id) (stat_of_low l s kept valid id there h))
 
   pub chdir_low : (path : PathValue) → Same l s who p (chdir_row s who p path) (chdir_row part_s who p path)
@@ -69,8 +67,8 @@ module _ (l : Label) (s : State) (kept : Kept l s) (valid : IsValid s) (who : Pi
   low_write_directory : (dir : Oid) → low l dir.label ≡ true → (place : Place) (c c' : Check) → c' ≡ c → (r r' : Row) → Same l s who p r r'
       → Same l s who p (write_directory s p dir place c r) (write_directory part_s p dir place c' r')
   low_write_directory dir h place c c' e r r' rest =
-      low_check l s kept valid who p is is_low dir h (λ o. of_object check.MacWrite (same_label p.label o.label) None dir o place) _ _
-      (λ _. low_check l s kept valid who p is is_low dir h (λ o. of_object check.DacWrite (mode_allows o.attr p.ids want.Write) None dir o place) _ _
+      low_check l s kept valid who p is is_low dir h (λ o. mac_write_of p dir o place) _ _
+      (λ _. low_check l s kept valid who p is is_low dir h (λ o. dac_write_of p dir o place) _ _
       (λ _. alike_same (crosses l) l s.top (subject who p) c c' _ _ e (λ _. rest)))
 
   -- a Low directory may get an entry
@@ -104,17 +102,10 @@ module _ (l : Label) (s : State) (kept : Kept l s) (valid : IsValid s) (who : Pi
     low_new_spot = alike_walk l s kept valid who p is_low is place path _ _ low_is_new_spot
 
   -- ---- making
-  -- an object with the next number n of the caller's label
-  abbrev made_at : Oid → Name → Object → ℕ → List Change
-  made_at dir name o n =
-      DrawObject p.label (n + 1) ∷ SetObject (record { label = p.label; n = n + 1 }) o ∷ SetEntry (dir, name) (record { label = p.label; n = n + 1 }) ∷ []
-
   pub seen_made : (dir : Oid) (name : Name) (o : Object) → low l dir.label ≡ true → made part_s p.label dir name o ≡ part_changes l s.top (made s p.label dir name o)
   seen_made dir name o h =
-      let n : ℕ = drawn s.object_numbers p.label in
-      ap (made_at dir name o) (drawn_low l s p.label is_low)
-      ∙ ap (λ (q : Oid). DrawObject p.label (n + 1) ∷ SetObject (next_object s p.label) o ∷ SetEntry (dir, name) q ∷ [])
-      (sym (shown_low l s (next_object s p.label) is_low))
+      ap (λ last. made_after last p.label dir name o) (drawn_low l s p.label is_low)
+      ∙ ap (λ (q : Oid). drawing s p.label o ++ SetEntry (dir, name) q ∷ []) (sym (shown_low l s (next_object s p.label) is_low))
       ∙ sym (part_of_low l s.top (made s p.label dir name o) (is_low, (is_low, (h, tt))))
 
   pub same_room : has_object_number part_s p.label ≡ has_object_number s p.label
@@ -141,9 +132,8 @@ module _ (l : Label) (s : State) (kept : Kept l s) (valid : IsValid s) (who : Pi
 
   pub link_low : (path to : PathValue) → Same l s who p (link_row s who p path to) (link_row part_s who p path to)
   link_low path to =
-      let named : State → Oid → Place → Object → Row =
-      λ t id place _. Need (link_dir t id place) (Refuse errno.EMLINK (nat_le MAX_LINKS (link_count t id)) (add_name t p to id)) in
-      low_write l s kept valid who p is is_low path (named s) (named part_s)
+      low_write l s kept valid who p is is_low path (λ id place _. has_name_left s id place (add_name s p to id))
+      (λ id place _. has_name_left part_s id place (add_name part_s p to id))
       (λ id place there low_id.
       low_check l s kept valid who p is is_low id low_id (λ o. of_object check.LinkDir (not (is_dir o.kind)) None id o place) _ _
       (λ _. alike_refuse (crosses l) l s.top (subject who p) errno.EMLINK _ _ _ _ (ap (nat_le MAX_LINKS) (link_count_low l s kept valid id there low_id))
@@ -161,8 +151,8 @@ module _ (l : Label) (s : State) (kept : Kept l s) (valid : IsValid s) (who : Pi
       low_is_old_entry (Entry dir name object) seen =
           let place : Place = dir_place (λ n. First n) path in
           alike_missing (crosses l) l s.top (subject who p) object _ _ (shown l s.top)
-          (λ id e. low_check l s kept valid who p is is_low dir seen.0 (λ o. of_object check.MacWrite (same_label p.label o.label) None dir o place) _ _
-          (λ _. low_check l s kept valid who p is is_low dir seen.0 (λ o. of_object check.DacWrite (mode_allows o.attr p.ids want.Write) None dir o place) _ _
+          (λ id e. low_check l s kept valid who p is is_low dir seen.0 (λ o. mac_write_of p dir o place) _ _
+          (λ _. low_check l s kept valid who p is is_low dir seen.0 (λ o. dac_write_of p dir o place) _ _
           (λ _. alike_mac_write l s kept valid who p is_low id (led_there s valid dir name id (sym seen.2 ∙ e)) (last_place (λ n. First n) path) _
           (λ d. k' (dir, name, d)) (rest dir name id seen.0))))
 

@@ -24,7 +24,10 @@ pub fn aud_write(
     must(checks, &by_capability(CheckName::AudWrite, who, &caller))?;
     Ok(Effect {
         answer: Answer::Nothing,
-        own: Some(Rec::Note(*who, bytes.copy()?)),
+        own: Some(Rec::Note {
+            who: *who,
+            bytes: bytes.copy()?,
+        }),
     })
 }
 
@@ -43,7 +46,7 @@ pub fn aud_switch(
     switch(shared, who, on);
     Ok(Effect {
         answer: Answer::Nothing,
-        own: Some(Rec::Switch(*who, on)),
+        own: Some(Rec::Switch { who: *who, on }),
     })
 }
 

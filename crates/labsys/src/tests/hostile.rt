@@ -4,8 +4,9 @@ use crate::Status;
 use fs_path::next_line;
 use io_ends::MemSink;
 use kern_model::NoMemory;
-use lab_engine::{InputEnd, Part, Refusal, report_last};
+use lab_engine::{InputEnd, Part, report_last};
 use lab_text::Policy;
+use line_text::LineFault;
 use script_text::{Line, LineError, read_line};
 use std::alloc::Global;
 use std::test::Fail;
@@ -87,13 +88,13 @@ fn broken_day(alloc: Global, seed: u64) -> Result<Vec<u8>, NoMemory> {
 // How an input ends whose world is not accepted.
 fn refused_world(error: WorldError) -> Result<InputEnd, NoMemory> {
     let (number, why) = match error {
-        WorldError::Syntax(number) => (number, Refusal::Syntax),
-        WorldError::UnknownName(number) => (number, Refusal::UnknownName),
-        WorldError::Repeated(number) => (number, Refusal::Repeated),
-        WorldError::NoParent(number) => (number, Refusal::NoParent),
-        WorldError::LabelOrder(number) => (number, Refusal::LabelOrder),
-        WorldError::RootLabel(number) => (number, Refusal::RootLabel),
-        WorldError::TooMany(number) => (number, Refusal::TooMany),
+        WorldError::Syntax(number) => (number, LineFault::Syntax),
+        WorldError::UnknownName(number) => (number, LineFault::UnknownName),
+        WorldError::Repeated(number) => (number, LineFault::Repeated),
+        WorldError::NoParent(number) => (number, LineFault::NoParent),
+        WorldError::LabelOrder(number) => (number, LineFault::LabelOrder),
+        WorldError::RootLabel(number) => (number, LineFault::RootLabel),
+        WorldError::TooMany(number) => (number, LineFault::TooMany),
         WorldError::NoMemory(e) => return Err(e),
     };
     Ok(InputEnd::Refused(number, Part::World, why))
@@ -101,16 +102,7 @@ fn refused_world(error: WorldError) -> Result<InputEnd, NoMemory> {
 
 // How a script ends at a line that is not accepted.
 fn refused_line(number: u64, error: LineError) -> Result<InputEnd, NoMemory> {
-    let why = match error {
-        LineError::TooLong => Refusal::TooLong,
-        LineError::Syntax => Refusal::Syntax,
-        LineError::BadTag => Refusal::BadTag,
-        LineError::BadPath => Refusal::BadPath,
-        LineError::BadLabel => Refusal::BadLabel,
-        LineError::BadCaps => Refusal::BadCaps,
-        LineError::NoMemory(e) => return Err(e),
-    };
-    Ok(InputEnd::Refused(number, Part::Script, why))
+    Ok(InputEnd::Refused(number, Part::Script, error.fault()?))
 }
 
 // How many calls a line makes.
@@ -127,7 +119,7 @@ fn end_at(number: u64, rest: &[u8]) -> InputEnd {
     if rest.is_empty() {
         InputEnd::Whole
     } else {
-        InputEnd::Refused(number, Part::Script, Refusal::Syntax)
+        InputEnd::Refused(number, Part::Script, LineFault::Syntax)
     }
 }
 

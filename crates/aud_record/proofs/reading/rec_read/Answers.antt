@@ -15,8 +15,8 @@ is_found p text (Ok read) parsed = let is = rec_is p text read parsed in (is.pre
 is_found p text (Err e) parsed = tt
 
 pub returns-clause-found : goal.returns-clause-found
-returns-clause-found c = is_found c.args.policy.now c.args.text.now c.first_record.result c.first_record.ensures
+returns-clause-found c = is_found c.args.policy.now c.args.text.now c.first_record.result c.first_record.ensures.parsed
 
 pub returns-clause-only : goal.returns-clause-only
 returns-clause-only c = λ call r rest valid range begins.
-    subst (Answers c.first_record.result) (ap (parse_rec c.args.policy.now) begins ∙ rec_round_trip c.args.policy.now call r rest c.levels-names.ensures.policy range.call_is (fits_from c.args.policy.now call r valid range)) c.first_record.ensures
+    subst (Answers c.first_record.result) (ap (parse_rec c.args.policy.now) begins ∙ rec_round_trip c.args.policy.now call r rest c.levels-names.ensures.policy range.call_is (fits_from c.args.policy.now call r valid range)) c.first_record.ensures.parsed

@@ -5,7 +5,7 @@ use Rattle.io_ends.proofs.lines.seek.Given as goal
 
 abbrev pub invariant-loop-look : goal.invariant-loop-look
 invariant-loop-look g l = record {
-  seeking : Seeking l.initial.buffer l.buffer l.room l.searched (g.S.Source.left l.initial.source) (g.S.Source.left l.source) (g.S.Source.faults l.initial.source) (g.S.Source.faults l.source);
+  seeking : Seeking l.initial.buffer l.buffer l.room l.searched (g.S.Source.view l.initial.source).left (g.S.Source.view l.source).left (g.S.Source.view l.initial.source).faults (g.S.Source.view l.source).faults;
   small : l.room ≤ 2 ^ 24;
   quiet : HoldsLine l.initial.buffer l.room → l.source ≡ l.initial.source;
 }

@@ -4,8 +4,8 @@ use Rattle.lab_engine.proofs.checking.check_script.Given as goal
 
 abbrev pub invariant-loop-line : goal.invariant-loop-line
 invariant-loop-line g l = record {
-  read : ReadSoFar l.texts.policy.now l.initial.lines l.lines (g.S.Source.left l.initial.source) (g.S.Source.left l.source) l.count;
-  still : g.S.Source.faults l.source ≡ g.S.Source.faults l.initial.source;
+  read : ReadSoFar l.texts.policy.now l.initial.lines l.lines (g.S.Source.view l.initial.source).left (g.S.Source.view l.source).left l.count;
+  still : (g.S.Source.view l.source).faults ≡ (g.S.Source.view l.initial.source).faults;
 }
 
 abbrev pub decreases-loop-line : goal.decreases-loop-line

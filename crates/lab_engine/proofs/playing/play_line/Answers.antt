@@ -14,45 +14,45 @@ pub returns-in-Blank-clause-writes : goal.returns-in-Blank-clause-writes
 returns-in-Blank-clause-writes g c = λ source.
     let s = g.C.Calls.state c.args.kernel.now in
     in_order {T = ℕ} (Ok c.args.count) _ _ _ _
-    (sym (ap (items_reported c.args.report.now c.args.texts.policy.now c.args.count s) (ap items_in c.in-Blank.is) ∙ items_none c.args.texts.policy.now c.args.report.now c.args.count s))
+    (sym (ap (items_reported c.args.reporter.now.report c.args.reporter.now.texts.policy.now c.args.count s) (ap items_in c.in-Blank.is) ∙ items_none c.args.reporter.now.texts.policy.now c.args.reporter.now.report c.args.count s))
     (all_nothing _)
 
-pub returns-in_err-play_one-in-One-clause-writes : goal.returns-in_err-play_one-in-One-clause-writes
-returns-in_err-play_one-in-One-clause-writes g c = λ source.
+pub returns-in_err-play_call-in-One-clause-writes : goal.returns-in_err-play_call-in-One-clause-writes
+returns-in_err-play_call-in-One-clause-writes g c = λ source.
     let s = g.C.Calls.state c.args.kernel.now in
     in_order _ _ _ _ _
-    (items_one c.args.texts.policy.now c.args.report.now c.args.count s (item_of c.in-One.who c.in-One.call) ∙ sym (ap (items_reported c.args.report.now c.args.texts.policy.now c.args.count s) (ap items_in c.in-One.is)))
-    (passes_on _ _ _ _ _ (c.in_err-play_one-in-One.ensures.writes source) c.from_residual.ensures.1)
+    (items_one c.args.reporter.now.texts.policy.now c.args.reporter.now.report c.args.count s (item_of c.in-One.who c.in-One.call) ∙ sym (ap (items_reported c.args.reporter.now.report c.args.reporter.now.texts.policy.now c.args.count s) (ap items_in c.in-One.is)))
+    (passes_on _ _ _ _ _ (c.in_err-play_call-in-One.ensures.writes source) c.from_residual.ensures.1)
 
-pub returns-in_ok-play_one-in-One-clause-writes : goal.returns-in_ok-play_one-in-One-clause-writes
-returns-in_ok-play_one-in-One-clause-writes g c = λ source.
+pub returns-in_ok-play_call-in-One-clause-writes : goal.returns-in_ok-play_call-in-One-clause-writes
+returns-in_ok-play_call-in-One-clause-writes g c = λ source.
     let s = g.C.Calls.state c.args.kernel.now in
     in_order {T = ℕ} (Ok (c.args.count + 1)) _ _ _ _
-    (items_one c.args.texts.policy.now c.args.report.now c.args.count s (item_of c.in-One.who c.in-One.call) ∙ sym (ap (items_reported c.args.report.now c.args.texts.policy.now c.args.count s) (ap items_in c.in-One.is)))
-    (c.in_ok-play_one-in-One.ensures.writes source)
+    (items_one c.args.reporter.now.texts.policy.now c.args.reporter.now.report c.args.count s (item_of c.in-One.who c.in-One.call) ∙ sym (ap (items_reported c.args.reporter.now.report c.args.reporter.now.texts.policy.now c.args.count s) (ap items_in c.in-One.is)))
+    (c.in_ok-play_call-in-One.ensures.writes source)
 
 pub returns-in-Tool-clause-writes : goal.returns-in-Tool-clause-writes
 returns-in-Tool-clause-writes g c = λ source.
-    in_order c.play_tool.result _ _ _ _ (sym (ap (items_reported c.args.report.now c.args.texts.policy.now c.args.count (g.C.Calls.state c.args.kernel.now)) (ap items_in c.in-Tool.is))) (c.play_tool.ensures.writes source)
+    in_order c.play_tool.result _ _ _ _ (sym (ap (items_reported c.args.reporter.now.report c.args.reporter.now.texts.policy.now c.args.count (g.C.Calls.state c.args.kernel.now)) (ap items_in c.in-Tool.is))) (c.play_tool.ensures.writes source)
 
 pub returns-in-Blank-clause-readable : goal.returns-in-Blank-clause-readable
-returns-in-Blank-clause-readable g c = λ all. readable_none c.args.texts.policy.now c.args.count (g.C.Calls.state c.args.kernel.now) _ (ap items_in c.in-Blank.is)
+returns-in-Blank-clause-readable g c = λ all. readable_none c.args.reporter.now.texts.policy.now c.args.count (g.C.Calls.state c.args.kernel.now) _ (ap items_in c.in-Blank.is)
 
-pub returns-in_ok-play_one-in-One-clause-readable : goal.returns-in_ok-play_one-in-One-clause-readable
-returns-in_ok-play_one-in-One-clause-readable g c = λ all.
-    let policy = c.args.texts.policy.now in
+pub returns-in_ok-play_call-in-One-clause-readable : goal.returns-in_ok-play_call-in-One-clause-readable
+returns-in_ok-play_call-in-One-clause-readable g c = λ all.
+    let policy = c.args.reporter.now.texts.policy.now in
     let s = g.C.Calls.state c.args.kernel.now in
     let next = (step s c.in-One.who c.in-One.call).state in
-    readable_call policy c.args.count s next (item_of c.in-One.who c.in-One.call) [] _ (ap items_in c.in-One.is) refl (c.in_ok-play_one-in-One.ensures.readable all)
+    readable_call policy c.args.count s next (item_of c.in-One.who c.in-One.call) [] _ (ap items_in c.in-One.is) refl (c.in_ok-play_call-in-One.ensures.readable all)
     (readable_none policy (c.args.count + 1) next [] refl)
 
 pub returns-in-Blank-clause-report : goal.returns-in-Blank-clause-report
 returns-in-Blank-clause-report g c =
     let s = g.C.Calls.state c.args.kernel.now in
-    sym (ap (λ (is : List ScriptItem). report_after c.args.report.now (run s is)) (ap items_in c.in-Blank.is) ∙ after_none c.args.report.now s)
+    sym (ap (λ (is : List ScriptItem). report_after c.args.reporter.now.report (run s is)) (ap items_in c.in-Blank.is) ∙ after_none c.args.reporter.now.report s)
 
-pub returns-in_ok-play_one-in-One-clause-report : goal.returns-in_ok-play_one-in-One-clause-report
-returns-in_ok-play_one-in-One-clause-report g c =
+pub returns-in_ok-play_call-in-One-clause-report : goal.returns-in_ok-play_call-in-One-clause-report
+returns-in_ok-play_call-in-One-clause-report g c =
     let s = g.C.Calls.state c.args.kernel.now in
-    c.in_ok-play_one-in-One.ensures.report
-    ∙ sym (ap (λ (is : List ScriptItem). report_after c.args.report.now (run s is)) (ap items_in c.in-One.is) ∙ after_one c.args.report.now s (item_of c.in-One.who c.in-One.call))
+    c.in_ok-play_call-in-One.ensures.report
+    ∙ sym (ap (λ (is : List ScriptItem). report_after c.args.reporter.now.report (run s is)) (ap items_in c.in-One.is) ∙ after_one c.args.reporter.now.report s (item_of c.in-One.who c.in-One.call))

@@ -1,19 +1,23 @@
 use Rattle.std.proofs.Common.{◌≡◌}
-use Rattle.io_ends.specs.Sinks.{sink_view}
 use Rattle.lab_text.specs.Policy.{top_of}
 use Rattle.lab_engine.specs.Playing.{ends}
 use Rattle.lab_engine.specs.Report.{CountsAtMost}
+use Rattle.lab_engine.specs.Reporter.{SameEnds}
 use Rattle.lab_engine.proofs.Progress.{Progress}
 use Rattle.lab_engine.proofs.playing.play_script.Given as goal
 
-abbrev pub invariant-loop-room : goal.invariant-loop-room
-invariant-loop-room g l = record {
-  progress : Progress l.texts.policy.now l.initial.report l.report (g.C.Calls.state l.initial.kernel) (g.C.Calls.state l.kernel) l.initial.lines l.lines (g.S.Source.left l.initial.source) (g.S.Source.left l.source) l.count
-      (ends (g.S.Source.faults l.initial.source) (sink_view (g.K.Sink.held l.initial.out) (g.K.Sink.faults l.initial.out)) (sink_view (g.T.Sink.held l.initial.trail) (g.T.Sink.faults l.initial.trail)))
-      (ends (g.S.Source.faults l.source) (sink_view (g.K.Sink.held l.out) (g.K.Sink.faults l.out)) (sink_view (g.T.Sink.held l.trail) (g.T.Sink.faults l.trail)));
-  top : (g.C.Calls.state l.kernel).top ≡ top_of l.texts.policy.now;
-  counted : CountsAtMost l.count l.report;
-}
+abbrev pub invariant-loop-line : goal.invariant-loop-line
+invariant-loop-line g l =
+    let first = l.initial.reporter in
+    let now = l.reporter in
+    record {
+      progress : Progress now.texts.policy.now first.report now.report (g.C.Calls.state l.initial.kernel) (g.C.Calls.state l.kernel) l.initial.lines l.lines (g.S.Source.view l.initial.source).left (g.S.Source.view l.source).left l.count
+          (ends (g.S.Source.view l.initial.source).faults (g.K.Sink.view first.out.now) (g.T.Sink.view first.trail.now))
+          (ends (g.S.Source.view l.source).faults (g.K.Sink.view now.out.now) (g.T.Sink.view now.trail.now));
+      top : (g.C.Calls.state l.kernel).top ≡ top_of now.texts.policy.now;
+      counted : CountsAtMost l.count now.report;
+      same : SameEnds first.texts.policy.now now.texts.policy.now first.out now.out first.trail now.trail;
+    }
 
-abbrev pub decreases-loop-room : goal.decreases-loop-room
-decreases-loop-room g l = l.lines.room
+abbrev pub decreases-loop-line : goal.decreases-loop-line
+decreases-loop-line g l = l.lines.room

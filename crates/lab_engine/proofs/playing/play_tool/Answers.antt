@@ -12,9 +12,13 @@ use Rattle.sec_utils.specs.Items.{item_of, items_of}
 use Rattle.sec_utils.proofs.ItemLaws.{items_from, items_length, items_played}
 use Rattle.std.proofs.lemmas.List.{drop_all}
 use Rattle.kern_model.specs.declared.world.ScriptItem.{ScriptItem}
+use Rattle.kern_model.specs.Step.{step}
+use Rattle.lab_text.specs.Policy.{PolicyNames}
+use Rattle.lab_engine.specs.Readable.{AreReadable}
 use Rattle.lab_engine.specs.Report.{CountsAtMost, items_reported, report_after}
-use Rattle.lab_engine.proofs.ReportLemmas.{after_first, after_none, call_stays, counts_call, counts_longer, items_left, items_none}
+use Rattle.lab_engine.proofs.ReportLemmas.{after_first, after_none, call_stays, counts_call, counts_longer, items_none}
 use Rattle.lab_engine.proofs.ReadableLemmas.{readable_call, readable_none}
+use Rattle.lab_engine.proofs.ReporterLemmas.{left_now}
 use Rattle.lab_engine.proofs.Sending.{out_of_memory}
 use Rattle.lab_engine.proofs.ScriptLemmas.{underway_begins, underway_ends, underway_more, underway_stops}
 use Rattle.lab_engine.proofs.ToolLemmas.{first_playable}
@@ -49,6 +53,7 @@ loop-at-init g c =
       after = refl;
       top = refl;
       playable = items_played c.args.util.now _ c.requires.calls.0 c.requires.calls.1;
+      same = (refl, refl, refl);
     }
 
 pub overflow_add-number : goal.overflow_add-number
@@ -59,56 +64,53 @@ overflow_add-number g c =
     let small = c.requires.small in
     omega arith
 
-pub play_path-requires-clause-arguments : goal.play_path-requires-clause-arguments
-play_path-requires-clause-arguments g c =
+pub play_call-requires-clause-arguments : goal.play_call-requires-clause-arguments
+play_call-requires-clause-arguments g c =
     subst (λ (top : Label). is_call top c.call-item.result ≡ true) (sym c.loop-at.invariant.top)
     (first_playable _ _ _ _ (first c.args.util.now c.requires.calls.2 c.items-call-items.result.now (c.items-call-items.ensures ∙ c.in_ok-calls.ensures.calls) (ap length c.items-call-items.ensures ∙ c.in_ok-calls.ensures.each) c.loop-at.at c.call-item.result c.loop-at-test.true c.call-item.is) c.loop-at.invariant.playable).first
 
-pub play_path-requires-clause-at : goal.play_path-requires-clause-at
-play_path-requires-clause-at g c =
-    within_paths c.args.util.now c.requires.calls.2 c.items-call-items.result.now (c.items-call-items.ensures ∙ c.in_ok-calls.ensures.calls) (ap length c.items-call-items.ensures ∙ c.in_ok-calls.ensures.each) c.loop-at.at c.call-item.result c.loop-at-test.true c.call-item.is
+pub play_call-requires-clause-line : goal.play_call-requires-clause-line
+play_call-requires-clause-line g c =
+    (within_paths c.args.util.now c.requires.calls.2 c.items-call-items.result.now (c.items-call-items.ensures ∙ c.in_ok-calls.ensures.calls) (ap length c.items-call-items.ensures ∙ c.in_ok-calls.ensures.each) c.loop-at.at c.call-item.result c.loop-at-test.true c.call-item.is, c.requires.calls.2)
 
-pub play_path-requires-clause-whole : goal.play_path-requires-clause-whole
-play_path-requires-clause-whole g c =
-    c.requires.calls.2
-
-pub play_path-requires-clause-small : goal.play_path-requires-clause-small
-play_path-requires-clause-small g c =
+pub play_call-requires-clause-small : goal.play_call-requires-clause-small
+play_call-requires-clause-small g c =
     let len = items_length c.args.util.now c.requires.calls.2 in
     let within = within_paths c.args.util.now c.requires.calls.2 c.items-call-items.result.now (c.items-call-items.ensures ∙ c.in_ok-calls.ensures.calls) (ap length c.items-call-items.ensures ∙ c.in_ok-calls.ensures.each) c.loop-at.at c.call-item.result c.loop-at-test.true c.call-item.is in
     let counted = c.loop-at.invariant.counted in
     let small = c.requires.small in
-    counts_longer c.loop-at.number (2 ^ 60) c.loop-at.report (omega arith) c.loop-at.invariant.few
+    counts_longer c.loop-at.number (2 ^ 60) c.loop-at.reporter.report (omega arith) c.loop-at.invariant.few
 
-pub returns-in_err-play_path-clause-writes : goal.returns-in_err-play_path-clause-writes
-returns-in_err-play_path-clause-writes g c =
-    λ source. underway_stops _ _ _ _ (c.loop-at.invariant.underway source) _ _ (items_left c.args.texts.policy.now c.loop-at.report _ c.loop-at.number (g.C.Calls.state c.loop-at.kernel) _ _ _ _ (first c.args.util.now c.requires.calls.2 c.items-call-items.result.now (c.items-call-items.ensures ∙ c.in_ok-calls.ensures.calls) (ap length c.items-call-items.ensures ∙ c.in_ok-calls.ensures.each) c.loop-at.at c.call-item.result c.loop-at-test.true c.call-item.is) refl refl)
-    _ _ _ (c.in_err-play_path.ensures.writes source) c.from_residual-in_err-play_path.ensures.1
+pub returns-in_err-play_call-clause-writes : goal.returns-in_err-play_call-clause-writes
+returns-in_err-play_call-clause-writes g c =
+    λ source. underway_stops _ _ _ _ (c.loop-at.invariant.underway source) _ _ (left_now c.args.reporter.now.texts.policy.now _ c.loop-at.invariant.same.0 c.loop-at.reporter.report _ c.loop-at.number (g.C.Calls.state c.loop-at.kernel) _ _ _ _ (first c.args.util.now c.requires.calls.2 c.items-call-items.result.now (c.items-call-items.ensures ∙ c.in_ok-calls.ensures.calls) (ap length c.items-call-items.ensures ∙ c.in_ok-calls.ensures.each) c.loop-at.at c.call-item.result c.loop-at-test.true c.call-item.is) refl refl)
+    _ _ _ (c.in_err-play_call.ensures.writes source) c.from_residual-in_err-play_call.ensures.1
 
 pub loop-at-preserved : goal.loop-at-preserved
 loop-at-preserved g c =
     let i = c.loop-at.invariant in
-    let state = c.in_ok-play_path.ensures.state in
+    let state = c.in_ok-play_call.ensures.state in
     let s = g.C.Calls.state c.loop-at.kernel in
     let left = drop (c.loop-at.at + 1) (items_of c.args.util.now) in
     record {
       underway = λ source. underway_more _ _ _ _ (i.underway source) _ _
-          (items_left c.args.texts.policy.now c.loop-at.report _ c.loop-at.number s _ _ _ _ (first c.args.util.now c.requires.calls.2 c.items-call-items.result.now (c.items-call-items.ensures ∙ c.in_ok-calls.ensures.calls) (ap length c.items-call-items.ensures ∙ c.in_ok-calls.ensures.each) c.loop-at.at c.call-item.result c.loop-at-test.true c.call-item.is) c.in_ok-play_path.ensures.report state)
-          _ (c.in_ok-play_path.ensures.writes source);
-      readable = λ all h. i.readable all (readable_call c.args.texts.policy.now c.loop-at.number s _ _ _ _ (first c.args.util.now c.requires.calls.2 c.items-call-items.result.now (c.items-call-items.ensures ∙ c.in_ok-calls.ensures.calls) (ap length c.items-call-items.ensures ∙ c.in_ok-calls.ensures.each) c.loop-at.at c.call-item.result c.loop-at-test.true c.call-item.is) state (c.in_ok-play_path.ensures.readable (i.all all)) h);
-      all = λ all. call_stays c.loop-at.report _ _ c.in_ok-play_path.ensures.report (i.all all);
-      kept = sym (after_first c.loop-at.report _ s _ _ _ _ (first c.args.util.now c.requires.calls.2 c.items-call-items.result.now (c.items-call-items.ensures ∙ c.in_ok-calls.ensures.calls) (ap length c.items-call-items.ensures ∙ c.in_ok-calls.ensures.each) c.loop-at.at c.call-item.result c.loop-at-test.true c.call-item.is) c.in_ok-play_path.ensures.report state) ∙ i.kept;
-      few = subst (CountsAtMost (c.loop-at.number + 1)) (sym c.in_ok-play_path.ensures.report) (counts_call c.loop-at.number c.loop-at.report _ i.few);
+          (left_now c.args.reporter.now.texts.policy.now _ c.loop-at.invariant.same.0 c.loop-at.reporter.report _ c.loop-at.number s _ _ _ _ (first c.args.util.now c.requires.calls.2 c.items-call-items.result.now (c.items-call-items.ensures ∙ c.in_ok-calls.ensures.calls) (ap length c.items-call-items.ensures ∙ c.in_ok-calls.ensures.each) c.loop-at.at c.call-item.result c.loop-at-test.true c.call-item.is) c.in_ok-play_call.ensures.report state)
+          _ (c.in_ok-play_call.ensures.writes source);
+      readable = λ all h. i.readable all (readable_call c.args.reporter.now.texts.policy.now c.loop-at.number s _ _ _ _ (first c.args.util.now c.requires.calls.2 c.items-call-items.result.now (c.items-call-items.ensures ∙ c.in_ok-calls.ensures.calls) (ap length c.items-call-items.ensures ∙ c.in_ok-calls.ensures.each) c.loop-at.at c.call-item.result c.loop-at-test.true c.call-item.is) state (subst (λ (p : PolicyNames). AreReadable p (c.loop-at.number + 1) (step s c.args.util.now.who c.call-item.result).recs) i.same.0 (c.in_ok-play_call.ensures.readable (i.all all))) h);
+      all = λ all. call_stays c.loop-at.reporter.report _ _ c.in_ok-play_call.ensures.report (i.all all);
+      kept = sym (after_first c.loop-at.reporter.report _ s _ _ _ _ (first c.args.util.now c.requires.calls.2 c.items-call-items.result.now (c.items-call-items.ensures ∙ c.in_ok-calls.ensures.calls) (ap length c.items-call-items.ensures ∙ c.in_ok-calls.ensures.each) c.loop-at.at c.call-item.result c.loop-at-test.true c.call-item.is) c.in_ok-play_call.ensures.report state) ∙ i.kept;
+      few = subst (CountsAtMost (c.loop-at.number + 1)) (sym c.in_ok-play_call.ensures.report) (counts_call c.loop-at.number c.loop-at.reporter.report _ i.few);
       counted = omega (arith, i.counted);
       after = ap (λ (x : State). state_after_run x left) state ∙ sym (ap (state_after_run s) (first c.args.util.now c.requires.calls.2 c.items-call-items.result.now (c.items-call-items.ensures ∙ c.in_ok-calls.ensures.calls) (ap length c.items-call-items.ensures ∙ c.in_ok-calls.ensures.each) c.loop-at.at c.call-item.result c.loop-at-test.true c.call-item.is)) ∙ i.after;
       top = ap (λ (x : State). x.top) state ∙ top_step s c.args.util.now.who c.call-item.result ∙ i.top;
       playable = (first_playable _ _ _ _ (first c.args.util.now c.requires.calls.2 c.items-call-items.result.now (c.items-call-items.ensures ∙ c.in_ok-calls.ensures.calls) (ap length c.items-call-items.ensures ∙ c.in_ok-calls.ensures.each) c.loop-at.at c.call-item.result c.loop-at-test.true c.call-item.is) i.playable).others;
+      same = (c.in_ok-play_call.ensures.same.0 ∙ i.same.0, i.same.1 ∙ c.in_ok-play_call.ensures.same.1, i.same.2 ∙ c.in_ok-play_call.ensures.same.2);
     }
 
 pub returns-clause-writes : goal.returns-clause-writes
 returns-clause-writes g c =
     let none = no_more c.args.util.now c.requires.calls.2 c.items-call-items.result.now (ap length c.items-call-items.ensures ∙ c.in_ok-calls.ensures.each) c.loop-at.at c.loop-at-test.false in
-    λ source. underway_ends _ _ _ _ (c.loop-at.invariant.underway source) (ap (items_reported c.loop-at.report c.args.texts.policy.now c.loop-at.number (g.C.Calls.state c.loop-at.kernel)) none ∙ items_none c.args.texts.policy.now c.loop-at.report c.loop-at.number (g.C.Calls.state c.loop-at.kernel))
+    λ source. underway_ends _ _ _ _ (c.loop-at.invariant.underway source) (ap (items_reported c.loop-at.reporter.report c.args.reporter.now.texts.policy.now c.loop-at.number (g.C.Calls.state c.loop-at.kernel)) none ∙ items_none c.args.reporter.now.texts.policy.now c.loop-at.reporter.report c.loop-at.number (g.C.Calls.state c.loop-at.kernel))
 
 pub returns-clause-state : goal.returns-clause-state
 returns-clause-state g c =
@@ -119,7 +121,7 @@ pub returns-clause-report : goal.returns-clause-report
 returns-clause-report g c =
     let none = no_more c.args.util.now c.requires.calls.2 c.items-call-items.result.now (ap length c.items-call-items.ensures ∙ c.in_ok-calls.ensures.each) c.loop-at.at c.loop-at-test.false in
     let s = g.C.Calls.state c.loop-at.kernel in
-    sym (ap (λ (is : List ScriptItem). report_after c.loop-at.report (run s is)) none ∙ after_none c.loop-at.report s) ∙ c.loop-at.invariant.kept
+    sym (ap (λ (is : List ScriptItem). report_after c.loop-at.reporter.report (run s is)) none ∙ after_none c.loop-at.reporter.report s) ∙ c.loop-at.invariant.kept
 
 pub returns-clause-count : goal.returns-clause-count
 returns-clause-count g c =
@@ -130,4 +132,4 @@ returns-clause-count g c =
 pub returns-clause-readable : goal.returns-clause-readable
 returns-clause-readable g c =
     let none = no_more c.args.util.now c.requires.calls.2 c.items-call-items.result.now (ap length c.items-call-items.ensures ∙ c.in_ok-calls.ensures.each) c.loop-at.at c.loop-at-test.false in
-    λ all. c.loop-at.invariant.readable all (readable_none c.args.texts.policy.now c.loop-at.number (g.C.Calls.state c.loop-at.kernel) _ none)
+    λ all. c.loop-at.invariant.readable all (readable_none c.args.reporter.now.texts.policy.now c.loop-at.number (g.C.Calls.state c.loop-at.kernel) _ none)

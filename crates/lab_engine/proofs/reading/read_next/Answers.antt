@@ -7,15 +7,15 @@ returns-in_err-next-clause-follows g c = next_fails _ _ _ _ c.from_residual.resu
 pub returns-in_err-next-clause-counts : goal.returns-in_err-next-clause-counts
 returns-in_err-next-clause-counts g c = counts_failed c.from_residual.result _ c.from_residual.ensures.1 _ _ c.in_err-next.ensures.counts
 
-pub returns-in_err-refusal_of-in-Err-clause-counts : goal.returns-in_err-refusal_of-in-Err-clause-counts
-returns-in_err-refusal_of-in-Err-clause-counts g c = counts_memory _ c.from_residual-in_err-refusal_of-in-Err.ensures.1 _ _ c.in_ok-next.ensures.counts
+pub returns-in_err-fault-in-Err-clause-counts : goal.returns-in_err-fault-in-Err-clause-counts
+returns-in_err-fault-in-Err-clause-counts g c = counts_memory _ c.from_residual-in_err-fault-in-Err.ensures.1 _ _ c.in_ok-next.ensures.counts
 
 pub returns-in-Ok-clause-follows : goal.returns-in-Ok-clause-follows
 returns-in-Ok-clause-follows g c = follows_line _ _ _ _ _ c.in_ok-next.ensures.advances c.in-Line.is _ c.line.ensures c.args.texts.policy.now _ c.in-Ok.ensures.parsed c.in-Ok.ensures.item
 
-pub returns-in_ok-refusal_of-in-Err-clause-follows : goal.returns-in_ok-refusal_of-in-Err-clause-follows
-returns-in_ok-refusal_of-in-Err-clause-follows g c =
-    follows_refused _ _ _ _ _ c.in_ok-next.ensures.advances c.in-Line.is _ c.line.ensures c.args.texts.policy.now c.in-Err.fault _ c.in_ok-refusal_of-in-Err.ensures c.in-Err.ensures.cause _ c.refused-ending.ensures
+pub returns-in_ok-fault-in-Err-clause-follows : goal.returns-in_ok-fault-in-Err-clause-follows
+returns-in_ok-fault-in-Err-clause-follows g c =
+    follows_refused _ _ _ _ _ c.in_ok-next.ensures.advances c.in-Line.is _ c.line.ensures c.args.texts.policy.now c.in-Err.error _ c.in_ok-fault-in-Err.ensures.fault c.in-Err.ensures.cause _ c.refused-ending.ensures
 
 pub returns-in-End-clause-follows : goal.returns-in-End-clause-follows
 returns-in-End-clause-follows g c = follows_end _ _ _ _ _ c.in_ok-next.ensures.advances c.in-End.is c.args.texts.policy.now

@@ -1,7 +1,5 @@
 use Rattle.lab_engine.proofs.ReadLemmas.{counts_failed, counts_memory, line_fails, reads_more, reads_no_line, reads_refused, reads_too_much, reads_world}
-use Rattle.std.proofs.Common.{◌∙◌, ap}
-use Rattle.lab_engine.specs.declared.ending.InputEnd.TheVariants.{Refused}
-use Rattle.lab_engine.specs.declared.ending.Part.TheVariants as part
+use Rattle.std.proofs.Common.{ap}
 use Rattle.lab_engine.specs.Counts.{counts}
 use Rattle.lab_engine.proofs.reading.read_world_line.Goals as goal
 
@@ -15,14 +13,13 @@ pub returns-in_err-after-in-Line-clause-counts : goal.returns-in_err-after-in-Li
 returns-in_err-after-in-Line-clause-counts g c = counts_memory _ c.from_residual-in_err-after-in-Line.ensures.1 _ _ c.in_ok-next.ensures.counts
 
 pub returns-in-GoesOn-clause-reads : goal.returns-in-GoesOn-clause-reads
-returns-in-GoesOn-clause-reads g c = reads_more _ _ _ _ _ c.in_ok-next.ensures.advances c.in-Line.is _ c.line.ensures c.args.expecting _ c.in_ok-after-in-Line.ensures _ c.in-GoesOn.is
+returns-in-GoesOn-clause-reads g c = reads_more _ _ _ _ _ c.in_ok-next.ensures.advances c.in-Line.is _ c.line.ensures c.args.expecting _ c.in_ok-after-in-Line.ensures.says _ c.in-GoesOn.is
 
 pub returns-in-Begins-clause-reads : goal.returns-in-Begins-clause-reads
-returns-in-Begins-clause-reads g c = reads_world _ _ _ _ _ c.in_ok-next.ensures.advances c.in-Line.is _ c.line.ensures c.args.expecting _ c.in_ok-after-in-Line.ensures _ c.in-Begins.is
+returns-in-Begins-clause-reads g c = reads_world _ _ _ _ _ c.in_ok-next.ensures.advances c.in-Line.is _ c.line.ensures c.args.expecting _ c.in_ok-after-in-Line.ensures.says _ c.in-Begins.is
 
 pub returns-in-Refuses-clause-reads : goal.returns-in-Refuses-clause-reads
-returns-in-Refuses-clause-reads g c = reads_refused _ _ _ _ _ c.in_ok-next.ensures.advances c.in-Line.is _ c.line.ensures c.args.expecting _ c.in_ok-after-in-Line.ensures _ c.in-Refuses.is
-    _ (c.refused-ending.ensures ∙ ap (λ why. Refused c.next.new.self.number part.World why) c.from.ensures)
+returns-in-Refuses-clause-reads g c = reads_refused _ _ _ _ _ c.in_ok-next.ensures.advances c.in-Line.is _ c.line.ensures c.args.expecting _ c.in_ok-after-in-Line.ensures.says _ c.in-Refuses.is _ c.refused-ending.ensures
 
 pub returns-in-TooMuch-clause-reads : goal.returns-in-TooMuch-clause-reads
 returns-in-TooMuch-clause-reads g c = reads_too_much _ _ _ _ _ c.in_ok-next.ensures.advances c.in-TooMuch.is c.args.expecting

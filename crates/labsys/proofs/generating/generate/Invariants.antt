@@ -1,12 +1,11 @@
 use Rattle.std.proofs.Common.{◌≡◌, [], length}
-use Rattle.io_ends.specs.Sinks.{sink_view}
 use Rattle.gen_world.specs.Text.{gen_text}
 use Rattle.labsys.proofs.GeneratedLemmas.{Gave}
 use Rattle.labsys.proofs.generating.generate.Given as goal
 
 abbrev pub invariant-loop-piece : goal.invariant-loop-piece
 invariant-loop-piece g l = record {
-  gave : Gave (gen_text l.lines) l.generator (sink_view (g.K.Sink.held l.initial.out) (g.K.Sink.faults l.initial.out)) (sink_view (g.K.Sink.held l.out) (g.K.Sink.faults l.out));
+  gave : Gave (gen_text l.lines) l.generator (g.K.Sink.view l.initial.out) (g.K.Sink.view l.out);
   empty : l.piece.items ≡ [];
 }
 

@@ -1,6 +1,6 @@
 use Rattle.std.proofs.Common.{refl}
 use Rattle.std.specs.Prelude.{None}
-use Rattle.io_ends.specs.Sinks.{sink_view}
+use Rattle.io_ends.specs.Ends.{sink_view}
 use Rattle.labsys.proofs.PerformLemmas.{alone_fails, alone_written, drills, generates, no_read_beside, no_trail_beside, no_trail_fault}
 use Rattle.labsys.proofs.performing.perform.Goals as goal
 

@@ -1,13 +1,9 @@
-use Rattle.std.proofs.Common.{◌≡◌, ◌∙◌, ap, sym, subst, ◌+◌, ◌∷◌, [], List, true, cond, None, Some, Option, nat_le}
-use Rattle.lab_lattice.specs.Label.{Label}
+use Rattle.std.proofs.Common.{◌≡◌, ◌∙◌, ap, sym, subst, ◌+◌, true, cond, None, Some, Option, nat_le}
 use Rattle.kern_model.specs.declared.limits.TheConstants.{MAX_DESCRIPTIONS, MAX_DESCRIPTORS}
-use Rattle.kern_model.specs.declared.numbers.Oid.{Oid}
-use Rattle.kern_model.specs.declared.numbers.Pid.{Pid}
-use Rattle.kern_model.specs.Descriptors.{lowest_free, with_descriptor}
-use Rattle.kern_model.specs.FileRows.{opening}
-use Rattle.kern_model.specs.State.{State, Process, Change, DrawDescription, SetDescription, SetProcess, changed_by, drawn, next_description, process_at}
+use Rattle.kern_model.specs.Descriptors.{lowest_free}
+use Rattle.kern_model.specs.FileRows.{described_after, opening}
+use Rattle.kern_model.specs.State.{State, Process, changed_by, drawn, process_at}
 use Rattle.kern_model.specs.Valid.{IsThere}
-use Rattle.fd_table.specs.declared.shared.How.{How}
 use Rattle.fd_table.specs.declared.table.FdError.{FdError}
 use Rattle.fd_table.specs.declared.table.FdError.TheVariants as error
 use Rattle.fd_table.specs.Files.{OpenFiles, opened_for}
@@ -22,11 +18,6 @@ use Rattle.sys_file.proofs.BranchLemmas.{if_ok, on_ok}
 use Rattle.sys_file.proofs.ReferLemmas.{caller_stands}
 use Rattle.sys_file.proofs.opening.describe.Goals.{in-Ok, in-Err}
 use Rattle.sys_file.proofs.opening.describe.Goals as goal
-
--- a description is made at a label, and a process gets its lowest free descriptor
-abbrev describing : State → Pid → Process → Oid → Label → How → List Change
-describing s who q id label how =
-    DrawDescription label (drawn s.description_numbers label + 1) ∷ SetDescription (next_description s label) (opened_for id how) ∷ SetProcess who (with_descriptor q (next_description s label)) ∷ []
 
 pub no_memory-requires : goal.no_memory-requires
 no_memory-requires c =
@@ -71,7 +62,7 @@ returns-clause-described c =
       | in-Ok w ↦ on_ok w.result-is Made
           (ap (with_files s h.procs.procs) w.in-Ok.ensures.opened
           ∙ opened_shows s h.procs.procs h.fds c.reserve.new.self same who stands.process stands.is c.label-label.result (opened_for id c.how.result)
-          ∙ (λ i. changed_by (c.shared.view_is i) (describing (c.shared.view_is i) who (stands.same i) id (label_is i) (c.how.ensures i))))
+          ∙ (λ i. changed_by (c.shared.view_is i) (described_after (drawn (c.shared.view_is i).description_numbers (label_is i)) (label_is i) who (stands.same i) (opened_for id (c.how.ensures i)))))
       | in-Err w ↦ on_ok w.result-is Made tt
     ]
 

@@ -1,28 +1,17 @@
-use Rattle.std.proofs.Common.{◌≡◌, ◌∙◌, ap, refl, subst, ℕ, None, Ok}
+use Rattle.std.proofs.Common.{◌≡◌, ◌∙◌, ap, refl, subst, ℕ, Ok}
 use Rattle.fs_path.specs.Name.{Name}
 use Rattle.lab_lattice.specs.Label.{Label}
-use Rattle.kern_model.specs.declared.calls.Answer.TheVariants.{Nothing}
 use Rattle.kern_model.specs.declared.objects.Attr.{Attr}
-use Rattle.kern_model.specs.declared.objects.Body.{Body}
 use Rattle.kern_model.specs.declared.numbers.Oid.{Oid}
 use Rattle.kern_model.specs.declared.numbers.Pid.{Pid}
-use Rattle.kern_model.specs.Create.{attr_of, made, to_number}
+use Rattle.kern_model.specs.Create.{attr_of, made}
 use Rattle.kern_model.specs.Kinds.{masked, object_with}
-use Rattle.kern_model.specs.Row.{Row, Commit}
 use Rattle.kern_model.specs.State.{State, Process, process_at}
-use Rattle.kern_model.specs.TreeRows.{make_object, make_spot}
+use Rattle.kern_model.specs.TreeRows.{make_at, make_object, make_spot, put_object}
 use Rattle.sys_lookup.specs.Callers.{CallerView, caller_in}
 use Rattle.sys_lookup.specs.PlaysRow.{PlaysRow}
 use Rattle.sys_lookup.proofs.PlayLemmas.{commits_as, step_called, stops_keeping, stops_row, then_plays}
 use Rattle.sys_lookup.proofs.making.make.Goals as goal
-
--- the object is made, and a name leads to it
-abbrev commit : State → Label → Attr → Body → Oid × Name → Row
-commit s label attr body e = Commit (made s label e.0 e.1 (object_with label attr body)) Nothing None
-
--- the row after the spot was found
-abbrev creating : State → Body → Oid × Name → Label × Attr → Row
-creating s body e x = to_number s x.0 (λ _. commit s x.0 x.1 body e)
 
 -- the label and the attributes of what a process makes with a mode
 abbrev like : Process → ℕ → Label × Attr
@@ -45,8 +34,8 @@ returns-in_err-create-clause-played c =
     let e : Oid × Name = (c.in_ok-dir.dir, c.in_ok-dir.name) in
     let r = c.from_residual-in_err-create.result in
     then_plays {rest = make_object s (process_at s c.args.who.now) c.args.mode c.args.body} (step_called (λ k. make_spot k.state k.process c.args.path.now) c.new-caller.ensures.caller c.in_ok-dir.ensures.step)
-    (subst (λ x. PlaysRow s log (creating s c.args.body e x) r c.create.new.shared log) (like_is s c.args.who.now _ c.args.mode _ _ c.label-label.ensures c.new_attr-attr.ensures c.new-caller.ensures.caller)
-    (stops_keeping {rest = λ _. commit s c.label-label.result c.new_attr-attr.result c.args.body e} r c.from_residual-in_err-create.ensures.1 c.in_err-create.ensures.kept (c.in_err-create.ensures.step log)))
+    (subst (λ x. PlaysRow s log (make_at s x.0 (object_with x.0 x.1 c.args.body) e) r c.create.new.shared log) (like_is s c.args.who.now _ c.args.mode _ _ c.label-label.ensures c.new_attr-attr.ensures c.new-caller.ensures.caller)
+    (stops_keeping {rest = λ _. put_object s c.label-label.result (object_with c.label-label.result c.new_attr-attr.result c.args.body) e} r c.from_residual-in_err-create.ensures.1 c.in_err-create.ensures.kept (c.in_err-create.ensures.step log)))
 
 pub returns-clause-played : goal.returns-clause-played
 returns-clause-played c =
@@ -54,6 +43,6 @@ returns-clause-played c =
     let log = c.new_spot.new.checks in
     let e : Oid × Name = (c.in_ok-dir.dir, c.in_ok-dir.name) in
     then_plays {rest = make_object s (process_at s c.args.who.now) c.args.mode c.args.body} (step_called (λ k. make_spot k.state k.process c.args.path.now) c.new-caller.ensures.caller c.in_ok-dir.ensures.step)
-    (subst (λ x. PlaysRow s log (creating s c.args.body e x) (Ok c.done.result) c.create.new.shared log) (like_is s c.args.who.now _ c.args.mode _ _ c.label-label.ensures c.new_attr-attr.ensures c.new-caller.ensures.caller)
-    (then_plays {rest = λ _. commit s c.label-label.result c.new_attr-attr.result c.args.body e} (c.in_ok-create.ensures.step log)
+    (subst (λ x. PlaysRow s log (make_at s x.0 (object_with x.0 x.1 c.args.body) e) (Ok c.done.result) c.create.new.shared log) (like_is s c.args.who.now _ c.args.mode _ _ c.label-label.ensures c.new_attr-attr.ensures c.new-caller.ensures.caller)
+    (then_plays {rest = λ _. put_object s c.label-label.result (object_with c.label-label.result c.new_attr-attr.result c.args.body) e} (c.in_ok-create.ensures.step log)
     (commits_as c.done.ensures c.in_ok-create.ensures.made)))

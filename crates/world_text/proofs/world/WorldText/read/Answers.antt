@@ -8,12 +8,12 @@ pub returns-in-Refuses-clause-none : goal.returns-in-Refuses-clause-none
 returns-in-Refuses-clause-none c =
     refused_for c.loop-line.number c.in-Refuses.fault _ (read_text c.args.text.now) c.at.ensures
     (read_refused (read_text c.args.text.now) c.loop-line.number c.loop-line.expecting c.loop-line.rest.now c.in-Some.line.now c.in-Some.after.now c.in_ok-fault.field-0 c.in-Refuses.fault c.loop-line.invariant.says c.in-Some.ensures.line
-    c.in_ok-fault.ensures c.in-Refuses.is)
+    c.in_ok-fault.ensures.says c.in-Refuses.is)
 
 pub returns-in-Begins : goal.returns-in-Begins
 returns-in-Begins c =
     let says = read_world (read_text c.args.text.now) c.loop-line.number c.loop-line.expecting c.loop-line.rest.now c.in-Some.line.now c.in-Some.after.now c.in_ok-fault.field-0 c.in-Begins.world c.loop-line.invariant.says c.in-Some.ensures.line
-    c.in_ok-fault.ensures c.in-Begins.is in
+    c.in_ok-fault.ensures.says c.in-Begins.is in
     record { read = subst (λ (r : Reading). IsRead r c.in-Begins.world) (sym says) refl; world = accepted_text c.args.text.now _ _ _ says; none = tt }
 
 pub loop-line-preserved : goal.loop-line-preserved
@@ -22,7 +22,7 @@ loop-line-preserved c =
     let numbered : c.loop-line.number + length c.loop-line.rest.now ≤ length c.args.text.now + 1 = c.loop-line.invariant.numbered in
     record {
       says = read_on (read_text c.args.text.now) c.loop-line.number c.loop-line.expecting c.in-GoesOn.expecting c.loop-line.rest.now c.in-Some.line.now c.in-Some.after.now c.in_ok-fault.field-0 c.loop-line.invariant.says c.in-Some.ensures.line
-          c.in_ok-fault.ensures c.in-GoesOn.is;
+          c.in_ok-fault.ensures.says c.in-GoesOn.is;
       numbered = omega arith;
     }
 

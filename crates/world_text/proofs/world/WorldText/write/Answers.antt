@@ -3,6 +3,7 @@ use Rattle.std.specs.List.{flat_map}
 use Rattle.std.proofs.lemmas.Grind.{flat_map-append}
 use Rattle.std.proofs.lemmas.List.Folds.{flat_map-map}
 use Rattle.fs_path.specs.declared.words.LineWord.{LineWord}
+use Rattle.world_text.specs.declared.format.Format.TheVariants.{One}
 use Rattle.world_text.specs.Reading.{read_text}
 use Rattle.world_text.proofs.WrittenRoundTrip.{written_round_trip}
 use Rattle.world_text.specs.Written.{line_of, head_words, object_words, process_words, script_words, written}
@@ -23,7 +24,7 @@ unfolding line_of written
 returns-clause-text c =
     let lines = rw (c.items.ensures, c.items-2.ensures) at c.in_ok-put_objects_and_processes.ensures.text in
     c.into_text.ensures ∙ c.in_ok-bytes.ensures ∙ gathered _ _ _ _ _ _ _ c.in_ok-line.ensures c.in_ok-put_head.ensures lines
-    ∙ sym (parts (head_words c.args.self.now.policy c.args.self.now.world.bound) (object_words c.args.self.now.policy) c.args.self.now.world.objects (process_words c.args.self.now.policy) c.args.self.now.world.procs script_words)
+    ∙ sym (parts (head_words One c.args.self.now.policy c.args.self.now.world.bound) (object_words c.args.self.now.policy) c.args.self.now.world.objects (process_words c.args.self.now.policy) c.args.self.now.world.procs script_words)
 
 pub returns-clause-round_trip : goal.returns-clause-round_trip
 returns-clause-round_trip c = λ is short.

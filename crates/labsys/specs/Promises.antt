@@ -1,0 +1,50 @@
+-- What `play` and `view` promise, where the ends that they use report their bytes.
+use Rattle.std.specs.Prelude.{◌≡◌, ℕ, List, Some}
+use Rattle.lab_lattice.specs.Label.{Label}
+use Rattle.lab_text.specs.Text.{parse_label}
+use Rattle.kern_model.specs.Isolation.{up_to}
+use Rattle.lab_engine.specs.Input.{Accepted, Script}
+use Rattle.lab_engine.specs.Session.{session_of}
+use Rattle.lab_engine.specs.Viewing.{session_alone, view_text}
+use Rattle.labsys.specs.declared.command.Command.TheVariants.{View}
+use Rattle.labsys.specs.declared.status.Status.{Status}
+use Rattle.labsys.specs.declared.status.Status.TheVariants.{Done, ReadFault}
+use Rattle.labsys.specs.Clauses.{Reports, used, run_of, OnWhole, WhereReported, WhereAccepted, PlayedTaken, Covered, RepliesFirst, Printed, Dropped, Isolated, IsolatedWhole, SameBelow, TwoInputs, TwoWhole}
+use Rattle.labsys.specs.Lineage.{PrintedByAny}
+
+-- the world was accepted, and P holds of it, of its script, and of what the output and the trail got
+abbrev pub OnAccepted : Reports → Reports → (Accepted → Script → List ℕ → List ℕ → Type 0) → Type 0
+OnAccepted old now P = WhereReported old now (λ text out trail. WhereAccepted text (λ a script. P a script out trail))
+
+-- the same of two inputs that look the same to a label, of which the first was played and the other is any
+abbrev pub OnTwo : Label → List ℕ → Reports → Reports → (Accepted → Script → Accepted → Script → List ℕ → Type 0) → Type 0
+OnTwo l other old now P = OnAccepted old now (λ a script out trail. WhereAccepted other (λ b script'. SameBelow l a script b script' → P a script b script' out))
+
+-- a run of `play` with this status, by what the three ends reported before it and after it
+pub record Plays (status : Status) (old now : Reports) : Type 0 where
+  -- Where a reply was written, the trail has its head and the records of that call and of all before it.
+  pub covered : OnAccepted old now (λ a script out trail. Covered (session_of a script) out trail)
+  -- A byte of a call's record is written only after the replies to all calls before it.
+  pub replies_first : OnAccepted old now (λ a script out trail. RepliesFirst (session_of a script) out trail)
+  -- Where a read failed, all calls in the bytes that were taken were played, and nothing else was written.
+  pub line_by_line : status ≡ ReadFault → WhereReported old now (λ text out trail. PlayedTaken text now.left out trail)
+  -- Up to the first record that crosses a label, the replies below it are those of the part below it alone.
+  pub isolated : (l : Label) → OnAccepted old now (λ a script out trail. Isolated l a script out)
+  -- In a whole run that no record crosses they are all of them.
+  pub isolated_whole : (l : Label) → OnWhole status (OnAccepted old now (λ a script out trail. IsolatedWhole l a script out))
+  -- Inputs that look the same from below get the same replies there, each up to its first crossing.
+  pub two_inputs : (l : Label) (other : List ℕ) → OnTwo l other old now (λ a script b script' out. TwoInputs l a script b script' out)
+  -- In whole runs that no record crosses they are equal.
+  pub two_whole : (l : Label) (other : List ℕ) → OnWhole status (OnTwo l other old now (λ a script b script' out. TwoWhole l a script b script' out))
+  -- Each end line has the capability sets that the records give, all of which are in the trail then.
+  pub printed : OnAccepted old now (λ a script out trail. Printed (session_of a script) out trail)
+  -- The trail is read as these records. Whatever records it is read as, each end line has the capability sets that they give.
+  pub printed_by_any : OnAccepted old now (λ a script out trail. PrintedByAny (session_of a script) out trail)
+  -- The trail is of records in which permitted sets grow by exec alone.
+  pub dropped : OnAccepted old now (λ a script out trail. Dropped (session_of a script) trail)
+
+-- a run of `view` of a label's word, with this status
+pub record Views (word : List ℕ) (status : Status) (old now : Reports) : Type 0 where
+  -- Where no record of the whole run crosses the label, `view` writes what it writes of the part below the label alone.
+  pub view_alone : (l : Label) → status ≡ Done → OnAccepted (used (View word) old) (used (View word) now)
+      (λ a script out trail. parse_label a.policy word ≡ Some l → up_to l (run_of a script) ≡ run_of a script → out ≡ view_text l (session_alone l a script))

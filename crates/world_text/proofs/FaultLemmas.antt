@@ -1,0 +1,158 @@
+-- A line of a world is refused for a fault that a line of a world can have.
+use Rattle.std.specs.Prelude.{◌≡◌, ◌==◌, ◌&&◌, ◌||◌, not, nat_le, nat_lt, Bool, true, false, cond, List, [], ◌∷◌, length, Option, None, Some, is_some, codes, refl}
+use Rattle.std.proofs.Common.{sym, subst}
+use Rattle.std.specs.List.{list_all}
+use Rattle.fs_path.specs.declared.words.LineWord.{LineWord}
+use Rattle.lab_lattice.specs.Label.{bottom, dominates}
+use Rattle.lab_text.specs.Names.{Names, is_label_name, are_distinct}
+use Rattle.lab_text.specs.Policy.{PolicyNames}
+use Rattle.cap_bits.specs.declared.state.CapState.{CapState}
+use Rattle.kern_model.specs.declared.limits.TheConstants.{MAX_OBJECTS, MAX_PROCS}
+use Rattle.kern_model.specs.declared.objects.Body.{Body}
+use Rattle.kern_model.specs.declared.objects.Body.TheVariants as body
+use Rattle.kern_model.specs.declared.world.WorldObject.{WorldObject}
+use Rattle.kern_model.specs.declared.world.WorldProc.{WorldProc}
+use Rattle.kern_model.specs.Kinds.{is_dir, kind_of}
+use Rattle.kern_model.specs.World.{given, objects_at, procs_at}
+use Rattle.line_text.specs.declared.fault.LineFault.{LineFault}
+use Rattle.line_text.specs.declared.fault.LineFault.TheVariants.{Syntax, Repeated, TooMany}
+use Rattle.world_text.specs.declared.expecting.Expecting.{Expecting}
+use Rattle.world_text.specs.declared.expecting.Expecting.TheVariants as at
+use Rattle.world_text.specs.declared.expecting.PartialWorld.{PartialWorld}
+use Rattle.world_text.specs.declared.expecting.Parsed.{Parsed}
+use Rattle.world_text.specs.declared.expecting.Parsed.TheVariants.{Refuses, GoesOn, Begins}
+use Rattle.world_text.specs.declared.format.Format.{Format}
+use Rattle.world_text.specs.declared.keyword.Keyword.{Keyword}
+use Rattle.world_text.specs.declared.keyword.Keyword.TheVariants as key
+use Rattle.world_text.specs.declared.processes.ProcFields.{ProcFields}
+use Rattle.world_text.specs.declared.tree.ObjectFields.{ObjectFields}
+use Rattle.world_text.specs.declared.values.WordValue.{WordValue}
+use Rattle.world_text.specs.declared.values.WordValue.TheVariants as value
+use Rattle.world_text.specs.declared.world.WorldText.{WorldText}
+use Rattle.world_text.specs.Expecting.{HasFaultOfWorld, is_of_world, world_of, after_keyword, parse_script, parse_after, parse_tree_line, parse_words}
+use Rattle.world_text.specs.Head.{parse_format, parse_levels, parse_categories, parse_bound}
+use Rattle.world_text.specs.Placing.{directory_of, is_above, is_directory, is_root, object_fault, process_fault}
+use Rattle.world_text.specs.Processes.{parse_process, parse_proc, parse_proc_line}
+use Rattle.world_text.specs.TreeLines.{parse_object, parse_tree, parse_plain, parse_file}
+use Rattle.world_text.specs.Values.{unless, refuse_or, with_form, with_value, bytes_in}
+
+-- ---- one step of each definition
+
+refuses : (fault : LineFault) → is_of_world fault ≡ true → HasFaultOfWorld (Refuses fault)
+refuses fault is = record { of_world = λ other e. let same : fault ≡ other = cc in subst (λ (f : LineFault). is_of_world f ≡ true) same is }
+
+malformed : HasFaultOfWorld (Refuses Syntax)
+malformed = refuses Syntax refl
+
+goes_on : (expecting : Expecting) → HasFaultOfWorld (GoesOn expecting)
+goes_on expecting = record { of_world = λ fault e. absurd cc }
+
+begins : (w : WorldText) → HasFaultOfWorld (Begins w)
+begins w = record { of_world = λ fault e. absurd cc }
+
+first_has : (b : Bool) (fault : LineFault) (more : Option LineFault) (parsed : Parsed) → is_of_world fault ≡ true → HasFaultOfWorld (refuse_or more parsed)
+    → HasFaultOfWorld (refuse_or (cond b (Some fault) more) parsed)
+first_has true fault more parsed is rest = refuses fault is
+first_has false fault more parsed is rest = rest
+
+form_has : {X : Type 0} (o : Option X) (k : X → Parsed) → ((x : X) → HasFaultOfWorld (k x)) → HasFaultOfWorld (with_form o k)
+form_has None k rest = malformed
+form_has (Some x) k rest = rest x
+
+value_has : {X : Type 0} (v : WordValue X) (k : X → Parsed) → ((x : X) → HasFaultOfWorld (k x)) → HasFaultOfWorld (with_value v k)
+value_has value.Malformed k rest = malformed
+value_has value.UnknownName k rest = refuses _ refl
+value_has (value.Known x) k rest = rest x
+
+-- ---- head lines
+
+format_has : (names : Names) → HasFaultOfWorld (parse_format names)
+format_has (w ∷ []) = form_has _ _ (λ format. goes_on (at.Levels format))
+format_has _ = malformed
+
+names_have : (malformed_names many repeated : Bool) (parsed : Parsed) → HasFaultOfWorld parsed
+    → HasFaultOfWorld (unless malformed_names Syntax (unless many TooMany (unless repeated Repeated parsed)))
+names_have true many repeated parsed rest = malformed
+names_have false true repeated parsed rest = refuses TooMany refl
+names_have false false true parsed rest = refuses Repeated refl
+names_have false false false parsed rest = rest
+
+levels_have : (format : Format) (names : Names) → HasFaultOfWorld (parse_levels format names)
+levels_have format names =
+    names_have (length names == 0 || not (list_all is_label_name names)) (nat_lt 16 (length names)) (not (are_distinct names)) _ (goes_on (at.Categories format names))
+
+categories_have : (format : Format) (levels names : Names) → HasFaultOfWorld (parse_categories format levels names)
+categories_have format levels names =
+    names_have (not (list_all is_label_name names)) (nat_lt 64 (length names)) (not (are_distinct names)) _ (goes_on (at.Bound format (record { levels = levels; cats = names })))
+
+bound_has : (format : Format) (policy : PolicyNames) (names : Names) → HasFaultOfWorld (parse_bound format policy names)
+bound_has format policy (w ∷ []) = value_has _ _ (λ bound. goes_on _)
+bound_has format policy _ = malformed
+
+-- ---- the tree
+
+object_has : (w : PartialWorld) (o : WorldObject) → HasFaultOfWorld (parse_object w o)
+unfolding object_fault
+object_has w o =
+    first_has (is_some (given w.builder.objects o.path.names)) _ _ _ refl
+    (first_has (not (is_root o.path.names || is_directory (directory_of w.builder.objects o.path.names))) _ _ _ refl
+    (first_has (is_root o.path.names && not (is_dir (kind_of o.body) && dominates bottom o.label)) _ _ _ refl
+    (first_has (not (is_above o.label (directory_of w.builder.objects o.path.names))) _ _ _ refl
+    (first_has (nat_le MAX_OBJECTS (objects_at o.label w.builder.objects)) _ None _ refl (goes_on _)))))
+
+process_has : (w : PartialWorld) (p : WorldProc) → HasFaultOfWorld (parse_process w p)
+unfolding process_fault
+process_has w p =
+    first_has (length w.builder.objects == 0) _ _ _ refl (first_has (nat_le MAX_PROCS (procs_at p.label w.builder.procs)) _ None _ refl (goes_on _))
+
+tree_has : (w : PartialWorld) (form : Option ObjectFields) (caps : WordValue CapState) (b : Body) → HasFaultOfWorld (parse_tree w form caps b)
+tree_has w form caps b = form_has form _ (λ f. value_has _ _ (λ x. object_has w _))
+
+proc_has : (w : PartialWorld) (form : Option ProcFields) (caps : WordValue CapState) → HasFaultOfWorld (parse_proc w form caps)
+proc_has w form caps = form_has form _ (λ f. value_has _ _ (λ x. process_has w _))
+
+plain_has : (w : PartialWorld) (b : Body) (names : Names) → HasFaultOfWorld (parse_plain w b names)
+plain_has w b (path ∷ mode ∷ uid ∷ gid ∷ label ∷ []) = tree_has w _ _ b
+plain_has w b _ = malformed
+
+file_has : (w : PartialWorld) (names : Names) → HasFaultOfWorld (parse_file w names)
+file_has w (path ∷ mode ∷ uid ∷ gid ∷ label ∷ bytes ∷ []) = tree_has w _ _ _
+file_has w (path ∷ mode ∷ uid ∷ gid ∷ label ∷ bytes ∷ caps ∷ []) = tree_has w _ _ _
+file_has w _ = malformed
+
+proc_line_has : (w : PartialWorld) (names : Names) → HasFaultOfWorld (parse_proc_line w names)
+proc_line_has w (label ∷ uid ∷ gid ∷ groups ∷ caps ∷ []) = proc_has w _ _
+proc_line_has w _ = malformed
+
+script_has : (w : PartialWorld) (names : Names) → HasFaultOfWorld (parse_script w names)
+script_has w [] = by_root (length w.builder.objects == 0)
+  where
+    by_root : (b : Bool) → HasFaultOfWorld (unless b Syntax (Begins (world_of w)))
+    by_root true = malformed
+    by_root false = begins (world_of w)
+script_has w _ = malformed
+
+-- ---- lines
+
+keyword_has : (keyword : Keyword) (w : PartialWorld) (names : Names) → HasFaultOfWorld (parse_after keyword w names)
+keyword_has key.Dir w names = plain_has w body.Dir names
+keyword_has key.File w names = file_has w names
+keyword_has key.Fifo w names = plain_has w body.Fifo names
+keyword_has key.Proc w names = proc_line_has w names
+keyword_has key.Script w names = script_has w names
+
+tree_line_has : (w : PartialWorld) (ws : List LineWord) → HasFaultOfWorld (parse_tree_line w ws)
+tree_line_has w [] = malformed
+tree_line_has w (first ∷ ws) = form_has _ _ (λ keyword. keyword_has keyword w (bytes_in ws))
+
+words_have : (expecting : Expecting) (ws : List LineWord) → HasFaultOfWorld (parse_words expecting ws)
+unfolding parse_words
+words_have at.Format ws = form_has (after_keyword (codes "world") ws) _ format_has
+words_have (at.Levels format) ws = form_has (after_keyword (codes "levels") ws) _ (levels_have format)
+words_have (at.Categories format levels) ws = form_has (after_keyword (codes "categories") ws) _ (categories_have format levels)
+words_have (at.Bound format policy) ws = form_has (after_keyword (codes "bound") ws) _ (bound_has format policy)
+words_have (at.Tree w) ws = tree_line_has w ws
+
+-- what the words of a line say has such a fault
+pub words_said : (expecting : Expecting) (ws : List LineWord) (parsed : Parsed) → parsed ≡ parse_words expecting ws → HasFaultOfWorld parsed
+words_said expecting ws parsed is = subst (λ (s : Parsed). HasFaultOfWorld s) (sym is) (words_have expecting ws)

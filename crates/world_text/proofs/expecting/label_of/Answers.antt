@@ -1,5 +1,0 @@
-use Rattle.world_text.proofs.LineLemmas.{label_known}
-use Rattle.world_text.proofs.expecting.label_of.Goals as goal
-
-pub returns-in-Ok : goal.returns-in-Ok
-returns-in-Ok c = label_known c.args.policy.now c.args.word.now c.in-Ok.label c.in-Ok.ensures.parsed

@@ -1,6 +1,0 @@
-use Rattle.std.proofs.Common.{◌≡◌, take}
-use Rattle.world_text.specs.Lines.{bytes_in}
-use Rattle.world_text.proofs.expecting.names_of.Given as goal
-
-abbrev pub invariant-loop-word : goal.invariant-loop-word
-invariant-loop-word l = l.names ≡ bytes_in (take l.word-index l.words)
