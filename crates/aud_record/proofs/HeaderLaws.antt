@@ -4,11 +4,12 @@ use Rattle.std.proofs.Common.{ap, sym, subst, ◌∙◌, arith, append_assoc}
 use Rattle.std.proofs.lemmas.List.{length-append, take_at}
 use Rattle.cap_bits.specs.CapSet.{CapSet}
 use Rattle.cap_clause.specs.Written.{set_text}
-use Rattle.lab_text.specs.Names.{Names}
-use Rattle.lab_text.specs.Policy.{PolicyNames, MakePolicy}
+use Rattle.lab_text.specs.Lists.{all_lists}
+use Rattle.lab_text.specs.Policy.{PolicyNames, no_names, MakePolicy}
+use Rattle.lab_text.specs.declared.lists.NameList.TheVariants.{Levels, Categories}
 use Rattle.aud_record.proofs.FormLaws.{bound_is}
-use Rattle.aud_record.proofs.HeaderLines.{format_is, format_round_trip, levels_are, levels_round_trip, HasCategories, categories_are, categories_round_trip, bound_are, set_made, bound_round_trip}
-use Rattle.aud_record.specs.Header.{format_line, levels_line, categories_line, keyword_line, bound_of, parse_header}
+use Rattle.aud_record.proofs.HeaderLines.{format_is, format_round_trip, line_for, lines_for, names_are, names_round_trip, bound_are, set_made, bound_round_trip}
+use Rattle.aud_record.specs.Header.{format_line, names_lines, keyword_line, bound_number, bound_of, parse_header}
 use Rattle.aud_record.specs.Words.{◌>>=◌}
 use Rattle.aud_record.specs.Written.{line_of, header_text}
 use Rattle.aud_record.specs.declared.header.Header.{Header}
@@ -24,13 +25,13 @@ four_lines a b c d rest =
 abbrev trail_line : List ℕ
 trail_line = line_of (codes "trail" ∷ codes "1" ∷ [])
 
--- the text of the four lines, and what stands after them
+-- the text of the lines, and what stands after them
 abbrev lines : PolicyNames → CapSet → List ℕ → List ℕ
-lines p bound rest = trail_line ++ (line_of (codes "levels" ∷ p.levels) ++ (line_of (codes "categories" ∷ p.cats) ++ (line_of (codes "bound" ∷ set_text bound ∷ []) ++ rest)))
+lines p bound rest = trail_line ++ lines_for p (line_of (codes "bound" ∷ set_text bound ∷ []) ++ rest)
 
 by_lines : (p : PolicyNames) (bound : CapSet) (rest : List ℕ) → header_text p bound ++ rest ≡ lines p bound rest
 unfolding header_text
-by_lines p bound rest = four_lines trail_line (line_of (codes "levels" ∷ p.levels)) (line_of (codes "categories" ∷ p.cats)) (line_of (codes "bound" ∷ set_text bound ∷ [])) rest
+by_lines p bound rest = four_lines trail_line (line_for Levels p.levels) (line_for Categories p.cats) (line_of (codes "bound" ∷ set_text bound ∷ [])) rest
 
 -- how many bytes stand before a rest
 used_is : (text xs rest : List ℕ) → xs ++ rest ≡ text → length text - length rest ≡ length xs
@@ -42,13 +43,10 @@ abbrev from_words : List ℕ → PolicyNames → List (List ℕ) × List ℕ →
 from_words text p x = bound_of x.0 >>= λ bound. Ok (record { policy = p; bound = bound; used = length text - length x.1 })
 
 abbrev from_policy : List ℕ → PolicyNames × List ℕ → Result Header HeaderError
-from_policy text x = keyword_line 4 (codes "bound") x.1 >>= from_words text x.0
-
-abbrev from_levels : List ℕ → PolicyNames × List ℕ → Result Header HeaderError
-from_levels text x = categories_line x.0.levels x.1 >>= from_policy text
+from_policy text x = keyword_line bound_number (codes "bound") x.1 >>= from_words text x.0
 
 abbrev from_format : List ℕ → List ℕ → Result Header HeaderError
-from_format text rest = levels_line rest >>= from_levels text
+from_format text rest = names_lines 2 all_lists no_names rest >>= from_policy text
 
 -- a text that begins with the header of a policy that can be made is read as that header
 pub header_round_trip : (p : PolicyNames) (bound : CapSet) (rest : List ℕ) → MakePolicy p → parse_header (header_text p bound ++ rest) ≡ Ok (record { policy = p; bound = bound; used = length (header_text p bound) })
@@ -56,11 +54,9 @@ unfolding parse_header
 header_round_trip p bound rest h =
     let text = lines p bound rest in
     let last = line_of (codes "bound" ∷ set_text bound ∷ []) ++ rest in
-    let after_levels = line_of (codes "categories" ∷ p.cats) ++ last in
     ap parse_header (by_lines p bound rest)
-    ∙ ap (λ (r : Result (List ℕ) HeaderError). r >>= from_format text) (format_round_trip (line_of (codes "levels" ∷ p.levels) ++ after_levels))
-    ∙ ap (λ (r : Result (PolicyNames × List ℕ) HeaderError). r >>= from_levels text) (levels_round_trip p after_levels h)
-    ∙ ap (λ (r : Result (PolicyNames × List ℕ) HeaderError). r >>= from_policy text) (categories_round_trip p last h)
+    ∙ ap (λ (r : Result (List ℕ) HeaderError). r >>= from_format text) (format_round_trip (lines_for p last))
+    ∙ ap (λ (r : Result (PolicyNames × List ℕ) HeaderError). r >>= from_policy text) (names_round_trip p last h)
     ∙ ap (λ (r : Result (List (List ℕ) × List ℕ) HeaderError). r >>= from_words text p) (bound_round_trip bound rest)
     ∙ ap (λ (r : Result CapSet HeaderError). r >>= λ bound. Ok (record { policy = p; bound = bound; used = length text - length rest })) (set_made bound)
     ∙ ap (λ (n : ℕ). Ok (record { policy = p; bound = bound; used = n })) (used_is text (header_text p bound) rest (by_lines p bound rest))
@@ -76,22 +72,14 @@ begins text p bound rest header fine h same =
     let used = length text - length rest in
     subst (BeginsWith text) same (record { fine = fine; prefix = ap (take used) whole ∙ take_at (header_text p bound) rest used (sym (used_is text (header_text p bound) rest (sym whole))) })
 
--- the text that four lines make, each of which has what comes after the one before it
-chained : (p : PolicyNames) (bound : CapSet) (levels : Names) (text after_format after_levels after_cats rest : List ℕ) → text ≡ trail_line ++ after_format → after_format ≡ line_of (codes "levels" ∷ levels) ++ after_levels
-    → HasCategories levels after_levels after_cats p → after_cats ≡ line_of (codes "bound" ∷ set_text bound ∷ []) ++ rest → text ≡ lines p bound rest
-chained p bound levels text after_format after_levels after_cats rest format has_levels has_cats has_bound =
-    format ∙ ap (λ (t : List ℕ). trail_line ++ t)
-    (has_levels ∙ (λ i. line_of (codes "levels" ∷ has_cats.same i) ++ (has_cats.begins ∙ ap (λ (t : List ℕ). line_of (codes "categories" ∷ p.cats) ++ t) has_bound) i))
-
 pub header_is : (text : List ℕ) (header : Header) → parse_header text ≡ Ok header → BeginsWith text header
 unfolding parse_header
 header_is text header h =
     let first = bound_is (format_line text) (from_format text) header h in
-    let second = bound_is (levels_line first.0) (from_levels text) header first.2 in
-    let third = bound_is (categories_line second.0.0.levels second.0.1) (from_policy text) header second.2 in
-    let last = bound_is (keyword_line 4 (codes "bound") third.0.1) (from_words text third.0.0) header third.2 in
-    let set = bound_is (bound_of last.0.0) (λ bound. Ok (record { policy = third.0.0; bound = bound; used = length text - length last.0.1 })) header last.2 in
-    let cats = categories_are second.0.0.levels second.0.1 third.0.1 third.0.0 third.1 in
-    let last_line = bound_are third.0.1 last.0.1 last.0.0 set.0 last.1 set.1 in
-    begins text third.0.0 set.0 last.0.1 header cats.fine
-    (chained third.0.0 set.0 second.0.0.levels text first.0 second.0.1 third.0.1 last.0.1 (format_is text first.0 first.1) (levels_are first.0 second.0.1 second.0.0 second.1) cats last_line) (cc)
+    let second = bound_is (names_lines 2 all_lists no_names first.0) (from_policy text) header first.2 in
+    let last = bound_is (keyword_line bound_number (codes "bound") second.0.1) (from_words text second.0.0) header second.2 in
+    let set = bound_is (bound_of last.0.0) (λ bound. Ok (record { policy = second.0.0; bound = bound; used = length text - length last.0.1 })) header last.2 in
+    let names = names_are second.0.0 first.0 second.0.1 second.1 in
+    let last_line = bound_are second.0.1 last.0.1 last.0.0 set.0 last.1 set.1 in
+    begins text second.0.0 set.0 last.0.1 header names.fine
+    (format_is text first.0 first.1 ∙ ap (λ (t : List ℕ). trail_line ++ t) (names.begins ∙ ap (lines_for second.0.0) last_line)) (cc)

@@ -1,10 +1,11 @@
 -- The lines of a header: what is written is read again, and what is read is written so.
-use Rattle.std.specs.Prelude.{◌≡◌, ℕ, ◌==◌, ◌&&◌, ◌||◌, not, nat_lt, Bool, true, false, cond, List, [], ◌∷◌, ◌++◌, length, Option, None, Some, Result, Ok, Err, codes, refl}
-use Rattle.std.proofs.Common.{ap, sym, subst, ◌∙◌, inl, append_assoc}
+use Rattle.std.specs.Prelude.{◌≡◌, ℕ, ◌+◌, ◌<◌, ◌≤◌, ◌==◌, not, nat_lt, Bool, true, false, cond, List, [], ◌∷◌, ◌++◌, length, Option, None, Some, Result, Ok, Err, codes, refl}
+use Rattle.std.proofs.Common.{ap, sym, subst, ◌∙◌, inl, arith, append_assoc, drop, drop-cons, add-one, get_or}
 use Rattle.std.specs.List.{join_with_byte, list_all}
 use Rattle.std.specs.Option.{ok_or}
+use Rattle.std.specs.Result.{IsErrAnd}
 use Rattle.std.proofs.lemmas.Bool.{and_parts, and_from, lt-ltb}
-use Rattle.std.proofs.lemmas.List.{append-nil}
+use Rattle.std.proofs.lemmas.List.{append-nil, drop_all}
 use Rattle.std.proofs.lemmas.List.Splits.{join_with_byte-slice_split}
 use Rattle.std.proofs.lemmas.Option.{cond_some}
 use Rattle.cap_bits.specs.CapSet.{CapSet}
@@ -18,17 +19,19 @@ use Rattle.fs_path.specs.Options.{keep_if}
 use Rattle.fs_path.specs.Split.{split_once, pieces}
 use Rattle.fs_path.specs.Words.{is_space, is_plain, is_bare, is_bare_text, after_spaces, line_text}
 use Rattle.lab_text.proofs.BareLemmas.{all_bare, label_name_bare}
-use Rattle.lab_text.proofs.PolicyFacts.{policy_facts}
-use Rattle.lab_text.specs.Names.{Names, same_bytes, is_label_name, are_distinct}
-use Rattle.lab_text.specs.Policy.{PolicyNames, names_fault, MakePolicy}
+use Rattle.lab_text.proofs.PolicyFacts.{policy_facts, levels_alone}
+use Rattle.lab_text.specs.Lists.{all_lists, keyword_of}
+use Rattle.lab_text.specs.Names.{Names, same_bytes, is_label_name}
+use Rattle.lab_text.specs.Policy.{PolicyNames, with_names, no_names, names_fault, MakePolicy}
+use Rattle.lab_text.specs.declared.lists.NameList.{NameList}
+use Rattle.lab_text.specs.declared.lists.NameList.TheVariants.{Levels, Categories}
 use Rattle.lab_text.specs.declared.policy.PolicyError.{PolicyError}
-use Rattle.lab_text.specs.declared.policy.PolicyError.TheVariants as names
 use Rattle.aud_record.proofs.FieldLaws.{prefix_is}
 use Rattle.aud_record.proofs.FormLaws.{bound_is}
 use Rattle.aud_record.proofs.Numbers.{same_itself, same_is}
 use Rattle.aud_record.proofs.WordLaws.{lacks, lacks-append, split_round_trip, split_is, word_lacks}
 use Rattle.aud_record.specs.Canonical.{after_prefix}
-use Rattle.aud_record.specs.Header.{after_keyword, keyword_line, made, policy_of, levels_line, categories_line, canonical_set, bound_of, format_line}
+use Rattle.aud_record.specs.Header.{Fails, Gives, after_keyword, keyword_line, made, policy_of, names_line, names_lines, bound_number, canonical_set, bound_of, format_line}
 use Rattle.aud_record.specs.Words.{◌>>=◌}
 use Rattle.aud_record.specs.Written.{line_of}
 use Rattle.aud_record.specs.declared.header.HeaderError.{HeaderError}
@@ -101,42 +104,24 @@ line_is n keyword text rest words h =
 names_bare : (ns : Names) → list_all is_label_name ns ≡ true → list_all is_bare_text ns ≡ true
 names_bare ns h = all_weaker is_label_name is_bare_text ns label_name_bare h
 
-policy_made : (n : ℕ) (levels cats : Names) → names_fault levels cats ≡ None → policy_of n levels cats ≡ Ok (record { levels = levels; cats = cats })
+made_of : (n : ℕ) (p : PolicyNames) → MakePolicy p → policy_of n p ≡ Ok p
 unfolding policy_of
-policy_made n levels cats h = ap (made n (record { levels = levels; cats = cats })) h
+made_of n p h = ap (made n p) h
 
 -- the policy that was made of names
-record IsMadeOf (p : PolicyNames) (levels cats : Names) : Type 0 where
-  same : p ≡ record { levels = levels; cats = cats }
-  fine : names_fault levels cats ≡ None
+record IsMadeOf (q p : PolicyNames) : Type 0 where
+  same : q ≡ p
+  fine : MakePolicy p
 
-policy_is : (n : ℕ) (levels cats : Names) (p : PolicyNames) → policy_of n levels cats ≡ Ok p → IsMadeOf p levels cats
+policy_is : (n : ℕ) (p q : PolicyNames) → policy_of n p ≡ Ok q → IsMadeOf q p
 unfolding policy_of
-policy_is n levels cats p h = by_fault (names_fault levels cats) refl h
+policy_is n p q h = by_fault (names_fault p) refl h
   where
-    by_fault : (o : Option PolicyError) → names_fault levels cats ≡ o → made n (record { levels = levels; cats = cats }) o ≡ Ok p → IsMadeOf p levels cats
+    by_fault : (o : Option PolicyError) → names_fault p ≡ o → made n p o ≡ Ok q → IsMadeOf q p
     by_fault None e h = record { same = cc; fine = e }
     by_fault (Some fault) e h = absurd (cc)
 
-abbrev first_error : (empty many named apart : Bool) → Option PolicyError
-first_error empty many named apart = cond empty (Some names.Empty) (cond many (Some names.TooMany) (cond (not named) (Some names.BadName) (cond (not apart) (Some names.Repeated) None)))
-
--- levels that make a policy with categories make one without
-alone : (levels cats : Names) → names_fault levels cats ≡ None → names_fault levels [] ≡ None
-unfolding names_fault
-alone levels cats h =
-    by_tests (length levels == 0) (nat_lt 16 (length levels)) (nat_lt 64 (length cats)) (list_all is_label_name levels) (list_all is_label_name cats) (are_distinct levels) (are_distinct cats) h
-  where
-    by_tests : (empty many many2 named named2 apart apart2 : Bool) → first_error empty (many || many2) (named && named2) (apart && apart2) ≡ None → first_error empty (many || false) (named && true) (apart && true) ≡ None
-    by_tests true many many2 named named2 apart apart2 h = absurd (cc)
-    by_tests false true many2 named named2 apart apart2 h = absurd (cc)
-    by_tests false false true named named2 apart apart2 h = absurd (cc)
-    by_tests false false false false named2 apart apart2 h = absurd (cc)
-    by_tests false false false true false apart apart2 h = absurd (cc)
-    by_tests false false false true true false apart2 h = absurd (cc)
-    by_tests false false false true true true apart2 h = refl
-
--- ---- the four lines
+-- ---- the lines
 
 pub format_is : (text rest : List ℕ) → format_line text ≡ Ok rest → text ≡ line_of (codes "trail" ∷ codes "1" ∷ []) ++ rest
 unfolding format_line line_of
@@ -146,64 +131,146 @@ pub format_round_trip : (rest : List ℕ) → format_line (line_of (codes "trail
 unfolding format_line line_of
 format_round_trip rest = refl
 
-abbrev with_levels : List (List ℕ) × List ℕ → Result (PolicyNames × List ℕ) HeaderError
-with_levels x = policy_of 2 x.0 [] >>= λ policy. Ok (policy, x.1)
+-- the line of a list of names
+abbrev pub line_for : NameList → Names → List ℕ
+line_for list names = line_of (keyword_of list ∷ names)
 
-pub levels_round_trip : (p : PolicyNames) (rest : List ℕ) → MakePolicy p → levels_line (line_of (codes "levels" ∷ p.levels) ++ rest) ≡ Ok (record { levels = p.levels; cats = [] }, rest)
-unfolding levels_line
-levels_round_trip p rest h =
-    ap (λ (r : Result (List (List ℕ) × List ℕ) HeaderError). r >>= with_levels) (line_round_trip 2 (codes "levels") p.levels rest refl (names_bare p.levels (policy_facts p h).level_names))
-    ∙ ap (λ (r : Result PolicyNames HeaderError). r >>= λ policy. Ok (policy, rest)) (policy_made 2 p.levels [] (alone p.levels p.cats h))
+keyword_bare : (list : NameList) → is_bare_text (keyword_of list) ≡ true
+keyword_bare Levels = refl
+keyword_bare Categories = refl
 
-pub levels_are : (text rest : List ℕ) (p : PolicyNames) → levels_line text ≡ Ok (p, rest) → text ≡ line_of (codes "levels" ∷ p.levels) ++ rest
-unfolding levels_line
-levels_are text rest p h =
-    let first = bound_is (keyword_line 2 (codes "levels") text) with_levels (p, rest) h in
-    let second = bound_is (policy_of 2 first.0.0 []) (λ policy. Ok (policy, first.0.1)) (p, rest) first.2 in
-    let same : ◌≡◌ {A = PolicyNames × List ℕ} (second.0, first.0.1) (p, rest) = cc in
-    let is = policy_is 2 first.0.0 [] second.0 second.1 in
-    subst (λ (x : PolicyNames × List ℕ). text ≡ line_of (codes "levels" ∷ x.0.levels) ++ x.1) same
-    (line_is 2 (codes "levels") text first.0.1 first.0.0 first.1 ∙ ap (λ (q : PolicyNames). line_of (codes "levels" ∷ q.levels) ++ first.0.1) (sym is.same))
+abbrev with_words : ℕ → NameList → PolicyNames → Names × List ℕ → Result (PolicyNames × List ℕ) HeaderError
+with_words n list p x = policy_of n (with_names p list x.0) >>= λ policy. Ok (policy, x.1)
 
-abbrev with_categories : Names → List (List ℕ) × List ℕ → Result (PolicyNames × List ℕ) HeaderError
-with_categories levels x = policy_of 3 levels x.0 >>= λ policy. Ok (policy, x.1)
+names_line_round_trip : (n : ℕ) (list : NameList) (p : PolicyNames) (names : Names) (rest : List ℕ) → list_all is_label_name names ≡ true → MakePolicy (with_names p list names)
+    → names_line n list p (line_for list names ++ rest) ≡ Ok (with_names p list names, rest)
+unfolding names_line
+names_line_round_trip n list p names rest named fine =
+    ap (λ (r : Result (Names × List ℕ) HeaderError). r >>= with_words n list p) (line_round_trip n (keyword_of list) names rest (keyword_bare list) (names_bare names named))
+    ∙ ap (λ (r : Result PolicyNames HeaderError). r >>= λ policy. Ok (policy, rest)) (made_of n (with_names p list names) fine)
 
-pub categories_round_trip : (p : PolicyNames) (rest : List ℕ) → MakePolicy p → categories_line p.levels (line_of (codes "categories" ∷ p.cats) ++ rest) ≡ Ok (p, rest)
-unfolding categories_line
-categories_round_trip p rest h =
-    ap (λ (r : Result (List (List ℕ) × List ℕ) HeaderError). r >>= with_categories p.levels) (line_round_trip 3 (codes "categories") p.cats rest refl (names_bare p.cats (policy_facts p h).cat_names))
-    ∙ ap (λ (r : Result PolicyNames HeaderError). r >>= λ policy. Ok (policy, rest)) (policy_made 3 p.levels p.cats h)
+-- the names that a line adds, and the text after it
+pub record HasNames (n : ℕ) (list : NameList) (p q : PolicyNames) (text rest : List ℕ) : Type 0 where
+  pub names : Names
+  pub same : q ≡ with_names p list names
+  pub fine : MakePolicy q
+  pub begins : text ≡ line_for list names ++ rest
 
--- the categories of a line, which make a policy with the levels, and the text after it
-pub record HasCategories (levels : Names) (text rest : List ℕ) (p : PolicyNames) : Type 0 where
-  pub same : levels ≡ p.levels
-  pub fine : MakePolicy p
-  pub begins : text ≡ line_of (codes "categories" ∷ p.cats) ++ rest
-
-pub categories_are : (levels : Names) (text rest : List ℕ) (p : PolicyNames) → categories_line levels text ≡ Ok (p, rest) → HasCategories levels text rest p
-unfolding categories_line
-categories_are levels text rest p h =
-    let first = bound_is (keyword_line 3 (codes "categories") text) (with_categories levels) (p, rest) h in
-    let second = bound_is (policy_of 3 levels first.0.0) (λ policy. Ok (policy, first.0.1)) (p, rest) first.2 in
-    let same : ◌≡◌ {A = PolicyNames × List ℕ} (second.0, first.0.1) (p, rest) = cc in
-    let is = policy_is 3 levels first.0.0 second.0 second.1 in
-    let made_of : HasCategories levels text first.0.1 (record { levels = levels; cats = first.0.0 }) = record {
-      same = refl;
-      fine = is.fine;
-      begins = line_is 3 (codes "categories") text first.0.1 first.0.0 first.1;
+pub names_line_is : (n : ℕ) (list : NameList) (p q : PolicyNames) (text rest : List ℕ) → names_line n list p text ≡ Ok (q, rest) → HasNames n list p q text rest
+unfolding names_line
+names_line_is n list p q text rest h =
+    let first = bound_is (keyword_line n (keyword_of list) text) (with_words n list p) (q, rest) h in
+    let second = bound_is (policy_of n (with_names p list first.0.0)) (λ policy. Ok (policy, first.0.1)) (q, rest) first.2 in
+    let same : ◌≡◌ {A = PolicyNames × List ℕ} (second.0, first.0.1) (q, rest) = cc in
+    let is = policy_is n (with_names p list first.0.0) second.0 second.1 in
+    let has : HasNames n list p second.0 text first.0.1 = record {
+      names = first.0.0;
+      same = is.same;
+      fine = subst (λ (r : PolicyNames). MakePolicy r) (sym is.same) is.fine;
+      begins = line_is n (keyword_of list) text first.0.1 first.0.0 first.1;
     } in
-    subst (λ (x : PolicyNames × List ℕ). HasCategories levels text x.1 x.0) same (subst (HasCategories levels text first.0.1) (sym is.same) made_of)
+    subst (λ (x : PolicyNames × List ℕ). HasNames n list p x.0 text x.1) same has
+
+-- ---- the lines of names, one after another
+
+-- a line that is read, before others
+pub first_line : (n : ℕ) (list : NameList) (lists : List NameList) (p q : PolicyNames) (text rest : List ℕ) → names_line n list p text ≡ Ok (q, rest) → names_lines n (list ∷ lists) p text ≡ names_lines (n + 1) lists q rest
+unfolding names_lines
+first_line n list lists p q text rest h = ap (λ (r : Result (PolicyNames × List ℕ) HeaderError). r >>= λ first. names_lines (n + 1) lists first.0 first.1) h
+
+-- a line at fault, before others
+pub first_fails : (n : ℕ) (list : NameList) (lists : List NameList) (p : PolicyNames) (text : List ℕ) (e : HeaderError) → Fails e (names_line n list p text) → Fails e (names_lines n (list ∷ lists) p text)
+unfolding names_lines
+first_fails n list lists p text (error.Form k) h = ap (λ (r : Result (PolicyNames × List ℕ) HeaderError). r >>= λ first. names_lines (n + 1) lists first.0 first.1) h
+first_fails n list lists p text (error.Name k) h = ap (λ (r : Result (PolicyNames × List ℕ) HeaderError). r >>= λ first. names_lines (n + 1) lists first.0 first.1) h
+first_fails n list lists p text (error.NoMemory m) h = tt
+
+no_lines : (n : ℕ) (p : PolicyNames) (text : List ℕ) → names_lines n [] p text ≡ Ok (p, text)
+unfolding names_lines
+no_lines n p text = refl
+
+-- names that some lines give make a policy
+pub names_made : (n : ℕ) (list : NameList) (lists : List NameList) (p q : PolicyNames) (text rest : List ℕ) → names_lines n (list ∷ lists) p text ≡ Ok (q, rest) → MakePolicy q
+unfolding names_lines
+names_made n list [] p q text rest h =
+    let first = bound_is (names_line n list p text) (λ first. names_lines (n + 1) [] first.0 first.1) (q, rest) h in
+    let same : ◌≡◌ {A = PolicyNames × List ℕ} (first.0.0, first.0.1) (q, rest) = cc in
+    subst (λ (x : PolicyNames × List ℕ). MakePolicy x.0) same (names_line_is n list p first.0.0 text first.0.1 first.1).fine
+names_made n list (next ∷ lists) p q text rest h =
+    let first = bound_is (names_line n list p text) (λ first. names_lines (n + 1) (next ∷ lists) first.0 first.1) (q, rest) h in
+    names_made (n + 1) next lists first.0.0 q first.0.1 rest first.2
+
+-- ---- line by line, of all lists
+
+abbrev pub Read : Type 0
+Read = Result (PolicyNames × List ℕ) HeaderError
+
+from_place : (place : ℕ) (d : NameList) (p : PolicyNames) (text : List ℕ) → place < length all_lists → names_lines (place + 2) (drop place all_lists) p text ≡ names_lines (place + 2) (get_or all_lists place d ∷ drop (place + 1) all_lists) p text
+from_place place d p text within =
+    ap (λ (lists : List NameList). names_lines (place + 2) lists p text) (drop-cons all_lists place d within ∙ ap (λ k. get_or all_lists place d ∷ drop k all_lists) (sym (add-one place)))
+
+pub line_read : (place : ℕ) (d : NameList) (p q : PolicyNames) (text rest : List ℕ) (whole : Read) → place < length all_lists → whole ≡ names_lines (place + 2) (drop place all_lists) p text
+    → names_line (place + 2) (get_or all_lists place d) p text ≡ Ok (q, rest) → whole ≡ names_lines (place + 1 + 2) (drop (place + 1) all_lists) q rest
+line_read place d p q text rest whole within is h =
+    let next : place + 2 + 1 ≡ place + 1 + 2 = omega arith in
+    is ∙ from_place place d p text within ∙ first_line (place + 2) (get_or all_lists place d) (drop (place + 1) all_lists) p q text rest h ∙ ap (λ n. names_lines n (drop (place + 1) all_lists) q rest) next
+
+pub line_fails : (place : ℕ) (d : NameList) (p : PolicyNames) (text : List ℕ) (e : HeaderError) (whole : Read) → place < length all_lists → whole ≡ names_lines (place + 2) (drop place all_lists) p text
+    → Fails e (names_line (place + 2) (get_or all_lists place d) p text) → Fails e whole
+line_fails place d p text e whole within is h = subst (λ (r : Read). Fails e r) (sym (is ∙ from_place place d p text within)) (first_fails (place + 2) (get_or all_lists place d) (drop (place + 1) all_lists) p text e h)
+
+pub lines_read : (place : ℕ) (p : PolicyNames) (text : List ℕ) (whole : Read) → length all_lists ≤ place → whole ≡ names_lines (place + 2) (drop place all_lists) p text → whole ≡ Ok (p, text)
+lines_read place p text whole past is = is ∙ ap (λ (lists : List NameList). names_lines (place + 2) lists p text) (drop_all place all_lists past) ∙ no_lines (place + 2) p text
+
+-- an error that is handed on is the one that the line gives
+pub handed_on : {X Y : Type 0} (r : Result X HeaderError) (view : X → Y) (e : HeaderError) (whole : Result Y HeaderError) → IsErrAnd r (λ f. f ≡ e) → Fails e whole → Gives view r whole
+handed_on (Ok x) view e whole is h = absurd is
+handed_on (Err f) view e whole is h = subst (λ (f : HeaderError). Fails f whole) (sym is) h
+
+-- ---- the lines of names of a policy
+
+-- the lines of names of a policy
+abbrev pub lines_for : PolicyNames → List ℕ → List ℕ
+lines_for p rest = line_for Levels p.levels ++ (line_for Categories p.cats ++ rest)
+
+pub names_round_trip : (p : PolicyNames) (rest : List ℕ) → MakePolicy p → names_lines 2 all_lists no_names (lines_for p rest) ≡ Ok (p, rest)
+names_round_trip p rest h =
+    let levels = with_names no_names Levels p.levels in
+    let after_levels = line_for Categories p.cats ++ rest in
+    first_line 2 Levels (Categories ∷ []) no_names levels (lines_for p rest) after_levels (names_line_round_trip 2 Levels no_names p.levels after_levels (policy_facts p h Levels).named (levels_alone p h))
+    ∙ first_line 3 Categories [] levels p after_levels rest (names_line_round_trip 3 Categories levels p.cats rest (policy_facts p h Categories).named h)
+    ∙ no_lines 4 p rest
+
+-- the lines of names with which a text begins, and the text after them
+pub record HasLines (p : PolicyNames) (text rest : List ℕ) : Type 0 where
+  pub fine : MakePolicy p
+  pub begins : text ≡ lines_for p rest
+
+pub names_are : (p : PolicyNames) (text rest : List ℕ) → names_lines 2 all_lists no_names text ≡ Ok (p, rest) → HasLines p text rest
+unfolding names_lines
+names_are p text rest h =
+    let first = bound_is (names_line 2 Levels no_names text) (λ first. names_lines 3 (Categories ∷ []) first.0 first.1) (p, rest) h in
+    let levels = names_line_is 2 Levels no_names first.0.0 text first.0.1 first.1 in
+    let second = bound_is (names_line 3 Categories first.0.0 first.0.1) (λ first. names_lines 4 [] first.0 first.1) (p, rest) first.2 in
+    let cats = names_line_is 3 Categories first.0.0 second.0.0 first.0.1 second.0.1 second.1 in
+    let same : ◌≡◌ {A = PolicyNames × List ℕ} (second.0.0, second.0.1) (p, rest) = cc in
+    let is : second.0.0 ≡ record { levels = levels.names; cats = cats.names } = cats.same ∙ ap (λ (q : PolicyNames). with_names q Categories cats.names) levels.same in
+    let has : HasLines second.0.0 text second.0.1 = record {
+      fine = cats.fine;
+      begins = levels.begins ∙ ap (λ (t : List ℕ). line_for Levels levels.names ++ t) cats.begins ∙ ap (λ (q : PolicyNames). lines_for q second.0.1) (sym is);
+    } in
+    subst (λ (x : PolicyNames × List ℕ). HasLines x.0 text x.1) same has
 
 pub set_made : (bound : CapSet) → bound_of (set_text bound ∷ []) ≡ Ok bound
 unfolding bound_of
-set_made bound = ap (canonical_set (set_text bound)) (set_round_trip bound) ∙ ap (λ b. cond b (Ok bound) (Err (error.Form 4))) (same_itself (set_text bound))
+set_made bound = ap (canonical_set (set_text bound)) (set_round_trip bound) ∙ ap (λ b. cond b (Ok bound) (Err (error.Form bound_number))) (same_itself (set_text bound))
 
 set_is : (words : List (List ℕ)) (bound : CapSet) → bound_of words ≡ Ok bound → words ≡ set_text bound ∷ []
 unfolding bound_of
 set_is [] bound h = absurd (cc)
 set_is (word ∷ []) bound h = by_set (parse_set word) h
   where
-    by_test : (set : CapSet) (v : Bool) → same_bytes (set_text set) word ≡ v → cond v (Ok set) (Err (error.Form 4)) ≡ Ok bound → word ∷ [] ≡ set_text bound ∷ []
+    by_test : (set : CapSet) (v : Bool) → same_bytes (set_text set) word ≡ v → cond v (Ok set) (Err (error.Form bound_number)) ≡ Ok bound → word ∷ [] ≡ set_text bound ∷ []
     by_test set true e h = let same : set ≡ bound = cc in ap (λ (t : List ℕ). t ∷ []) (sym (same_is (set_text set) word e) ∙ ap set_text same)
     by_test set false e h = absurd (cc)
 
@@ -212,10 +279,10 @@ set_is (word ∷ []) bound h = by_set (parse_set word) h
     by_set (Err e) h = absurd (cc)
 set_is (word ∷ other ∷ words) bound h = absurd (cc)
 
-pub bound_round_trip : (bound : CapSet) (rest : List ℕ) → keyword_line 4 (codes "bound") (line_of (codes "bound" ∷ set_text bound ∷ []) ++ rest) ≡ Ok (set_text bound ∷ [], rest)
+pub bound_round_trip : (bound : CapSet) (rest : List ℕ) → keyword_line bound_number (codes "bound") (line_of (codes "bound" ∷ set_text bound ∷ []) ++ rest) ≡ Ok (set_text bound ∷ [], rest)
 bound_round_trip bound rest =
     let bare = and_from (nat_lt 0 (length (set_text bound))) (list_all is_bare (set_text bound)) (lt-ltb 0 (length (set_text bound)) (set_text_some bound)) (set_text_bare bound) in
-    line_round_trip 4 (codes "bound") (set_text bound ∷ []) rest refl (and_from (is_bare_text (set_text bound)) true bare refl)
+    line_round_trip bound_number (codes "bound") (set_text bound ∷ []) rest refl (and_from (is_bare_text (set_text bound)) true bare refl)
 
-pub bound_are : (text rest : List ℕ) (words : List (List ℕ)) (bound : CapSet) → keyword_line 4 (codes "bound") text ≡ Ok (words, rest) → bound_of words ≡ Ok bound → text ≡ line_of (codes "bound" ∷ set_text bound ∷ []) ++ rest
-bound_are text rest words bound line set = line_is 4 (codes "bound") text rest words line ∙ ap (λ (ws : List (List ℕ)). line_of (codes "bound" ∷ ws) ++ rest) (set_is words bound set)
+pub bound_are : (text rest : List ℕ) (words : List (List ℕ)) (bound : CapSet) → keyword_line bound_number (codes "bound") text ≡ Ok (words, rest) → bound_of words ≡ Ok bound → text ≡ line_of (codes "bound" ∷ set_text bound ∷ []) ++ rest
+bound_are text rest words bound line set = line_is bound_number (codes "bound") text rest words line ∙ ap (λ (ws : List (List ℕ)). line_of (codes "bound" ∷ ws) ++ rest) (set_is words bound set)

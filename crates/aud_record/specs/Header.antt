@@ -1,5 +1,5 @@
 -- The header with which a text begins.
-use Rattle.std.specs.Prelude.{◌≡◌, ℕ, ◌-◌, cond, List, [], ◌∷◌, ◌++◌, length, Option, None, Some, Result, Ok, Err, codes}
+use Rattle.std.specs.Prelude.{◌≡◌, ℕ, ◌+◌, ◌-◌, cond, List, [], ◌∷◌, ◌++◌, length, Option, None, Some, Result, Ok, Err, codes}
 use Rattle.std.specs.Option.{ok_or}
 use Rattle.cap_bits.specs.CapSet.{CapSet}
 use Rattle.cap_clause.specs.declared.error.CapTextError.{CapTextError}
@@ -8,8 +8,10 @@ use Rattle.cap_clause.specs.Parsed.{parse_set}
 use Rattle.cap_clause.specs.Written.{set_text}
 use Rattle.fs_path.specs.Options.{keep_if}
 use Rattle.fs_path.specs.Split.{split_once, pieces}
-use Rattle.lab_text.specs.Names.{Names, same_bytes}
-use Rattle.lab_text.specs.Policy.{PolicyNames, names_fault}
+use Rattle.lab_text.specs.Lists.{all_lists, keyword_of}
+use Rattle.lab_text.specs.Names.{same_bytes}
+use Rattle.lab_text.specs.Policy.{PolicyNames, with_names, no_names, names_fault}
+use Rattle.lab_text.specs.declared.lists.NameList.{NameList}
 use Rattle.lab_text.specs.declared.policy.PolicyError.{PolicyError}
 use Rattle.lab_text.specs.declared.policy.PolicyError.TheVariants as names
 use Rattle.aud_record.specs.Canonical.{after_prefix}
@@ -51,44 +53,48 @@ names_error n names.TooMany = error.Name n
 names_error n names.Repeated = error.Name n
 names_error n (names.NoMemory e) = error.NoMemory e
 
--- the policy of names, unless they make none
+-- names, unless they make no policy
 abbrev pub made : ℕ → PolicyNames → Option PolicyError → Result PolicyNames HeaderError
 made n p None = Ok p
 made n p (Some e) = Err (names_error n e)
 
--- the policy of some names, of which the last are those of line n
-unfoldable pub policy_of : ℕ → Names → Names → Result PolicyNames HeaderError
-policy_of n levels cats = made n (record { levels = levels; cats = cats }) (names_fault levels cats)
+-- names of which the last are those of line n, unless they make no policy
+unfoldable pub policy_of : ℕ → PolicyNames → Result PolicyNames HeaderError
+policy_of n p = made n p (names_fault p)
 
--- the policy without categories that the second line gives, with which a text begins, and the text after the line
-unfoldable pub levels_line : List ℕ → Result (PolicyNames × List ℕ) HeaderError
-levels_line text = do
-  names ← keyword_line 2 (codes "levels") text
-  policy ← policy_of 2 names.0 []
-  Ok (policy, names.1)
+-- names with those of a list from line n, with which a text begins, and the text after the line
+unfoldable pub names_line : ℕ → NameList → PolicyNames → List ℕ → Result (PolicyNames × List ℕ) HeaderError
+names_line n list p text = do
+  words ← keyword_line n (keyword_of list) text
+  policy ← policy_of n (with_names p list words.0)
+  Ok (policy, words.1)
 
--- the policy of some levels and of the third line, with which a text begins, and the text after the line
-unfoldable pub categories_line : Names → List ℕ → Result (PolicyNames × List ℕ) HeaderError
-categories_line levels text = do
-  names ← keyword_line 3 (codes "categories") text
-  policy ← policy_of 3 levels names.0
-  Ok (policy, names.1)
+-- names with those of some lists, each from a line of its own from line n on, and the text after these lines
+unfoldable pub names_lines : ℕ → List NameList → PolicyNames → List ℕ → Result (PolicyNames × List ℕ) HeaderError
+names_lines n [] p text = Ok (p, text)
+names_lines n (list ∷ lists) p text = do
+  first ← names_line n list p text
+  names_lines (n + 1) lists first.0 first.1
+
+-- the number of the last line, that of the bound, after the format and the lists of names
+abbrev pub bound_number : ℕ
+bound_number = length all_lists + 2
 
 -- what is wrong in the line of the bound, which denotes no set
 abbrev pub set_error : CapTextError → HeaderError
-set_error (set.UnknownName at) = error.Name 4
-set_error _ = error.Form 4
+set_error (set.UnknownName at) = error.Name bound_number
+set_error _ = error.Form bound_number
 
 -- a set, where a word is its canonical text
 abbrev pub canonical_set : List ℕ → Result CapSet CapTextError → Result CapSet HeaderError
-canonical_set word (Ok bound) = cond (same_bytes (set_text bound) word) (Ok bound) (Err (error.Form 4))
+canonical_set word (Ok bound) = cond (same_bytes (set_text bound) word) (Ok bound) (Err (error.Form bound_number))
 canonical_set word (Err e) = Err (set_error e)
 
 -- the set of which the only word is the canonical text
 unfoldable pub bound_of : List (List ℕ) → Result CapSet HeaderError
-bound_of [] = Err (error.Form 4)
+bound_of [] = Err (error.Form bound_number)
 bound_of (word ∷ []) = canonical_set word (parse_set word)
-bound_of (word ∷ other ∷ words) = Err (error.Form 4)
+bound_of (word ∷ other ∷ words) = Err (error.Form bound_number)
 
 -- ---- the header
 
@@ -100,8 +106,7 @@ format_line text = ok_or (after_prefix (codes "trail 1" ++ 10 ∷ []) text) (err
 unfoldable pub parse_header : List ℕ → Result Header HeaderError
 parse_header text = do
   first ← format_line text
-  named ← levels_line first
-  policy ← categories_line named.0.levels named.1
-  words ← keyword_line 4 (codes "bound") policy.1
+  names ← names_lines 2 all_lists no_names first
+  words ← keyword_line bound_number (codes "bound") names.1
   bound ← bound_of words.0
-  Ok (record { policy = policy.0; bound = bound; used = length text - length words.1 })
+  Ok (record { policy = names.0; bound = bound; used = length text - length words.1 })

@@ -2,24 +2,28 @@
 ghost use Rattle.std.specs.Prelude.{◌≡◌, ◌≤◌, ◌++◌, ℕ, Ok, IfOk, length, take};
 ghost use Rattle.std.specs.Option.{option_copied};
 ghost use Rattle.fs_path.specs.Split.{pieces_of_rest};
-ghost use Rattle.lab_text.specs.Policy.{PolicyNames, MakePolicy};
-ghost use Rattle.aud_record.specs.Header.{Gives, format_line, keyword_line, names_error, policy_of, levels_line, categories_line, set_error, bound_of, parse_header};
+ghost use Rattle.lab_text.specs.Lists.{all_lists};
+ghost use Rattle.lab_text.specs.Policy.{PolicyNames, no_names, MakePolicy};
+ghost use Rattle.aud_record.specs.Header.{Gives, format_line, keyword_line, names_error, names_line, names_lines, set_error, bound_of, parse_header};
 ghost use Rattle.aud_record.specs.Written.{header_text};
 
 use crate::NoMemory;
 use cap_bits::CapSet;
 use cap_clause::{CapTextError, set_from_text, set_to_text};
 use fs_path::{List, first_piece, next_line};
-use lab_text::{Policy, PolicyError, Word};
+use lab_text::{NameList, Policy, PolicyError, PolicyNames, Word};
 use line_text::LineWriter;
 use std::alloc::Global;
+
+// The number of the last line, that of the bound.
+const BOUND_LINE: usize = NameList::ALL.len() + 2;
 
 /// A header that was read.
 #[derive(Debug)]
 pub struct Header {
     pub policy: Policy,
     pub bound: CapSet,
-    /// How many bytes its four lines have, with their line feeds.
+    /// How many bytes its lines have, with their line feeds.
     pub used: usize,
 }
 
@@ -62,11 +66,9 @@ pub fn header_text(alloc: Global, policy: &Policy, bound: &CapSet) -> Result<Vec
 {
     let bound = set_to_text(alloc, bound)?;
     let mut line = LineWriter::new(alloc)?;
-    line.bytes(b"trail 1\nlevels")?;
-    line.words(policy.levels())?;
-    line.bytes(b"\ncategories")?;
-    line.words(policy.cats())?;
-    line.bytes(b"\nbound")?;
+    line.bytes(b"trail 1\n")?;
+    line.name_lists(policy)?;
+    line.bytes(b"bound")?;
     line.word(bound.as_slice())?;
     line.line_feed()?;
     Ok(line.into_text())
@@ -116,43 +118,37 @@ fn names_error(number: usize, error: PolicyError) -> HeaderError
     }
 }
 
-// The policy of these names, of which the last are those of the line with this number.
-#[tactic(auto, unfolding(crate::specs::Header::policy_of))]
-fn policy_of(
+// Adds the names of a list from the line with this number, with which a text begins, and returns the text after the line.
+#[tactic(auto, unfolding(crate::specs::Header::policy_of, crate::specs::Header::names_line))]
+fn names_line<'a>(
     alloc: Global,
     number: usize,
-    levels: &[Word],
-    cats: &[Word],
-) -> Result<Policy, HeaderError>
-    ensures { Gives (λ policy. policy) result (policy_of number levels.now cats.now) }
-{
-    Policy::new(alloc, levels, cats).map_err(|e| names_error(number, e))
-}
-
-// The policy without categories that the second line gives, with which a text begins, and the text after the line.
-#[tactic(auto, unfolding(crate::specs::Header::levels_line))]
-fn levels_line(alloc: Global, text: &[u8]) -> Result<(Policy, &[u8]), HeaderError>
-    ensures line { Gives (λ x. (x.0, x.1.now)) result (levels_line text.now) }
-    ensures shorter { IfOk result (λ x. length x.1.now ≤ length text.now) }
-{
-    let (names, rest) = keyword_line(alloc, 2, b"levels", text)?;
-    let policy = policy_of(alloc, 2, names.items(), &[])?;
-    Ok((policy, rest))
-}
-
-// The policy of these levels and of the third line, with which a text begins, and the text after the line.
-#[tactic(auto, unfolding(crate::specs::Header::categories_line))]
-fn categories_line<'a>(
-    alloc: Global,
-    levels: &[Word],
+    list: NameList,
+    names: &mut PolicyNames,
     text: &'a [u8],
-) -> Result<(Policy, &'a [u8]), HeaderError>
-    ensures line { Gives (λ x. (x.0, x.1.now)) result (categories_line levels.now text.now) }
+) -> Result<&'a [u8], HeaderError>
+    ensures line { Gives (λ rest. (names.new, rest.now)) result (names_line number list names.old text.now) }
+    ensures shorter { IfOk result (λ rest. length rest.now ≤ length text.now) }
+{
+    let (words, rest) = keyword_line(alloc, number, list.keyword(), text)?;
+    names.put(list, words);
+    match names.fault() {
+        Some(error) => Err(names_error(number, error)),
+        None => Ok(rest),
+    }
+}
+
+// The policy of the lines of names, with which a text begins, and the text after them.
+fn names_lines(alloc: Global, text: &[u8]) -> Result<(Policy, &[u8]), HeaderError>
+    ensures lines { Gives (λ x. (x.0, x.1.now)) result (names_lines 2 all_lists no_names text.now) }
     ensures shorter { IfOk result (λ x. length x.1.now ≤ length text.now) }
 {
-    let (names, rest) = keyword_line(alloc, 3, b"categories", text)?;
-    let policy = policy_of(alloc, 3, levels, names.items())?;
-    Ok((policy, rest))
+    let mut names = PolicyNames::empty(alloc);
+    let mut rest = text;
+    for (place, list) in NameList::ALL.iter().enumerate() {
+        rest = names_line(alloc, place + 2, *list, &mut names, rest)?;
+    }
+    Ok((names.into_policy(), rest))
 }
 
 // What is wrong in the line of the bound, which denotes no set.
@@ -160,8 +156,8 @@ fn set_error(error: CapTextError) -> HeaderError
     ensures { result ≡ set_error error }
 {
     match error {
-        CapTextError::UnknownName(_) => HeaderError::Name(4),
-        _ => HeaderError::Form(4),
+        CapTextError::UnknownName(_) => HeaderError::Name(BOUND_LINE),
+        _ => HeaderError::Form(BOUND_LINE),
     }
 }
 
@@ -171,12 +167,12 @@ fn bound_of(alloc: Global, words: &[Word]) -> Result<CapSet, HeaderError>
     ensures { Gives (λ bound. bound) result (bound_of words.now) }
 {
     let [word] = words else {
-        return Err(HeaderError::Form(4));
+        return Err(HeaderError::Form(BOUND_LINE));
     };
     let bound = set_from_text(word.bytes()).map_err(set_error)?;
     let text = set_to_text(alloc, &bound)?;
     if text.as_slice() != word.bytes() {
-        return Err(HeaderError::Form(4));
+        return Err(HeaderError::Form(BOUND_LINE));
     }
     Ok(bound)
 }
@@ -197,9 +193,8 @@ fn first_header(alloc: Global, text: &[u8]) -> Result<Header, HeaderError>
     ensures within { IfOk result (λ header. header.used ≤ length text.now) }
 {
     let rest = format_line(text)?;
-    let (named, rest) = levels_line(alloc, rest)?;
-    let (policy, rest) = categories_line(alloc, named.levels(), rest)?;
-    let (words, rest) = keyword_line(alloc, 4, b"bound", rest)?;
+    let (policy, rest) = names_lines(alloc, rest)?;
+    let (words, rest) = keyword_line(alloc, BOUND_LINE, b"bound", rest)?;
     let bound = bound_of(alloc, words.items())?;
     Ok(Header {
         policy,

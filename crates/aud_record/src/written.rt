@@ -1,6 +1,8 @@
 // The writing of a record.
 ghost use Rattle.std.specs.Prelude.{◌≡◌, ◌<◌, ◌^◌, true, List, ℕ, [], ◌∷◌, ◌++◌, length, IfOk, OnOk, Ok};
 ghost use Rattle.lab_text.specs.Text.{label_text};
+ghost use Rattle.kern_model.specs.Names.{word_of, errno_word, check_word, place_text};
+ghost use Rattle.line_text.specs.Ranges.{PlaceInRange};
 ghost use Rattle.line_text.specs.Reply.{with_words};
 ghost use Rattle.line_text.specs.Words.{caps_word, oid_text};
 ghost use Rattle.aud_record.specs.Fits.{has_valid_labels, ExerciseInRange, RestInRange, IsInRange};
@@ -10,7 +12,7 @@ ghost use Rattle.aud_record.specs.Written.{exercise_words, switch_word, rest_wor
 use crate::NoMemory;
 use crate::event::{Event, who};
 use cap_bits::CapState;
-use kern_model::{Exercise, Oid, Rec};
+use kern_model::{CallName, CheckName, Errno, Exercise, Oid, Place, Rec};
 use lab_lattice::Label;
 use lab_text::Policy;
 use line_text::LineWriter;
@@ -48,6 +50,53 @@ fn put_labels(
     line.label(policy, new)
 }
 
+// Appends the file that a process executes, the capability sets of the file, and those of the process after it.
+fn put_exec(
+    line: &mut LineWriter,
+    policy: &Policy,
+    file: &Oid,
+    file_caps: &CapState,
+    caps: &CapState,
+) -> Result<(), NoMemory>
+    ensures text { OnOk result (line.new ≡ with_words line.old (oid_text policy.now file.now ∷ caps_word file_caps.now ∷ caps_word caps.now ∷ [])) }
+    ensures in_range { OnOk result (file.now.n < 2 ^ 16) }
+{
+    put_file(line, policy, file, file_caps)?;
+    line.caps(caps)
+}
+
+// Appends an object, its label before a change and the one after it.
+fn put_object_labels(
+    line: &mut LineWriter,
+    policy: &Policy,
+    object: &Oid,
+    old: &Label,
+    new: &Label,
+) -> Result<(), NoMemory>
+    ensures text { OnOk result (line.new ≡ with_words line.old (oid_text policy.now object.now ∷ label_text policy.now old.now ∷ label_text policy.now new.now ∷ [])) }
+    ensures in_range { OnOk result (object.now.n < 2 ^ 16) }
+{
+    line.oid(policy, object)?;
+    put_labels(line, policy, old, new)
+}
+
+// Appends the call that is denied, the error, the check that denies it and its place.
+fn put_denial(
+    line: &mut LineWriter,
+    call: CallName,
+    errno: Errno,
+    check: CheckName,
+    place: Place,
+) -> Result<(), NoMemory>
+    ensures text { OnOk result (line.new ≡ with_words line.old (word_of call ∷ errno_word errno ∷ check_word check ∷ place_text place ∷ [])) }
+    ensures in_range { OnOk result (PlaceInRange place) }
+{
+    line.word(call.word())?;
+    line.word(errno.word())?;
+    line.word(check.word())?;
+    line.place(place)
+}
+
 // Appends the words of an exercise after the number of the process.
 fn put_exercise(line: &mut LineWriter, policy: &Policy, exercise: &Exercise) -> Result<(), NoMemory>
     ensures text { OnOk result (line.new ≡ with_words line.old (exercise_words policy.now exercise.now)) }
@@ -78,10 +127,7 @@ fn put_rest(line: &mut LineWriter, policy: &Policy, rec: &Rec) -> Result<(), NoM
             file_caps,
             caps,
             ..
-        } => {
-            put_file(line, policy, file, file_caps)?;
-            line.caps(caps)
-        }
+        } => put_exec(line, policy, file, file_caps, caps),
         Rec::Exit { ending, .. } => line.ending(*ending),
         Rec::CapSetProc { caps, .. } => line.caps(caps),
         Rec::CapSetFile { file, caps, .. } => put_file(line, policy, file, caps),
@@ -91,10 +137,7 @@ fn put_rest(line: &mut LineWriter, policy: &Policy, rec: &Rec) -> Result<(), NoM
             old,
             new,
             ..
-        } => {
-            line.oid(policy, object)?;
-            put_labels(line, policy, old, new)
-        }
+        } => put_object_labels(line, policy, object, old, new),
         Rec::Exercise(exercise) => put_exercise(line, policy, exercise),
         Rec::Deny {
             call,
@@ -102,12 +145,7 @@ fn put_rest(line: &mut LineWriter, policy: &Policy, rec: &Rec) -> Result<(), NoM
             check,
             place,
             ..
-        } => {
-            line.word(call.word())?;
-            line.word(errno.word())?;
-            line.word(check.word())?;
-            line.place(*place)
-        }
+        } => put_denial(line, *call, *errno, *check, *place),
         Rec::Switch { on, .. } => line.word(switch_word(*on)),
         Rec::Note { bytes, .. } => line.quoted(bytes.items()),
     }

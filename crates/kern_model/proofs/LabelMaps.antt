@@ -1,8 +1,8 @@
 -- Values by their labels, after one of them is put in, and the labels in order.
-use Rattle.std.specs.Prelude.{◌≡◌, ℕ, ◌<◌, ◌==◌, ◌&&◌, true, false, List, [], ◌∷◌, ◌++◌, Option, Some, None, IsSome, OnSome, cond, length, refl, slice_get, zero, suc}
+use Rattle.std.specs.Prelude.{◌≡◌, ℕ, ◌+◌, ◌<◌, ◌==◌, ◌&&◌, ◌||◌, Bool, not, true, false, List, [], ◌∷◌, ◌++◌, Option, Some, None, IsSome, OnSome, cond, length, refl, slice_get, zero, suc}
 use Rattle.std.specs.Ordering.{eq_by_cmp, is_eq}
 use Rattle.std.specs.Option.{option_and_then, option_map}
-use Rattle.std.specs.List.{AllByRecursion}
+use Rattle.std.specs.List.{AllByRecursion, list_any, position, position_or_len}
 use Rattle.std.specs.List.Sorted.{IsStrictlySortedBy}
 use Rattle.std.specs.Map.{keys_of}
 use Rattle.std.specs.FinMap as map
@@ -12,8 +12,9 @@ use Rattle.std.proofs.lemmas.Bool.{and_parts}
 use Rattle.std.proofs.lemmas.Bool.Decides.{nat_tests}
 use Rattle.std.proofs.lemmas.Cmp.{tied_itself}
 use Rattle.std.proofs.lemmas.Option.{slice_get_read}
+use Rattle.fs_path.proofs.SplitLemmas.{position_found, position_missing}
 use Rattle.lab_lattice.specs.Label.{Label, label_cmp, dominates}
-use Rattle.lab_lattice.proofs.Labels.{dominates_both, label_cmp_total, label_cmp_exact}
+use Rattle.lab_lattice.proofs.Labels.{dominates_both, dominates_itself, label_cmp_total, label_cmp_exact}
 use Rattle.kern_model.specs.declared.label_map.Entry.{Entry}
 use Rattle.kern_model.specs.LabelMap.{ArePlaced, value_at, values_in}
 use Rattle.kern_model.specs.Maps.{select, selected, with_entry}
@@ -49,6 +50,32 @@ within : {X Y : Type 0} (f : X → Y) (xs : List X) (i : ℕ) (y : Y) → option
 within f [] i y h = absurd (cc)
 within f (x ∷ xs) zero y h = omega arith
 within f (x ∷ xs) (suc i) y h = let rest = within f xs i y h in omega arith
+
+-- ---- the first entry that passes a test
+record Passes {X : Type 0} (p : X → Bool) (xs : List X) (i : ℕ) : Type 0 where
+  item : X
+  there : slice_get xs i ≡ Some item
+  passes : p item ≡ true
+
+at_first : {X : Type 0} (p : X → Bool) (xs : List X) → position_or_len p xs < length xs → Passes p xs (position_or_len p xs)
+at_first p [] low = absurd (omega arith)
+at_first {X} p (x ∷ xs) low =
+    elim (p x) as (λ b. p x ≡ b → cond (not b) (1 + position_or_len p xs) 0 < suc (length xs) → Passes p (x ∷ xs) (cond (not b) (1 + position_or_len p xs) 0)) [
+      | true ↦ λ t _. record { item = x; there = refl; passes = t }
+      | false ↦ λ _ h.
+          let rest = at_first p xs (omega arith) in
+          let next : 1 + position_or_len p xs ≡ suc (position_or_len p xs) = omega arith in
+          record { item = rest.item; there = ap (slice_get (x ∷ xs)) next ∙ rest.there; passes = rest.passes }
+    ] refl low
+
+some_passes : {X : Type 0} (p : X → Bool) (xs : List X) (i : ℕ) (x : X) → slice_get xs i ≡ Some x → p x ≡ true → list_any p xs ≡ true
+some_passes p [] i x is t = absurd (cc)
+some_passes p (y ∷ ys) zero x is t = let same : y ≡ x = cc in ap (λ b. b || list_any p ys) (ap p same ∙ t)
+some_passes p (y ∷ ys) (suc i) x is t = ap (λ b. p y || b) (some_passes p ys i x is t) ∙ or_true (p y)
+  where
+    or_true : (b : Bool) → (b || true) ≡ true
+    or_true true = refl
+    or_true false = refl
 
 -- ---- values by labels
 module _ {X : Type 0} where
@@ -149,6 +176,37 @@ module _ {X : Type 0} (es : List (Entry X)) (places : FinMap label_cmp ℕ) (are
   place_equal place d q low at same =
       let both = and_parts _ _ (sym same) in
       sym (ap (map.get places) (sym (dominates_both d.label q both.0 both.1)) ∙ are.placed place d (slice_get_read es (length es) place d refl low at))
+
+  abbrev is_at : Label → Entry X → Bool
+  is_at q e = dominates e.label q && dominates q e.label
+
+  -- the position of a label among the entries is its place
+  pub position_placed : (q : Label) → position (λ (e : Entry X). dominates e.label q && dominates q e.label) es ≡ map.get places q
+  position_placed q = by_position (position (is_at q) es) refl
+    where
+      by_place : (o : Option ℕ) → map.get places q ≡ o → position (is_at q) es ≡ None → None ≡ o
+      by_place None is none = refl
+      by_place (Some i) is none = by_entry (slice_get es i) refl (are.there q i is)
+        where
+          by_entry : (o : Option (Entry X)) → slice_get es i ≡ o → option_map (λ (e : Entry X). e.label) o ≡ Some q → None ≡ Some i
+          by_entry None at same = absurd (cc)
+          by_entry (Some e) at same =
+              let label : e.label ≡ q = cc in
+              let low : is_at q e ≡ true = subst (λ l. (dominates e.label l && dominates l e.label) ≡ true) label (ap (λ b. b && b) (dominates_itself e.label)) in
+              let some : list_any (is_at q) es ≡ true = some_passes (is_at q) es i e at low in
+              let no = (position_missing (is_at q) es none).1 in
+              absurd (cc)
+
+      by_position : (o : Option ℕ) → position (is_at q) es ≡ o → o ≡ map.get places q
+      by_position None is = by_place (map.get places q) refl is ∙ refl
+      by_position (Some i) is =
+          let found = position_found (is_at q) es i is in
+          let first = at_first (is_at q) es (subst (λ n. n < length es) (sym found.1) found.0) in
+          let both = and_parts _ _ first.passes in
+          sym (
+          ap (map.get places) (sym (dominates_both first.item.label q both.0 both.1))
+          ∙ are.placed i first.item (ap (slice_get es) (sym found.1) ∙ first.there)
+          )
 
   -- the entry of a label is put in its place
   put_there : (place : ℕ) (e : Entry X) → map.get places e.label ≡ Some place → IsPut es places place e (set es place e) places

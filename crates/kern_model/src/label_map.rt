@@ -1,15 +1,20 @@
 // Values by their labels.
-ghost use Rattle.std.specs.Prelude.{◌≡◌, IfOk, IsOk, IsSome, None, OnErr, OnOk, option_copied};
+ghost use Rattle.std.specs.Prelude.{◌≡◌, ◌&&◌, IfOk, IsOk, IsSome, None, OnErr, OnOk, option_copied};
 ghost use Rattle.std.specs.Borrow.{sem};
 ghost use Rattle.std.specs.FinMap as map;
-ghost use Rattle.lab_lattice.specs.Label.{label_cmp};
+ghost use Rattle.std.specs.List.{position};
+ghost use Rattle.lab_lattice.specs.Label.{dominates, label_cmp};
 ghost use Rattle.kern_model.specs.LabelMap.{ArePlaced};
+ghost use Rattle.kern_model.specs.declared.label_map.Entry.{Entry};
 
 use crate::NoMemory;
 use lab_lattice::{Label, Lattice};
 use std::alloc::Global;
 use std::collections::BTreeMap;
 use std::marker::Model;
+
+// The most labels that are compared one by one.
+const FEW: usize = 16;
 
 // A label and what is kept at it.
 #[derive(Drop)]
@@ -128,6 +133,7 @@ impl<T: Drop> LabelMap<T> {
 }
 
 // Where a label stands, if something is kept at it.
+#[inline(always)]
 fn place<T>(
     entries: &Vec<Entry<T>>,
     places: &BTreeMap<Label, usize>,
@@ -139,13 +145,25 @@ fn place<T>(
 {
     match entries.get(last) {
         Some(entry) if entry.label.equal(label) => Some(last),
-        _ => find(places, label),
+        _ => find(entries, places, label),
     }
 }
 
-// The same, by the places of all labels.
-fn find(places: &BTreeMap<Label, usize>, label: &Label) -> Option<usize>
+// The same, by comparing the labels one by one where they are few, and else by their order.
+#[inline(never)]
+fn find<T>(entries: &Vec<Entry<T>>, places: &BTreeMap<Label, usize>, label: &Label) -> Option<usize>
+    requires { ArePlaced entries.now.items (map.from_entries places.now.entries) }
     ensures { result ≡ map.get (map.from_entries {R = label_cmp} places.now.entries) label.now }
 {
+    if entries.len() <= FEW {
+        return position_of(entries.as_slice(), label);
+    }
     places.get(label).copied()
+}
+
+// The position of a label among entries.
+fn position_of<T>(entries: &[Entry<T>], label: &Label) -> Option<usize>
+    ensures { result ≡ position (λ (e : Entry T). dominates e.label label.now && dominates label.now e.label) entries.now }
+{
+    entries.iter().position(|entry| entry.label.equal(label))
 }

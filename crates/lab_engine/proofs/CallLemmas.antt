@@ -47,24 +47,27 @@ module _ (policy : PolicyNames) (n : ℕ) (p : CallRecord) where
   call_by_parts Crossed = refl
   call_by_parts (Counted t) = refl
 
-  module _ (r : Report) (q : CallRecord) (same : p ≡ q) where
+  module _ (r : Report) (shown : Shown) (is : shown ≡ shown_of r p.who p.recs) (recs : List Rec) (are : recs ≡ p.recs) where
     abbrev before : List Sent
-    before = before_reply (shown_of r p.who p.recs) policy n p.recs
+    before = before_reply shown policy n recs
 
-    pub equal_call : before ++ cond (has_reply (shown_of r p.who p.recs)) (to_out (reply_text policy p)) [] ≡ call_sends r policy n q
-    equal_call = call_by_parts r ∙ ap (call_sends r policy n) same
+    pub by_shown : before ++ cond (has_reply shown) (to_out (reply_text policy p)) [] ≡ call_sends r policy n p
+    by_shown =
+        ap (λ (rs : List Rec). before_reply shown policy n rs ++ cond (has_reply shown) (to_out (reply_text policy p)) []) are
+        ∙ ap (λ (x : Shown). before_reply x policy n p.recs ++ cond (has_reply x) (to_out (reply_text policy p)) []) is
+        ∙ call_by_parts r
 
     -- the reply is written
-    pub reply_written : has_reply (shown_of r p.who p.recs) ≡ true → (text : List ℕ) → text ≡ reply_line policy p.who p.head p.reply → before ++ to_out text ≡ call_sends r policy n q
+    pub reply_written : has_reply shown ≡ true → (text : List ℕ) → text ≡ reply_line policy p.who p.head p.reply → before ++ to_out text ≡ call_sends r policy n p
     unfolding reply_text
-    reply_written there text is =
-        ap (λ (t : List ℕ). before ++ to_out t) is
+    reply_written there text same =
+        ap (λ (t : List ℕ). before ++ to_out t) same
         ∙ ap (λ b. before ++ cond b (to_out (reply_text policy p)) []) (sym there)
-        ∙ equal_call
+        ∙ by_shown
 
     -- the reply is not written
-    pub reply_left_out : has_reply (shown_of r p.who p.recs) ≡ false → before ≡ call_sends r policy n q
+    pub reply_left_out : has_reply shown ≡ false → before ≡ call_sends r policy n p
     reply_left_out none =
         sym (append-nil before)
         ∙ ap (λ b. before ++ cond b (to_out (reply_text policy p)) []) (sym none)
-        ∙ equal_call
+        ∙ by_shown

@@ -28,7 +28,8 @@ use Rattle.kern_model.specs.World.{given}
 use Rattle.lab_lattice.specs.Label.{Label, bottom, dominates}
 use Rattle.lab_lattice.proofs.Labels.{dominates_bottom, dominates_itself}
 use Rattle.lab_text.specs.Names.{same_bytes}
-use Rattle.lab_text.specs.Policy.{PolicyNames, names_fault, top_of}
+use Rattle.lab_text.specs.Policy.{PolicyNames, with_names, no_names, names_fault, top_of}
+use Rattle.lab_text.specs.declared.lists.NameList.TheVariants.{Levels, Categories}
 use Rattle.lab_text.specs.Text.{LabelWords, label_of as label_of_words, label_text, label_words, parse_label, places_of}
 use Rattle.lab_text.proofs.Parsed.{parse_text}
 use Rattle.line_text.specs.declared.fault.LineFault.{LineFault}
@@ -276,16 +277,16 @@ p3_line = proc_line after_p2 (codes "proc l3 103 103 - \"=\"") (codes "l3") (cod
 
 -- ---- the head
 
-format_line : parse_line at.Format (codes "world 1") ≡ GoesOn (at.Levels One)
+format_line : parse_line at.Format (codes "world 1") ≡ GoesOn (at.Names One Levels no_names)
 unfolding parse_line named parse_words words_of is_blank
 format_line = refl
 
-levels_line : parse_line (at.Levels One) (codes "levels l0 l1 l2 l3") ≡ GoesOn (at.Categories One policy.levels)
-unfolding parse_line parse_words words_of is_blank
+levels_line : parse_line (at.Names One Levels no_names) (codes "levels l0 l1 l2 l3") ≡ GoesOn (at.Names One Categories (with_names no_names Levels policy.levels))
+unfolding parse_line parse_words words_of is_blank names_fault
 levels_line = refl
 
-categories_line : parse_line (at.Categories One policy.levels) (codes "categories c0 c1") ≡ GoesOn (at.Bound One policy)
-unfolding parse_line parse_words words_of is_blank
+categories_line : parse_line (at.Names One Categories (with_names no_names Levels policy.levels)) (codes "categories c0 c1") ≡ GoesOn (at.Bound One policy)
+unfolding parse_line parse_words words_of is_blank names_fault
 categories_line = refl
 
 bound_line : parse_line (at.Bound One policy) (codes "bound all") ≡ GoesOn (tree_at [] [])
@@ -326,7 +327,7 @@ tree_reads_on : ReadsOn (tree_at [] []) (drop 4 before_script) (tree_at all_dirs
 tree_reads_on = (tree_at after_root [], root_line, (tree_at after_d0 [], d0_line, (tree_at after_d1 [], d1_line, (tree_at after_d2 [], d2_line, (tree_at all_dirs [], d3_line, procs_read_on)))))
 
 head_reads_on : ReadsOn at.Format before_script (tree_at all_dirs all_procs)
-head_reads_on = (at.Levels One, format_line, (at.Categories One policy.levels, levels_line, (at.Bound One policy, categories_line, (tree_at [] [], bound_line, tree_reads_on))))
+head_reads_on = (at.Names One Levels no_names, format_line, (at.Names One Categories (with_names no_names Levels policy.levels), levels_line, (at.Bound One policy, categories_line, (tree_at [] [], bound_line, tree_reads_on))))
 
 script_begins : (n : ℕ) (p : List ℕ) (ps : List (List ℕ)) → reading n (tree_at all_dirs all_procs) (codes "script" ∷ p ∷ ps) ≡ Accepted generated_world (n + 1) (p ∷ ps)
 unfolding reading

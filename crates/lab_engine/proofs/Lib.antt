@@ -4,11 +4,13 @@ pub mod ScriptLemmas
 pub mod ReportLemmas
 pub mod ReporterLemmas
 pub mod RunReports
+pub mod CountLemmas
 pub mod TallyLemmas
 pub mod ReadSoFar
 pub mod CheckLemmas
 pub mod Progress
 pub mod WorldProgress
+pub mod OpenLemmas
 pub mod ScriptSteps
 pub mod ReadableLemmas
 pub mod CallLemmas
@@ -19,3 +21,6 @@ pub mod GeneratedWorld
 pub mod GeneratedInput
 pub mod ViewLemmas
 pub mod PieceLemmas
+pub mod KeptLemmas
+pub mod SeenLemmas
+pub mod ScriptSeen

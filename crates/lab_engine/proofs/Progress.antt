@@ -1,152 +1,114 @@
--- A script that is played as it is read: what was read and played so far, and what a run leaves.
-use Rattle.std.proofs.Common.{◌≡◌, ℕ, ◌+◌, ◌≤◌, ◌^◌, true, List, [], ◌∷◌, ◌++◌, length, refl, sym, ◌∙◌, ap, subst, arith, append_assoc, Option}
+-- A script that is played as it is read: what its calls leave, and what a fault does.
+use Rattle.std.proofs.Common.{◌≡◌, ◌⊎◌, ℕ, ◌+◌, List, [], ◌∷◌, ◌++◌, length, inl, inr, refl, sym, ◌∙◌, ap, subst, arith, append_assoc}
 use Rattle.std.proofs.lemmas.List.{append-nil}
-use Rattle.std.specs.Io.KnownBytes.{Appends}
+use Rattle.std.specs.Prelude.{Result, Ok, Err, MatchResult, OnOk}
 use Rattle.io_ends.specs.LinesState.{LinesState}
-use Rattle.io_ends.specs.Ends.{SinkView}
+use Rattle.io_ends.specs.Ends.{SinkView, SourceView}
 use Rattle.kern_model.specs.declared.world.ScriptItem.{ScriptItem}
-use Rattle.kern_model.specs.Run.{run, state_after_run}
+use Rattle.kern_model.specs.declared.records.Outcome.{Outcome}
+use Rattle.kern_model.specs.Run.{CallRecord, run, state_after_run}
 use Rattle.kern_model.specs.State.{State}
 use Rattle.kern_model.specs.Step.{step}
+use Rattle.lab_lattice.specs.Label.{Label}
 use Rattle.lab_text.specs.Policy.{PolicyNames}
 use Rattle.script_text.specs.declared.line.Line.{Line}
 use Rattle.lab_engine.specs.declared.ending.Fault.{Fault}
 use Rattle.lab_engine.specs.declared.ending.Fault.TheVariants.{Read}
-use Rattle.lab_engine.specs.declared.ending.InputEnd.{InputEnd}
+use Rattle.lab_engine.specs.declared.playing.Played.{Played}
 use Rattle.lab_engine.specs.declared.reporting.Report.{Report}
 use Rattle.lab_engine.specs.declared.reporting.Report.TheVariants.{All}
 use Rattle.lab_engine.specs.Counts.{Counts, counted_by}
-use Rattle.lab_engine.specs.Input.{Script, items_in, script}
-use Rattle.lab_engine.specs.Order.{Sent, out_of, trail_of}
-use Rattle.lab_engine.specs.Playing.{Ends, ends, PlaysAll, Sends, SendsAll, StopsBy, StopsIn, faults_of}
-use Rattle.lab_engine.specs.Report.{items_reported, report_after}
+use Rattle.lab_engine.specs.Handling.{Handled, NoLine, NextLine, HandlesAll, HandlesScript, StopsBetween, StopsWithin}
+use Rattle.lab_engine.specs.Input.{Script}
+use Rattle.lab_engine.specs.Order.{Sent}
+use Rattle.lab_engine.specs.Playing.{ends, faults_of, PlaysAll, PlaysScript, Sends, SendsAll, StopsBy, StopsIn, WritesBoth}
+use Rattle.lab_engine.specs.Player.{ends_at, PlayerView, PlaysCalls, StopsCalls}
+use Rattle.lab_engine.specs.Report.{CountsAtMost, items_reported, report_after}
 use Rattle.lab_engine.specs.Readable.{CallsReadable}
-use Rattle.lab_engine.specs.Reading.{BeginsWith, EndsScript, HasNoCall, Takes, left_of, script_at}
-use Rattle.lab_engine.proofs.ReadSoFar.{ReadSoFar, line_says, read_begins, read_ends, read_line}
+use Rattle.lab_engine.specs.Reporter.{HasSeen, SawCalls, SawPart, calls_seen}
+use Rattle.lab_engine.specs.Reading.{left_of, script_at}
 use Rattle.lab_engine.proofs.ReadableLemmas.{readable_items}
-use Rattle.lab_engine.proofs.ReportLemmas.{after_append, after_none, all_stays, items_append, items_none}
+use Rattle.lab_engine.proofs.ReportLemmas.{after_append, after_none, all_stays, counts_items, items_append, items_none}
+use Rattle.lab_engine.proofs.SeenLemmas.{SeenSoFar, more_counted, run_append, so_far_part}
 use Rattle.lab_engine.proofs.Sending.{all_more, all_nothing, stops_after, stops_longer}
+use Rattle.lab_engine.proofs.ToolLemmas.{top_after}
 
--- ---- what was played so far
+-- ---- calls after others
 
 state_append : (s : State) (is more : List ScriptItem) → state_after_run s (is ++ more) ≡ state_after_run (state_after_run s is) more
 state_append s [] more = refl
 state_append s (i ∷ is) more = state_append (step s i.who i.call).state is more
 
-pub record Progress (policy : PolicyNames) (r0 r : Report) (s0 s : State) (lines0 lines : LinesState) (left0 left : Option (List ℕ)) (count : ℕ) (before now : Ends) : Type 0 where
-  pub read : ReadSoFar policy lines0 lines left0 left count
-  pub state : s ≡ state_after_run s0 read.items
-  pub report : r ≡ report_after r0 (run s0 read.items)
-  pub sends : SendsAll (items_reported r0 policy 0 s0 read.items) before now
-  pub readable : r0 ≡ All → CallsReadable policy 0 s0 read.items
-
-pub progress_begins : (policy : PolicyNames) (r : Report) (s : State) (lines : LinesState) (left : Option (List ℕ)) (e : Ends) → lines.more ≡ true → lines.room ≤ 2 ^ 24 → Progress policy r r s s lines lines left left 0 e e
-progress_begins policy r s lines left e more few = record {
-  read = read_begins policy lines left more few;
+-- no call was played
+plays_none : (p : PlayerView) → PlaysCalls 0 [] p p
+plays_none p = record {
+  policy = refl;
   state = refl;
-  report = sym (after_none r s);
-  sends = subst (λ (o : List Sent). SendsAll o e e) (sym (items_none policy r 0 s)) (all_nothing e);
+  report = sym (after_none p.report p.state);
+  sends = λ source. subst (λ (o : List Sent). SendsAll o (ends_at source p) (ends_at source p)) (sym (items_none p.policy p.report 0 p.state)) (all_nothing (ends_at source p));
   readable = λ all. tt;
+  seen = sym (append-nil p.seen);
+  stopped = refl;
 }
 
-module _ (policy : PolicyNames) (r0 r : Report) (s0 s : State) (lines0 lines : LinesState) (left0 left : Option (List ℕ)) (count : ℕ) (before now : Ends) (p : Progress policy r0 r s0 s lines0 lines left0 left count before now) where
-  from_zero : 0 + length p.read.items ≡ count
-  from_zero = omega (arith, p.read.counted)
+module _ (items : List ScriptItem) (before between : PlayerView) (p : PlaysCalls 0 items before between) where
+  from_zero : 0 + length items ≡ length items
+  from_zero = omega arith
 
-  -- what is reported of the calls so far, and of those after them
-  reported_later : (more : List ScriptItem) → items_reported r0 policy 0 s0 (p.read.items ++ more) ≡ items_reported r0 policy 0 s0 p.read.items ++ items_reported r policy count s more
+  -- what is reported of these calls, and of those after them
+  reported_later : (more : List ScriptItem) → items_reported before.report before.policy 0 before.state (items ++ more)
+      ≡ items_reported before.report before.policy 0 before.state items ++ items_reported between.report between.policy (length items) between.state more
   reported_later more =
-      items_append policy r0 0 s0 p.read.items more
-      ∙ ap (λ k. items_reported r0 policy 0 s0 p.read.items ++ items_reported (report_after r0 (run s0 p.read.items)) policy k (state_after_run s0 p.read.items) more) from_zero
-      ∙ ap (λ (q : Report). items_reported r0 policy 0 s0 p.read.items ++ items_reported q policy count (state_after_run s0 p.read.items) more) (sym p.report)
-      ∙ ap (λ (x : State). items_reported r0 policy 0 s0 p.read.items ++ items_reported r policy count x more) (sym p.state)
+      items_append before.policy before.report 0 before.state items more
+      ∙ ap (λ n. items_reported before.report before.policy 0 before.state items ++ items_reported (report_after before.report (run before.state items)) before.policy n (state_after_run before.state items) more) from_zero
+      ∙ ap (λ (s : State). items_reported before.report before.policy 0 before.state items ++ items_reported (report_after before.report (run before.state items)) before.policy (length items) s more) (sym p.state)
+      ∙ ap (λ (r : Report). items_reported before.report before.policy 0 before.state items ++ items_reported r before.policy (length items) between.state more) (sym p.report)
+      ∙ ap (λ (q : PolicyNames). items_reported before.report before.policy 0 before.state items ++ items_reported between.report q (length items) between.state more) (sym p.policy)
 
-  items_by : (got : List ℕ) (m : Script) → script_at policy lines0 (p.read.taken ++ got) ≡ script (p.read.items ++ m.items) m.ending
-      → items_reported r0 policy 0 s0 (script_at policy lines0 (p.read.taken ++ got)).items ≡ items_reported r0 policy 0 s0 p.read.items ++ items_reported r policy count s m.items
-  items_by got m is = ap (λ (x : Script). items_reported r0 policy 0 s0 x.items) is ∙ reported_later m.items
+  -- what is played of these calls, and of those after them
+  pub run_later : (more : List ScriptItem) → run before.state (items ++ more) ≡ run before.state items ++ run between.state more
+  run_later more = run_append before.state items more ∙ ap (λ (s : State). run before.state items ++ run s more) (sym p.state)
 
-  module _ (got : List ℕ) (lines' : LinesState) (left' : Option (List ℕ)) (takes : Takes lines lines' left left' got) where
-    abbrev taken : List ℕ
-    taken = p.read.taken ++ got
+  -- further calls were played
+  plays_more : (more : List ScriptItem) (after : PlayerView) → PlaysCalls (length items) more between after → PlaysCalls 0 (items ++ more) before after
+  plays_more more after q = record {
+    policy = q.policy ∙ p.policy;
+    state = q.state ∙ ap (λ (s : State). state_after_run s more) p.state ∙ sym (state_append before.state items more);
+    report = q.report ∙ ap (λ (r : Report). report_after r (run between.state more)) p.report
+        ∙ ap (λ (s : State). report_after (report_after before.report (run before.state items)) (run s more)) p.state ∙ sym (after_append before.report before.state items more);
+    sends = λ source. subst (λ (o : List Sent). SendsAll o (ends_at source before) (ends_at source after)) (sym (reported_later more))
+        (all_more (items_reported before.report before.policy 0 before.state items) (items_reported between.report between.policy (length items) between.state more) (ends_at source before) (ends_at source between) (ends_at source after) (p.sends source) (q.sends source));
+    readable = λ all. readable_items before.policy 0 before.state items more (p.readable all)
+        (subst (λ n. CallsReadable before.policy n (state_after_run before.state items) more) (sym from_zero)
+        (subst (λ (s : State). CallsReadable before.policy (length items) s more) p.state
+        (subst (λ (n : PolicyNames). CallsReadable n (length items) between.state more) p.policy (q.readable (p.report ∙ all_stays before.report (run before.state items) all)))));
+    seen = q.seen ∙ ap (λ (cs : List CallRecord). cs ++ run between.state more) p.seen ∙ append_assoc before.seen (run before.state items) (run between.state more)
+        ∙ ap (λ (cs : List CallRecord). before.seen ++ cs) (sym (run_later more));
+    stopped = q.stopped ∙ p.stopped;
+  }
 
-    abbrev whole : Script
-    whole = script_at policy lines0 (taken ++ left_of left')
+  -- a fault stopped further calls
+  stops_later : (more rest : List ScriptItem) (fault : Fault) (after : PlayerView) → StopsCalls (length items) more fault between after
+      → (source : ℕ) → StopsBy fault (items_reported before.report before.policy 0 before.state (items ++ (more ++ rest))) (ends_at source before) (ends_at source after)
+  stops_later more rest fault after stop source =
+      let first = items_reported before.report before.policy 0 before.state items in
+      let cut = items_reported between.report between.policy (length items) between.state more in
+      let later = items_reported (report_after between.report (run between.state more)) between.policy (length items + length more) (state_after_run between.state more) rest in
+      subst (λ (o : List Sent). StopsBy fault o (ends_at source before) (ends_at source after))
+      (sym (reported_later (more ++ rest) ∙ ap (λ (o : List Sent). first ++ o) (items_append between.policy between.report (length items) between.state more rest)))
+      (stops_after fault first (cut ++ later) (ends_at source before) (ends_at source between) (ends_at source after) (p.sends source) (stops_longer fault cut later (ends_at source between) (ends_at source after) (stop.stops source)))
 
-    -- a read failed, or memory ran out, before the next line
-    module _ (fault : Fault) (after : Ends) (out_is : after.out ≡ now.out) (trail_is : after.trail ≡ now.trail) (once : faults_of after ≡ counted_by fault (faults_of now)) (none : HasNoCall policy lines got fault) where
-      sent : Sends (items_reported r0 policy 0 s0 p.read.items) before after
-      sent = record {
-        to_out = subst (λ (o : SinkView). Appends before.out.held o.held (out_of (items_reported r0 policy 0 s0 p.read.items))) (sym out_is) p.sends.sends.to_out;
-        to_trail = subst (λ (o : SinkView). Appends before.trail.held o.held (trail_of (items_reported r0 policy 0 s0 p.read.items))) (sym trail_is) p.sends.sends.to_trail;
-      }
+  -- a part of them was seen
+  pub seen_later : (more rest : List ScriptItem) (seen stopped : List CallRecord) → SawPart (run between.state more) between.seen seen stopped → SawPart (run before.state (items ++ (more ++ rest))) before.seen seen stopped
+  seen_later more rest seen stopped part =
+      let so_far : SeenSoFar (run before.state (items ++ (more ++ rest))) (run between.state (more ++ rest)) before.seen between.seen = record {
+        added = run before.state items;
+        calls_are = run_later (more ++ rest);
+        seen_is = p.seen;
+      } in
+      so_far_part _ _ _ _ so_far (run between.state more) _ (run_append between.state more rest) seen stopped part
 
-      abbrev rest : List Sent
-      rest = items_reported r policy count s (script_at policy lines (got ++ left_of left')).items
-
-      whole_is : items_reported r0 policy 0 s0 whole.items ≡ items_reported r0 policy 0 s0 p.read.items ++ rest
-      whole_is = ap (λ (t : List ℕ). items_reported r0 policy 0 s0 (script_at policy lines0 t).items) (append_assoc p.read.taken got (left_of left')) ∙ items_by (got ++ left_of left') (script_at policy lines (got ++ left_of left')) (p.read.says (got ++ left_of left'))
-
-      pub progress_fails : StopsIn policy r0 s0 whole (script_at policy lines0 taken) fault before after
-      progress_fails = record {
-        stops = record {
-          sends = record { sent = items_reported r0 policy 0 s0 p.read.items; rest = rest; prefix = whole_is; sends = sent };
-          one_fault = once ∙ ap (counted_by fault) p.sends.no_fault;
-        };
-        by_line = λ read.
-            let no_call = none read in
-            subst (λ (o : List Sent). Sends o before after)
-            (sym (items_by got (script_at policy lines got) (p.read.says got) ∙ ap (λ (is : List ScriptItem). items_reported r0 policy 0 s0 p.read.items ++ items_reported r policy count s is) no_call ∙ ap (λ (o : List Sent). items_reported r0 policy 0 s0 p.read.items ++ o) (items_none policy r count s) ∙ append-nil (items_reported r0 policy 0 s0 p.read.items)))
-            sent;
-      }
-
-    -- the next line is there
-    module _ (line : Line) (begins : BeginsWith policy lines lines' got line) where
-      -- a fault stopped it
-      pub progress_stops : (fault : Fault) (after : Ends) → StopsBy fault (items_reported r policy count s (items_in line)) now after → (fault ≡ Read → ⊥) → StopsIn policy r0 s0 whole (script_at policy lines0 taken) fault before after
-      progress_stops fault after stop not_read =
-          let rest = (script_at policy lines' (left_of left')).items in
-          let later = items_reported (report_after r (run s (items_in line))) policy (count + length (items_in line)) (state_after_run s (items_in line)) rest in
-          let is : items_reported r0 policy 0 s0 whole.items ≡ items_reported r0 policy 0 s0 p.read.items ++ (items_reported r policy count s (items_in line) ++ later) =
-          ap (λ (m : Script). items_reported r0 policy 0 s0 m.items) (line_says policy lines0 lines left0 left count p.read got lines' left' takes line begins (left_of left'))
-          ∙ ap (items_reported r0 policy 0 s0) (append_assoc p.read.items (items_in line) rest)
-          ∙ reported_later (items_in line ++ rest)
-          ∙ ap (λ (o : List Sent). items_reported r0 policy 0 s0 p.read.items ++ o) (items_append policy r count s (items_in line) rest)
-          in
-          record {
-            stops = subst (λ (o : List Sent). StopsBy fault o before after) (sym is)
-                (stops_after fault (items_reported r0 policy 0 s0 p.read.items) (items_reported r policy count s (items_in line) ++ later) before now after p.sends (stops_longer fault (items_reported r policy count s (items_in line)) later now after stop));
-            by_line = λ read. absurd (not_read read);
-          }
-
-      -- its calls were played
-      pub progress_more : (r' : Report) (s' : State) (count' : ℕ) (after : Ends) → r' ≡ report_after r (run s (items_in line)) → s' ≡ state_after_run s (items_in line) → count' ≡ count + length (items_in line)
-          → SendsAll (items_reported r policy count s (items_in line)) now after → (r ≡ All → CallsReadable policy count s (items_in line)) → Progress policy r0 r' s0 s' lines0 lines' left0 left' count' before after
-      progress_more r' s' count' after report state counted sends readable = record {
-        read = read_line policy lines0 lines left0 left count p.read got lines' left' takes line begins count' counted;
-        state = state ∙ ap (λ (x : State). state_after_run x (items_in line)) p.state ∙ sym (state_append s0 p.read.items (items_in line));
-        report = report ∙ ap (λ (q : Report). report_after q (run s (items_in line))) p.report
-            ∙ ap (λ (x : State). report_after (report_after r0 (run s0 p.read.items)) (run x (items_in line))) p.state ∙ sym (after_append r0 s0 p.read.items (items_in line));
-        sends = subst (λ (o : List Sent). SendsAll o before after) (sym (reported_later (items_in line)))
-            (all_more (items_reported r0 policy 0 s0 p.read.items) (items_reported r policy count s (items_in line)) before now after p.sends sends);
-        readable = λ all. readable_items policy 0 s0 p.read.items (items_in line) (p.readable all)
-            (subst (λ k. CallsReadable policy k (state_after_run s0 p.read.items) (items_in line)) (sym from_zero)
-            (subst (λ (x : State). CallsReadable policy count x (items_in line)) p.state (readable (p.report ∙ all_stays r0 (run s0 p.read.items) all))));
-      }
-
-    -- the script ends
-    pub progress_ends : (ending : InputEnd) → EndsScript policy lines left' got ending → PlaysAll policy r0 r s0 s whole left' (record { count = count; ending = ending }) before now
-    progress_ends ending last =
-        let is : whole ≡ script p.read.items ending = read_ends policy lines0 lines left0 left count p.read got lines' left' takes ending last in
-        let same : p.read.items ≡ whole.items = sym (ap (λ (m : Script). m.items) is) in
-        record {
-          ending = sym (ap (λ (m : Script). m.ending) is);
-          count = p.read.counted ∙ ap length same;
-          state = p.state ∙ ap (state_after_run s0) same;
-          report = p.report ∙ ap (λ (is : List ScriptItem). report_after r0 (run s0 is)) same;
-          sends = subst (λ (is : List ScriptItem). SendsAll (items_reported r0 policy 0 s0 is) before now) same p.sends;
-          readable = λ all. subst (λ (is : List ScriptItem). CallsReadable policy 0 s0 is) same (p.readable all);
-          to_the_end = last.to_the_end;
-        }
+-- ---- a fault
 
 -- a fault that leaves the count of the source as it was is no failed read
 pub not_a_read : (fault : Fault) (order : List Sent) (out out' trail trail' : SinkView) → StopsBy fault order (ends 0 out trail) (ends 0 out' trail') → fault ≡ Read → ⊥
@@ -155,3 +117,119 @@ not_a_read fault order out out' trail trail' stop is =
     let once = subst (λ q. faults_of (ends 0 out' trail') ≡ counted_by q (faults_of (ends 0 out trail))) is stop.one_fault in
     let zero : 0 ≡ 1 = ap (λ (c : Counts). c.source) once in
     absurd (omega (arith, zero))
+
+-- ---- a line
+
+-- what the contract of a line says of a player that no call has stopped
+pub plays_line : {T : Type 0} (result : Result T Fault) (count : ℕ) (items : List ScriptItem) (a b : PlayerView) → b.policy ≡ a.policy → WritesBoth result (items_reported a.report a.policy count a.state items) a.out b.out a.trail b.trail
+    → OnOk result (b.state ≡ state_after_run a.state items) → OnOk result (b.report ≡ report_after a.report (run a.state items)) → OnOk result (a.report ≡ All → CallsReadable a.policy count a.state items)
+    → a.stopped ≡ [] → SawCalls result (run a.state items) a.seen b.seen b.stopped → MatchResult result (λ _. PlaysCalls count items a b) (λ fault. StopsCalls count items fault a b)
+plays_line (Ok x) count items a b policy writes state report readable none saw = record {
+  policy = policy;
+  state = state;
+  report = report;
+  sends = writes;
+  readable = readable;
+  seen = saw.0;
+  stopped = saw.1 ∙ sym none;
+}
+plays_line (Err fault) count items a b policy writes state report readable none saw = record { stops = writes; saw = saw }
+
+-- it is ready for another line
+pub ready_again : {T : Type 0} (result : Result T Fault) (count : ℕ) (items : List ScriptItem) (r r' : Report) (s s' : State) (seen seen' stopped stopped' : List (Line × (ℕ × Outcome))) → OnOk result (s' ≡ state_after_run s items)
+    → OnOk result (r' ≡ report_after r (run s items)) → SawCalls result (run s items) (calls_seen seen) (calls_seen seen') (calls_seen stopped')
+    → (top : Label) → (s.top ≡ top) × CountsAtMost count r × HasSeen count seen stopped → OnOk result ((s'.top ≡ top) × CountsAtMost (count + length items) r' × HasSeen (count + length items) seen' stopped')
+ready_again (Ok x) count items r r' s s' seen seen' stopped stopped' state report saw top ready = (
+  ap (λ (x : State). x.top) state ∙ top_after s items ∙ ready.0,
+  subst (CountsAtMost (count + length items)) (sym report) (counts_items count r s items ready.1),
+  (more_counted count (count + length items) s items (calls_seen seen) (calls_seen seen') ready.2.0 saw.0 refl, saw.1),
+)
+ready_again (Err fault) count items r r' s s' seen seen' stopped stopped' state report saw top ready = tt
+
+-- ---- a script
+module _ {H : Type 0} (at : H → PlayerView) (first : H) where
+  abbrev pub plays : ℕ → List ScriptItem → H → H → Type 0
+  plays count items a b = PlaysCalls count items (at a) (at b)
+
+  abbrev pub stops : ℕ → List ScriptItem → Fault → H → H → Type 0
+  stops count items fault a b = StopsCalls count items fault (at a) (at b)
+
+  -- the calls of lines that were played one after another
+  pub all_played : (items : List ScriptItem) (now : H) → Handled plays first items now → PlaysCalls 0 items (at first) (at now)
+  all_played items now NoLine = plays_none (at first)
+  all_played items now (NextLine before calls between last lines next) = plays_more before (at first) (at between) (all_played before between lines) calls (at last) next
+
+  module _ (now : H) (m : Script) (source source' : SourceView) where
+    -- the script was played to its end
+    script_played : (p : Played) → HandlesAll plays m p source source' first now
+        → PlaysAll (at first).policy (at first).report (at now).report (at first).state (at now).state m source'.left p (ends_at source.faults (at first)) (ends_at source'.faults (at now))
+    script_played p h =
+        let all = all_played m.items now h.handled in
+        record {
+          ending = h.ending;
+          count = h.count;
+          state = all.state;
+          report = all.report;
+          sends = subst (λ n. SendsAll (items_reported (at first).report (at first).policy 0 (at first).state m.items) (ends_at source.faults (at first)) (ends_at n (at now))) (sym h.no_fault) (all.sends source.faults);
+          readable = all.readable;
+          to_the_end = h.to_the_end;
+        }
+
+    -- a read failed, or memory ran out
+    stopped_between : (taken : Script) (fault : Fault) → StopsBetween plays m taken fault source source' first now
+        → StopsIn (at first).policy (at first).report (at first).state m taken fault (ends_at source.faults (at first)) (ends_at source'.faults (at now))
+    stopped_between taken fault h =
+        let all = all_played h.calls now h.handled in
+        let sent = all.sends source.faults in
+        let order = items_reported (at first).report (at first).policy 0 (at first).state in
+        let sends : Sends (order h.calls) (ends_at source.faults (at first)) (ends_at source'.faults (at now)) = record { to_out = sent.sends.to_out; to_trail = sent.sends.to_trail } in
+        record {
+          stops = record {
+            sends = record {
+              sent = order h.calls;
+              rest = items_reported (at now).report (at now).policy (length h.calls) (at now).state h.rest;
+              prefix = ap order h.prefix ∙ reported_later h.calls (at first) (at now) all h.rest;
+              sends = sends;
+            };
+            one_fault = h.one_fault (at now).out.faults (at now).trail.faults ∙ ap (counted_by fault) sent.no_fault;
+          };
+          by_line = λ read. subst (λ (items : List ScriptItem). Sends (order items) (ends_at source.faults (at first)) (ends_at source'.faults (at now))) (sym (h.by_line read)) sends;
+        }
+
+    -- a fault stopped a line
+    stopped_within : (taken : Script) (fault : Fault) → StopsWithin plays stops m fault source source' first now
+        → StopsIn (at first).policy (at first).report (at first).state m taken fault (ends_at source.faults (at first)) (ends_at source'.faults (at now))
+    stopped_within taken fault h =
+        let order = items_reported (at first).report (at first).policy 0 (at first).state in
+        let stop = stops_later h.before (at first) (at h.between) (all_played h.before h.between h.handled) h.calls h.rest fault (at now) h.stopped in
+        record {
+          stops = subst (λ n. StopsBy fault (order m.items) (ends_at source.faults (at first)) (ends_at n (at now))) (sym h.no_fault)
+              (subst (λ (items : List ScriptItem). StopsBy fault (order items) (ends_at source.faults (at first)) (ends_at source.faults (at now))) (sym h.prefix) (stop source.faults));
+          by_line = λ read. absurd (not_a_read fault (order (h.before ++ (h.calls ++ h.rest))) (at first).out (at now).out (at first).trail (at now).trail (stop 0) read);
+        }
+
+    -- a fault stopped the script
+    stopped : (taken : Script) (fault : Fault) → StopsBetween plays m taken fault source source' first now ⊎ StopsWithin plays stops m fault source source' first now
+        → StopsIn (at first).policy (at first).report (at first).state m taken fault (ends_at source.faults (at first)) (ends_at source'.faults (at now))
+    stopped taken fault (inl h) = stopped_between taken fault h
+    stopped taken fault (inr h) = stopped_within taken fault h
+
+  abbrev PlaysFrom : PlayerView → Result Played Fault → (lines lines' : LinesState) (source source' : SourceView) → H → Type 0
+  PlaysFrom start result lines lines' source source' now = HandlesScript plays stops result start.policy lines lines' source source' first now
+      → PlaysScript result start.policy start.report (at now).report start.state (at now).state lines lines' source.left source'.left (ends_at source.faults start) (ends_at source'.faults (at now))
+
+  plays_first : (result : Result Played Fault) (lines lines' : LinesState) (source source' : SourceView) (now : H) → PlaysFrom (at first) result lines lines' source source' now
+  plays_first (Ok p) lines lines' source source' now h = record {
+    taken = h.taken;
+    takes = h.takes;
+    did = script_played now (script_at (at first).policy lines (h.taken ++ left_of source'.left)) source source' p h.did;
+  }
+  plays_first (Err fault) lines lines' source source' now h = record {
+    taken = h.taken;
+    takes = h.takes;
+    did = stopped now (script_at (at first).policy lines (h.taken ++ left_of source'.left)) source source' (script_at (at first).policy lines h.taken) fault h.did;
+  }
+
+  -- a script whose lines were played by a player that began like this
+  pub plays_script : (start : PlayerView) → at first ≡ start → (result : Result Played Fault) (lines lines' : LinesState) (source source' : SourceView) (now : H) → PlaysFrom start result lines lines' source source' now
+  plays_script start is result lines lines' source source' now = subst (λ (v : PlayerView). PlaysFrom v result lines lines' source source' now) is (plays_first result lines lines' source source' now)

@@ -1,7 +1,7 @@
 -- The records that are written are read again from their lines.
 use Rattle.std.proofs.Common.{◌≡◌, ℕ, ◌+◌, ◌<◌, ◌≤◌, true, List, [], ◌∷◌, ◌++◌, length, map, take, get_or, sym, subst, arith}
 use Rattle.std.proofs.lemmas.List.{take_all, take_more}
-use Rattle.std.specs.Prelude.{Result, Ok, Err, OnOk}
+use Rattle.std.specs.Prelude.{Ok}
 use Rattle.std.specs.List.{AllByRecursion}
 use Rattle.aud_record.proofs.RoundTrip.{rec_is}
 use Rattle.aud_record.specs.Fits.{has_valid_labels}
@@ -14,16 +14,10 @@ use Rattle.kern_model.specs.State.{State}
 use Rattle.kern_model.specs.Step.{step}
 use Rattle.lab_text.specs.Policy.{PolicyNames}
 use Rattle.iso_laws.proofs.AllLemmas.{all-append}
-use Rattle.lab_engine.specs.declared.ending.Fault.{Fault}
 use Rattle.lab_engine.specs.Readable.{IsReadable, AreReadable, CallsReadable}
 use Rattle.lab_engine.specs.Session.{numbered_from}
 
 -- ---- the records of one call
-
--- what holds, holds where a function succeeded
-pub on_ok : {T : Type 0} (r : Result T Fault) (P : Type 0) → P → OnOk r P
-on_ok (Ok x) P p = p
-on_ok (Err e) P p = tt
 
 -- a record that is read again from its line is readable
 pub readable_written : (policy : PolicyNames) (n : ℕ) (x r : Rec) (text : List ℕ) → r ≡ x → text ≡ rec_text policy n r

@@ -12,7 +12,7 @@ use Rattle.lab_engine.specs.declared.reporting.Report.{Report}
 use Rattle.lab_engine.specs.declared.reporting.Report.TheVariants.{All, Below, Crossed, Counted}
 use Rattle.lab_engine.specs.Order.{Sent, call_order}
 use Rattle.lab_engine.specs.Playing.{items_order}
-use Rattle.lab_engine.specs.Report.{CountsAtMost, call_sends, items_reported, report_after, report_after_call, reported}
+use Rattle.lab_engine.specs.Report.{CountsAtMost, call_sends, is_denied, is_done, is_refused, items_reported, report_after, report_after_call, reported}
 use Rattle.lab_engine.specs.Session.{bytes_from, call_bytes}
 
 -- ---- what is kept
@@ -60,7 +60,7 @@ counts_longer n m (Below l k) le few = omega (arith, le, few)
 counts_longer n m Crossed le few = tt
 counts_longer n m (Counted t) le few = (omega (arith, le, few.0), omega (arith, le, few.1), omega (arith, le, few.2))
 
-one_more : (b : Bool) (k n : ℕ) → k ≤ n → k + cond b 1 0 ≤ n + 1
+one_more : (b : Bool) (k n : ℕ) → k ≤ n → k + (0 + cond b 1 0) ≤ n + 1
 one_more true k n le = omega (arith, le)
 one_more false k n le = omega (arith, le)
 
@@ -74,7 +74,7 @@ pub counts_call : (n : ℕ) (r : Report) (p : CallRecord) → CountsAtMost n r �
 counts_call n All p few = tt
 counts_call n (Below l k) p few = one_below (crossing l p.recs) (low l p.who.label) l k n few
 counts_call n Crossed p few = tt
-counts_call n (Counted t) p few = (one_more _ t.ok n few.0, one_more _ t.denied n few.1, one_more _ t.refused n few.2)
+counts_call n (Counted t) p few = (one_more (is_done p.reply) t.ok n few.0, one_more (is_denied p.reply) t.denied n few.1, one_more (is_refused p.reply) t.refused n few.2)
 
 pub counts_items : (n : ℕ) (r : Report) (s : State) (is : List ScriptItem) → CountsAtMost n r → CountsAtMost (n + length is) (report_after r (run s is))
 unfolding report_after

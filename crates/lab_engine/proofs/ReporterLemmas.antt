@@ -12,7 +12,6 @@ use Rattle.lab_engine.specs.declared.playing.Played.{Played}
 use Rattle.lab_engine.specs.declared.reporting.Report.{Report}
 use Rattle.lab_engine.specs.Playing.{Ends, PlaysScript}
 use Rattle.lab_engine.specs.Report.{call_sends, items_reported, report_after_call}
-use Rattle.lab_engine.proofs.Progress.{Progress}
 use Rattle.lab_engine.proofs.ReportLemmas.{items_left}
 
 module _ (policy now : PolicyNames) (same : now ≡ policy) where
@@ -23,12 +22,6 @@ module _ (policy now : PolicyNames) (same : now ≡ policy) where
       items_left policy r r' count s next i is items e kept state ∙ ap (λ (p : PolicyNames). call_sends r p (count + 1) (played s i) ++ items_reported r' policy (count + 1) next is) (sym same)
 
   module _ (r0 r : Report) (s0 s : State) (lines0 lines : LinesState) (left0 left : Option (List ℕ)) (before after : Ends) where
-    pub progress_now : (count : ℕ) → Progress policy r0 r s0 s lines0 lines left0 left count before after → Progress now r0 r s0 s lines0 lines left0 left count before after
-    progress_now count p = subst (λ (q : PolicyNames). Progress q r0 r s0 s lines0 lines left0 left count before after) (sym same) p
-
-    pub plays_first : (result : Result Played Fault) → PlaysScript result now r0 r s0 s lines0 lines left0 left before after → PlaysScript result policy r0 r s0 s lines0 lines left0 left before after
-    plays_first result p = subst (λ (q : PolicyNames). PlaysScript result q r0 r s0 s lines0 lines left0 left before after) same p
-
     -- what is kept at the start is given too
     pub plays_from : (q : Report) → q ≡ r0 → (result : Result Played Fault) → PlaysScript result now q r s0 s lines0 lines left0 left before after → PlaysScript result policy r0 r s0 s lines0 lines left0 left before after
-    plays_from q is result p = plays_first result (subst (λ (x : Report). PlaysScript result now x r s0 s lines0 lines left0 left before after) is p)
+    plays_from q is result p = subst (λ (names : PolicyNames). PlaysScript result names r0 r s0 s lines0 lines left0 left before after) same (subst (λ (x : Report). PlaysScript result now x r s0 s lines0 lines left0 left before after) is p)

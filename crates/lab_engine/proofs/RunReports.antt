@@ -1,8 +1,8 @@
 -- What is reported of a whole run.
 use Rattle.std.proofs.Common.{◌≡◌, ℕ, ◌+◌, Bool, true, false, ◌||◌, cond, List, [], ◌∷◌, ◌++◌, length, refl, sym, ◌∙◌, ap, append_assoc, arith}
 use Rattle.std.proofs.lemmas.List.{append-nil}
-use Rattle.std.proofs.lemmas.List.Sums.{sum_by_from}
-use Rattle.std.specs.List.{flat_map, fold}
+use Rattle.std.proofs.lemmas.List.Sums.{sum_by-cons}
+use Rattle.std.specs.List.{flat_map, sum_by}
 use Rattle.kern_model.specs.Isolation.{crossing, low, up_to}
 use Rattle.kern_model.specs.Run.{CallRecord}
 use Rattle.lab_lattice.specs.Label.{Label}
@@ -10,7 +10,7 @@ use Rattle.lab_text.specs.Policy.{PolicyNames}
 use Rattle.lab_engine.specs.declared.reporting.Report.TheVariants.{Below, Crossed, Counted}
 use Rattle.lab_engine.specs.declared.reporting.Tally.{Tally}
 use Rattle.lab_engine.specs.Order.{Sent, to_out}
-use Rattle.lab_engine.specs.Report.{call_sends, crossed_line, exercises, is_denied, is_done, is_refused, report_after, reported, tally_after, tally_of}
+use Rattle.lab_engine.specs.Report.{call_sends, crossed_line, exercises, is_denied, is_done, is_refused, report_after, reported, tally_of}
 use Rattle.lab_engine.specs.Viewing.{low_calls, some_crosses}
 use Rattle.lab_engine.specs.Texts.{reply_text}
 use Rattle.lab_engine.proofs.Sending.{to_out-append}
@@ -88,26 +88,33 @@ below_after l k (p ∷ ps) = after_crossing l k p ps (λ j. below_after l j ps) 
 pub counted_reported : (policy : PolicyNames) (t : Tally) (n : ℕ) (calls : List CallRecord) → reported (Counted t) policy n calls ≡ []
 unfolding reported call_sends
 counted_reported policy t n [] = refl
-counted_reported policy t n (p ∷ ps) = counted_reported policy (tally_after t p.reply p.recs) (n + 1) ps
+counted_reported policy t n (p ∷ ps) = counted_reported policy (tally_of t (p ∷ [])) (n + 1) ps
 
--- a sum from a number on
-abbrev sum_from : (CallRecord → ℕ) → ℕ → List CallRecord → ℕ
-sum_from f k calls = fold (λ a p. a + f p) k calls
+-- a sum over a first call and the others
+sum_more : (f : CallRecord → ℕ) (k : ℕ) (p : CallRecord) (ps : List CallRecord) → (k + sum_by f (p ∷ [])) + sum_by f ps ≡ k + sum_by f (p ∷ ps)
+sum_more f k p ps = let one = sum_by-cons f p [] in let all = sum_by-cons f p ps in omega (arith, one, all)
 
-counted_folded : (t : Tally) (calls : List CallRecord) → report_after (Counted t) calls ≡ Counted (record {
-  ok = sum_from (λ p. cond (is_done p.reply) 1 0) t.ok calls;
-  denied = sum_from (λ p. cond (is_denied p.reply) 1 0) t.denied calls;
-  refused = sum_from (λ p. cond (is_refused p.reply) 1 0) t.refused calls;
-  exercised = sum_from (λ p. exercises p.recs) t.exercised calls;
-})
-unfolding report_after
-counted_folded t [] = refl
-counted_folded t (p ∷ ps) = counted_folded (tally_after t p.reply p.recs) ps
+-- a tally of a first call, and then of the others
+tally_more : (t : Tally) (p : CallRecord) (ps : List CallRecord) → tally_of (tally_of t (p ∷ [])) ps ≡ tally_of t (p ∷ ps)
+tally_more t p ps = λ i. record {
+  ok = sum_more (λ (q : CallRecord). cond (is_done q.reply) 1 0) t.ok p ps i;
+  denied = sum_more (λ (q : CallRecord). cond (is_denied q.reply) 1 0) t.denied p ps i;
+  refused = sum_more (λ (q : CallRecord). cond (is_refused q.reply) 1 0) t.refused p ps i;
+  exercised = sum_more (λ (q : CallRecord). exercises q.recs) t.exercised p ps i;
+}
+
+tally_none : (t : Tally) → t ≡ tally_of t []
+tally_none t = λ i. record {
+  ok = none t.ok i;
+  denied = none t.denied i;
+  refused = none t.refused i;
+  exercised = none t.exercised i;
+}
+  where
+    none : (k : ℕ) → k ≡ k + 0
+    none k = omega arith
 
 pub counted_after : (t : Tally) (calls : List CallRecord) → report_after (Counted t) calls ≡ Counted (tally_of t calls)
-counted_after t calls = counted_folded t calls ∙ (λ i. Counted (record {
-  ok = sum_by_from (λ (p : CallRecord). cond (is_done p.reply) 1 0) t.ok calls i;
-  denied = sum_by_from (λ (p : CallRecord). cond (is_denied p.reply) 1 0) t.denied calls i;
-  refused = sum_by_from (λ (p : CallRecord). cond (is_refused p.reply) 1 0) t.refused calls i;
-  exercised = sum_by_from (λ (p : CallRecord). exercises p.recs) t.exercised calls i;
-}))
+unfolding report_after
+counted_after t [] = ap (λ (u : Tally). Counted u) (tally_none t)
+counted_after t (p ∷ ps) = counted_after (tally_of t (p ∷ [])) ps ∙ ap (λ (u : Tally). Counted u) (tally_more t p ps)

@@ -1,83 +1,107 @@
--- A script that is played: what each of its lines leads to.
-use Rattle.std.proofs.Common.{◌≡◌, ℕ, ◌+◌, ◌≤◌, ◌^◌, List, ◌++◌, length, refl, sym, ap, subst, arith, Option}
+-- A script whose lines are handled as they are read: what each step leads to.
+use Rattle.std.proofs.Common.{◌≡◌, ℕ, ◌+◌, ◌≤◌, ◌^◌, true, List, ◌++◌, length, inl, inr, refl, sym, ◌∙◌, ap, subst, arith, append_assoc}
 use Rattle.std.specs.Prelude.{IsErrAnd, Result, Ok, Err}
+use Rattle.std.proofs.lemmas.List.{append-nil}
+use Rattle.io_ends.specs.Ends.{SourceView}
 use Rattle.io_ends.specs.LinesState.{LinesState}
-use Rattle.io_ends.specs.Ends.{SinkView}
-use Rattle.kern_model.specs.Run.{run, state_after_run}
-use Rattle.kern_model.specs.State.{State}
+use Rattle.kern_model.specs.declared.world.ScriptItem.{ScriptItem}
 use Rattle.lab_text.specs.Policy.{PolicyNames}
 use Rattle.script_text.specs.declared.line.Line.{Line}
 use Rattle.lab_engine.specs.declared.ending.Fault.{Fault}
-use Rattle.lab_engine.specs.declared.ending.Fault.TheVariants.{Read}
 use Rattle.lab_engine.specs.declared.ending.InputEnd.{InputEnd}
 use Rattle.lab_engine.specs.declared.playing.Played.{Played}
 use Rattle.lab_engine.specs.declared.reading.NextLine.{NextLine}
 use Rattle.lab_engine.specs.declared.reading.NextLine.TheVariants as next
-use Rattle.lab_engine.specs.declared.reporting.Report.{Report}
-use Rattle.lab_engine.specs.declared.reporting.Report.TheVariants.{All}
 use Rattle.lab_engine.specs.Counts.{Counts, counted_by, counts}
-use Rattle.lab_engine.specs.Input.{items_in}
-use Rattle.lab_engine.specs.Playing.{Ends, ends, PlaysScript, SendsAll, StopsBy, StopsIn}
-use Rattle.lab_engine.specs.Report.{items_reported, report_after}
-use Rattle.lab_engine.specs.Readable.{CallsReadable}
+use Rattle.lab_engine.specs.Handling.{Handled, NoLine, NextLine as HandledNext, HandlesScript, StopsBetween}
+use Rattle.lab_engine.specs.Input.{Script, items_in}
 use Rattle.lab_engine.specs.Reading.{Follows, left_of, script_at}
-use Rattle.lab_engine.proofs.Progress.{Progress, progress_ends, progress_fails, progress_more, progress_stops}
-use Rattle.lab_engine.proofs.ReadSoFar.{line_read, read_small, read_takes}
+use Rattle.lab_engine.proofs.ReadSoFar.{ReadSoFar, line_read, line_says, read_begins, read_ends, read_line, read_small, read_takes, says_more}
 
--- ---- a line
-module _ (policy : PolicyNames) (lines lines' : LinesState) (left left' : Option (List ℕ)) (l : NextLine) (read : Follows (Ok l) policy lines lines' left left') (line : Line) (is : l ≡ next.Line line) where
-  abbrev begun : Follows (Ok (next.Line line)) policy lines lines' left left'
-  begun = line_read policy lines lines' left left' l read line is
+-- the lines that were read so far were handled
+pub record HandledSoFar {H : Type 0} (handles : ℕ → List ScriptItem → H → H → Type 0) (policy : PolicyNames) (lines0 lines : LinesState) (source0 source : SourceView) (first now : H) (count : ℕ) : Type 0 where
+  pub read : ReadSoFar policy lines0 lines source0.left source.left count
+  pub handled : Handled handles first read.items now
+  pub no_fault : source.faults ≡ source0.faults
 
-  module _ (r0 r : Report) (s0 s : State) (lines0 : LinesState) (left0 : Option (List ℕ)) (count : ℕ) (before : Ends) (n n' : ℕ) (o t : SinkView) (still : (x y : ℕ) → counts n' x y ≡ counts n x y) (p : Progress policy r0 r s0 s lines0 lines left0 left count before (ends n o t)) where
-    same : n' ≡ n
-    same = ap (λ (c : Counts). c.source) (still 0 0)
+module _ {H : Type 0} (handles : ℕ → List ScriptItem → H → H → Type 0) (stops : ℕ → List ScriptItem → Fault → H → H → Type 0) (policy : PolicyNames) where
+  -- nothing was read yet
+  pub handled_begins : (lines : LinesState) (source : SourceView) (first : H) → lines.more ≡ true → lines.room ≤ 2 ^ 24 → HandledSoFar handles policy lines lines source source first first 0
+  handled_begins lines source first more small = record { read = read_begins policy lines source.left more small; handled = NoLine; no_fault = refl }
 
-    -- reading the line left the counts of faults
-    abbrev here : Progress policy r0 r s0 s lines0 lines left0 left count before (ends n' o t)
-    here = subst (λ k. Progress policy r0 r s0 s lines0 lines left0 left count before (ends k o t)) (sym same) p
+  module _ (lines0 lines lines' : LinesState) (source0 source source' : SourceView) (first now : H) (count : ℕ) (p : HandledSoFar handles policy lines0 lines source0 source first now count) where
+    module _ (l : NextLine) (read : Follows (Ok l) policy lines lines' source.left source'.left) (still : (out trail : ℕ) → counts source'.faults out trail ≡ counts source.faults out trail) where
+      no_more : source'.faults ≡ source0.faults
+      no_more = ap (λ (c : Counts). c.source) (still 0 0) ∙ p.no_fault
 
-    pub line_small : count + length (items_in line) ≤ 2 ^ 60
-    line_small = omega (arith, read_small policy lines0 lines left0 left count p.read begun.taken lines' left' begun.takes line begun.shows)
+      -- a line
+      module _ (line : Line) (is : l ≡ next.Line line) where
+        abbrev begun : Follows (Ok (next.Line line)) policy lines lines' source.left source'.left
+        begun = line_read policy lines lines' source.left source'.left l read line is
 
-    pub line_played : (r' : Report) (s' : State) (count' : ℕ) (o' t' : SinkView) → r' ≡ report_after r (run s (items_in line)) → s' ≡ state_after_run s (items_in line) → count' ≡ count + length (items_in line) → SendsAll (items_reported r policy count s (items_in line)) (ends n' o t) (ends n' o' t')
-        → (r ≡ All → CallsReadable policy count s (items_in line)) → Progress policy r0 r' s0 s' lines0 lines' left0 left' count' before (ends n' o' t')
-    line_played r' s' count' o' t' report state counted sends readable =
-        progress_more policy r0 r s0 s lines0 lines left0 left count before (ends n' o t) here begun.taken lines' left' begun.takes line begun.shows r' s' count' (ends n' o' t') report state counted sends readable
+        pub line_small : count + length (items_in line) ≤ 2 ^ 60
+        line_small = omega (arith, read_small policy lines0 lines source0.left source.left count p.read begun.taken lines' source'.left begun.takes line begun.shows)
 
-    pub line_stops : (result : Result Played Fault) (fault : Fault) → IsErrAnd result (λ q. q ≡ fault) → (r' : Report) (s' : State) (o' t' : SinkView) → StopsBy fault (items_reported r policy count s (items_in line)) (ends n' o t) (ends n' o' t') → (fault ≡ Read → ⊥)
-        → PlaysScript result policy r0 r' s0 s' lines0 lines' left0 left' before (ends n' o' t')
-    line_stops (Ok x) fault by r' s' o' t' stop not_read = absurd by
-    line_stops (Err q) fault by r' s' o' t' stop not_read = record {
-      taken = p.read.taken ++ begun.taken;
-      takes = read_takes policy lines0 lines left0 left count p.read begun.taken lines' left' begun.takes;
-      did = subst (λ k. StopsIn policy r0 s0 (script_at policy lines0 ((p.read.taken ++ begun.taken) ++ left_of left')) (script_at policy lines0 (p.read.taken ++ begun.taken)) k before (ends n' o' t')) (sym by)
-          (progress_stops policy r0 r s0 s lines0 lines left0 left count before (ends n o t) p begun.taken lines' left' begun.takes line begun.shows fault (ends n' o' t')
-          (subst (λ k. StopsBy fault (items_reported r policy count s (items_in line)) (ends k o t) (ends n' o' t')) same stop) not_read);
-    }
+        pub line_handled : (count' : ℕ) (now' : H) → count' ≡ count + length (items_in line) → handles count (items_in line) now now' → HandledSoFar handles policy lines0 lines' source0 source' first now' count'
+        line_handled count' now' counted done = record {
+          read = read_line policy lines0 lines source0.left source.left count p.read begun.taken lines' source'.left begun.takes line begun.shows count' counted;
+          handled = HandledNext p.read.items (items_in line) now now' p.handled (subst (λ n. handles n (items_in line) now now') p.read.counted done);
+          no_fault = no_more;
+        }
 
--- ---- no line
-module _ (policy : PolicyNames) (lines lines' : LinesState) (left left' : Option (List ℕ)) (r0 r : Report) (s0 s : State) (lines0 : LinesState) (left0 : Option (List ℕ)) (count : ℕ) (before : Ends) (n n' : ℕ) (o t : SinkView) (p : Progress policy r0 r s0 s lines0 lines left0 left count before (ends n o t)) where
-  -- a read failed, or memory ran out
-  pub next_stops : (result : Result Played Fault) (fault : Fault) → IsErrAnd result (λ q. q ≡ fault) → Follows (Err fault) policy lines lines' left left' → ((x y : ℕ) → counts n' x y ≡ counted_by fault (counts n x y)) → (r' : Report) (s' : State)
-      → PlaysScript result policy r0 r' s0 s' lines0 lines' left0 left' before (ends n' o t)
-  next_stops (Ok x) fault by read once r' s' = absurd by
-  next_stops (Err q) fault by read once r' s' = record {
-    taken = p.read.taken ++ read.taken;
-    takes = read_takes policy lines0 lines left0 left count p.read read.taken lines' left' read.takes;
-    did = subst (λ k. StopsIn policy r0 s0 (script_at policy lines0 ((p.read.taken ++ read.taken) ++ left_of left')) (script_at policy lines0 (p.read.taken ++ read.taken)) k before (ends n' o t)) (sym by)
-        (progress_fails policy r0 r s0 s lines0 lines left0 left count before (ends n o t) p read.taken lines' left' read.takes fault (ends n' o t) refl refl (once o.faults t.faults) read.shows);
-  }
+        pub line_stops : (result : Result Played Fault) (fault : Fault) → IsErrAnd result (λ q. q ≡ fault) → (now' : H) → stops count (items_in line) fault now now' → HandlesScript handles stops result policy lines0 lines' source0 source' first now'
+        line_stops (Ok x) fault by now' stopped = absurd by
+        line_stops (Err q) fault by now' stopped =
+            let rest = (script_at policy lines' (left_of source'.left)).items in
+            record {
+              taken = p.read.taken ++ begun.taken;
+              takes = read_takes policy lines0 lines source0.left source.left count p.read begun.taken lines' source'.left begun.takes;
+              did = inr (record {
+                before = p.read.items;
+                calls = items_in line;
+                rest = rest;
+                prefix = ap (λ (m : Script). m.items) (line_says policy lines0 lines source0.left source.left count p.read begun.taken lines' source'.left begun.takes line begun.shows (left_of source'.left)) ∙ append_assoc p.read.items (items_in line) rest;
+                between = now;
+                handled = p.handled;
+                stopped = subst (λ k. stops (length p.read.items) (items_in line) k now now') (sym by) (subst (λ n. stops n (items_in line) fault now now') p.read.counted stopped);
+                no_fault = no_more;
+              });
+            }
 
-  -- the script ends
-  pub next_ends : (l : NextLine) → Follows (Ok l) policy lines lines' left left' → (ending : InputEnd) → l ≡ next.Ended ending → ((x y : ℕ) → counts n' x y ≡ counts n x y)
-      → PlaysScript (Ok (record { count = count; ending = ending })) policy r0 r s0 s lines0 lines' left0 left' before (ends n' o t)
-  next_ends l read ending is still =
-      let last = subst (λ k. Follows (Ok k) policy lines lines' left left') is read in
-      let same : n' ≡ n = ap (λ (c : Counts). c.source) (still 0 0) in
-      let here = subst (λ k. Progress policy r0 r s0 s lines0 lines left0 left count before (ends k o t)) (sym same) p in
-      record {
-        taken = here.read.taken ++ last.taken;
-        takes = read_takes policy lines0 lines left0 left count here.read last.taken lines' left' last.takes;
-        did = progress_ends policy r0 r s0 s lines0 lines left0 left count before (ends n' o t) here last.taken lines' left' last.takes ending last.shows;
-      }
+      -- the script ends
+      pub script_ends : (ending : InputEnd) → l ≡ next.Ended ending → HandlesScript handles stops (Ok (record { count = count; ending = ending })) policy lines0 lines' source0 source' first now
+      script_ends ending is =
+          let last = subst (λ k. Follows (Ok k) policy lines lines' source.left source'.left) is read in
+          let whole = read_ends policy lines0 lines source0.left source.left count p.read last.taken lines' source'.left last.takes ending last.shows in
+          let same = sym (ap (λ (m : Script). m.items) whole) in
+          record {
+            taken = p.read.taken ++ last.taken;
+            takes = read_takes policy lines0 lines source0.left source.left count p.read last.taken lines' source'.left last.takes;
+            did = record {
+              ending = sym (ap (λ (m : Script). m.ending) whole);
+              count = p.read.counted ∙ ap length same;
+              handled = subst (λ (items : List ScriptItem). Handled handles first items now) same p.handled;
+              no_fault = no_more;
+              to_the_end = last.shows.to_the_end;
+            };
+          }
+
+    -- a read failed, or memory ran out
+    pub read_stops : (result : Result Played Fault) (fault : Fault) → IsErrAnd result (λ q. q ≡ fault) → Follows (Err fault) policy lines lines' source.left source'.left → ((out trail : ℕ) → counts source'.faults out trail ≡ counted_by fault (counts source.faults out trail))
+        → HandlesScript handles stops result policy lines0 lines' source0 source' first now
+    read_stops (Ok x) fault by read once = absurd by
+    read_stops (Err q) fault by read once =
+        let after = says_more policy lines0 lines source0.left source.left count p.read read.taken in
+        let between : StopsBetween handles (script_at policy lines0 ((p.read.taken ++ read.taken) ++ left_of source'.left)) (script_at policy lines0 (p.read.taken ++ read.taken)) fault source0 source' first now = record {
+          calls = p.read.items;
+          rest = (script_at policy lines (read.taken ++ left_of source'.left)).items;
+          prefix = ap (λ (m : Script). m.items) (after (left_of source'.left));
+          handled = p.handled;
+          one_fault = λ out trail. once out trail ∙ ap (λ n. counted_by fault (counts n out trail)) p.no_fault;
+          by_line = λ failed. ap (λ (m : Script). m.items) (p.read.says read.taken) ∙ ap (λ (items : List ScriptItem). p.read.items ++ items) (read.shows failed) ∙ append-nil p.read.items;
+        } in
+        record {
+          taken = p.read.taken ++ read.taken;
+          takes = read_takes policy lines0 lines source0.left source.left count p.read read.taken lines' source'.left read.takes;
+          did = inl (subst (λ k. StopsBetween handles (script_at policy lines0 ((p.read.taken ++ read.taken) ++ left_of source'.left)) (script_at policy lines0 (p.read.taken ++ read.taken)) k source0 source' first now) (sym by) between);
+        }

@@ -1,13 +1,11 @@
 -- A script whose calls are counted.
-use Rattle.std.proofs.Common.{◌≡◌, ℕ, Bool, true, false, List, ◌++◌, refl, sym, ◌∙◌, ap, arith}
+use Rattle.std.proofs.Common.{◌≡◌, ℕ, Bool, true, false, List, ◌++◌, refl, sym, ◌∙◌, ap}
 use Rattle.std.specs.Prelude.{Option, Result, Ok, Err, IsErrAnd}
 use Rattle.io_ends.specs.LinesState.{LinesState}
 use Rattle.kern_model.specs.Run.{CallRecord, run}
 use Rattle.kern_model.specs.State.{State}
 use Rattle.lab_text.specs.Policy.{PolicyNames}
-use Rattle.io_ends.specs.Faults.{counted}
 use Rattle.lab_engine.specs.declared.ending.Fault.{Fault}
-use Rattle.lab_engine.specs.declared.ending.Fault.TheVariants.{Read, Write, Trail, NoMemory}
 use Rattle.lab_engine.specs.declared.playing.Played.{Played}
 use Rattle.lab_engine.specs.declared.reporting.Report.{Report}
 use Rattle.lab_engine.specs.declared.reporting.Report.TheVariants.{Counted}
@@ -17,6 +15,7 @@ use Rattle.lab_engine.specs.Counts.{Counts, CountsOnce, counted_by, counts}
 use Rattle.lab_engine.specs.Playing.{Ends, PlaysScript}
 use Rattle.lab_engine.specs.Reading.{left_of, script_at}
 use Rattle.lab_engine.specs.Report.{empty_tally, tally_of}
+use Rattle.lab_engine.proofs.CountLemmas.{any_sink_counts}
 use Rattle.lab_engine.proofs.RunReports.{counted_after}
 use Rattle.lab_engine.proofs.WorldProgress.{counts_once}
 
@@ -58,19 +57,8 @@ module _ (first : Tally) (is_empty : first ≡ empty_tally) (policy : PolicyName
 
 -- ---- faults
 
-no_first : (k : ℕ) → k ≡ 1 → 0 ≡ k → ⊥
-no_first k is e = omega (arith, is, e)
-
--- a fault of a function that writes nothing is one of its source, or out of memory
-one_fault : (fault : Fault) (n n' : ℕ) → counts n' 0 0 ≡ counted_by fault (counts n 0 0) → (o t : ℕ) → counts n' o t ≡ counted_by fault (counts n o t)
-unfolding counted_by
-one_fault Read n n' e o t = ap (λ (c : Counts). counts c.source o t) e
-one_fault Write n n' e o t = absurd (no_first (counted 0) refl (ap (λ (c : Counts). c.out) e))
-one_fault Trail n n' e o t = absurd (no_first (counted 0) refl (ap (λ (c : Counts). c.trail) e))
-one_fault NoMemory n n' e o t = ap (λ (c : Counts). counts c.source o t) e
-
 pub counts_fault : {T : Type 0} (r : Result T Fault) (fault : Fault) → IsErrAnd r (λ q. q ≡ fault) → (n n' : ℕ) → counts n' 0 0 ≡ counted_by fault (counts n 0 0) → (o t : ℕ) → CountsOnce r (counts n o t) (counts n' o t)
-counts_fault r fault is n n' once o t = counts_once r fault is (counts n o t) (counts n o t) (counts n' o t) refl (one_fault fault n n' once o t)
+counts_fault r fault is n n' once o t = counts_once r fault is (counts n o t) (counts n o t) (counts n' o t) refl (any_sink_counts fault n n' once o t)
 
 pub counts_none : (n n' : ℕ) → counts n' 0 0 ≡ counts n 0 0 → (o t : ℕ) → counts n' o t ≡ counts n o t
 counts_none n n' same o t = ap (λ (c : Counts). counts c.source o t) same

@@ -7,7 +7,10 @@ pub mod Reporter
 pub mod Counts
 pub mod Readable
 pub mod Reading
+pub mod Handling
+pub mod Opening
 pub mod Playing
+pub mod Player
 pub mod Checking
 pub mod Counting
 pub mod Viewing

@@ -48,13 +48,13 @@ is_exercise _ = false
 abbrev pub exercises : List Rec → ℕ
 exercises recs = count_by is_exercise recs
 
--- a tally after a call with this reply and these records
-abbrev pub tally_after : Tally → Reply → List Rec → Tally
-tally_after t reply recs = record {
-  ok = t.ok + cond (is_done reply) 1 0;
-  denied = t.denied + cond (is_denied reply) 1 0;
-  refused = t.refused + cond (is_refused reply) 1 0;
-  exercised = t.exercised + exercises recs;
+-- a tally after calls
+abbrev pub tally_of : Tally → List CallRecord → Tally
+tally_of t calls = record {
+  ok = t.ok + count_by (λ (p : CallRecord). is_done p.reply) calls;
+  denied = t.denied + count_by (λ (p : CallRecord). is_denied p.reply) calls;
+  refused = t.refused + count_by (λ (p : CallRecord). is_refused p.reply) calls;
+  exercised = t.exercised + sum_by (λ (p : CallRecord). exercises p.recs) calls;
 }
 
 -- what is kept after a call
@@ -62,7 +62,7 @@ abbrev pub report_after_call : Report → CallRecord → Report
 report_after_call All p = All
 report_after_call (Below l k) p = cond (crossing l p.recs) Crossed (cond (low l p.who.label) (Below l (k + 1)) (Below l k))
 report_after_call Crossed p = Crossed
-report_after_call (Counted t) p = Counted (tally_after t p.reply p.recs)
+report_after_call (Counted t) p = Counted (tally_of t (p ∷ []))
 
 -- what is kept after calls
 unfoldable pub report_after : Report → List CallRecord → Report
@@ -130,12 +130,3 @@ has_reply shown.Nothing = false
 -- the tally of no call
 abbrev pub empty_tally : Tally
 empty_tally = record { ok = 0; denied = 0; refused = 0; exercised = 0 }
-
--- a tally after calls
-abbrev pub tally_of : Tally → List CallRecord → Tally
-tally_of t calls = record {
-  ok = t.ok + count_by (λ (p : CallRecord). is_done p.reply) calls;
-  denied = t.denied + count_by (λ (p : CallRecord). is_denied p.reply) calls;
-  refused = t.refused + count_by (λ (p : CallRecord). is_refused p.reply) calls;
-  exercised = t.exercised + sum_by (λ (p : CallRecord). exercises p.recs) calls;
-}

@@ -1,34 +1,106 @@
--- What a reporter leaves as it was, and the line that a reply stands on.
-use Rattle.std.specs.Prelude.{◌≡◌, ℕ, ◌<◌, List, length}
+-- What a reporter keeps: the calls that it saw, and what its ends hold of them.
+use Rattle.std.specs.Prelude.{◌≡◌, ℕ, ◌+◌, ◌<◌, ◌≤◌, List, [], ◌∷◌, ◌++◌, length, map, Result, MatchResult}
 use Rattle.std.specs.Borrow.{MutBor}
+use Rattle.std.specs.List.{AllByRecursion}
+use Rattle.std.specs.declared.option.Option.{Option}
+use Rattle.io_ends.specs.Ends.{SinkView}
+use Rattle.io_ends.specs.LinesState.{LinesState}
 use Rattle.kern_model.specs.declared.calls.Call.{Call}
 use Rattle.kern_model.specs.declared.numbers.Pid.{Pid}
+use Rattle.kern_model.specs.declared.records.Outcome.{Outcome}
 use Rattle.kern_model.specs.declared.world.ScriptItem.{ScriptItem}
 use Rattle.kern_model.specs.Names.{name_of, word_of}
+use Rattle.kern_model.specs.Run.{CallRecord, run}
+use Rattle.kern_model.specs.State.{State}
+use Rattle.lab_lattice.specs.Label.{bottom}
+use Rattle.lab_text.specs.Policy.{PolicyNames}
+use Rattle.script_text.specs.declared.line.Line.{Line}
+use Rattle.script_text.specs.declared.line.Line.TheVariants as line
 use Rattle.sec_utils.specs.Calls.{IsWhole}
 use Rattle.sec_utils.specs.Items.{head_at}
-use Rattle.lab_engine.specs.declared.replying.ReplyLine.{ReplyLine}
-use Rattle.lab_engine.specs.declared.replying.ReplyLine.TheVariants as on
+use Rattle.lab_engine.specs.declared.ending.Fault.{Fault}
+use Rattle.lab_engine.specs.declared.playing.Played.{Played}
+use Rattle.lab_engine.specs.declared.reporting.Report.{Report}
+use Rattle.lab_engine.specs.declared.reporting.Report.TheVariants.{All}
+use Rattle.lab_engine.specs.Order.{Sent}
+use Rattle.lab_engine.specs.Playing.{Ends, Sends, ends}
+use Rattle.lab_engine.specs.Readable.{IsReadable}
+use Rattle.lab_engine.specs.Reading.{Takes, left_of, script_at}
+use Rattle.lab_engine.specs.Report.{call_record, report_after, reported}
+use Rattle.lab_engine.specs.Session.{numbered_from}
 
 -- the names of labels are the same as before, and so are the borrows of the output and of the trail
 abbrev pub SameEnds : {P A B : Type 0} → (policy policy' : P) (out out' : MutBor A) (trail trail' : MutBor B) → Type 0
 SameEnds policy policy' out out' trail trail' = (policy' ≡ policy) × (out.ghost_name ≡ out'.ghost_name) × (trail.ghost_name ≡ trail'.ghost_name)
 
--- the process whose reply stands on a line
-abbrev pub who_on : ReplyLine → Pid
-who_on (on.Own who) = who.now
-who_on (on.Path util at) = util.now.who
+-- ---- the line of a call
 
--- what a line shows of its call: the word of the call, or that of the utility and the text of the path
-abbrev pub head_on : ReplyLine → Call → List ℕ
-head_on (on.Own who) call = word_of (name_of call)
-head_on (on.Path util at) call = head_at util.now at
+-- a line has a call at an index: its only one, or that of a path of its whole utility
+abbrev pub HasCall : Line → ℕ → Type 0
+HasCall line.Blank at = ⊥
+HasCall (line.One who call) at = at ≡ 0
+HasCall (line.Tool util) at = (at < length util.paths) × IsWhole util
 
--- a call whose reply stands on a line, as an item of a script
-abbrev pub item_on : ReplyLine → Call → ScriptItem
-item_on line call = record { who = who_on line; head = head_on line call; call = call }
+-- the process whose calls stand on a line; a blank line has the number of no process
+abbrev pub who_on : Line → Pid
+who_on line.Blank = record { label = bottom; n = 0 }
+who_on (line.One who call) = who
+who_on (line.Tool util) = util.who
 
--- the path of a line is one of its whole utility
-abbrev pub HasPath : ReplyLine → Type 0
-HasPath (on.Own who) = Unit {0}
-HasPath (on.Path util at) = (at < length util.now.paths) × IsWhole util.now
+-- what a reply shows of the call at an index of a line: the word of the call, or that of the utility and the text of the path
+abbrev pub head_on : Line → ℕ → List ℕ
+head_on line.Blank at = []
+head_on (line.One who call) at = word_of (name_of call)
+head_on (line.Tool util) at = head_at util at
+
+-- a call at an index of a line, as an item of a script
+abbrev pub item_on : Line → ℕ → Call → ScriptItem
+item_on line at call = record { who = who_on line; head = head_on line at; call = call }
+
+-- the call at an index of a line as it was played, by what came of it
+abbrev pub call_on : Line → ℕ → Outcome → CallRecord
+call_on line at outcome = call_record (who_on line) (head_on line at) outcome
+
+-- ---- the calls that were seen
+
+-- the calls of a list of lines, each with the index of the call on its line and with what came of it
+abbrev pub calls_seen : List (Line × (ℕ × Outcome)) → List CallRecord
+calls_seen seen = map (λ (c : Line × (ℕ × Outcome)). call_on c.0 c.1.0 c.1.1) seen
+
+-- so many calls were seen, and none was stopped
+abbrev pub HasSeen : ℕ → (seen stopped : List (Line × (ℕ × Outcome))) → Type 0
+HasSeen n seen stopped = (length (calls_seen seen) ≡ n) × (calls_seen stopped ≡ [])
+
+-- the first of these calls were seen besides, and a call that was stopped is the next one
+pub record SawPart (calls seen seen' stopped' : List CallRecord) : Type 0 where
+  pub added : List CallRecord
+  pub rest : List CallRecord
+  pub calls_are : calls ≡ added ++ (stopped' ++ rest)
+  pub seen_is : seen' ≡ seen ++ added
+
+-- a function that succeeded saw all of these calls and stopped none, and one that failed saw a part of them
+abbrev pub SawCalls : {T : Type 0} → Result T Fault → (calls seen seen' stopped' : List CallRecord) → Type 0
+SawCalls result calls seen seen' stopped' = MatchResult result (λ _. (seen' ≡ seen ++ calls) × (stopped' ≡ [])) (λ _. SawPart calls seen seen' stopped')
+
+-- the calls of a script that was read from a reader of lines were seen, played from a state on
+pub record SawScript (result : Result Played Fault) (policy : PolicyNames) (s : State) (lines lines' : LinesState) (left left' : Option (List ℕ)) (seen seen' stopped' : List CallRecord) : Type 0 where
+  pub taken : List ℕ
+  pub takes : Takes lines lines' left left' taken
+  pub saw : SawCalls result (run s (script_at policy lines (taken ++ left_of left')).items) seen seen' stopped'
+
+-- ---- what the ends hold
+
+-- behind what the ends held at the start they hold what is reported of the calls seen, and then a prefix of what is reported of the call that was stopped, if there is one; until then the report is that after the calls seen; where all is reported, the records of the calls seen are readable
+pub record Kept (policy : PolicyNames) (first now : Report) (seen stopped : List CallRecord) (before after : Ends) : Type 0 where
+  pub front : List Sent
+  pub rest : List Sent
+  pub next : reported (report_after first seen) policy (length seen + 1) stopped ≡ front ++ rest
+  pub sends : Sends (reported first policy 1 seen ++ front) before after
+  pub report : stopped ≡ [] → now ≡ report_after first seen
+  pub readable : first ≡ All → AllByRecursion (IsReadable policy) (numbered_from 1 seen)
+  pub one : length stopped ≤ 1
+
+-- the same from a list that has the output, the trail and the report as they were at the start
+abbrev pub KeptSince : {K T : Type 0} → (K → SinkView) → (T → SinkView) → List (K × (T × Report)) → PolicyNames → Report → (seen stopped : List (Line × (ℕ × Outcome))) → (out trail : SinkView) → Type 0
+KeptSince f g [] policy now seen stopped out trail = ⊥
+KeptSince f g (start ∷ _) policy now seen stopped out trail = Kept policy start.1.1 now (calls_seen seen) (calls_seen stopped) (ends 0 (f start.0) (g start.1.0)) (ends 0 out trail)

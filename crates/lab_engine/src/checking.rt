@@ -8,8 +8,8 @@ ghost use Rattle.lab_engine.specs.Counts.{CountsOnce, counts};
 ghost use Rattle.lab_engine.specs.Checking.{ChecksScript};
 
 use crate::Fault;
+use crate::handling::{LineHandler, handle_script};
 use crate::playing::Played;
-use crate::reading::{NextLine, read_next};
 use crate::texts::Texts;
 use io_ends::{Lines, Source};
 use script_text::Line;
@@ -26,6 +26,29 @@ fn calls_in(line: &Line) -> u64
     }
 }
 
+// Counts the calls of lines, and does not play them.
+#[derive(Drop)]
+struct Checker;
+
+impl LineHandler<()> for Checker {
+    ghost ready = { λ _ _ _ _. Unit {0} };
+
+    ghost handles = { λ _ _ _ _. Unit {0} };
+
+    ghost stops = { λ _ _ _ _ _. ⊥ };
+
+    ghost same_borrows = { λ _ _. Unit {0} };
+
+    #[inline(always)]
+    fn handle_line(&mut self, _: &mut (), count: u64, line: &Line) -> Result<u64, Fault> {
+        Ok(count + calls_in(line))
+    }
+
+    ghost same_refl = { λ _. tt };
+
+    ghost same_trans = { λ _ _ _ _ _. tt };
+}
+
 /// Reads a script to its end without playing it: how many calls it has up to the first refused line, and how the input
 /// ends after them.
 pub fn check_script<S: Source>(
@@ -38,11 +61,5 @@ pub fn check_script<S: Source>(
     ensures checks { ChecksScript result texts.entry.policy.now lines.old lines.new (S.view source.old).left (S.view source.new).left }
     ensures counts { (o t : ℕ) → CountsOnce result (counts (S.view source.old).faults o t) (counts (S.view source.new).faults o t) }
 {
-    let mut count = 0u64;
-    loop {
-        match read_next(texts, lines, source)? {
-            NextLine::Line(line) => count += calls_in(&line),
-            NextLine::Ended(ending) => return Ok(Played { count, ending }),
-        }
-    }
+    handle_script(texts, lines, source, &mut (), &mut Checker)
 }

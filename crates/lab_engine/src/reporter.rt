@@ -1,5 +1,5 @@
 // What reporting of a run takes, and what it writes.
-ghost use Rattle.std.specs.Prelude.{◌≡◌, ℕ, ◌^◌, ◌++◌, [], List, OnOk, IfOk};
+ghost use Rattle.std.specs.Prelude.{◌≡◌, ℕ, ◌+◌, ◌^◌, ◌∷◌, ◌++◌, [], List, OnOk, IfOk, length};
 ghost use Rattle.std.specs.List.{flat_map};
 ghost use Rattle.aud_record.specs.Written.{rec_text as rec_line, header_text as head_lines};
 ghost use Rattle.line_text.specs.Reply.{reply_line};
@@ -7,8 +7,8 @@ ghost use Rattle.lab_engine.specs.Order.{to_out, to_trail};
 ghost use Rattle.lab_engine.specs.Texts.{last_text};
 ghost use Rattle.lab_engine.specs.declared.reporting.Report.TheVariants as a_report;
 ghost use Rattle.lab_engine.specs.declared.reporting.Shown.TheVariants as a_shown;
-ghost use Rattle.lab_engine.specs.Report.{CountsAtMost, before_reply, call_record, has_reply, report_after_call, shown_of};
-ghost use Rattle.lab_engine.specs.Reporter.{HasPath, SameEnds, head_on, who_on};
+ghost use Rattle.lab_engine.specs.Report.{CountsAtMost, before_reply, call_sends, has_reply, report_after_call};
+ghost use Rattle.lab_engine.specs.Reporter.{HasCall, HasSeen, KeptSince, SameEnds, SawCalls, call_on, calls_seen, head_on, who_on};
 ghost use Rattle.lab_engine.specs.Readable.{AreReadable};
 ghost use Rattle.lab_engine.specs.Playing.{WritesBoth, WritesOut, WritesTrail};
 
@@ -18,8 +18,10 @@ use crate::texts::{Texts, last_line};
 use crate::{Fault, InputEnd};
 use aud_record::{header_text, rec_text};
 use cap_bits::CapSet;
+use ghost_list::GhostList;
 use io_ends::{Sink, write_whole};
-use kern_model::{Call, Outcome, Pid, Rec, Reply};
+use kern_model::{Outcome, Rec, Reply};
+use script_text::Line;
 use std::alloc::Global;
 use std::mem::replace;
 
@@ -64,7 +66,132 @@ pub fn report_last<K: Sink>(
     answer(out, &text)
 }
 
+// Writes the records of a call to the trail, each as one piece. The text in `room` is not read.
+fn note_all<T: Sink>(
+    texts: Texts<'_>,
+    call: u64,
+    recs: &[Rec],
+    room: &mut Vec<u8>,
+    trail: &mut T,
+) -> Result<(), Fault>
+    ensures writes { WritesTrail result (flat_map (rec_line texts.entry.policy.now call) recs.now) (T.view trail.old) (T.view trail.new) }
+    ensures readable { OnOk result (AreReadable texts.entry.policy.now call recs.now) }
+{
+    for rec in recs {
+        *room = rec_text(take(room, texts.alloc), texts.policy, call, rec)?;
+        note(trail, room)?;
+    }
+    Ok(())
+}
+
+/// Writes the head of the trail: its header, and the records of the start.
+pub fn write_head<T: Sink>(
+    texts: Texts<'_>,
+    bound: &CapSet,
+    recs: &[Rec],
+    trail: &mut T,
+) -> Result<(), Fault>
+    ensures writes { WritesTrail result (head_lines texts.entry.policy.now bound.now ++ flat_map (rec_line texts.entry.policy.now 0) recs.now) (T.view trail.old) (T.view trail.new) }
+    ensures readable { OnOk result (AreReadable texts.entry.policy.now 0 recs.now) }
+{
+    let mut text = header_text(texts.alloc, texts.policy, bound)?;
+    note(trail, &text)?;
+    note_all(texts, 0, recs, &mut text, trail)
+}
+
+// The ends that the lines of calls go to, and what the lines take.
+#[derive(Drop)]
+struct CallWriter<'t, 'a, K: Sink, T: Sink> {
+    texts: Texts<'t>,
+    // A text whose memory the next line takes.
+    room: &'a mut Vec<u8>,
+    out: &'a mut K,
+    trail: &'a mut T,
+}
+
+impl<'t, 'a, K: Sink, T: Sink> CallWriter<'t, 'a, K, T> {
+    #[inline(always)]
+    fn new(texts: Texts<'t>, room: &'a mut Vec<u8>, out: &'a mut K, trail: &'a mut T) -> Self
+        ensures policy { result.texts.policy.now ≡ texts.entry.policy.now }
+        ensures same_out { result.out.ghost_name ≡ out.entry.ghost_name }
+        ensures same_trail { result.trail.ghost_name ≡ trail.entry.ghost_name }
+        ensures same_room { result.room.ghost_name ≡ room.entry.ghost_name }
+        ensures out { result.out.now ≡ out.old }
+        ensures trail { result.trail.now ≡ trail.old }
+    {
+        CallWriter {
+            texts,
+            room,
+            out,
+            trail,
+        }
+    }
+
+    // Writes what of a call comes before its reply, and returns whether the reply is to be written.
+    #[inline(always)]
+    fn show(&mut self, shown: Shown, number: u64, recs: &[Rec]) -> Result<bool, Fault>
+        ensures writes { WritesBoth result (before_reply shown self.old.texts.policy.now number recs.now) (K.view self.old.out.now) (K.view self.new.out.now) (T.view self.old.trail.now) (T.view self.new.trail.now) }
+        ensures reply { IfOk result (λ reply. reply ≡ has_reply shown) }
+        ensures readable { OnOk result (shown ≡ a_shown.Call → AreReadable self.old.texts.policy.now number recs.now) }
+        ensures same { SameEnds self.old.texts.policy.now self.new.texts.policy.now self.old.out self.new.out self.old.trail self.new.trail }
+        ensures same_room { self.old.room.ghost_name ≡ self.new.room.ghost_name }
+    {
+        match shown {
+            Shown::Call => {
+                note_all(self.texts, number, recs, self.room, self.trail)?;
+                Ok(true)
+            }
+            Shown::Reply => Ok(true),
+            Shown::Crossing => {
+                answer(self.out, b"crossed\n")?;
+                Ok(false)
+            }
+            Shown::Nothing => Ok(false),
+        }
+    }
+
+    // Writes the reply to a call on its line.
+    #[inline(always)]
+    fn reply(&mut self, line: ReplyLine<'_>, reply: &Reply) -> Result<(), Fault>
+        requires { HasCall line.line.now line.at }
+        ensures writes { WritesBoth result (to_out (reply_line self.old.texts.policy.now (who_on line.entry.line.now) (head_on line.entry.line.now line.entry.at) reply.now)) (K.view self.old.out.now) (K.view self.new.out.now) (T.view self.old.trail.now) (T.view self.new.trail.now) }
+        ensures same { SameEnds self.old.texts.policy.now self.new.texts.policy.now self.old.out self.new.out self.old.trail self.new.trail }
+        ensures same_room { self.old.room.ghost_name ≡ self.new.room.ghost_name }
+    {
+        *self.room = line.text(take(self.room, self.texts.alloc), self.texts.policy, reply)?;
+        answer(self.out, self.room)
+    }
+
+    // Takes a call into what is kept of the replies, and writes what is reported of it.
+    #[inline(always)]
+    fn write_call(
+        &mut self,
+        report: &mut Report,
+        number: u64,
+        line: ReplyLine<'_>,
+        outcome: &Outcome,
+    ) -> Result<(), Fault>
+        requires line { HasCall line.line.now line.at }
+        requires small { CountsAtMost (2 ^ 60) report.old }
+        ensures writes { WritesBoth result (call_sends report.old self.old.texts.policy.now number (call_on line.entry.line.now line.entry.at outcome.now)) (K.view self.old.out.now) (K.view self.new.out.now) (T.view self.old.trail.now) (T.view self.new.trail.now) }
+        ensures report { OnOk result (report.new ≡ report_after_call report.old (call_on line.entry.line.now line.entry.at outcome.now)) }
+        ensures readable { OnOk result (report.old ≡ a_report.All → AreReadable self.old.texts.policy.now number outcome.now.recs) }
+        ensures same { SameEnds self.old.texts.policy.now self.new.texts.policy.now self.old.out self.new.out self.old.trail self.new.trail }
+        ensures same_room { self.old.room.ghost_name ≡ self.new.room.ghost_name }
+    {
+        let shown = report.take_in(line.who(), outcome)?;
+        if !self.show(shown, number, outcome.recs.items())? {
+            return Ok(());
+        }
+        self.reply(line, &outcome.reply)
+    }
+}
+
 /// The ends that a run is reported to, with what its lines take and what is kept of its replies.
+///
+/// Behind what the output and the trail held at the start they hold what is reported of the calls that were seen, and
+/// after a refused write a prefix of what is reported of the next call, in the order of the calls: the records of a
+/// call stand before its reply.
 #[derive(Drop)]
 pub struct Reporter<'a, K: Sink, T: Sink> {
     /// What writing a line takes.
@@ -75,10 +202,17 @@ pub struct Reporter<'a, K: Sink, T: Sink> {
     room: &'a mut Vec<u8>,
     out: &'a mut K,
     trail: &'a mut T,
+    // The output, the trail and the report as they were at the start.
+    start: GhostList<K, T, Report>,
+    // The calls that were seen.
+    seen: GhostList<Line, usize, Outcome>,
+    // The call that a fault stopped, or none.
+    stopped: GhostList<Line, usize, Outcome>,
+    ghost kept: { ∥ KeptSince K.view T.view start.items texts.policy.now report seen.items stopped.items (K.view out.now) (T.view trail.now) ∥₁ },
 }
 
 impl<'a, K: Sink, T: Sink> Reporter<'a, K, T> {
-    /// A reporter over an output and a trail. The text in `room` is not read.
+    /// A reporter over an output and a trail, which has seen no call. The text in `room` is not read.
     pub fn new(
         texts: Texts<'a>,
         report: Report,
@@ -93,126 +227,51 @@ impl<'a, K: Sink, T: Sink> Reporter<'a, K, T> {
         ensures same_room { result.room.ghost_name ≡ room.entry.ghost_name }
         ensures out { result.out.now ≡ out.old }
         ensures trail { result.trail.now ≡ trail.old }
+        ensures start { result.start.items ≡ (out.old, (trail.old, report)) ∷ [] }
+        ensures seen { HasSeen 0 result.seen.items result.stopped.items }
     {
+        let start = GhostList::new().with(&*out, &*trail, &report);
         Reporter {
             texts,
             report,
             room,
             out,
             trail,
+            start,
+            seen: GhostList::new(),
+            stopped: GhostList::new(),
         }
     }
 
-    /// Writes a piece to the output.
-    pub fn answer(&mut self, piece: &[u8]) -> Result<(), Fault>
-        ensures writes { WritesOut result piece.now (K.view self.old.out.now) (K.view self.new.out.now) }
-        ensures still { T.view self.new.trail.now ≡ T.view self.old.trail.now }
-        ensures same { SameEnds self.old.texts.policy.now self.new.texts.policy.now self.old.out self.new.out self.old.trail self.new.trail }
-    {
-        answer(self.out, piece)
-    }
-
-    /// Writes the last line of the output.
-    pub fn report_last(&mut self, count: u64, ending: InputEnd) -> Result<(), Fault>
-        ensures writes { WritesOut result (last_text count ending) (K.view self.old.out.now) (K.view self.new.out.now) }
-        ensures still { T.view self.new.trail.now ≡ T.view self.old.trail.now }
-        ensures same { SameEnds self.old.texts.policy.now self.new.texts.policy.now self.old.out self.new.out self.old.trail self.new.trail }
-    {
-        report_last(self.texts.alloc, count, ending, self.out)
-    }
-
-    // Writes the records of a call to the trail, each as one piece.
-    fn note_all(&mut self, call: u64, recs: &[Rec]) -> Result<(), Fault>
-        ensures writes { WritesBoth result (to_trail (flat_map (rec_line self.old.texts.policy.now call) recs.now)) (K.view self.old.out.now) (K.view self.new.out.now) (T.view self.old.trail.now) (T.view self.new.trail.now) }
-        ensures readable { OnOk result (AreReadable self.old.texts.policy.now call recs.now) }
-        ensures same { SameEnds self.old.texts.policy.now self.new.texts.policy.now self.old.out self.new.out self.old.trail self.new.trail }
-        ensures report { self.new.report ≡ self.old.report }
-    {
-        for rec in recs {
-            *self.room = rec_text(
-                take(self.room, self.texts.alloc),
-                self.texts.policy,
-                call,
-                rec,
-            )?;
-            note(self.trail, self.room)?;
-        }
-        Ok(())
-    }
-
-    /// Writes the head of the trail: its header, and the records of the start.
-    pub fn begin(&mut self, bound: &CapSet, recs: &[Rec]) -> Result<(), Fault>
-        ensures writes { WritesBoth result (to_trail (head_lines self.old.texts.policy.now bound.now ++ flat_map (rec_line self.old.texts.policy.now 0) recs.now)) (K.view self.old.out.now) (K.view self.new.out.now) (T.view self.old.trail.now) (T.view self.new.trail.now) }
-        ensures readable { OnOk result (AreReadable self.old.texts.policy.now 0 recs.now) }
-        ensures same { SameEnds self.old.texts.policy.now self.new.texts.policy.now self.old.out self.new.out self.old.trail self.new.trail }
-        ensures report { self.new.report ≡ self.old.report }
-    {
-        let text = header_text(self.texts.alloc, self.texts.policy, bound)?;
-        note(self.trail, &text)?;
-        self.note_all(0, recs)
-    }
-
-    // Writes what of a call comes before its reply, and returns whether the reply is to be written.
+    /// Takes in a call, and writes what is reported of it.
     #[inline(always)]
-    fn show(&mut self, shown: Shown, number: u64, recs: &[Rec]) -> Result<bool, Fault>
-        ensures writes { WritesBoth result (before_reply shown self.old.texts.policy.now number recs.now) (K.view self.old.out.now) (K.view self.new.out.now) (T.view self.old.trail.now) (T.view self.new.trail.now) }
-        ensures reply { IfOk result (λ reply. reply ≡ has_reply shown) }
-        ensures readable { OnOk result (shown ≡ a_shown.Call → AreReadable self.old.texts.policy.now number recs.now) }
-        ensures same { SameEnds self.old.texts.policy.now self.new.texts.policy.now self.old.out self.new.out self.old.trail self.new.trail }
-        ensures report { self.new.report ≡ self.old.report }
-    {
-        match shown {
-            Shown::Call => {
-                self.note_all(number, recs)?;
-                Ok(true)
-            }
-            Shown::Reply => Ok(true),
-            Shown::Crossing => {
-                answer(self.out, b"crossed\n")?;
-                Ok(false)
-            }
-            Shown::Nothing => Ok(false),
-        }
-    }
-
-    // Takes in a call, writes what of it comes before its reply, and returns whether the reply is to be written.
-    #[inline(always)]
-    pub(crate) fn report_call(
+    pub(crate) fn saw(
         &mut self,
         number: u64,
-        who: &Pid,
-        outcome: &Outcome,
-    ) -> Result<bool, Fault>
-        requires { CountsAtMost (2 ^ 60) self.old.report }
-        ensures writes { WritesBoth result (before_reply (shown_of self.old.report who.now outcome.now.recs) self.old.texts.policy.now number outcome.now.recs) (K.view self.old.out.now) (K.view self.new.out.now) (T.view self.old.trail.now) (T.view self.new.trail.now) }
-        ensures reply { IfOk result (λ reply. reply ≡ has_reply (shown_of self.old.report who.now outcome.now.recs)) }
-        ensures report { (head : List ℕ) → OnOk result (self.new.report ≡ report_after_call self.old.report (call_record who.now head outcome.now)) }
-        ensures readable { OnOk result (self.old.report ≡ a_report.All → AreReadable self.old.texts.policy.now number outcome.now.recs) }
-        ensures same { SameEnds self.old.texts.policy.now self.new.texts.policy.now self.old.out self.new.out self.old.trail self.new.trail }
-    {
-        let shown = self.report.take_in(who, outcome)?;
-        self.show(shown, number, outcome.recs.items())
-    }
-
-    // Writes the reply to a call on its line.
-    #[inline(always)]
-    pub(crate) fn reply(
-        &mut self,
         line: ReplyLine<'_>,
-        call: &Call,
-        reply: &Reply,
+        outcome: &Outcome,
     ) -> Result<(), Fault>
-        requires { HasPath line }
-        ensures writes { WritesBoth result (to_out (reply_line self.old.texts.policy.now (who_on line.entry) (head_on line.entry call.now) reply.now)) (K.view self.old.out.now) (K.view self.new.out.now) (T.view self.old.trail.now) (T.view self.new.trail.now) }
+        requires line { HasCall line.line.now line.at }
+        requires small { CountsAtMost (2 ^ 60) self.old.report }
+        requires number { number ≡ length (calls_seen self.old.seen.items) + 1 }
+        requires going { calls_seen self.old.stopped.items ≡ [] }
+        ensures writes { WritesBoth result (call_sends self.old.report self.old.texts.policy.now number (call_on line.entry.line.now line.entry.at outcome.now)) (K.view self.old.out.now) (K.view self.new.out.now) (T.view self.old.trail.now) (T.view self.new.trail.now) }
+        ensures report { OnOk result (self.new.report ≡ report_after_call self.old.report (call_on line.entry.line.now line.entry.at outcome.now)) }
+        ensures readable { OnOk result (self.old.report ≡ a_report.All → AreReadable self.old.texts.policy.now number outcome.now.recs) }
+        ensures saw { SawCalls result (call_on line.entry.line.now line.entry.at outcome.now ∷ []) (calls_seen self.old.seen.items) (calls_seen self.new.seen.items) (calls_seen self.new.stopped.items) }
+        ensures start { self.new.start.items ≡ self.old.start.items }
         ensures same { SameEnds self.old.texts.policy.now self.new.texts.policy.now self.old.out self.new.out self.old.trail self.new.trail }
-        ensures report { self.new.report ≡ self.old.report }
     {
-        *self.room = line.text(
-            take(self.room, self.texts.alloc),
-            self.texts.policy,
-            call,
-            reply,
-        )?;
-        answer(self.out, self.room)
+        let mut writer = CallWriter::new(self.texts, self.room, self.out, self.trail);
+        match writer.write_call(&mut self.report, number, line, outcome) {
+            Ok(()) => {
+                self.seen = self.seen.with(line.line, &line.at, outcome);
+                Ok(())
+            }
+            Err(fault) => {
+                self.stopped = self.stopped.with(line.line, &line.at, outcome);
+                Err(fault)
+            }
+        }
     }
 }

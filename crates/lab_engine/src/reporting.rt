@@ -1,8 +1,9 @@
 // What a run reports of its calls.
-ghost use Rattle.std.specs.Prelude.{◌≡◌, ◌^◌, ℕ, List, cond, IfOk, OnOk};
+ghost use Rattle.std.specs.Prelude.{◌≡◌, ◌^◌, ◌∷◌, [], ℕ, List, cond, IfOk, OnOk};
+ghost use Rattle.kern_model.specs.declared.numbers.Pid.{Pid};
 ghost use Rattle.kern_model.specs.Isolation.{crosses, crossing as crossing_of, differ, is_mac as is_mac_cap, low};
 ghost use Rattle.lab_engine.specs.declared.reporting.Report.TheVariants as a_report;
-ghost use Rattle.lab_engine.specs.Report.{CountsAtMost, call_record, empty_tally, exercises as exercises_among, is_exercise, report_after_call, shown_of, tally_after};
+ghost use Rattle.lab_engine.specs.Report.{CountsAtMost, call_record, empty_tally, exercises as exercises_among, is_exercise, report_after_call, shown_of, tally_of};
 
 use cap_bits::Cap;
 use kern_model::{NoMemory, Outcome, Pid, Rec, Reply};
@@ -125,7 +126,7 @@ impl Tally {
     // Counts a call. Where a `u64` cannot hold the number of exercises, it returns out of memory.
     fn count(&mut self, outcome: &Outcome) -> Result<(), NoMemory>
         requires { CountsAtMost (2 ^ 60) (a_report.Counted self.old) }
-        ensures { OnOk result (self.new ≡ tally_after self.old outcome.now.reply outcome.now.recs) }
+        ensures { (who : Pid) (head : List ℕ) → OnOk result (self.new ≡ tally_of self.old (call_record who head outcome.now ∷ [])) }
     {
         let more = exercises(outcome.recs.items()) as u64;
         self.exercised = self.exercised.checked_add(more).ok_or(NoMemory)?;

@@ -1,5 +1,5 @@
 -- What a text denotes that is split at its colon, and how a label's text grows.
-use Rattle.std.proofs.Common.{◌≡◌, ℕ, ◌+◌, ◌≤◌, Bool, true, false, cond, List, ◌++◌, length, drop, Option, Some, None, refl, ap, sym, ◌∙◌}
+use Rattle.std.proofs.Common.{◌≡◌, ℕ, ◌+◌, ◌≤◌, Bool, true, false, cond, List, [], ◌∷◌, ◌++◌, length, drop, Option, Some, None, refl, ap, sym, ◌∙◌}
 use Rattle.std.specs.Prelude.{option_and_then}
 use Rattle.std.specs.FinSet as set
 use Rattle.std.specs.List.{list_any, before_first, after_first, position_or_len}
@@ -7,7 +7,9 @@ use Rattle.std.specs.Option.{option_map}
 use Rattle.std.proofs.lemmas.Bool.{ltb-false}
 use Rattle.std.proofs.lemmas.List.{append-nil, take_all, drop_all}
 use Rattle.std.proofs.lemmas.Option.{same_Some}
-use Rattle.lab_lattice.specs.Cats.{CatSet}
+use Rattle.lab_lattice.specs.Cats.{CatSet, cats_cover, has_cat, no_cats}
+use Rattle.lab_lattice.specs.Laws.{cover-has}
+use Rattle.lab_lattice.proofs.CatSets.{has-no_cats}
 use Rattle.fs_path.specs.Split.{pieces_of_rest, after_first_of}
 use Rattle.fs_path.proofs.SplitLemmas.{any_before_end, position_found, position_missing}
 use Rattle.lab_text.specs.Names.{Names, same_bytes, place_of}
@@ -78,3 +80,12 @@ cat_unknown {text = text} {level = level} {list = list} h p first e place unknow
 -- after the last category the text is complete
 pub all_written : (text all : List ℕ) (mark i : ℕ) (cats : CatSet) (names : Names) → text ++ past_mark mark (names_in cats i (drop i names)) ≡ all → length names ≤ i → text ≡ all
 all_written text all mark i cats names h past = sym (append-nil text) ∙ ap (λ ns. text ++ past_mark mark (names_in cats i ns)) (sym (drop_all i names past)) ∙ h
+
+-- where the empty set covers a set, it has no category, and none is written
+pub none_written : (cats : CatSet) (i : ℕ) (names : Names) → cats_cover no_cats cats ≡ true → names_in cats i names ≡ []
+none_written cats i [] none = refl
+none_written cats i (n ∷ ns) none = ap (λ v. cond v (n ∷ names_in cats (i + 1) ns) (names_in cats (i + 1) ns)) (lacks (has_cat cats i) refl) ∙ none_written cats (i + 1) ns none
+  where
+    lacks : (v : Bool) → has_cat cats i ≡ v → v ≡ false
+    lacks true has = sym (cover-has no_cats cats none i has) ∙ has-no_cats i
+    lacks false has = refl

@@ -17,10 +17,11 @@ use Rattle.lab_lattice.specs.Label.{Label}
 use Rattle.lab_lattice.specs.Level.{level_covers}
 use Rattle.lab_lattice.specs.Laws.{pair_parts, covers_first, covers_second}
 use Rattle.lab_text.specs.Names.{Names, same_bytes, is_label_name, is_letter, is_name_part, are_distinct, place_of}
+use Rattle.lab_text.specs.declared.lists.NameList.TheVariants.{Levels, Categories}
 use Rattle.lab_text.specs.Policy.{PolicyNames, MakePolicy, top_of, is_valid}
 use Rattle.lab_text.specs.Text.{is_colon, is_comma, LabelWords, parts_of, label_words, is_label_text, places_of, label_of, parse_label, first_unknown, unknown_in, SaysNone, names_in, past_mark, label_text}
 use Rattle.fs_path.proofs.SplitLemmas.{position_found}
-use Rattle.lab_text.proofs.PolicyFacts.{policy_facts, unlisted_unplaced, place_of_own}
+use Rattle.lab_text.proofs.PolicyFacts.{policy_facts, some_level, unlisted_unplaced, place_of_own}
 use Rattle.lab_text.specs.declared.text.LabelError.{LabelError}
 use Rattle.lab_text.specs.declared.text.LabelError.TheVariants as error
 
@@ -304,27 +305,29 @@ pub record AreWritten (text : List ℕ) : Type 0 where
 pub text_names : (p : PolicyNames) (label : Label) → MakePolicy p → is_valid p label ≡ true → AreWritten (label_text p label)
 unfolding label_text
 text_names p label h valid =
-    let is = policy_facts p h in
-    let some = is.some in
+    let levels = policy_facts p h Levels in
+    let cats = policy_facts p h Categories in
+    let some = some_level p h in
     let level = valid_level p label valid in
     let within : label.first < length p.levels = omega arith in
     record {
       level = get_or p.levels label.first [];
       cats = names_in label.second 0 p.cats;
       text_is = refl;
-      level_name = true_from_ne_false _ (λ e. both_ways (list_all is_label_name p.levels) (list_all_at is_label_name p.levels label.first [] within e) is.level_names);
-      cat_names = names_in_names label.second 0 p.cats is.cat_names;
+      level_name = true_from_ne_false _ (λ e. both_ways (list_all is_label_name p.levels) (list_all_at is_label_name p.levels label.first [] within e) levels.named);
+      cat_names = names_in_names label.second 0 p.cats cats.named;
     }
 
 -- a label's text denotes that label
 pub parse_text : (p : PolicyNames) (label : Label) → MakePolicy p → is_valid p label ≡ true → parse_label p (label_text p label) ≡ Some label
 unfolding parse_label label_text text_names
 parse_text p label h valid =
-    let is = policy_facts p h in
-    let some = is.some in
+    let levels = policy_facts p h Levels in
+    let cats = policy_facts p h Categories in
+    let some = some_level p h in
     let level = valid_level p label valid in
     let within : label.first < length p.levels = omega arith in
     let names = text_names p label h valid in
     ap (option_and_then (label_of p)) (ap label_words names.text_is ∙ parse_words names.level names.cats names.level_name names.cat_names)
-    ∙ (λ i. labelled (place_of_own p.levels label.first is.levels_apart within i) (places_named p.cats label.second 0 p.cats is.cats_apart refl i))
+    ∙ (λ i. labelled (place_of_own p.levels label.first levels.apart within i) (places_named p.cats label.second 0 p.cats cats.apart refl i))
     ∙ ap (λ (cats : CatSet). Some (record { first = label.first; second = cats })) (numbers_back label.second p.cats (valid_cats p label valid))

@@ -1,9 +1,9 @@
 -- What holds of names that make a policy, and the places of names in their list.
-use Rattle.std.specs.Prelude.{◌≡◌, ℕ, ◌≤◌, ◌<◌, Bool, true, false, not, ◌==◌, nat_lt, cond, List, [], ◌∷◌, length, get_or, None, Some, zero, suc}
+use Rattle.std.specs.Prelude.{◌≡◌, ℕ, ◌≤◌, ◌<◌, Bool, true, false, not, ◌&&◌, ◌||◌, ◌==◌, nat_lt, cond, List, [], ◌∷◌, length, get_or, None, Some, zero, suc}
 use Rattle.std.specs.Cmp.Lexicographic.{same_text}
 use Rattle.std.specs.List.{list_all, list_any, position_or_len}
-use Rattle.std.proofs.Common.{ap, sym, ◌∙◌, arith, inl, inr}
-use Rattle.std.proofs.lemmas.Bool.{lt-ltb, ltb-false, or_cases, or_parts, and_parts, not-true, both_ways, false_from_ne_true, not-false}
+use Rattle.std.proofs.Common.{ap, refl, sym, ◌∙◌, arith, inl, inr}
+use Rattle.std.proofs.lemmas.Bool.{cond-false, lt-ltb, le-ltb, ltb-false, or_cases, or_parts, or_from, and_parts, and_from, not-true, both_ways, false_from_ne_true, not-false}
 use Rattle.std.proofs.lemmas.Bool.Decides.{nat_tests}
 use Rattle.std.proofs.lemmas.Cmp.{nat_list_eq_equiv}
 use Rattle.std.proofs.lemmas.List.Folds.{list_any_at}
@@ -11,40 +11,74 @@ use Rattle.std.proofs.lemmas.List.Sums.{position_or_len_is}
 use Rattle.fs_path.proofs.PathLaws.{cond_none}
 use Rattle.fs_path.proofs.SplitLemmas.{any_before_end, position_found}
 use Rattle.lab_text.specs.Names.{Names, same_bytes, is_label_name, are_distinct, place_of}
-use Rattle.lab_text.specs.Policy.{PolicyNames, names_fault, MakePolicy}
+use Rattle.lab_text.specs.Lists.{all_lists, limit_of, needs_names}
+use Rattle.lab_text.specs.Policy.{PolicyNames, names_of, with_names, no_names, names_fault, MakePolicy}
+use Rattle.lab_text.specs.declared.lists.NameList.{NameList}
+use Rattle.lab_text.specs.declared.lists.NameList.TheVariants.{Levels, Categories}
 
--- what holds of names that make a policy
-pub record HasPolicyFacts (p : PolicyNames) : Type 0 where
-  pub some : 1 ≤ length p.levels
-  pub few_levels : length p.levels ≤ 16
-  pub few_cats : length p.cats ≤ 64
-  pub level_names : list_all is_label_name p.levels ≡ true
-  pub cat_names : list_all is_label_name p.cats ≡ true
-  pub levels_apart : are_distinct p.levels ≡ true
-  pub cats_apart : are_distinct p.cats ≡ true
+-- ---- each list
 
-at_least_one : (n : ℕ) → (n == 0) ≡ false → 1 ≤ n
-at_least_one n h = grind (arith, nat_tests)
+-- what holds of the names in a list of a policy
+pub record HasListFacts (list : NameList) (names : Names) : Type 0 where
+  pub enough : (needs_names list && length names == 0) ≡ false
+  pub few : length names ≤ limit_of list
+  pub named : list_all is_label_name names ≡ true
+  pub apart : are_distinct names ≡ true
 
-pub policy_facts : (p : PolicyNames) → MakePolicy p → HasPolicyFacts p
+-- what holds of all lists holds of each
+every_list : (f : NameList → Bool) → list_all f all_lists ≡ true → (list : NameList) → f list ≡ true
+every_list f h Levels = (and_parts (f Levels) (f Categories && true) h).0
+every_list f h Categories = (and_parts (f Categories) true (and_parts (f Levels) (f Categories && true) h).1).0
+
+-- what holds of no list doesn't hold of any
+no_list : (f : NameList → Bool) → list_any f all_lists ≡ false → (list : NameList) → f list ≡ false
+no_list f h Levels = (or_parts (f Levels) (f Categories || false) h).0
+no_list f h Categories = (or_parts (f Categories) false (or_parts (f Levels) (f Categories || false) h).1).0
+
+all_lists_from : (f : NameList → Bool) → ((list : NameList) → f list ≡ true) → list_all f all_lists ≡ true
+all_lists_from f h = and_from (f Levels) (f Categories && true) (h Levels) (and_from (f Categories) true (h Categories) refl)
+
+no_lists_from : (f : NameList → Bool) → ((list : NameList) → f list ≡ false) → list_any f all_lists ≡ false
+no_lists_from f h = or_from (f Levels) (f Categories || false) (h Levels) (or_from (f Categories) false (h Categories) refl)
+
+-- what holds of each list of names that make a policy
+pub policy_facts : (p : PolicyNames) → MakePolicy p → (list : NameList) → HasListFacts list (names_of p list)
 unfolding names_fault
-policy_facts p h =
+policy_facts p h list =
     let one = cond_none _ _ _ h in
     let two = cond_none _ _ _ one.1 in
     let three = cond_none _ _ _ two.1 in
     let four = cond_none _ _ _ three.1 in
-    let sizes = or_parts (nat_lt 16 (length p.levels)) (nat_lt 64 (length p.cats)) two.0 in
-    let names = and_parts (list_all is_label_name p.levels) (list_all is_label_name p.cats) (not-false _ three.0) in
-    let apart = and_parts (are_distinct p.levels) (are_distinct p.cats) (not-false _ four.0) in
     record {
-      some = at_least_one (length p.levels) one.0;
-      few_levels = ltb-false 16 (length p.levels) sizes.0;
-      few_cats = ltb-false 64 (length p.cats) sizes.1;
-      level_names = names.0;
-      cat_names = names.1;
-      levels_apart = apart.0;
-      cats_apart = apart.1;
+      enough = no_list (λ list. needs_names list && length (names_of p list) == 0) one.0 list;
+      few = ltb-false (limit_of list) (length (names_of p list)) (no_list (λ list. nat_lt (limit_of list) (length (names_of p list))) two.0 list);
+      named = every_list (λ list. list_all is_label_name (names_of p list)) (not-false _ three.0) list;
+      apart = every_list (λ list. are_distinct (names_of p list)) (not-false _ four.0) list;
     }
+
+-- names make a policy where this holds of each list
+pub policy_made : (p : PolicyNames) → ((list : NameList) → HasListFacts list (names_of p list)) → MakePolicy p
+unfolding names_fault
+policy_made p h =
+    cond-false _ _ _ (no_lists_from (λ list. needs_names list && length (names_of p list) == 0) (λ list. (h list).enough))
+    ∙ cond-false _ _ _ (no_lists_from (λ list. nat_lt (limit_of list) (length (names_of p list))) (λ list. le-ltb (limit_of list) (length (names_of p list)) (h list).few))
+    ∙ cond-false _ _ _ (ap not (all_lists_from (λ list. list_all is_label_name (names_of p list)) (λ list. (h list).named)))
+    ∙ cond-false _ _ _ (ap not (all_lists_from (λ list. are_distinct (names_of p list)) (λ list. (h list).apart)))
+
+at_least_one : (n : ℕ) → (n == 0) ≡ false → 1 ≤ n
+at_least_one n h = grind (arith, nat_tests)
+
+-- a policy has a level
+pub some_level : (p : PolicyNames) → MakePolicy p → 1 ≤ length p.levels
+some_level p h = at_least_one (length p.levels) (policy_facts p h Levels).enough
+
+-- the levels of a policy make one without categories
+pub levels_alone : (p : PolicyNames) → MakePolicy p → MakePolicy (with_names no_names Levels p.levels)
+levels_alone p h = policy_made (with_names no_names Levels p.levels) each
+  where
+    each : (list : NameList) → HasListFacts list (names_of (with_names no_names Levels p.levels) list)
+    each Levels = policy_facts p h Levels
+    each Categories = record { enough = refl; few = omega arith; named = refl; apart = refl }
 
 -- ---- places
 
@@ -60,7 +94,7 @@ listed_holds f (x ∷ xs) word h all =
 
 -- a level's name has the form of a name
 pub placed_name : (p : PolicyNames) (word : List ℕ) (i : ℕ) → MakePolicy p → place_of p.levels word ≡ Some i → is_label_name word ≡ true
-placed_name p word i h e = listed_holds is_label_name p.levels word (position_found (same_bytes word) p.levels i e).2 (policy_facts p h).level_names
+placed_name p word i h e = listed_holds is_label_name p.levels word (position_found (same_bytes word) p.levels i e).2 (policy_facts p h Levels).named
 
 -- a name that is not in the list has no place
 pub unlisted_unplaced : (names : Names) (word : List ℕ) → list_any (same_bytes word) names ≡ false → place_of names word ≡ None

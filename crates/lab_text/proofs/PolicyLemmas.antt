@@ -8,6 +8,7 @@ use Rattle.lab_lattice.specs.Cats.{CatSet, has_cat, no_cats, one_cat, cats_join}
 use Rattle.lab_lattice.specs.Laws.{has-cats_join, same_cats}
 use Rattle.lab_lattice.proofs.CatSets.{has-no_cats, has-one_cat}
 use Rattle.lab_text.specs.Names.{same_bytes, place_of}
+use Rattle.lab_text.specs.declared.lists.NameList.TheVariants.{Levels, Categories}
 use Rattle.lab_text.specs.Policy.{PolicyNames, MakePolicy, top_of}
 use Rattle.fs_path.proofs.SplitLemmas.{position_found}
 use Rattle.lab_text.proofs.PolicyFacts.{policy_facts}
@@ -16,10 +17,10 @@ use Rattle.lab_text.proofs.Parsed.{has-first_cats}
 -- ---- places fit
 
 pub level_low : (p : PolicyNames) (name : List ℕ) (i : ℕ) → MakePolicy p → place_of p.levels name ≡ Some i → i ≤ 15
-level_low p name i h e = let few = (policy_facts p h).few_levels in let found = position_found (same_bytes name) p.levels i e in omega arith
+level_low p name i h e = let few : length p.levels ≤ 16 = (policy_facts p h Levels).few in let found = position_found (same_bytes name) p.levels i e in omega arith
 
 pub cat_low : (p : PolicyNames) (name : List ℕ) (i : ℕ) → MakePolicy p → place_of p.cats name ≡ Some i → i < 64
-cat_low p name i h e = let few = (policy_facts p h).few_cats in let found = position_found (same_bytes name) p.cats i e in omega arith
+cat_low p name i h e = let few : length p.cats ≤ 64 = (policy_facts p h Categories).few in let found = position_found (same_bytes name) p.cats i e in omega arith
 
 -- a call that returns a value exactly where a condition holds returns it where it holds
 pub answered : {A : Type 0} (r : Option A) (x : A) (P : Type 0) → (IsSome r ↔ P) → IfSome r (λ y. y ≡ x) → P → r ≡ Some x

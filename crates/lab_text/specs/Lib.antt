@@ -1,4 +1,5 @@
 pub mod Names
+pub mod Lists
 pub mod Policy
 pub mod Text
 pub mod Scan

@@ -1,22 +1,20 @@
 // The names that a world gives to levels and categories.
-ghost use Rattle.std.specs.Prelude.{◌≡◌, ◌-◌, ◌≤◌, true, length, MatchResult, IfOk, IfErr, IfSome};
+ghost use Rattle.std.specs.Prelude.{◌≡◌, ◌-◌, ◌≤◌, ◌&&◌, ◌==◌, nat_lt, true, length, MatchResult, IfOk, IfErr, IfSome};
 ghost use Rattle.std.specs.FinSet as set;
 ghost use Rattle.std.specs.List.{list_any, list_all, range_with_len};
 ghost use Rattle.std.specs.Option.{option_map};
 ghost use Rattle.lab_lattice.specs.Cats.{one_cat};
 ghost use Rattle.lab_lattice.specs.Label.{bottom};
+ghost use Rattle.lab_text.specs.Lists.{all_lists, limit_of, needs_names};
 ghost use Rattle.lab_text.specs.Names.{same_bytes, is_label_name, are_distinct, place_of};
-ghost use Rattle.lab_text.specs.Policy.{names_fault, MakeNone, MakePolicy, top_of, is_valid};
+ghost use Rattle.lab_text.specs.Policy.{names_of, with_names, no_names, names_fault, MakeNone, MakePolicy, top_of, is_valid};
 
 use crate::names::is_label_name;
-use crate::{NoMemory, Word};
+use crate::{NameList, NoMemory, Word};
+use fs_path::List;
 use lab_lattice::{Cats, Label, Lattice, Level, Pair};
 use std::alloc::Global;
 use std::marker::Model;
-
-const MAX_LEVELS: usize = 16;
-
-const MAX_CATS: usize = 64;
 
 /// Why names make no policy.
 #[derive(Clone, Copy, Debug, PartialEq, Eq)]
@@ -33,16 +31,36 @@ pub enum PolicyError {
     NoMemory(NoMemory),
 }
 
-/// The names of a world's levels, lowest first, and of its categories. The number of each is its place in its list, from 0.
+/// The names of a policy, or of a part of one, list by list.
 #[derive(Debug)]
-pub struct Policy {
+pub struct PolicyNames {
     levels: Vec<Word>,
     cats: Vec<Word>,
 }
 
+impl Drop for PolicyNames {
+    fn drop(self) {
+        let PolicyNames { levels: _, cats: _ } = self;
+    }
+}
+
+impl Model for PolicyNames {
+    ghost use Rattle.lab_text.specs.Policy.{PolicyNames};
+
+    ghost Value = { PolicyNames };
+
+    ghost view = { λ p. record { levels = p.levels.items; cats = p.cats.items } };
+}
+
+/// The names of a world's levels, lowest first, and of its categories. The number of each is its place in its list, from 0.
+#[derive(Debug)]
+pub struct Policy {
+    names: PolicyNames,
+}
+
 impl Drop for Policy {
     fn drop(self) {
-        let Policy { levels: _, cats: _ } = self;
+        let Policy { names: _ } = self;
     }
 }
 
@@ -51,9 +69,9 @@ impl Model for Policy {
 
     ghost Value = { PolicyNames };
 
-    ghost view = { λ p. record { levels = p.levels.items; cats = p.cats.items } };
+    ghost view = { λ p. p.names };
 
-    ghost invariant = { λ p. MakePolicy (record { levels = p.levels.items; cats = p.cats.items }) };
+    ghost invariant = { λ p. MakePolicy p.names };
 }
 
 fn has_name(names: &[Word], name: &[u8]) -> bool
@@ -85,24 +103,86 @@ fn are_distinct(names: &[Word]) -> bool
     }
 }
 
-// Why names make no policy, if they make none.
-#[tactic(auto, unfolding(crate::specs::Policy::names_fault))]
-fn fault_of(levels: &[Word], cats: &[Word]) -> Option<PolicyError>
-    ensures { result ≡ names_fault levels.now cats.now }
-{
-    if levels.is_empty() {
-        return Some(PolicyError::Empty);
+// The names of each list, lent.
+#[derive(Drop)]
+struct LentNames<'a> {
+    levels: &'a [Word],
+    cats: &'a [Word],
+}
+
+impl<'a> Model for LentNames<'a> {
+    ghost use Rattle.lab_text.specs.Policy.{PolicyNames};
+
+    ghost Value = { PolicyNames };
+
+    ghost view = { λ p. record { levels = p.levels.now; cats = p.cats.now } };
+}
+
+impl LentNames<'_> {
+    fn names(&self, list: NameList) -> &[Word]
+        ensures { result.now ≡ names_of self.now list }
+    {
+        match list {
+            NameList::Levels => self.levels,
+            NameList::Categories => self.cats,
+        }
     }
-    if levels.len() > MAX_LEVELS || cats.len() > MAX_CATS {
-        return Some(PolicyError::TooMany);
+
+    // Whether a list that has to have a name has none.
+    fn lacks_names(&self) -> bool
+        ensures { result ≡ list_any (λ list. needs_names list && length (names_of self.now list) == 0) all_lists }
+    {
+        NameList::ALL
+            .iter()
+            .any(|list| list.needs_names() && self.names(*list).is_empty())
     }
-    if !(are_label_names(levels) && are_label_names(cats)) {
-        return Some(PolicyError::BadName);
+
+    // Whether a list has more names than it may have.
+    fn has_too_many(&self) -> bool
+        ensures { result ≡ list_any (λ list. nat_lt (limit_of list) (length (names_of self.now list))) all_lists }
+    {
+        NameList::ALL
+            .iter()
+            .any(|list| self.names(*list).len() > list.limit())
     }
-    if !(are_distinct(levels) && are_distinct(cats)) {
-        return Some(PolicyError::Repeated);
+
+    // Whether each name can be the name of a level or a category.
+    fn are_label_names(&self) -> bool
+        ensures { result ≡ list_all (λ list. list_all is_label_name (names_of self.now list)) all_lists }
+    {
+        NameList::ALL
+            .iter()
+            .all(|list| are_label_names(self.names(*list)))
     }
-    None
+
+    // Whether no two names of a list are equal.
+    fn are_distinct(&self) -> bool
+        ensures { result ≡ list_all (λ list. are_distinct (names_of self.now list)) all_lists }
+    {
+        NameList::ALL
+            .iter()
+            .all(|list| are_distinct(self.names(*list)))
+    }
+
+    // Why the names make no policy, if they make none.
+    #[tactic(auto, unfolding(crate::specs::Policy::names_fault))]
+    fn fault(&self) -> Option<PolicyError>
+        ensures { result ≡ names_fault self.now }
+    {
+        if self.lacks_names() {
+            return Some(PolicyError::Empty);
+        }
+        if self.has_too_many() {
+            return Some(PolicyError::TooMany);
+        }
+        if !self.are_label_names() {
+            return Some(PolicyError::BadName);
+        }
+        if !self.are_distinct() {
+            return Some(PolicyError::Repeated);
+        }
+        None
+    }
 }
 
 fn copies(alloc: Global, words: &[Word]) -> Result<Vec<Word>, NoMemory>
@@ -127,24 +207,75 @@ fn cats_below(n: u8) -> Cats
     cats
 }
 
+impl PolicyNames {
+    /// No names in any list.
+    pub fn empty(alloc: Global) -> PolicyNames
+        ensures { result ≡ no_names }
+    {
+        PolicyNames {
+            levels: Vec::new(alloc),
+            cats: Vec::new(alloc),
+        }
+    }
+
+    /// Puts names in a list, in place of those that it has.
+    pub fn put(&mut self, list: NameList, names: List<Word>)
+        ensures { self.new ≡ with_names self.old list names }
+    {
+        match list {
+            NameList::Levels => self.levels = names.into_vec(),
+            NameList::Categories => self.cats = names.into_vec(),
+        }
+    }
+
+    /// The names in a list.
+    pub fn names(&self, list: NameList) -> &[Word]
+        ensures { result.now ≡ names_of self.now list }
+    {
+        match list {
+            NameList::Levels => self.levels.as_slice(),
+            NameList::Categories => self.cats.as_slice(),
+        }
+    }
+
+    /// Why the names make no policy, if they make none. Of the errors of `PolicyError` the first that applies is returned.
+    pub fn fault(&self) -> Option<PolicyError>
+        ensures { result ≡ names_fault self.now }
+    {
+        LentNames {
+            levels: self.levels.as_slice(),
+            cats: self.cats.as_slice(),
+        }
+        .fault()
+    }
+
+    /// The policy of names that have no fault.
+    pub fn into_policy(self) -> Policy
+        requires { MakePolicy self }
+        ensures { result ≡ self }
+    {
+        Policy { names: self }
+    }
+}
+
 impl Policy {
     /// The policy of these names. Of the errors of `PolicyError` the first that applies is returned.
     pub fn new(alloc: Global, levels: &[Word], cats: &[Word]) -> Result<Policy, PolicyError>
         ensures names { IfOk result (λ policy. policy ≡ record { levels = levels.now; cats = cats.now }) }
         ensures policy { IfOk result MakePolicy }
-        ensures none { IfErr result (MakeNone levels.now cats.now) }
+        ensures none { IfErr result (MakeNone (record { levels = levels.now; cats = cats.now })) }
     {
-        if let Some(fault) = fault_of(levels, cats) {
+        if let Some(fault) = (LentNames { levels, cats }).fault() {
             return Err(fault);
         }
         let levels = copies(alloc, levels).map_err(PolicyError::NoMemory)?;
         let cats = copies(alloc, cats).map_err(PolicyError::NoMemory)?;
-        Ok(Policy { levels, cats })
+        Ok(PolicyNames { levels, cats }.into_policy())
     }
 
     /// The allocator of its names.
     pub fn allocator(&self) -> Global {
-        *self.levels.allocator()
+        *self.names.levels.allocator()
     }
 
     /// The names of the levels, lowest first.
@@ -152,7 +283,7 @@ impl Policy {
         ensures names { result.now ≡ self.now.levels }
         ensures policy { MakePolicy self.now }
     {
-        self.levels.as_slice()
+        self.names.levels.as_slice()
     }
 
     /// The names of the categories.
@@ -160,7 +291,15 @@ impl Policy {
         ensures names { result.now ≡ self.now.cats }
         ensures policy { MakePolicy self.now }
     {
-        self.cats.as_slice()
+        self.names.cats.as_slice()
+    }
+
+    /// The names in a list.
+    pub fn names(&self, list: NameList) -> &[Word]
+        ensures names { result.now ≡ names_of self.now list }
+        ensures policy { MakePolicy self.now }
+    {
+        self.names.names(list)
     }
 
     // The level with this name.

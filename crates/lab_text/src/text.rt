@@ -96,6 +96,9 @@ pub fn put_label(text: &mut Vec<u8>, policy: &Policy, label: &Label) -> Result<(
     ensures { OnOk result (text.new.items ≡ text.old.items ++ label_text policy.now label.now) }
 {
     text.extend_from_slice(level_name(policy, label))?;
+    if Cats::empty().dominates(&label.second) {
+        return Ok(());
+    }
     let mut mark = b':';
     for (place, name) in policy.cats().iter().enumerate() {
         if label.second.has(place as u8) {

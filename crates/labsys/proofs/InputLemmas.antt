@@ -1,17 +1,17 @@
--- The input at a reader of lines, and what a source has left.
-use Rattle.std.proofs.Common.{◌≡◌, ℕ, true, List, [], ◌++◌, refl, sym, ◌∙◌, ap, subst}
+-- What a source has left, and an input without a world.
+use Rattle.std.proofs.Common.{◌≡◌, ℕ, true, List, [], ◌++◌, refl, sym, ◌∙◌, ap, subst, arith}
+use Rattle.std.proofs.KnownBytes.{Consumes-nil}
 use Rattle.std.specs.Prelude.{Option, None, Some}
 use Rattle.std.specs.Io.KnownBytes.{Consumes}
-use Rattle.io_ends.specs.LinesState.{LinesState}
-use Rattle.kern_model.specs.declared.limits.TheConstants.{MAX_INPUT}
-use Rattle.world_text.specs.declared.expecting.Expecting.TheVariants as at
+use Rattle.io_ends.specs.LinesState.{LinesState, may_take}
 use Rattle.lab_engine.specs.declared.ending.InputEnd.{InputEnd}
 use Rattle.lab_engine.specs.Input.{Accepted, Input, input_of, no_world}
 use Rattle.lab_engine.specs.Order.{Sent, calls_by, order_by, order_of, order_of_calls, to_out}
-use Rattle.lab_engine.specs.Reading.{input_at, left_of}
+use Rattle.lab_engine.specs.Reading.{Takes, left_of}
 use Rattle.lab_engine.specs.Texts.{last_text}
 use Rattle.labsys.specs.declared.command.Command.{Command}
 use Rattle.labsys.specs.declared.command.Command.TheVariants.{Play, Check, Gen, Drill, View}
+use Rattle.labsys.specs.Clauses.{TakesAtMost}
 use Rattle.labsys.specs.Commands.{due, due_of_check, due_of_play, due_of_view, ends_with, reads_source}
 
 -- ---- what a source has left
@@ -29,12 +29,15 @@ left_taken (Some rest) text taken h = record { rest = rest; text_is = h; left_is
 pub text_left : (left now : Option (List ℕ)) (taken text : List ℕ) → left ≡ Some text → Consumes left now taken → text ≡ taken ++ left_of now
 text_left left now taken text e h = let l = left_taken now text taken (subst (λ z. Consumes z now taken) e h) in l.text_is ∙ ap (λ z. taken ++ left_of z) (sym l.left_is)
 
--- ---- the input at a reader
+-- nothing was taken
+abbrev pub reads_nothing : (most : ℕ) (left : Option (List ℕ)) → TakesAtMost most left left
+reads_nothing most left = record { taken = []; took = Consumes-nil left; few = omega arith }
 
--- before the first line all of the input is left
-pub input_starts : (s : LinesState) → s ≡ record { line = []; held = []; room = MAX_INPUT; number = 0; more = true } → (text : List ℕ) → input_of text ≡ input_at at.Format s text
-unfolding input_of input_at
-input_starts s is text = sym (ap (λ (r : LinesState). input_at at.Format r text) is)
+-- a reader takes no more than it may
+abbrev pub reads_within : (lines lines' : LinesState) (left left' : Option (List ℕ)) (taken : List ℕ) → Takes lines lines' left left' taken → TakesAtMost (may_take lines) left left'
+reads_within lines lines' left left' taken takes = record { taken = taken; took = takes.took; few = omega (arith, takes.within) }
+
+-- ---- an input without a world
 
 -- without a world the order is the last line, and no call is played
 without_world : (e : InputEnd) → to_out (last_text 0 e) ≡ order_of (no_world e)

@@ -8,6 +8,7 @@ pub mod Isolating
 pub mod LineageLemmas
 pub mod ReadableLemmas
 pub mod PlayLemmas
+pub mod SessionLemmas
 pub mod CheckLemmas
 pub mod ViewedLemmas
 pub mod DrillLemmas

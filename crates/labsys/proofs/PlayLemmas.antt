@@ -1,14 +1,14 @@
 -- What a run leaves: an accepted world that is played with its script, and an input without a world.
-use Rattle.std.proofs.Common.{◌≡◌, inl, inr, ℕ, ◌+◌, ◌≤◌, ◌^◌, true, List, [], ◌∷◌, ◌++◌, length, map, refl, sym, ◌∙◌, ap, subst, append_assoc, arith}
-use Rattle.std.proofs.KnownBytes.{Appends-nil, Consumes-nil}
+use Rattle.std.proofs.Common.{◌≡◌, inl, inr, ℕ, ◌≤◌, ◌^◌, true, List, [], ◌∷◌, ◌++◌, length, map, refl, sym, ◌∙◌, ap, subst, append_assoc, arith}
+use Rattle.std.proofs.KnownBytes.{Appends-nil, Consumes-trans}
+use Rattle.std.proofs.lemmas.List.{length-append}
 use Rattle.std.proofs.lemmas.Result.{IfOk-weaker}
 use Rattle.std.specs.Prelude.{Option, None, Some, Result, Ok, Err, IsErrAnd, IfOk}
 use Rattle.std.specs.List.{AllByRecursion, flat_map}
-use Rattle.std.specs.Io.KnownBytes.{IsAtEnd}
+use Rattle.std.specs.Io.KnownBytes.{Consumes, IsAtEnd}
 use Rattle.io_ends.specs.LinesState.{LinesState, may_take}
 use Rattle.io_ends.specs.Ends.{SinkView}
 use Rattle.aud_record.specs.Written.{header_text, rec_text}
-use Rattle.kern_model.specs.declared.limits.TheConstants.{MAX_INPUT}
 use Rattle.kern_model.specs.declared.records.Rec.{Rec}
 use Rattle.kern_model.specs.declared.world.ScriptItem.{ScriptItem}
 use Rattle.kern_model.specs.Boot.{boot, boot_recs}
@@ -19,37 +19,36 @@ use Rattle.iso_laws.proofs.AllLemmas.{all-append}
 use Rattle.lab_engine.specs.declared.ending.Fault.{Fault}
 use Rattle.lab_engine.specs.declared.ending.Fault.TheVariants.{Read, NoMemory}
 use Rattle.lab_engine.specs.declared.ending.InputEnd.{InputEnd}
-use Rattle.lab_engine.specs.declared.ending.InputEnd.TheVariants.{TooMuch, Whole as AllRead}
-use Rattle.lab_engine.specs.declared.reading.ReadWorld.{ReadWorld}
-use Rattle.lab_engine.specs.declared.reading.ReadWorld.TheVariants as world
+use Rattle.lab_engine.specs.declared.ending.InputEnd.TheVariants.{Whole as AllRead}
+use Rattle.lab_engine.specs.declared.opening.Opened.{Opened}
+use Rattle.lab_engine.specs.declared.opening.Opened.TheVariants as opened
+use Rattle.lab_engine.specs.declared.opening.OpenedWorld.{OpenedWorld}
 use Rattle.lab_engine.specs.declared.playing.Played.{Played}
 use Rattle.lab_engine.specs.declared.reporting.Report.{Report}
 use Rattle.lab_engine.specs.declared.reporting.Report.TheVariants.{All}
-use Rattle.world_text.specs.declared.expecting.Expecting.TheVariants as at
 use Rattle.lab_engine.specs.Counts.{Counts, counts, counted_by}
 use Rattle.lab_engine.specs.Input.{Accepted, Input, Script, input_of}
+use Rattle.lab_engine.specs.Opening.{OpensInput}
 use Rattle.lab_engine.specs.Order.{Sent, calls_by, call_order, order_before_end, order_by, order_of_calls, out_of, session_order, to_out, to_trail, trail_of}
 use Rattle.lab_engine.specs.Playing.{Ends, ends, PlaysAll, Sends, SendsAll, SendsPrefix, StopsBy, StopsIn, Writes, items_order}
 use Rattle.lab_engine.specs.Report.{items_reported}
 use Rattle.lab_engine.specs.Readable.{AreReadable, IsReadable}
-use Rattle.lab_engine.specs.Reading.{Accepts, EndsWorld, HasNoWorld, ReadsWorld, Takes, left_of, script_at}
+use Rattle.lab_engine.specs.Reading.{Takes, left_of, script_at}
 use Rattle.lab_engine.specs.Session.{bytes_of, head_text, numbered_from, session_of, tail_text}
 use Rattle.lab_engine.specs.Texts.{ends_text, last_text}
 use Rattle.lab_engine.proofs.Progress.{not_a_read}
-use Rattle.lab_engine.proofs.ReadSoFar.{takes_more, takes_nothing}
 use Rattle.lab_engine.proofs.ReadableLemmas.{with_numbers}
 use Rattle.lab_engine.proofs.ReportLemmas.{all_reported}
 use Rattle.lab_engine.proofs.Sending.{goes_on, in_order, out_of_memory, passes_on, prefix_after, prefix_longer, prefix_nothing, sends_more, stops_after, stops_longer}
 use Rattle.labsys.specs.declared.command.Command.{Command}
 use Rattle.labsys.specs.declared.command.Command.TheVariants.{Play, Check, View}
+use Rattle.labsys.specs.Clauses.{TakesAtMost}
 use Rattle.labsys.specs.Commands.{Due, due, due_of_check, due_of_play, due_of_view, ends_with, reads_source}
 use Rattle.labsys.specs.Playing.{ChecksWorld, CommandDid, EndsAs, PlaysWorld, ViewsWorld}
 use Rattle.labsys.specs.Readable.{InputReadable, SessionReadable}
-use Rattle.lab_lattice.specs.Label.{Label}
-use Rattle.lab_text.specs.Policy.{PolicyNames}
 use Rattle.lab_text.specs.Text.{parse_label}
 use Rattle.labsys.proofs.AcceptedLemmas.{IsPlayable, accepted_input}
-use Rattle.labsys.proofs.InputLemmas.{due_without_world, input_starts, no_calls, text_left}
+use Rattle.labsys.proofs.InputLemmas.{due_without_world, no_calls, reads_nothing, reads_within, text_left}
 use Rattle.labsys.proofs.ReadableLemmas.{input_played, input_without_world}
 
 -- ---- a run that failed
@@ -117,10 +116,9 @@ module _ (a : Accepted) (recs : List Rec) (recs_are : recs ≡ boot_recs a.world
 
   module _ (r : Result InputEnd Fault) (lines : LinesState) (left : Option (List ℕ)) (before : Ends) where
     -- there is no memory for the first state
-    pub boot_fails : IsErrAnd r (λ q. q ≡ NoMemory) → PlaysWorld r a lines lines left left before before
+    pub boot_fails : IsErrAnd r (λ q. q ≡ NoMemory) → PlaysWorld r a lines left left before before
     boot_fails is = record {
-      taken = [];
-      takes = takes_nothing lines left;
+      reads = reads_nothing (may_take lines) left;
       writes = out_of_memory r _ before is;
       ending = failed_ending r NoMemory is _;
       by_line = λ read. absurd (memory_not_read r is read);
@@ -128,12 +126,11 @@ module _ (a : Accepted) (recs : List Rec) (recs_are : recs ≡ boot_recs a.world
     }
 
     -- a fault cut the head of the trail off
-    pub head_fails : (fault : Fault) (after : Ends) → StopsBy fault head before after → (fault ≡ Read → ⊥) → IsErrAnd r (λ q. q ≡ fault) → PlaysWorld r a lines lines left left before after
+    pub head_fails : (fault : Fault) (after : Ends) → StopsBy fault head before after → (fault ≡ Read → ⊥) → IsErrAnd r (λ q. q ≡ fault) → PlaysWorld r a lines left left before after
     head_fails fault after stop not_read is =
         let m = script_at a.policy lines (left_of left) in
         record {
-          taken = [];
-          takes = takes_nothing lines left;
+          reads = reads_nothing (may_take lines) left;
           writes = passes_on r fault (order_by (Some a) m) before after (subst (λ (o : List Sent). StopsBy fault o before after) (order_is m) (stops_longer fault head (calls m ++ tail m) before after stop)) is;
           ending = failed_ending r fault is _;
           by_line = λ read. absurd (not_read (failed_read r fault is read));
@@ -146,10 +143,9 @@ module _ (a : Accepted) (recs : List Rec) (recs_are : recs ≡ boot_recs a.world
       m = script_at a.policy lines (taken ++ left_of left')
 
       -- a fault stopped the script
-      pub script_fails : (fault : Fault) → StopsIn a.policy All s m (script_at a.policy lines taken) fault now after → IsErrAnd r (λ q. q ≡ fault) → PlaysWorld r a lines lines' left left' before after
+      pub script_fails : (fault : Fault) → StopsIn a.policy All s m (script_at a.policy lines taken) fault now after → IsErrAnd r (λ q. q ≡ fault) → PlaysWorld r a lines left left' before after
       script_fails fault stop is = record {
-        taken = taken;
-        takes = takes;
+        reads = reads_within lines lines' left left' taken takes;
         writes = passes_on r fault (order_by (Some a) m) before after
             (subst (λ (o : List Sent). StopsBy fault o before after) (order_is m) (stops_after fault head (calls m ++ tail m) before now after headed (stops_longer fault (calls m) (tail m) now after stop.stops))) is;
         ending = failed_ending r fault is _;
@@ -171,10 +167,9 @@ module _ (a : Accepted) (recs : List Rec) (recs_are : recs ≡ boot_recs a.world
             (in_order r _ _ played after (end_is m kept s' left' p now played all) w)))
 
         -- a fault cut the end of the output off
-        pub end_fails : (fault : Fault) → StopsBy fault (to_out (ends_text None a.policy s' ++ last_text p.count p.ending)) played after → (fault ≡ Read → ⊥) → IsErrAnd r (λ q. q ≡ fault) → PlaysWorld r a lines lines' left left' before after
+        pub end_fails : (fault : Fault) → StopsBy fault (to_out (ends_text None a.policy s' ++ last_text p.count p.ending)) played after → (fault ≡ Read → ⊥) → IsErrAnd r (λ q. q ≡ fault) → PlaysWorld r a lines left left' before after
         end_fails fault stop not_read is = record {
-          taken = taken;
-          takes = takes;
+          reads = reads_within lines lines' left left' taken takes;
           writes = written (passes_on r fault _ played after stop is);
           ending = failed_ending r fault is _;
           by_line = λ read. absurd (not_read (failed_read r fault is read));
@@ -182,209 +177,127 @@ module _ (a : Accepted) (recs : List Rec) (recs_are : recs ≡ boot_recs a.world
         }
 
         -- all is written
-        pub world_played : r ≡ Ok p.ending → SendsAll (to_out (ends_text None a.policy s' ++ last_text p.count p.ending)) played after → PlaysWorld r a lines lines' left left' before after
+        pub world_played : r ≡ Ok p.ending → SendsAll (to_out (ends_text None a.policy s' ++ last_text p.count p.ending)) played after → PlaysWorld r a lines left left' before after
         world_played is sends = record {
-          taken = taken;
-          takes = takes;
+          reads = reads_within lines lines' left left' taken takes;
           writes = written (subst (λ (x : Result InputEnd Fault). Writes x (to_out (ends_text None a.policy s' ++ last_text p.count p.ending)) played after) (sym is) sends);
           ending = subst (λ (x : Result InputEnd Fault). IfOk x (λ e. EndsAs e m.ending left')) (sym is) (record { same = all.ending; to_the_end = all.to_the_end });
           by_line = λ read. let no : Ok p.ending ≡ Err Read = sym is ∙ read in absurd (cc);
           readable = all_readable;
         }
 
--- ---- a run from its start
-module _ (lines0 : LinesState) (starts : lines0 ≡ record { line = []; held = []; room = MAX_INPUT; number = 0; more = true }) (r : Result InputEnd Fault) (left left' : Option (List ℕ)) where
-  -- no more was taken than the limit and one byte
-  few_taken : (lines : LinesState) (taken : List ℕ) → Takes lines0 lines left left' taken → length taken ≤ MAX_INPUT + 1
-  few_taken lines taken takes =
-      let most : may_take lines0 ≡ MAX_INPUT + 1 = ap may_take starts in
-      omega (arith, takes.within, most)
+-- ---- an input that was opened
 
-  -- memory ran out, or a read failed, before a world was read
-  pub run_fails : (c : Command) (lines : LinesState) (taken : List ℕ) → Takes lines0 lines left left' taken → (fault : Fault) (n n' : ℕ) (o t : SinkView) → counts n' o.faults t.faults ≡ counted_by fault (counts n o.faults t.faults)
-      → HasNoWorld at.Format lines0 taken fault → IsErrAnd r (λ q. q ≡ fault) → CommandDid c r left left' (ends n o t) (ends n' o t)
-  run_fails c lines taken takes fault n n' o t once none is = record {
-    taken = taken;
-    took = takes.took;
-    few = few_taken lines taken takes;
-    writes = passes_on r fault _ (ends n o t) (ends n' o t) (record { sends = prefix_nothing _ n n' o t; one_fault = once }) is;
-    status = failed_ending r fault is _;
-    to_the_end = λ _. failed_ending r fault is _;
-    by_line = λ _ read.
-        let no_world : (input_of taken).accepted ≡ None = ap (λ (i : Input). i.accepted) (input_starts lines0 starts taken) ∙ none (failed_read r fault is read) in
-        subst (λ (o' : List Sent). Sends o' (ends n o t) (ends n' o t)) (sym (no_calls (input_of taken) no_world)) (nothing_sent n n' o t);
-  }
-
-  -- an input without a world ends
-  pub run_without_world : (c : Command) → reads_source c ≡ true → (lines : LinesState) (taken : List ℕ) → Takes lines0 lines left left' taken → (ending : InputEnd) → EndsWorld at.Format lines0 left' taken ending
-      → (n n' : ℕ) (o o' t : SinkView) → n' ≡ n → Writes r (to_out (last_text 0 ending)) (ends n' o t) (ends n' o' t) → IfOk r (λ e. e ≡ ending) → (r ≡ Err Read → ⊥) → CommandDid c r left left' (ends n o t) (ends n' o' t)
-  run_without_world c reads lines taken takes ending last n n' o o' t still w is not_read =
-      let is_due : due c (taken ++ left_of left') ≡ record { order = to_out (last_text 0 ending); status = ends_with ending } =
-      due_without_world c reads (taken ++ left_of left') ending (input_starts lines0 starts (taken ++ left_of left') ∙ last.says) in
-      record {
-        taken = taken;
-        took = takes.took;
-        few = few_taken lines taken takes;
-        writes = subst (λ k. Writes r (due c (taken ++ left_of left')).order (ends k o t) (ends n' o' t)) still
-            (in_order r _ _ (ends n' o t) (ends n' o' t) (sym (ap (λ (d : Due). d.order) is_due)) w);
-        status = IfOk-weaker r _ _ (λ e same. ap ends_with same ∙ sym (ap (λ (d : Due). d.status) is_due)) is;
-        to_the_end = λ _. IfOk-weaker r _ _ (λ e same whole. last.to_the_end (sym same ∙ whole)) is;
-        by_line = λ _ read. absurd (not_read read);
-      }
-
-  -- an accepted world was played
-  module _ (between : Option (List ℕ)) (lines lines' : LinesState) (first : List ℕ) (takes : Takes lines0 lines left between first) (a : Accepted) (accepts : Accepts at.Format lines0 lines first a) where
-    input_is : (text : List ℕ) → input_of (first ++ text) ≡ record { accepted = Some a; script = script_at a.policy lines text }
-    input_is text = input_starts lines0 starts (first ++ text) ∙ accepts.says text
-
-    pub world_playable : IsPlayable a (input_of (first ++ [])).script
-    world_playable = accepted_input (first ++ []) a (ap (λ (i : Input). i.accepted) (input_is []))
-
-    -- of which these bytes were taken further
-    module _ (n n' : ℕ) (still : n' ≡ n) (o t : SinkView) (after : Ends) (taken : List ℕ) (more : Takes lines lines' between left' taken) where
-      text_is : (rest : List ℕ) → input_of ((first ++ taken) ++ rest) ≡ record { accepted = Some a; script = script_at a.policy lines (taken ++ rest) }
-      text_is rest = ap input_of (append_assoc first taken rest) ∙ input_is (taken ++ rest)
-
-      all_taken : Takes lines0 lines' left left' (first ++ taken)
-      all_taken = takes_more lines0 lines lines' left between left' first taken takes more
-
-      -- the input of the bytes that were taken and are left
-      abbrev whole : Input
-      whole = record { accepted = Some a; script = script_at a.policy lines (taken ++ left_of left') }
-
-      -- what a command did that wrote what this input means
-      pub run_goes_on : (c : Command) (meaning : Input → Due) → ((text : List ℕ) → due c text ≡ meaning (input_of text)) → Writes r (meaning whole).order (ends n' o t) after → IfOk r (λ e. ends_with e ≡ (meaning whole).status)
-          → IfOk r (λ e. e ≡ AllRead → IsAtEnd left') → (c ≡ Play → r ≡ Err Read → Sends (calls_by (Some a) (script_at a.policy lines taken)) (ends n' o t) after) → CommandDid c r left left' (ends n o t) after
-      run_goes_on c meaning means writes status to_the_end by_line =
-          let same : due c ((first ++ taken) ++ left_of left') ≡ meaning whole = means ((first ++ taken) ++ left_of left') ∙ ap meaning (text_is (left_of left')) in
-          record {
-            taken = first ++ taken;
-            took = all_taken.took;
-            few = few_taken lines' (first ++ taken) all_taken;
-            writes = subst (λ k. Writes r (due c ((first ++ taken) ++ left_of left')).order (ends k o t) after) still
-                (in_order r _ _ (ends n' o t) after (sym (ap (λ (d : Due). d.order) same)) writes);
-            status = IfOk-weaker r _ _ (λ e is. is ∙ sym (ap (λ (d : Due). d.status) same)) status;
-            to_the_end = λ _. to_the_end;
-            by_line = λ play read. subst (λ (order : List Sent). Sends order (ends n o t) after) (sym (ap order_of_calls (input_is taken)))
-                (subst (λ k. Sends (calls_by (Some a) (script_at a.policy lines taken)) (ends k o t) after) still (by_line play read));
-          }
-
-    module _ (n n' : ℕ) (still : n' ≡ n) (o t : SinkView) (after : Ends) (did : PlaysWorld r a lines lines' between left' (ends n' o t) after) where
-      pub run_plays : CommandDid Play r left left' (ends n o t) after
-      run_plays = run_goes_on n n' still o t after did.taken did.takes Play due_of_play (λ text. refl) did.writes (IfOk-weaker r _ _ (λ e is. ap ends_with is.same) did.ending) (IfOk-weaker r _ _ (λ e is. is.to_the_end) did.ending)
-          (λ _ read. did.by_line read)
-
-      pub run_readable : (text : List ℕ) → left ≡ Some text → InputReadable (input_of text) (ends n o t) after
-      run_readable text is =
-          let all = all_taken n n' still o t after did.taken did.takes in
-          let same : text ≡ (first ++ did.taken) ++ left_of left' = text_left left left' (first ++ did.taken) text is all.took in
-          input_played (input_of text) (ends n o t) after a (script_at a.policy lines (did.taken ++ left_of left')) (ap input_of same ∙ text_is n n' still o t after did.taken did.takes (left_of left'))
-          (subst (λ k. SessionReadable a (script_at a.policy lines (did.taken ++ left_of left')) (ends k o t) after) still did.readable)
-
-    -- an input was read, and what was found of it was written
-    module _ (n n' : ℕ) (still : n' ≡ n) (o t : SinkView) (after : Ends) (did : ChecksWorld r a lines lines' between left' (ends n' o t) after) where
-      pub run_checks : CommandDid Check r left left' (ends n o t) after
-      run_checks = run_goes_on n n' still o t after did.taken did.takes Check due_of_check (λ text. refl) did.writes (IfOk-weaker r _ _ (λ e is. ap ends_with is.same) did.ending) (IfOk-weaker r _ _ (λ e is. is.to_the_end) did.ending)
-          (λ play. absurd (cc))
-
-    -- what the label of a word sees was written
-    module _ (word : List ℕ) (n n' : ℕ) (still : n' ≡ n) (o t : SinkView) (after : Ends) (did : ViewsWorld (parse_label a.policy word) r a lines lines' between left' (ends n' o t) after) where
-      pub run_views : CommandDid (View word) r left left' (ends n o t) after
-      run_views = run_goes_on n n' still o t after did.taken did.takes (View word) (due_of_view word) (λ text. refl) did.writes (IfOk-weaker r _ _ (λ e is. ap ends_with is.same) did.ending) (IfOk-weaker r _ _ (λ e is. is.to_the_end) did.ending)
-          (λ play. absurd (cc))
-
-  -- an input without a world has no records
-  pub readable_without_world : (lines : LinesState) (taken : List ℕ) → Takes lines0 lines left left' taken → (ending : InputEnd) → EndsWorld at.Format lines0 left' taken ending → (before after : Ends)
-      → (text : List ℕ) → left ≡ Some text → InputReadable (input_of text) before after
-  readable_without_world lines taken takes ending last before after text is =
-      let same : text ≡ taken ++ left_of left' = text_left left left' taken text is takes.took in
-      input_without_world (input_of text) before after ending (ap input_of same ∙ input_starts lines0 starts (taken ++ left_of left') ∙ last.says)
-
--- there is no memory for a reader
-pub run_memory : (c : Command) (r : Result InputEnd Fault) (left : Option (List ℕ)) (e : Ends) → IsErrAnd r (λ q. q ≡ NoMemory) → CommandDid c r left left e e
-run_memory c r left e is = record {
-  taken = [];
-  took = Consumes-nil left;
-  few = omega arith;
-  writes = out_of_memory r _ e is;
-  status = failed_ending r NoMemory is _;
-  to_the_end = λ _. failed_ending r NoMemory is _;
-  by_line = λ _ read. absurd (memory_not_read r is read);
+-- memory ran out, or a read failed, before a world was read
+pub open_fails : (c : Command) (r : Result InputEnd Fault) (fault : Fault) (left left' : Option (List ℕ)) → OpensInput (Err fault) left left' → (n n' : ℕ) (o t : SinkView) → counts n' o.faults t.faults ≡ counted_by fault (counts n o.faults t.faults) → IsErrAnd r (λ q. q ≡ fault)
+    → CommandDid c r left left' (ends n o t) (ends n' o t)
+open_fails c r fault left left' opens n n' o t once is = record {
+  taken = opens.taken;
+  took = opens.took;
+  few = opens.few;
+  writes = passes_on r fault _ (ends n o t) (ends n' o t) (record { sends = prefix_nothing _ n n' o t; one_fault = once }) is;
+  status = failed_ending r fault is _;
+  to_the_end = λ _. failed_ending r fault is _;
+  by_line = λ _ read. subst (λ (o' : List Sent). Sends o' (ends n o t) (ends n' o t)) (sym (no_calls (input_of opens.taken) (opens.shows (failed_read r fault is read)))) (nothing_sent n n' o t);
 }
 
--- ---- a world that was read
-module _ (lines0 : LinesState) (starts : lines0 ≡ record { line = []; held = []; room = MAX_INPUT; number = 0; more = true }) (lines : LinesState) (left between : Option (List ℕ)) (x : ReadWorld) (reads : ReadsWorld (Ok x) lines0 lines left between) where
-  module _ (a : Accepted) (is : x ≡ world.World a) where
-    abbrev accepted : ReadsWorld (Ok (world.World a)) lines0 lines left between
-    accepted = subst (λ k. ReadsWorld (Ok k) lines0 lines left between) is reads
+module _ (x : Opened) (left between : Option (List ℕ)) (opens : OpensInput (Ok x) left between) where
+  -- it has a world
+  module _ (w : OpenedWorld) (is : x ≡ opened.World w) where
+    abbrev world : OpensInput (Ok (opened.World w)) left between
+    world = subst (λ k. OpensInput (Ok k) left between) is opens
 
-    pub read_playable : (s : Script) × IsPlayable a s
-    read_playable = (_, world_playable lines0 starts (Ok (TooMuch)) left between between lines lines accepted.taken accepted.takes a accepted.shows)
+    pub opened_playable : (s : Script) × IsPlayable w.read s
+    opened_playable = (_, accepted_input (world.taken ++ []) w.read (ap (λ (i : Input). i.accepted) (world.shows.says [])))
 
-    pub read_more : lines.more ≡ true
-    read_more = accepted.shows.more
+    pub opened_more : w.lines.more ≡ true
+    opened_more = world.shows.more
 
-    pub read_small : lines.room ≤ 2 ^ 24
-    read_small = let most : lines0.room ≡ MAX_INPUT = ap (λ (s : LinesState). s.room) starts in omega (arith, accepted.shows.fewer, most)
+    pub opened_small : w.lines.room ≤ 2 ^ 24
+    opened_small = world.shows.small
 
-    module _ (r : Result InputEnd Fault) (left' : Option (List ℕ)) (lines' : LinesState) (n n' : ℕ) (o t : SinkView) (still : (u v : ℕ) → counts n' u v ≡ counts n u v) (after : Ends) (did : PlaysWorld r a lines lines' between left' (ends n' o t) after) where
-      pub read_plays : CommandDid Play r left left' (ends n o t) after
-      read_plays = run_plays lines0 starts r left left' between lines lines' accepted.taken accepted.takes a accepted.shows n n' (ap (λ (c : Counts). c.source) (still 0 0)) o t after did
+    -- of which these bytes were read further
+    module _ (r : Result InputEnd Fault) (left' : Option (List ℕ)) (n n' : ℕ) (o t : SinkView) (still : (u v : ℕ) → counts n' u v ≡ counts n u v) (after : Ends) where
+      source_is : n' ≡ n
+      source_is = ap (λ (c : Counts). c.source) (still 0 0)
 
-      pub read_readable : (text : List ℕ) → left ≡ Some text → InputReadable (input_of text) (ends n o t) after
-      read_readable = run_readable lines0 starts r left left' between lines lines' accepted.taken accepted.takes a accepted.shows n n' (ap (λ (c : Counts). c.source) (still 0 0)) o t after did
+      module _ (reads : TakesAtMost (may_take w.lines) between left') where
+        abbrev taken : List ℕ
+        taken = world.taken ++ reads.taken
 
-    module _ (r : Result InputEnd Fault) (left' : Option (List ℕ)) (lines' : LinesState) (n n' : ℕ) (o t : SinkView) (still : (u v : ℕ) → counts n' u v ≡ counts n u v) (after : Ends) (did : ChecksWorld r a lines lines' between left' (ends n' o t) after) where
-      pub read_checks : CommandDid Check r left left' (ends n o t) after
-      read_checks = run_checks lines0 starts r left left' between lines lines' accepted.taken accepted.takes a accepted.shows n n' (ap (λ (c : Counts). c.source) (still 0 0)) o t after did
+        all_taken : Consumes left left' taken
+        all_taken = Consumes-trans left between left' world.taken reads.taken world.took reads.took
 
-    module _ (word : List ℕ) (r : Result InputEnd Fault) (left' : Option (List ℕ)) (lines' : LinesState) (n n' : ℕ) (o t : SinkView) (still : (u v : ℕ) → counts n' u v ≡ counts n u v) (after : Ends) (did : ViewsWorld (parse_label a.policy word) r a lines lines' between left' (ends n' o t) after) where
-      pub read_views : CommandDid (View word) r left left' (ends n o t) after
-      read_views = run_views lines0 starts r left left' between lines lines' accepted.taken accepted.takes a accepted.shows word n n' (ap (λ (c : Counts). c.source) (still 0 0)) o t after did
+        text_is : (rest : List ℕ) → input_of (taken ++ rest) ≡ record { accepted = Some w.read; script = script_at w.read.policy w.lines (reads.taken ++ rest) }
+        text_is rest = ap input_of (append_assoc world.taken reads.taken rest) ∙ world.shows.says (reads.taken ++ rest)
 
-  -- the input ended before its world did
-  module _ (ending : InputEnd) (is : x ≡ world.Ended ending) where
-    abbrev ended : ReadsWorld (Ok (world.Ended ending)) lines0 lines left between
-    ended = subst (λ k. ReadsWorld (Ok k) lines0 lines left between) is reads
+        -- the input of the bytes that were taken and are left
+        abbrev whole : Input
+        whole = record { accepted = Some w.read; script = script_at w.read.policy w.lines (reads.taken ++ left_of left') }
 
-    pub read_ended : (c : Command) → reads_source c ≡ true → (r : Result InputEnd Fault) (n n' : ℕ) (o o' t : SinkView) → ((u v : ℕ) → counts n' u v ≡ counts n u v) → ((source : ℕ) (trail : SinkView) → Writes r (to_out (last_text 0 ending)) (ends source o trail) (ends source o' trail)) → IfOk r (λ e. e ≡ ending)
+        -- what a command did that wrote what this input means
+        goes_on_by : (c : Command) (meaning : Input → Due) → ((text : List ℕ) → due c text ≡ meaning (input_of text)) → Writes r (meaning whole).order (ends n' o t) after → IfOk r (λ e. ends_with e ≡ (meaning whole).status)
+            → IfOk r (λ e. e ≡ AllRead → IsAtEnd left') → (c ≡ Play → r ≡ Err Read → Sends (calls_by (Some w.read) (script_at w.read.policy w.lines reads.taken)) (ends n' o t) after) → CommandDid c r left left' (ends n o t) after
+        goes_on_by c meaning means writes status to_the_end by_line =
+            let same : due c (taken ++ left_of left') ≡ meaning whole = means (taken ++ left_of left') ∙ ap meaning (text_is (left_of left')) in
+            record {
+              taken = taken;
+              took = all_taken;
+              few = omega (arith, world.shows.within, reads.few, length-append world.taken reads.taken);
+              writes = subst (λ k. Writes r (due c (taken ++ left_of left')).order (ends k o t) after) source_is
+                  (in_order r _ _ (ends n' o t) after (sym (ap (λ (d : Due). d.order) same)) writes);
+              status = IfOk-weaker r _ _ (λ e is. is ∙ sym (ap (λ (d : Due). d.status) same)) status;
+              to_the_end = λ _. to_the_end;
+              by_line = λ play read. subst (λ (order : List Sent). Sends order (ends n o t) after) (sym (ap order_of_calls (world.shows.says reads.taken)))
+                  (subst (λ k. Sends (calls_by (Some w.read) (script_at w.read.policy w.lines reads.taken)) (ends k o t) after) source_is (by_line play read));
+            }
+
+      -- it was played
+      module _ (did : PlaysWorld r w.read w.lines between left' (ends n' o t) after) where
+        pub opened_plays : CommandDid Play r left left' (ends n o t) after
+        opened_plays = goes_on_by did.reads Play due_of_play (λ text. refl) did.writes (IfOk-weaker r _ _ (λ e is. ap ends_with is.same) did.ending) (IfOk-weaker r _ _ (λ e is. is.to_the_end) did.ending) (λ _ read. did.by_line read)
+
+        pub opened_readable : (text : List ℕ) → left ≡ Some text → InputReadable (input_of text) (ends n o t) after
+        opened_readable text is =
+            let same : text ≡ taken did.reads ++ left_of left' = text_left left left' (taken did.reads) text is (all_taken did.reads) in
+            input_played (input_of text) (ends n o t) after w.read (script_at w.read.policy w.lines (did.reads.taken ++ left_of left')) (ap input_of same ∙ text_is did.reads (left_of left'))
+            (subst (λ k. SessionReadable w.read (script_at w.read.policy w.lines (did.reads.taken ++ left_of left')) (ends k o t) after) source_is did.readable)
+
+      -- what was found of it was written
+      pub opened_checks : ChecksWorld r w.read w.lines between left' (ends n' o t) after → CommandDid Check r left left' (ends n o t) after
+      opened_checks did = goes_on_by did.reads Check due_of_check (λ text. refl) did.writes (IfOk-weaker r _ _ (λ e is. ap ends_with is.same) did.ending) (IfOk-weaker r _ _ (λ e is. is.to_the_end) did.ending) (λ play. absurd (cc))
+
+      -- what the label of a word sees was written
+      pub opened_views : (word : List ℕ) → ViewsWorld (parse_label w.read.policy word) r w.read w.lines between left' (ends n' o t) after → CommandDid (View word) r left left' (ends n o t) after
+      opened_views word did = goes_on_by did.reads (View word) (due_of_view word) (λ text. refl) did.writes (IfOk-weaker r _ _ (λ e is. ap ends_with is.same) did.ending) (IfOk-weaker r _ _ (λ e is. is.to_the_end) did.ending) (λ play. absurd (cc))
+
+  -- it ended before its world did
+  module _ (ending : InputEnd) (is : x ≡ opened.Ended ending) where
+    abbrev ended : OpensInput (Ok (opened.Ended ending)) left between
+    ended = subst (λ k. OpensInput (Ok k) left between) is opens
+
+    pub ended_writes : (c : Command) → reads_source c ≡ true → (r : Result InputEnd Fault) (n n' : ℕ) (o o' t : SinkView) → ((u v : ℕ) → counts n' u v ≡ counts n u v) → ((source : ℕ) (trail : SinkView) → Writes r (to_out (last_text 0 ending)) (ends source o trail) (ends source o' trail)) → IfOk r (λ e. e ≡ ending)
         → CommandDid c r left between (ends n o t) (ends n' o' t)
-    read_ended c reads_it r n n' o o' t still writes is =
-        run_without_world lines0 starts r left between c reads_it lines ended.taken ended.takes ending ended.shows n n' o o' t (ap (λ (c : Counts). c.source) (still 0 0)) (writes n' t) is (no_read r (to_out (last_text 0 ending)) o o' (writes 0 t))
+    ended_writes c reads r n n' o o' t still writes is =
+        let text = ended.taken ++ left_of between in
+        let is_due : due c text ≡ record { order = to_out (last_text 0 ending); status = ends_with ending } = due_without_world c reads text ending ended.shows.says in
+        record {
+          taken = ended.taken;
+          took = ended.took;
+          few = ended.few;
+          writes = subst (λ k. Writes r (due c text).order (ends k o t) (ends n' o' t)) (ap (λ (c : Counts). c.source) (still 0 0))
+              (in_order r _ _ (ends n' o t) (ends n' o' t) (sym (ap (λ (d : Due). d.order) is_due)) (writes n' t));
+          status = IfOk-weaker r _ _ (λ e same. ap ends_with same ∙ sym (ap (λ (d : Due). d.status) is_due)) is;
+          to_the_end = λ _. IfOk-weaker r _ _ (λ e same whole. ended.shows.to_the_end (sym same ∙ whole)) is;
+          by_line = λ _ read. absurd (no_read r (to_out (last_text 0 ending)) o o' (writes 0 t) read);
+        }
       where
-        no_read : (x : Result InputEnd Fault) (order : List Sent) (o o' : SinkView) → Writes x order (ends 0 o t) (ends 0 o' t) → x ≡ Err Read → ⊥
+        no_read : (y : Result InputEnd Fault) (order : List Sent) (o o' : SinkView) → Writes y order (ends 0 o t) (ends 0 o' t) → y ≡ Err Read → ⊥
         no_read (Ok e) order o o' w read = absurd (cc)
         no_read (Err fault) order o o' w read = let same : fault ≡ Read = cc in not_a_read fault order o o' t t w same
 
+    -- it has no records
     pub ended_readable : (before after : Ends) (text : List ℕ) → left ≡ Some text → InputReadable (input_of text) before after
-    ended_readable = readable_without_world lines0 starts (Ok ending) left between lines ended.taken ended.takes ending ended.shows
-
--- ---- a run over ends that were lent
-
--- what is written at the end, by the names of the start, where the trail stays as it was
-module _ (policy now : PolicyNames) (same : now ≡ policy) (s : State) (p : Played) (n : ℕ) (o o' t t' : SinkView) (still : t' ≡ t) where
-  abbrev end_by : PolicyNames → List Sent
-  end_by names = to_out (ends_text None names s ++ last_text p.count p.ending)
-
-  pub end_stops : (fault : Fault) → StopsBy fault (end_by now) (ends n o t) (ends n o' t) → StopsBy fault (end_by policy) (ends n o t) (ends n o' t')
-  end_stops fault x =
-      subst (λ (names : PolicyNames). StopsBy fault (end_by names) (ends n o t) (ends n o' t')) same
-      (subst (λ (u : SinkView). StopsBy fault (end_by now) (ends n o t) (ends n o' u)) (sym still) x)
-
-  pub end_sends : SendsAll (end_by now) (ends n o t) (ends n o' t) → SendsAll (end_by policy) (ends n o t) (ends n o' t')
-  end_sends x =
-      subst (λ (names : PolicyNames). SendsAll (end_by names) (ends n o t) (ends n o' t')) same
-      (subst (λ (u : SinkView). SendsAll (end_by now) (ends n o t) (ends n o' u)) (sym still) x)
-
--- the names of an accepted world and the sinks are those that were lent
-module _ (a : Accepted) (now : PolicyNames) (same : now ≡ a.policy) (o o0 t t0 : SinkView) (out_is : o0 ≡ o) (trail_is : t0 ≡ t) (r : Result InputEnd Fault) (lines lines' : LinesState) (left left' : Option (List ℕ)) (n : ℕ) (after : Ends) where
-  pub plays_lent : PlaysWorld r (record { policy = now; world = a.world }) lines lines' left left' (ends n o0 t0) after → PlaysWorld r a lines lines' left left' (ends n o t) after
-  plays_lent x =
-      subst (λ (names : PolicyNames). PlaysWorld r (record { policy = names; world = a.world }) lines lines' left left' (ends n o t) after) same
-      (subst (λ (u : SinkView). PlaysWorld r (record { policy = now; world = a.world }) lines lines' left left' (ends n u t) after) out_is
-      (subst (λ (u : SinkView). PlaysWorld r (record { policy = now; world = a.world }) lines lines' left left' (ends n o0 u) after) trail_is x))
-
-  pub views_lent : (l : Option Label) → ViewsWorld l r (record { policy = now; world = a.world }) lines lines' left left' (ends n o0 t) after → ViewsWorld l r a lines lines' left left' (ends n o t) after
-  views_lent l x =
-      subst (λ (names : PolicyNames). ViewsWorld l r (record { policy = names; world = a.world }) lines lines' left left' (ends n o t) after) same
-      (subst (λ (u : SinkView). ViewsWorld l r (record { policy = now; world = a.world }) lines lines' left left' (ends n u t) after) out_is x)
+    ended_readable before after text is =
+        let same : text ≡ ended.taken ++ left_of between = text_left left between ended.taken text is ended.took in
+        input_without_world (input_of text) before after ending (ap input_of same ∙ ended.shows.says)

@@ -1,9 +1,8 @@
 -- The clauses of the top call where memory runs out before a command is known.
-use Rattle.std.proofs.Common.{◌≡◌, ◌+◌, ℕ, List, [], refl, inr, arith}
+use Rattle.std.proofs.Common.{◌≡◌, ℕ, List, [], refl, inr, arith}
 use Rattle.std.proofs.KnownBytes.{Consumes-nil}
 use Rattle.std.specs.Prelude.{true, IfSome, Option, None, Some, Err}
 use Rattle.io_ends.specs.Ends.{sink_view}
-use Rattle.kern_model.specs.declared.limits.TheConstants.{MAX_INPUT}
 use Rattle.lab_engine.specs.declared.ending.Fault.TheVariants.{NoMemory}
 use Rattle.lab_engine.specs.Order.{IsInOrder}
 use Rattle.lab_engine.specs.Playing.{Ends, ends}
@@ -11,7 +10,7 @@ use Rattle.lab_engine.proofs.Sending.{prefix_nothing, stops_at_once}
 use Rattle.labsys.specs.declared.command.Command.{Command}
 use Rattle.labsys.specs.declared.command.Command.TheVariants.{Play, Check, Gen, Drill, View}
 use Rattle.labsys.specs.declared.status.Status.TheVariants as status
-use Rattle.labsys.specs.Clauses.{TakesAtMost, WhereReported, reports, used}
+use Rattle.labsys.specs.Clauses.{WhereReported, reports, used}
 use Rattle.labsys.specs.Commands.{LeavesAlone, due, reads_source}
 use Rattle.labsys.specs.Promises.{Plays}
 use Rattle.labsys.specs.Playing.{CommandDid}
@@ -50,9 +49,6 @@ untouched_to_the_end o Q = where_named o (λ command. reads_source command ≡ t
 -- nor is it that of a fault
 pub untouched_read_fault : (o : Option Command) → IfSome o (λ command. status.NoMemory ≡ status.ReadFault → reads_source command ≡ true)
 untouched_read_fault o = where_named o (λ command. status.NoMemory ≡ status.ReadFault → reads_source command ≡ true) (λ command fault. cc)
-
-pub untouched_few : (l : Option (List ℕ)) → TakesAtMost (MAX_INPUT + 1) l l
-untouched_few l = record { taken = []; took = Consumes-nil l; few = omega arith }
 
 module _ (l out trail : Option (List ℕ)) where
   abbrev still : Ends

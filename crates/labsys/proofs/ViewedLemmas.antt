@@ -5,8 +5,7 @@ use Rattle.std.proofs.lemmas.List.{append-nil}
 use Rattle.std.specs.Prelude.{Option, None, Some, Result, Ok, Err, IsErrAnd, IfOk}
 use Rattle.std.specs.List.{flat_map}
 use Rattle.std.specs.Io.KnownBytes.{Appends}
-use Rattle.io_ends.specs.Faults.{counted}
-use Rattle.io_ends.specs.LinesState.{LinesState}
+use Rattle.io_ends.specs.LinesState.{LinesState, may_take}
 use Rattle.io_ends.specs.Ends.{SinkView, sink_view}
 use Rattle.kern_model.specs.Boot.{boot}
 use Rattle.kern_model.specs.Run.{CallRecord, run, state_after_run}
@@ -15,27 +14,27 @@ use Rattle.lab_lattice.specs.Label.{Label}
 use Rattle.lab_text.specs.Policy.{PolicyNames}
 use Rattle.line_text.specs.declared.fault.LineFault.TheVariants as line_fault
 use Rattle.lab_engine.specs.declared.ending.Fault.{Fault}
-use Rattle.lab_engine.specs.declared.ending.Fault.TheVariants.{Read, Write, Trail, NoMemory}
+use Rattle.lab_engine.specs.declared.ending.Fault.TheVariants.{NoMemory}
 use Rattle.lab_engine.specs.declared.ending.InputEnd.{InputEnd}
 use Rattle.lab_engine.specs.declared.ending.InputEnd.TheVariants.{Refused, Whole}
 use Rattle.lab_engine.specs.declared.ending.Part.TheVariants as part
 use Rattle.lab_engine.specs.declared.playing.Played.{Played}
 use Rattle.lab_engine.specs.declared.reporting.Report.{Report}
 use Rattle.lab_engine.specs.declared.reporting.Report.TheVariants.{Below, Crossed}
-use Rattle.lab_engine.specs.Counts.{Counts, counts, counted_by}
+use Rattle.lab_engine.specs.Counts.{Counts, counts}
 use Rattle.lab_engine.specs.Input.{Accepted, Script}
 use Rattle.lab_engine.specs.Order.{Sent, to_out, trail_of}
 use Rattle.lab_engine.specs.Playing.{Ends, ends, PlaysAll, SendsAll, StopsBy, StopsIn, Writes}
 use Rattle.lab_engine.specs.Reading.{Takes, left_of, script_at}
-use Rattle.lab_engine.specs.Report.{crossed_line, report_after}
+use Rattle.lab_engine.specs.Report.{crossed_line}
 use Rattle.lab_engine.specs.Session.{session_of}
 use Rattle.lab_engine.specs.Texts.{ends_text, last_text, reply_text}
 use Rattle.lab_engine.specs.Viewing.{low_calls, seen, some_crosses, unless_whole, view_text}
-use Rattle.lab_engine.proofs.ReadSoFar.{takes_nothing}
+use Rattle.lab_engine.proofs.CountLemmas.{any_trail_counts}
 use Rattle.lab_engine.proofs.RunReports.{below_after, below_reported, below_text, up_to_all}
 use Rattle.lab_engine.proofs.Sending.{goes_on, in_order, out_of_memory, passes_on, stops_longer, to_out-append, trail_of-append, trail_of-to_out}
 use Rattle.labsys.specs.Playing.{EndsAs, ViewsWorld}
-use Rattle.labsys.specs.Viewing.{after_replies}
+use Rattle.labsys.proofs.InputLemmas.{reads_nothing, reads_within}
 use Rattle.labsys.proofs.PlayLemmas.{failed_ending}
 
 -- ---- a trail that is not used
@@ -43,9 +42,6 @@ use Rattle.labsys.proofs.PlayLemmas.{failed_ending}
 left_nil : (xs ys : List ℕ) → xs ++ ys ≡ [] → xs ≡ []
 left_nil [] ys e = refl
 left_nil (x ∷ xs) ys e = absurd (cc)
-
-no_first : (k : ℕ) → k ≡ 1 → 0 ≡ k → ⊥
-no_first k is e = omega (arith, is, e)
 
 -- the ends of a run without a trail
 abbrev no_trail : ℕ → SinkView → Ends
@@ -59,13 +55,6 @@ module _ (bs : List ℕ) (n n' : ℕ) (o o' t : SinkView) where
     no_fault = ap (λ (c : Counts). counts c.source c.out t.faults) x.no_fault;
   }
 
-  one_fault : (fault : Fault) → counts n' o'.faults 0 ≡ counted_by fault (counts n o.faults 0) → counts n' o'.faults t.faults ≡ counted_by fault (counts n o.faults t.faults)
-  unfolding counted_by
-  one_fault Read e = ap (λ (c : Counts). counts c.source c.out t.faults) e
-  one_fault Write e = ap (λ (c : Counts). counts c.source c.out t.faults) e
-  one_fault Trail e = absurd (no_first (counted 0) refl (ap (λ (c : Counts). c.trail) e))
-  one_fault NoMemory e = ap (λ (c : Counts). counts c.source c.out t.faults) e
-
   pub any_trail_stops : (fault : Fault) → StopsBy fault (to_out bs) (no_trail n o) (no_trail n' o') → StopsBy fault (to_out bs) (ends n o t) (ends n' o' t)
   any_trail_stops fault x =
       let none : trail_of x.sends.sent ≡ [] = left_nil (trail_of x.sends.sent) (trail_of x.sends.rest) (sym (trail_of-append x.sends.sent x.sends.rest) ∙ sym (ap trail_of x.sends.prefix) ∙ trail_of-to_out bs) in
@@ -76,7 +65,7 @@ module _ (bs : List ℕ) (n n' : ℕ) (o o' t : SinkView) where
           prefix = x.sends.prefix;
           sends = record { to_out = x.sends.sends.to_out; to_trail = subst (λ r. Appends t.held t.held r) (sym none) (Appends-nil t.held) };
         };
-        one_fault = one_fault fault x.one_fault;
+        one_fault = any_trail_counts fault n n' o.faults o'.faults x.one_fault t.faults;
       }
 
 -- ---- the replies, and what follows them
@@ -88,7 +77,11 @@ module _ (policy : PolicyNames) (l : Label) (calls : List CallRecord) (s : State
   abbrev whole_view : Bool → List ℕ
   whole_view b = replies ++ cond b (crossed_line ++ unless_whole e) (ends_text (Some l) policy s ++ last_text (length (seen l calls)) e)
 
-  by_crossing : (b : Bool) → some_crosses l calls ≡ b → (replies ++ cond b crossed_line []) ++ after_replies (cond b Crossed (Below l (0 + length (low_calls l calls)))) policy s e ≡ whole_view b
+  -- what follows, by whether a call crosses the label
+  abbrev view_end : Bool → List ℕ
+  view_end b = cond b (unless_whole e) (ends_text (Some l) policy s ++ last_text (0 + length (low_calls l calls)) e)
+
+  by_crossing : (b : Bool) → some_crosses l calls ≡ b → (replies ++ cond b crossed_line []) ++ view_end b ≡ whole_view b
   by_crossing true is = append_assoc replies crossed_line (unless_whole e)
   by_crossing false is =
       let none : 0 + length (low_calls l calls) ≡ length (low_calls l calls) = omega arith in
@@ -96,20 +89,21 @@ module _ (policy : PolicyNames) (l : Label) (calls : List CallRecord) (s : State
       ∙ ap (λ (r : List ℕ). r ++ (ends_text (Some l) policy s ++ last_text (length (low_calls l calls)) e)) (append-nil replies)
       ∙ ap (λ (cs : List CallRecord). replies ++ (ends_text (Some l) policy s ++ last_text (length (low_calls l cs)) e)) (sym (up_to_all l calls is))
 
-  by_parts : below_text policy l calls ++ after_replies (report_after (Below l 0) calls) policy s e ≡ whole_view (some_crosses l calls)
-  by_parts = ap (λ (r : Report). below_text policy l calls ++ after_replies r policy s e) (below_after l 0 calls) ∙ by_crossing (some_crosses l calls) refl
+  by_parts : below_text policy l calls ++ view_end (some_crosses l calls) ≡ whole_view (some_crosses l calls)
+  by_parts = by_crossing (some_crosses l calls) refl
 
--- without a crossing the end lines and the last line follow
-pub below_end : (r : Report) (l : Label) (k : ℕ) → r ≡ Below l k → (policy : PolicyNames) (s : State) (e : InputEnd) → to_out (ends_text (Some l) policy s ++ last_text k e) ≡ to_out (after_replies r policy s e)
-below_end r l k is policy s e = ap (λ (q : Report). to_out (after_replies q policy s e)) (sym is)
+  -- it was written by what was kept
+  pub end_kept : (P : List ℕ → Type 0) (kept : Report) (b : Bool) → kept ≡ cond b Crossed (Below l (0 + length (low_calls l calls)))
+      → ((j : Label) (k : ℕ) → kept ≡ Below j k → P (ends_text (Some j) policy s ++ last_text k e)) → (((j : Label) (k : ℕ) → kept ≡ Below j k → ⊥) → P (unless_whole e)) → P (view_end b)
+  end_kept P kept true is below other = other (λ j k no. let same : Crossed ≡ Below j k = sym is ∙ no in absurd (cc))
+  end_kept P kept false is below other = below l (0 + length (low_calls l calls)) is
 
 -- ---- an accepted world
 
 -- memory ran out before a call was played
-pub view_memory : (l : Label) (a : Accepted) (r : Result InputEnd Fault) (lines : LinesState) (left : Option (List ℕ)) (e : Ends) → IsErrAnd r (λ q. q ≡ NoMemory) → ViewsWorld (Some l) r a lines lines left left e e
+pub view_memory : (l : Label) (a : Accepted) (r : Result InputEnd Fault) (lines : LinesState) (left : Option (List ℕ)) (e : Ends) → IsErrAnd r (λ q. q ≡ NoMemory) → ViewsWorld (Some l) r a lines left left e e
 view_memory l a r lines left e is = record {
-  taken = [];
-  takes = takes_nothing lines left;
+  reads = reads_nothing (may_take lines) left;
   writes = out_of_memory r _ e is;
   ending = failed_ending r NoMemory is _;
 }
@@ -124,64 +118,66 @@ module _ (l : Label) (a : Accepted) (s : State) (s_is : s ≡ boot a.world) (r :
   abbrev written : List ℕ
   written = below_text a.policy l calls
 
-  text_is : (kept : Report) (s' : State) (e : InputEnd) → kept ≡ report_after (Below l 0) calls → s' ≡ state_after_run s m.items → e ≡ m.ending → written ++ after_replies kept a.policy s' e ≡ view_text l (session_of a m)
+  -- what follows the replies in this state
+  abbrev end_in : State → InputEnd → List ℕ
+  end_in s' e = view_end a.policy l calls s' e (some_crosses l calls)
+
+  text_is : (s' : State) (e : InputEnd) → s' ≡ state_after_run s m.items → e ≡ m.ending → written ++ end_in s' e ≡ view_text l (session_of a m)
   unfolding view_text
-  text_is kept s' e kept_is state ending =
-      ap (λ (k : Report). written ++ after_replies k a.policy s' e) kept_is
-      ∙ ap (λ (x : State). written ++ after_replies (report_after (Below l 0) calls) a.policy x e) state
-      ∙ ap (λ k. written ++ after_replies (report_after (Below l 0) calls) a.policy (state_after_run s m.items) k) ending
+  text_is s' e state ending =
+      ap (λ (x : State). written ++ end_in x e) state
+      ∙ ap (λ k. written ++ end_in (state_after_run s m.items) k) ending
       ∙ by_parts a.policy l calls (state_after_run s m.items) m.ending
       ∙ ap (λ (x : State). whole_view a.policy l (run x m.items) (state_after_run x m.items) m.ending (some_crosses l (run x m.items))) s_is
 
+  in_parts : (s' : State) (e : InputEnd) → s' ≡ state_after_run s m.items → e ≡ m.ending → to_out written ++ to_out (end_in s' e) ≡ to_out (view_text l (session_of a m))
+  in_parts s' e state ending = sym (to_out-append written (end_in s' e)) ∙ ap to_out (text_is s' e state ending)
+
   -- a fault stopped the script
-  pub view_stops : (fault : Fault) → StopsIn a.policy (Below l 0) s m (script_at a.policy lines taken) fault (no_trail n o) (no_trail n' o') → IsErrAnd r (λ q. q ≡ fault) → ViewsWorld (Some l) r a lines lines' left left' (ends n o t) (ends n' o' t)
-  view_stops fault stop is =
-      let rest = after_replies (report_after (Below l 0) calls) a.policy (state_after_run s m.items) m.ending in
-      let same : to_out written ++ to_out rest ≡ to_out (view_text l (session_of a m)) = sym (to_out-append written rest) ∙ ap to_out (text_is (report_after (Below l 0) calls) (state_after_run s m.items) m.ending refl refl refl) in
-      record {
-        taken = taken;
-        takes = takes;
-        writes = passes_on r fault _ (ends n o t) (ends n' o' t) (subst (λ (q : List Sent). StopsBy fault q (ends n o t) (ends n' o' t)) same
-            (stops_longer fault (to_out written) (to_out rest) (ends n o t) (ends n' o' t)
-            (any_trail_stops written n n' o o' t fault (subst (λ (q : List Sent). StopsBy fault q (no_trail n o) (no_trail n' o')) (below_reported a.policy l 0 1 calls) stop.stops)))) is;
-        ending = failed_ending r fault is _;
-      }
+  pub view_stops : (fault : Fault) → StopsIn a.policy (Below l 0) s m (script_at a.policy lines taken) fault (no_trail n o) (no_trail n' o') → IsErrAnd r (λ q. q ≡ fault) → ViewsWorld (Some l) r a lines left left' (ends n o t) (ends n' o' t)
+  view_stops fault stop is = record {
+    reads = reads_within lines lines' left left' taken takes;
+    writes = passes_on r fault _ (ends n o t) (ends n' o' t) (subst (λ (q : List Sent). StopsBy fault q (ends n o t) (ends n' o' t)) (in_parts (state_after_run s m.items) m.ending refl refl)
+        (stops_longer fault (to_out written) (to_out (end_in (state_after_run s m.items) m.ending)) (ends n o t) (ends n' o' t)
+        (any_trail_stops written n n' o o' t fault (subst (λ (q : List Sent). StopsBy fault q (no_trail n o) (no_trail n' o')) (below_reported a.policy l 0 1 calls) stop.stops)))) is;
+    ending = failed_ending r fault is _;
+  }
 
   -- the script was played
   module _ (now : SinkView) (kept : Report) (s' : State) (p : Played) (all : PlaysAll a.policy (Below l 0) kept s s' m left' p (no_trail n o) (no_trail n' now)) where
-    abbrev rest : List ℕ
-    rest = after_replies kept a.policy s' p.ending
+    -- what follows the replies was written by what was kept
+    end_written : (P : List ℕ → Type 0) → ((j : Label) (k : ℕ) → kept ≡ Below j k → P (ends_text (Some j) a.policy s' ++ last_text k p.ending)) → (((j : Label) (k : ℕ) → kept ≡ Below j k → ⊥) → P (unless_whole p.ending)) → P (end_in s' p.ending)
+    end_written P below other = end_kept a.policy l calls s' p.ending P kept (some_crosses l calls) (all.report ∙ below_after l 0 calls) below other
 
-    all_written : Writes r (to_out rest) (ends n' now t) (ends n' o' t) → Writes r (to_out (view_text l (session_of a m))) (ends n o t) (ends n' o' t)
+    all_written : Writes r (to_out (end_in s' p.ending)) (ends n' now t) (ends n' o' t) → Writes r (to_out (view_text l (session_of a m))) (ends n o t) (ends n' o' t)
     all_written w =
-        let same : to_out written ++ to_out rest ≡ to_out (view_text l (session_of a m)) = sym (to_out-append written rest) ∙ ap to_out (text_is kept s' p.ending all.report all.state all.ending) in
-        in_order r _ _ (ends n o t) (ends n' o' t) same
-        (goes_on r (to_out written) (to_out rest) (ends n o t) (ends n' now t) (ends n' o' t)
+        in_order r _ _ (ends n o t) (ends n' o' t) (in_parts s' p.ending all.state all.ending)
+        (goes_on r (to_out written) (to_out (end_in s' p.ending)) (ends n o t) (ends n' now t) (ends n' o' t)
         (any_trail written n n' o now t (subst (λ (q : List Sent). SendsAll q (no_trail n o) (no_trail n' now)) (below_reported a.policy l 0 1 calls) all.sends)) w)
 
     -- a fault cut the end of the output off
-    pub view_cut : (fault : Fault) → StopsBy fault (to_out rest) (ends n' now t) (ends n' o' t) → IsErrAnd r (λ q. q ≡ fault) → ViewsWorld (Some l) r a lines lines' left left' (ends n o t) (ends n' o' t)
-    view_cut fault stop is = record {
-      taken = taken;
-      takes = takes;
-      writes = all_written (passes_on r fault _ (ends n' now t) (ends n' o' t) stop is);
+    pub view_cut : (fault : Fault) → ((j : Label) (k : ℕ) → kept ≡ Below j k → StopsBy fault (to_out (ends_text (Some j) a.policy s' ++ last_text k p.ending)) (ends n' now t) (ends n' o' t))
+        → (((j : Label) (k : ℕ) → kept ≡ Below j k → ⊥) → StopsBy fault (to_out (unless_whole p.ending)) (ends n' now t) (ends n' o' t)) → IsErrAnd r (λ q. q ≡ fault) → ViewsWorld (Some l) r a lines left left' (ends n o t) (ends n' o' t)
+    view_cut fault below other is = record {
+      reads = reads_within lines lines' left left' taken takes;
+      writes = all_written (passes_on r fault _ (ends n' now t) (ends n' o' t) (end_written (λ (bs : List ℕ). StopsBy fault (to_out bs) (ends n' now t) (ends n' o' t)) below other) is);
       ending = failed_ending r fault is _;
     }
 
     -- all is written
-    pub view_written : r ≡ Ok p.ending → SendsAll (to_out rest) (ends n' now t) (ends n' o' t) → ViewsWorld (Some l) r a lines lines' left left' (ends n o t) (ends n' o' t)
-    view_written is sends = record {
-      taken = taken;
-      takes = takes;
-      writes = all_written (subst (λ (x : Result InputEnd Fault). Writes x (to_out rest) (ends n' now t) (ends n' o' t)) (sym is) sends);
+    pub view_written : r ≡ Ok p.ending → ((j : Label) (k : ℕ) → kept ≡ Below j k → SendsAll (to_out (ends_text (Some j) a.policy s' ++ last_text k p.ending)) (ends n' now t) (ends n' o' t))
+        → (((j : Label) (k : ℕ) → kept ≡ Below j k → ⊥) → SendsAll (to_out (unless_whole p.ending)) (ends n' now t) (ends n' o' t)) → ViewsWorld (Some l) r a lines left left' (ends n o t) (ends n' o' t)
+    view_written is below other = record {
+      reads = reads_within lines lines' left left' taken takes;
+      writes = all_written (subst (λ (x : Result InputEnd Fault). Writes x (to_out (end_in s' p.ending)) (ends n' now t) (ends n' o' t)) (sym is) (end_written (λ (bs : List ℕ). SendsAll (to_out bs) (ends n' now t) (ends n' o' t)) below other));
       ending = subst (λ (x : Result InputEnd Fault). IfOk x (λ e. EndsAs e m.ending left')) (sym is) (record { same = all.ending; to_the_end = all.to_the_end });
     }
 
 -- ---- the label of a word
 
-pub view_named : (found : Option Label) (l : Label) → found ≡ Some l → (parsed : Option Label) → found ≡ parsed → (r : Result InputEnd Fault) (a : Accepted) (lines lines' : LinesState) (left left' : Option (List ℕ)) (before after : Ends)
-    → ViewsWorld (Some l) r a lines lines' left left' before after → ViewsWorld parsed r a lines lines' left left' before after
-view_named found l is parsed same r a lines lines' left left' before after x = subst (λ (o : Option Label). ViewsWorld o r a lines lines' left left' before after) (sym is ∙ same) x
+pub view_named : (found : Option Label) (l : Label) → found ≡ Some l → (parsed : Option Label) → found ≡ parsed → (r : Result InputEnd Fault) (a : Accepted) (lines : LinesState) (left left' : Option (List ℕ)) (before after : Ends)
+    → ViewsWorld (Some l) r a lines left left' before after → ViewsWorld parsed r a lines left left' before after
+view_named found l is parsed same r a lines left left' before after x = subst (λ (o : Option Label). ViewsWorld o r a lines left left' before after) (sym is ∙ same) x
 
 -- the refusal of a word that is no label of the world
 abbrev no_label : InputEnd
@@ -192,18 +188,9 @@ refused_ending (Ok e) is left = record { same = is; to_the_end = λ whole. let n
 refused_ending (Err fault) is left = tt
 
 pub view_refused : (found : Option Label) → found ≡ None → (parsed : Option Label) → found ≡ parsed → (r : Result InputEnd Fault) (a : Accepted) (lines : LinesState) (left : Option (List ℕ)) (before after : Ends)
-    → Writes r (to_out (last_text 0 no_label)) before after → IfOk r (λ e. e ≡ no_label) → ViewsWorld parsed r a lines lines left left before after
-view_refused found is parsed same r a lines left before after w ends = subst (λ (o : Option Label). ViewsWorld o r a lines lines left left before after) (sym is ∙ same) (record {
-  taken = [];
-  takes = takes_nothing lines left;
+    → Writes r (to_out (last_text 0 no_label)) before after → IfOk r (λ e. e ≡ no_label) → ViewsWorld parsed r a lines left left before after
+view_refused found is parsed same r a lines left before after w ends = subst (λ (o : Option Label). ViewsWorld o r a lines left left before after) (sym is ∙ same) (record {
+  reads = reads_nothing (may_take lines) left;
   writes = w;
   ending = refused_ending r ends left;
 })
-
--- what follows the replies, by the names of the start
-module _ (policy now : PolicyNames) (same : now ≡ policy) (kept : Report) (s : State) (ending : InputEnd) (e f : Ends) where
-  pub cut_by : (fault : Fault) → StopsBy fault (to_out (after_replies kept now s ending)) e f → StopsBy fault (to_out (after_replies kept policy s ending)) e f
-  cut_by fault x = subst (λ (names : PolicyNames). StopsBy fault (to_out (after_replies kept names s ending)) e f) same x
-
-  pub written_by : SendsAll (to_out (after_replies kept now s ending)) e f → SendsAll (to_out (after_replies kept policy s ending)) e f
-  written_by x = subst (λ (names : PolicyNames). SendsAll (to_out (after_replies kept names s ending)) e f) same x

@@ -32,9 +32,11 @@ pub record Reports : Type 0 where
   pub out : Option (List ℕ)
   pub trail : Option (List ℕ)
 
+-- the three together
 abbrev pub reports : Option (List ℕ) → Option (List ℕ) → Option (List ℕ) → Reports
 reports left out trail = record { left = left; out = out; trail = trail }
 
+-- what the three ends report
 abbrev pub reported : SourceView → SinkView → SinkView → Reports
 reported source out trail = reports source.left out.held trail.held
 

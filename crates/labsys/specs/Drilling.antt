@@ -5,7 +5,7 @@ use Rattle.std.specs.Fmt.{decimal}
 use Rattle.fs_path.specs.Words.{after_spaces}
 use Rattle.gen_world.specs.Text.{gen_text}
 use Rattle.lab_engine.specs.declared.reporting.Tally.{Tally}
-use Rattle.lab_engine.specs.Input.{Accepted, Input, Script, input_of}
+use Rattle.lab_engine.specs.Input.{Accepted, Script, input_of}
 use Rattle.lab_engine.specs.Report.{empty_tally, tally_of}
 use Rattle.lab_engine.specs.Session.{Session, session_of}
 
@@ -30,9 +30,6 @@ abbrev pub drill_text_of : ℕ → Option Accepted → Script → List ℕ
 drill_text_of lines None script = []
 drill_text_of lines (Some a) script = drill_text lines (session_of a script)
 
-abbrev pub drill_text_by : ℕ → Input → List ℕ
-drill_text_by lines i = drill_text_of lines i.accepted i.script
-
 -- the line of the generated input of so many lines
 abbrev pub drilled_text : ℕ → List ℕ
-drilled_text lines = drill_text_by lines (input_of (gen_text lines))
+drilled_text lines = let i = input_of (gen_text lines) in drill_text_of lines i.accepted i.script

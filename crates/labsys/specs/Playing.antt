@@ -1,7 +1,7 @@
 -- What a run did at its ends.
 use Rattle.std.specs.Prelude.{◌≡◌, ℕ, ◌+◌, ◌≤◌, true, List, ◌++◌, length, Option, Some, Result, Err, IfOk}
 use Rattle.std.specs.Io.KnownBytes.{Consumes, IsAtEnd}
-use Rattle.io_ends.specs.LinesState.{LinesState}
+use Rattle.io_ends.specs.LinesState.{LinesState, may_take}
 use Rattle.kern_model.specs.declared.limits.TheConstants.{MAX_INPUT}
 use Rattle.lab_lattice.specs.Label.{Label}
 use Rattle.lab_engine.specs.declared.ending.InputEnd.{InputEnd}
@@ -11,11 +11,12 @@ use Rattle.lab_engine.specs.declared.ending.Fault.TheVariants.{Read}
 use Rattle.lab_engine.specs.Input.{Accepted, input_of}
 use Rattle.lab_engine.specs.Order.{calls_by, order_by, order_of_calls, to_out}
 use Rattle.lab_engine.specs.Playing.{Ends, Sends, Writes}
-use Rattle.lab_engine.specs.Reading.{Takes, left_of, script_at}
+use Rattle.lab_engine.specs.Reading.{left_of, script_at}
 use Rattle.labsys.specs.declared.command.Command.{Command}
 use Rattle.labsys.specs.declared.command.Command.TheVariants.{Play}
 use Rattle.labsys.specs.Checking.{check_text}
 use Rattle.lab_engine.specs.Session.{session_of}
+use Rattle.labsys.specs.Clauses.{TakesAtMost}
 use Rattle.labsys.specs.Drilling.{drill_text}
 use Rattle.labsys.specs.Commands.{due, ends_with, reads_source}
 use Rattle.labsys.specs.Readable.{SessionReadable}
@@ -38,30 +39,26 @@ pub record CommandDid (command : Command) (result : Result InputEnd Fault) (left
   pub by_line : command ≡ Play → result ≡ Err Read → Sends (order_of_calls (input_of taken)) before after
 
 -- what was played of an accepted world and of the script at a reader: the order of the bytes that were taken and are left was written
-pub record PlaysWorld (result : Result InputEnd Fault) (a : Accepted) (lines lines' : LinesState) (left left' : Option (List ℕ)) (before after : Ends) : Type 0 where
-  pub taken : List ℕ
-  pub takes : Takes lines lines' left left' taken
-  pub writes : Writes result (order_by (Some a) (script_at a.policy lines (taken ++ left_of left'))) before after
-  pub ending : IfOk result (λ e. EndsAs e (script_at a.policy lines (taken ++ left_of left')).ending left')
-  pub by_line : result ≡ Err Read → Sends (calls_by (Some a) (script_at a.policy lines taken)) before after
-  pub readable : SessionReadable a (script_at a.policy lines (taken ++ left_of left')) before after
+pub record PlaysWorld (result : Result InputEnd Fault) (a : Accepted) (lines : LinesState) (left left' : Option (List ℕ)) (before after : Ends) : Type 0 where
+  pub reads : TakesAtMost (may_take lines) left left'
+  pub writes : Writes result (order_by (Some a) (script_at a.policy lines (reads.taken ++ left_of left'))) before after
+  pub ending : IfOk result (λ e. EndsAs e (script_at a.policy lines (reads.taken ++ left_of left')).ending left')
+  pub by_line : result ≡ Err Read → Sends (calls_by (Some a) (script_at a.policy lines reads.taken)) before after
+  pub readable : SessionReadable a (script_at a.policy lines (reads.taken ++ left_of left')) before after
 
 -- what was found of the script of an accepted world was written, by the bytes that were taken and are left
-pub record ChecksWorld (result : Result InputEnd Fault) (a : Accepted) (lines lines' : LinesState) (left left' : Option (List ℕ)) (before after : Ends) : Type 0 where
-  pub taken : List ℕ
-  pub takes : Takes lines lines' left left' taken
-  pub writes : Writes result (to_out (check_text (Some a) (script_at a.policy lines (taken ++ left_of left')))) before after
-  pub ending : IfOk result (λ e. EndsAs e (script_at a.policy lines (taken ++ left_of left')).ending left')
+pub record ChecksWorld (result : Result InputEnd Fault) (a : Accepted) (lines : LinesState) (left left' : Option (List ℕ)) (before after : Ends) : Type 0 where
+  pub reads : TakesAtMost (may_take lines) left left'
+  pub writes : Writes result (to_out (check_text (Some a) (script_at a.policy lines (reads.taken ++ left_of left')))) before after
+  pub ending : IfOk result (λ e. EndsAs e (script_at a.policy lines (reads.taken ++ left_of left')).ending left')
 
 -- what a view of an accepted world and its script writes was written, by the label that a word denotes and by the bytes that were taken and are left
-pub record ViewsWorld (o : Option Label) (result : Result InputEnd Fault) (a : Accepted) (lines lines' : LinesState) (left left' : Option (List ℕ)) (before after : Ends) : Type 0 where
-  pub taken : List ℕ
-  pub takes : Takes lines lines' left left' taken
-  pub writes : Writes result (to_out (viewed_text o a (script_at a.policy lines (taken ++ left_of left')))) before after
-  pub ending : IfOk result (λ e. EndsAs e (viewed_ending o (script_at a.policy lines (taken ++ left_of left')).ending) left')
+pub record ViewsWorld (o : Option Label) (result : Result InputEnd Fault) (a : Accepted) (lines : LinesState) (left left' : Option (List ℕ)) (before after : Ends) : Type 0 where
+  pub reads : TakesAtMost (may_take lines) left left'
+  pub writes : Writes result (to_out (viewed_text o a (script_at a.policy lines (reads.taken ++ left_of left')))) before after
+  pub ending : IfOk result (λ e. EndsAs e (viewed_ending o (script_at a.policy lines (reads.taken ++ left_of left')).ending) left')
 
 -- this is the line of what was played of an accepted world and its script, by the bytes that were taken and are left
-pub record DrillsWorld (text : List ℕ) (n : ℕ) (a : Accepted) (lines lines' : LinesState) (left left' : Option (List ℕ)) : Type 0 where
-  pub taken : List ℕ
-  pub takes : Takes lines lines' left left' taken
-  pub is_line : text ≡ drill_text n (session_of a (script_at a.policy lines (taken ++ left_of left')))
+pub record DrillsWorld (text : List ℕ) (n : ℕ) (a : Accepted) (lines : LinesState) (left left' : Option (List ℕ)) : Type 0 where
+  pub reads : TakesAtMost (may_take lines) left left'
+  pub is_line : text ≡ drill_text n (session_of a (script_at a.policy lines (reads.taken ++ left_of left')))

@@ -1,19 +1,15 @@
 -- What is written of an input that is viewed from a label.
-use Rattle.std.specs.Prelude.{ℕ, List, ◌++◌, Option, Some, None}
-use Rattle.kern_model.specs.State.{State}
+use Rattle.std.specs.Prelude.{ℕ, List, Option, Some, None}
 use Rattle.lab_lattice.specs.Label.{Label}
-use Rattle.lab_text.specs.Policy.{PolicyNames}
 use Rattle.lab_text.specs.Text.{parse_label}
 use Rattle.line_text.specs.declared.fault.LineFault.TheVariants as line_fault
 use Rattle.lab_engine.specs.declared.ending.InputEnd.{InputEnd}
 use Rattle.lab_engine.specs.declared.ending.InputEnd.TheVariants.{Refused}
 use Rattle.lab_engine.specs.declared.ending.Part.TheVariants as part
-use Rattle.lab_engine.specs.declared.reporting.Report.{Report}
-use Rattle.lab_engine.specs.declared.reporting.Report.TheVariants.{All, Below, Crossed, Counted}
 use Rattle.lab_engine.specs.Input.{Accepted, Script}
 use Rattle.lab_engine.specs.Session.{session_of}
-use Rattle.lab_engine.specs.Texts.{ends_text, last_text}
-use Rattle.lab_engine.specs.Viewing.{unless_whole, view_text}
+use Rattle.lab_engine.specs.Texts.{last_text}
+use Rattle.lab_engine.specs.Viewing.{view_text}
 
 -- ---- an accepted world
 
@@ -26,13 +22,6 @@ viewed_ending (Some l) ending = ending
 abbrev pub viewed_text : Option Label → Accepted → Script → List ℕ
 viewed_text None a script = last_text 0 (Refused 0 part.View line_fault.BadLabel)
 viewed_text (Some l) a script = view_text l (session_of a script)
-
--- what a view writes after the replies, by what was kept of them: where a call has crossed the label, the last line of an input that is not whole, or else the end lines that the label sees and the last line
-abbrev pub after_replies : Report → PolicyNames → State → InputEnd → List ℕ
-after_replies (Below l k) policy s ending = ends_text (Some l) policy s ++ last_text k ending
-after_replies Crossed policy s ending = unless_whole ending
-after_replies All policy s ending = unless_whole ending
-after_replies (Counted t) policy s ending = unless_whole ending
 
 -- ---- an input
 

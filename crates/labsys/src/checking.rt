@@ -7,15 +7,14 @@ ghost use Rattle.labsys.specs.Playing.{ChecksWorld, CommandDid};
 
 use crate::Command;
 use crate::playing::end_without_world;
-use io_ends::{Lines, Sink, Source};
-use kern_model::limits::MAX_INPUT;
+use io_ends::{Sink, Source};
 use kern_model::{NoMemory, World};
 use lab_engine::{
-    Fault, InputEnd, Played, ReadWorld, Texts, answer, check_script, read_world, report_last,
+    Fault, InputEnd, Opened, OpenedWorld, Played, Texts, answer, check_script, open_input,
+    report_last,
 };
 use line_text::LineWriter;
 use std::alloc::Global;
-use world_text::WorldText;
 
 // The line of an input that was read whole.
 #[tactic(auto, unfolding(crate::specs::Checking::ok_text))]
@@ -54,22 +53,22 @@ fn report_check<K: Sink>(
 // Reads the script after a world that was accepted, and writes what was found.
 fn check_world<S: Source, K: Sink>(
     alloc: Global,
-    read: &WorldText,
-    lines: &mut Lines,
+    opened: OpenedWorld,
     source: &mut S,
     out: &mut K,
 ) -> Result<InputEnd, Fault>
-    requires more { lines.old.more ≡ true }
-    requires small { lines.old.room ≤ 2 ^ 24 }
-    ensures { (trail : SinkView) → ChecksWorld result read.now lines.old lines.new (S.view source.old).left (S.view source.new).left
+    requires more { opened.lines.more ≡ true }
+    requires small { opened.lines.room ≤ 2 ^ 24 }
+    ensures { (trail : SinkView) → ChecksWorld result opened.read opened.lines (S.view source.old).left (S.view source.new).left
         (ends (S.view source.old).faults (K.view out.old) trail)
         (ends (S.view source.new).faults (K.view out.new) trail) }
 {
+    let OpenedWorld { read, mut lines } = opened;
     let texts = Texts {
         alloc,
         policy: &read.policy,
     };
-    let checked = check_script(texts, lines, source)?;
+    let checked = check_script(texts, &mut lines, source)?;
     report_check(alloc, &read.world, checked, out)?;
     Ok(checked.ending)
 }
@@ -85,9 +84,8 @@ pub fn check<S: Source, K: Sink>(
         (ends (S.view source.old).faults (K.view out.old) trail)
         (ends (S.view source.new).faults (K.view out.new) trail) }
 {
-    let mut lines = Lines::new(alloc, MAX_INPUT)?;
-    match read_world(alloc, &mut lines, source)? {
-        ReadWorld::World(read) => check_world(alloc, &read, &mut lines, source, out),
-        ReadWorld::Ended(ending) => end_without_world(alloc, ending, out),
+    match open_input(alloc, source)? {
+        Opened::World(opened) => check_world(alloc, opened, source, out),
+        Opened::Ended(ending) => end_without_world(alloc, ending, out),
     }
 }

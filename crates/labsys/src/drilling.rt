@@ -7,11 +7,12 @@ ghost use Rattle.lab_engine.specs.Playing.{WritesOut};
 ghost use Rattle.labsys.specs.Drilling.{count_text, counts_text, drilled_text, tally_text};
 ghost use Rattle.labsys.specs.Playing.{DrillsWorld};
 
-use io_ends::{Lines, Sink, Source};
+use io_ends::{Sink, Source};
 use kern_core::Kernel;
 use kern_model::NoMemory;
-use kern_model::limits::MAX_INPUT;
-use lab_engine::{Fault, Generated, ReadWorld, Tally, Texts, answer, count_script, read_world};
+use lab_engine::{
+    Fault, Generated, Opened, OpenedWorld, Tally, Texts, answer, count_script, open_input,
+};
 use line_text::LineWriter;
 use std::alloc::Global;
 use world_text::WorldText;
@@ -53,23 +54,23 @@ fn tally_line(alloc: Global, lines: u32, tally: &Tally, living: u64) -> Result<V
 fn drill_world<S: Source>(
     alloc: Global,
     number: u32,
-    read: WorldText,
-    lines: &mut Lines,
+    opened: OpenedWorld,
     source: &mut S,
 ) -> Result<Vec<u8>, Fault>
-    requires world { IsWorld read.world }
-    requires top { read.world.top ≡ top_of read.policy }
-    requires more { lines.old.more ≡ true }
-    requires small { lines.old.room ≤ 2 ^ 24 }
-    ensures { IfOk result (λ text. DrillsWorld text.items number read lines.old lines.new (S.view source.old).left (S.view source.new).left) }
+    requires world { IsWorld opened.read.world }
+    requires top { opened.read.world.top ≡ top_of opened.read.policy }
+    requires more { opened.lines.more ≡ true }
+    requires small { opened.lines.room ≤ 2 ^ 24 }
+    ensures { IfOk result (λ text. DrillsWorld text.items number opened.read opened.lines (S.view source.old).left (S.view source.new).left) }
 {
+    let OpenedWorld { read, mut lines } = opened;
     let WorldText { policy, world } = read;
     let texts = Texts {
         alloc,
         policy: &policy,
     };
     let (mut kernel, _) = Kernel::boot_from(alloc, world)?;
-    let tally = count_script(texts, &mut kernel, lines, source)?;
+    let tally = count_script(texts, &mut kernel, &mut lines, source)?;
     let living = kernel.live()?;
     let text = tally_line(alloc, number, &tally, living.items().len() as u64)?;
     Ok(text)
@@ -81,10 +82,9 @@ fn drill_generated(alloc: Global, number: u32) -> Result<Vec<u8>, Fault>
     ensures { IfOk result (λ text. text.items ≡ drilled_text number) }
 {
     let mut source = Generated::new(alloc, number);
-    let mut lines = Lines::new(alloc, MAX_INPUT)?;
-    match read_world(alloc, &mut lines, &mut source)? {
-        ReadWorld::World(read) => drill_world(alloc, number, read, &mut lines, &mut source),
-        ReadWorld::Ended(_) => unreachable!(),
+    match open_input(alloc, &mut source)? {
+        Opened::World(opened) => drill_world(alloc, number, opened, &mut source),
+        Opened::Ended(_) => unreachable!(),
     }
 }
 

@@ -8,6 +8,7 @@ mod generating;
 mod performing;
 mod playing;
 mod running;
+mod session;
 mod status;
 mod viewing;
 

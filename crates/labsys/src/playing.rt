@@ -4,21 +4,19 @@ ghost use Rattle.kern_model.specs.World.{IsWorld};
 ghost use Rattle.kern_core.specs.Kernel.{state_of};
 ghost use Rattle.lab_text.specs.Policy.{top_of};
 ghost use Rattle.lab_engine.specs.Input.{input_of};
-ghost use Rattle.lab_engine.specs.declared.reporting.Report.TheVariants as a_report;
 ghost use Rattle.lab_engine.specs.Playing.{WritesOut, ends};
-ghost use Rattle.lab_engine.specs.Reporter.{SameEnds};
 ghost use Rattle.lab_engine.specs.Texts.{caps_in, end_text, ends_text, is_viewed, label_in, last_text};
 ghost use Rattle.labsys.specs.Playing.{CommandDid, PlaysWorld};
 ghost use Rattle.labsys.specs.Readable.{InputReadable};
 
 use crate::Command;
-use io_ends::{Lines, Sink, Source};
+use crate::session::Session;
+use io_ends::{Sink, Source};
 use kern_core::Kernel;
-use kern_model::limits::MAX_INPUT;
-use kern_model::{NoMemory, Pid, World};
+use kern_model::{NoMemory, Pid};
 use lab_engine::{
-    Fault, InputEnd, Played, ReadWorld, Report, Reporter, Texts, end_line, play_script, read_world,
-    report_last,
+    Fault, InputEnd, Opened, OpenedWorld, Played, Report, Texts, answer, end_line, open_input,
+    report_last, write_head,
 };
 use lab_lattice::{Label, Lattice};
 use std::alloc::Global;
@@ -61,61 +59,70 @@ fn end_viewed(
 }
 
 // Writes the end lines.
-fn report_ends<K: Sink, T: Sink>(
+fn report_ends<K: Sink>(
+    texts: Texts<'_>,
     kernel: &Kernel,
     viewer: &Option<Label>,
-    reporter: &mut Reporter<'_, K, T>,
+    out: &mut K,
 ) -> Result<(), Fault>
-    ensures writes { WritesOut result (ends_text viewer.now reporter.old.texts.policy.now (state_of kernel.now)) (K.view reporter.old.out.now) (K.view reporter.new.out.now) }
-    ensures still { T.view reporter.new.trail.now ≡ T.view reporter.old.trail.now }
-    ensures same { SameEnds reporter.old.texts.policy.now reporter.new.texts.policy.now reporter.old.out reporter.new.out reporter.old.trail reporter.new.trail }
+    ensures { WritesOut result (ends_text viewer.now texts.entry.policy.now (state_of kernel.now)) (K.view out.old) (K.view out.new) }
 {
     let numbers = kernel.live()?;
     for who in numbers.items() {
-        let text = end_viewed(reporter.texts, kernel, viewer, who)?;
-        reporter.answer(&text)?;
+        let text = end_viewed(texts, kernel, viewer, who)?;
+        answer(out, &text)?;
     }
     Ok(())
 }
 
 /// Writes the end lines and the last line: those of all that live, or, where a label views the run, of those whose
 /// number's label it dominates.
-pub fn finish<K: Sink, T: Sink>(
+pub fn finish<K: Sink>(
+    texts: Texts<'_>,
     kernel: &Kernel,
     viewer: &Option<Label>,
     played: Played,
-    reporter: &mut Reporter<'_, K, T>,
+    out: &mut K,
 ) -> Result<(), Fault>
-    ensures writes { WritesOut result (ends_text viewer.now reporter.old.texts.policy.now (state_of kernel.now) ++ last_text played.count played.ending) (K.view reporter.old.out.now) (K.view reporter.new.out.now) }
-    ensures still { T.view reporter.new.trail.now ≡ T.view reporter.old.trail.now }
-    ensures same { SameEnds reporter.old.texts.policy.now reporter.new.texts.policy.now reporter.old.out reporter.new.out reporter.old.trail reporter.new.trail }
+    ensures { WritesOut result (ends_text viewer.now texts.entry.policy.now (state_of kernel.now) ++ last_text played.count played.ending) (K.view out.old) (K.view out.new) }
 {
-    report_ends(kernel, viewer, reporter)?;
-    reporter.report_last(played.count, played.ending)
+    report_ends(texts, kernel, viewer, out)?;
+    report_last(texts.alloc, played.count, played.ending, out)
 }
 
 // Plays a world that was accepted, with the script after it. The kernel uses the world up, so that no object is kept twice.
 fn play_world<S: Source, K: Sink, T: Sink>(
-    world: World,
-    lines: &mut Lines,
+    alloc: Global,
+    opened: OpenedWorld,
     source: &mut S,
-    reporter: &mut Reporter<'_, K, T>,
+    out: &mut K,
+    trail: &mut T,
 ) -> Result<InputEnd, Fault>
-    requires world { IsWorld world }
-    requires top { world.top ≡ top_of reporter.old.texts.policy.now }
-    requires all { reporter.old.report ≡ a_report.All }
-    requires more { lines.old.more ≡ true }
-    requires small { lines.old.room ≤ 2 ^ 24 }
-    ensures plays { PlaysWorld result (record { policy = reporter.old.texts.policy.now; world = world }) lines.old lines.new (S.view source.old).left (S.view source.new).left
-        (ends (S.view source.old).faults (K.view reporter.old.out.now) (T.view reporter.old.trail.now))
-        (ends (S.view source.new).faults (K.view reporter.new.out.now) (T.view reporter.new.trail.now)) }
-    ensures same { SameEnds reporter.old.texts.policy.now reporter.new.texts.policy.now reporter.old.out reporter.new.out reporter.old.trail reporter.new.trail }
+    requires world { IsWorld opened.read.world }
+    requires top { opened.read.world.top ≡ top_of opened.read.policy }
+    requires more { opened.lines.more ≡ true }
+    requires small { opened.lines.room ≤ 2 ^ 24 }
+    ensures { PlaysWorld result opened.read opened.lines (S.view source.old).left (S.view source.new).left
+        (ends (S.view source.old).faults (K.view out.old) (T.view trail.old))
+        (ends (S.view source.new).faults (K.view out.new) (T.view trail.new)) }
 {
+    let OpenedWorld { read, lines } = opened;
+    let WorldText { policy, world } = read;
+    let texts = Texts {
+        alloc,
+        policy: &policy,
+    };
     let bound = world.bound;
-    let (mut kernel, recs) = Kernel::boot_from(reporter.texts.alloc, world)?;
-    reporter.begin(&bound, recs.items())?;
-    let played = play_script(&mut kernel, lines, source, reporter)?;
-    finish(&kernel, &None, played, reporter)?;
+    let (kernel, recs) = Kernel::boot_from(alloc, world)?;
+    write_head(texts, &bound, recs.items(), trail)?;
+    let mut session = Session {
+        texts,
+        kernel,
+        lines,
+        report: Report::All,
+    };
+    let played = session.play(source, out, trail)?;
+    finish(texts, &session.kernel, &None, played, out)?;
     Ok(played.ending)
 }
 
@@ -146,18 +153,8 @@ pub fn play<S: Source, K: Sink, T: Sink>(
         (ends (S.view source.old).faults (K.view out.old) (T.view trail.old))
         (ends (S.view source.new).faults (K.view out.new) (T.view trail.new)) }
 {
-    let mut lines = Lines::new(alloc, MAX_INPUT)?;
-    match read_world(alloc, &mut lines, source)? {
-        ReadWorld::World(read) => {
-            let WorldText { policy, world } = read;
-            let texts = Texts {
-                alloc,
-                policy: &policy,
-            };
-            let room = &mut Vec::new(alloc);
-            let mut reporter = Reporter::new(texts, Report::All, room, out, trail);
-            play_world(world, &mut lines, source, &mut reporter)
-        }
-        ReadWorld::Ended(ending) => end_without_world(alloc, ending, out),
+    match open_input(alloc, source)? {
+        Opened::World(opened) => play_world(alloc, opened, source, out, trail),
+        Opened::Ended(ending) => end_without_world(alloc, ending, out),
     }
 }

@@ -1,5 +1,5 @@
 // An input that is viewed from a label.
-ghost use Rattle.std.specs.Prelude.{◌≡◌, ◌≤◌, ◌^◌, true, Some};
+ghost use Rattle.std.specs.Prelude.{◌≡◌, ◌≢◌, ◌≤◌, ◌^◌, ◌++◌, ℕ, true, Some};
 ghost use Rattle.kern_model.specs.World.{IsWorld};
 ghost use Rattle.kern_core.specs.Kernel.{state_of};
 ghost use Rattle.lab_text.specs.Policy.{top_of};
@@ -8,20 +8,17 @@ ghost use Rattle.io_ends.specs.Ends.{SinkView};
 ghost use Rattle.lab_lattice.specs.Label.{Label};
 ghost use Rattle.lab_engine.specs.declared.reporting.Report.TheVariants as a_report;
 ghost use Rattle.lab_engine.specs.Playing.{WritesOut, ends};
-ghost use Rattle.lab_engine.specs.Report.{CountsAtMost};
-ghost use Rattle.lab_engine.specs.Reporter.{SameEnds};
+ghost use Rattle.lab_engine.specs.Texts.{ends_text, last_text};
 ghost use Rattle.lab_engine.specs.Viewing.{unless_whole};
 ghost use Rattle.labsys.specs.Playing.{CommandDid, ViewsWorld};
-ghost use Rattle.labsys.specs.Viewing.{after_replies};
 
 use crate::playing::{end_without_world, finish};
+use crate::session::Session;
 use crate::{Command, LabelWord};
-use io_ends::{Lines, Sink, Source, SureSink};
+use io_ends::{Sink, Source, SureSink};
 use kern_core::Kernel;
-use kern_model::World;
-use kern_model::limits::MAX_INPUT;
 use lab_engine::{
-    Fault, InputEnd, Part, Played, ReadWorld, Report, Reporter, Texts, play_script, read_world,
+    Fault, InputEnd, Opened, OpenedWorld, Part, Played, Report, Texts, open_input, report_last,
 };
 use lab_lattice::Label;
 use lab_text::{Policy, mac_from_text};
@@ -30,62 +27,71 @@ use std::alloc::Global;
 use world_text::WorldText;
 
 // Writes the last line of an input that is not whole.
-fn report_unless_whole<K: Sink, T: Sink>(
-    ending: InputEnd,
-    reporter: &mut Reporter<'_, K, T>,
-) -> Result<(), Fault>
-    ensures writes { WritesOut result (unless_whole ending) (K.view reporter.old.out.now) (K.view reporter.new.out.now) }
-    ensures still { T.view reporter.new.trail.now ≡ T.view reporter.old.trail.now }
-    ensures same { SameEnds reporter.old.texts.policy.now reporter.new.texts.policy.now reporter.old.out reporter.new.out reporter.old.trail reporter.new.trail }
+fn report_unless_whole<K: Sink>(alloc: Global, ending: InputEnd, out: &mut K) -> Result<(), Fault>
+    ensures { WritesOut result (unless_whole ending) (K.view out.old) (K.view out.new) }
 {
     match ending {
         InputEnd::Whole => Ok(()),
-        InputEnd::Refused(..) | InputEnd::TooMuch => reporter.report_last(0, ending),
+        InputEnd::Refused(..) | InputEnd::TooMuch => report_last(alloc, 0, ending, out),
     }
 }
 
 // Writes what follows the replies. Without a crossing that is the end lines and the last line.
-fn finish_view<K: Sink, T: Sink>(
+fn finish_view<K: Sink>(
+    texts: Texts<'_>,
     kernel: &Kernel,
+    report: Report,
     ending: InputEnd,
-    reporter: &mut Reporter<'_, K, T>,
+    out: &mut K,
 ) -> Result<(), Fault>
-    ensures writes { WritesOut result (after_replies reporter.old.report reporter.old.texts.policy.now (state_of kernel.now) ending) (K.view reporter.old.out.now) (K.view reporter.new.out.now) }
-    ensures still { T.view reporter.new.trail.now ≡ T.view reporter.old.trail.now }
-    ensures same { SameEnds reporter.old.texts.policy.now reporter.new.texts.policy.now reporter.old.out reporter.new.out reporter.old.trail reporter.new.trail }
+    ensures below { (label : Label) (count : ℕ) → report ≡ a_report.Below label count → WritesOut result (ends_text (Some label) texts.entry.policy.now (state_of kernel.now) ++ last_text count ending) (K.view out.old) (K.view out.new) }
+    ensures others { ((label : Label) (count : ℕ) → report ≢ a_report.Below label count) → WritesOut result (unless_whole ending) (K.view out.old) (K.view out.new) }
 {
-    match reporter.report {
+    match report {
         Report::Below(label, written) => {
             let seen = Played {
                 count: written,
                 ending,
             };
-            finish(kernel, &Some(label), seen, reporter)
+            finish(texts, kernel, &Some(label), seen, out)
         }
-        Report::All | Report::Crossed | Report::Counted(_) => report_unless_whole(ending, reporter),
+        Report::All | Report::Crossed | Report::Counted(_) => {
+            report_unless_whole(texts.alloc, ending, out)
+        }
     }
 }
 
 // Plays the script of an accepted world, and writes what a label sees of it.
 fn view_world<S: Source, K: Sink>(
-    world: World,
-    lines: &mut Lines,
+    alloc: Global,
+    label: Label,
+    opened: OpenedWorld,
     source: &mut S,
-    reporter: &mut Reporter<'_, K, SureSink>,
+    out: &mut K,
 ) -> Result<InputEnd, Fault>
-    requires world { IsWorld world }
-    requires top { world.top ≡ top_of reporter.old.texts.policy.now }
-    requires counted { CountsAtMost 0 reporter.old.report }
-    requires more { lines.old.more ≡ true }
-    requires small { lines.old.room ≤ 2 ^ 24 }
-    ensures views { (label : Label) (trail : SinkView) → reporter.old.report ≡ a_report.Below label 0 → ViewsWorld (Some label) result (record { policy = reporter.old.texts.policy.now; world = world }) lines.old lines.new (S.view source.old).left (S.view source.new).left
-        (ends (S.view source.old).faults (K.view reporter.old.out.now) trail)
-        (ends (S.view source.new).faults (K.view reporter.new.out.now) trail) }
-    ensures same { SameEnds reporter.old.texts.policy.now reporter.new.texts.policy.now reporter.old.out reporter.new.out reporter.old.trail reporter.new.trail }
+    requires world { IsWorld opened.read.world }
+    requires top { opened.read.world.top ≡ top_of opened.read.policy }
+    requires more { opened.lines.more ≡ true }
+    requires small { opened.lines.room ≤ 2 ^ 24 }
+    ensures { (trail : SinkView) → ViewsWorld (Some label) result opened.read opened.lines (S.view source.old).left (S.view source.new).left
+        (ends (S.view source.old).faults (K.view out.old) trail)
+        (ends (S.view source.new).faults (K.view out.new) trail) }
 {
-    let (mut kernel, _) = Kernel::boot_from(reporter.texts.alloc, world)?;
-    let played = play_script(&mut kernel, lines, source, reporter)?;
-    finish_view(&kernel, played.ending, reporter)?;
+    let OpenedWorld { read, lines } = opened;
+    let WorldText { policy, world } = read;
+    let texts = Texts {
+        alloc,
+        policy: &policy,
+    };
+    let (kernel, _) = Kernel::boot_from(alloc, world)?;
+    let mut session = Session {
+        texts,
+        kernel,
+        lines,
+        report: Report::Below(label, 0),
+    };
+    let played = session.play(source, out, &mut SureSink::new())?;
+    finish_view(texts, &session.kernel, session.report, played.ending, out)?;
     Ok(played.ending)
 }
 
@@ -108,22 +114,14 @@ pub fn view<S: Source, K: Sink>(
         (ends (S.view source.old).faults (K.view out.old) trail)
         (ends (S.view source.new).faults (K.view out.new) trail) }
 {
-    let mut lines = Lines::new(alloc, MAX_INPUT)?;
-    match read_world(alloc, &mut lines, source)? {
-        ReadWorld::World(read) => {
-            let WorldText { policy, world } = read;
-            let Some(label) = label_named(&policy, &word) else {
+    match open_input(alloc, source)? {
+        Opened::World(opened) => {
+            let Some(label) = label_named(&opened.read.policy, &word) else {
                 let ending = InputEnd::Refused(0, Part::View, LineFault::BadLabel);
                 return end_without_world(alloc, ending, out);
             };
-            let texts = Texts {
-                alloc,
-                policy: &policy,
-            };
-            let (room, trail) = (&mut Vec::new(alloc), &mut SureSink::new());
-            let mut reporter = Reporter::new(texts, Report::Below(label, 0), room, out, trail);
-            view_world(world, &mut lines, source, &mut reporter)
+            view_world(alloc, label, opened, source, out)
         }
-        ReadWorld::Ended(ending) => end_without_world(alloc, ending, out),
+        Opened::Ended(ending) => end_without_world(alloc, ending, out),
     }
 }

@@ -1,12 +1,14 @@
 -- The words of lines that several kinds of text share.
-use Rattle.std.specs.Prelude.{ℕ, List, ◌++◌, Option, None, Some, codes}
+use Rattle.std.specs.Prelude.{ℕ, List, [], ◌∷◌, ◌++◌, Option, None, Some, codes}
 use Rattle.cap_bits.specs.declared.state.CapState.{CapState}
 use Rattle.cap_clause.specs.Written.{caps_text}
-use Rattle.fs_path.specs.Words.{quoted_text}
+use Rattle.fs_path.specs.Words.{quoted_text, line_text}
 use Rattle.lab_lattice.specs.Label.{Label}
+use Rattle.lab_text.specs.Lists.{keyword_of}
 use Rattle.lab_text.specs.Numbered.{numbered_text}
-use Rattle.lab_text.specs.Policy.{PolicyNames}
+use Rattle.lab_text.specs.Policy.{PolicyNames, names_of}
 use Rattle.lab_text.specs.Text.{label_text}
+use Rattle.lab_text.specs.declared.lists.NameList.{NameList}
 use Rattle.kern_model.specs.declared.checks.Thing.{Thing}
 use Rattle.kern_model.specs.declared.checks.Thing.TheVariants as thing
 use Rattle.kern_model.specs.declared.numbers.Oid.{Oid}
@@ -33,3 +35,11 @@ thing_text policy (thing.Process pid) = codes "proc:" ++ pid_text policy pid
 abbrev pub new_label_text : PolicyNames → Option Label → List ℕ
 new_label_text policy None = codes "-"
 new_label_text policy (Some label) = label_text policy label
+
+-- the words of the line of a list of names: its keyword, and the names in it
+abbrev pub list_words : PolicyNames → NameList → List (List ℕ)
+list_words policy list = keyword_of list ∷ names_of policy list
+
+-- the line of a list of names, with its line feed
+abbrev pub list_line : PolicyNames → NameList → List ℕ
+list_line policy list = line_text (list_words policy list) ++ 10 ∷ []

@@ -1,13 +1,15 @@
 // The writer of lines.
 ghost use Rattle.std.specs.Prelude.{◌≡◌, ◌<◌, ◌^◌, true, [], ◌∷◌, ◌++◌, IfOk, OnOk};
 ghost use Rattle.std.specs.Fmt.{decimal};
+ghost use Rattle.std.specs.List.{flat_map};
 ghost use Rattle.fs_path.specs.Values.{mode_text, groups_text};
 ghost use Rattle.fs_path.specs.Words.{quoted_text, spelling, with_quotes_if_needed, after_spaces};
+ghost use Rattle.lab_text.specs.Lists.{all_lists};
 ghost use Rattle.lab_text.specs.Numbered.{numbered_text};
 ghost use Rattle.lab_text.specs.Text.{label_text};
 ghost use Rattle.kern_model.specs.Names.{place_text, ending_text};
 ghost use Rattle.line_text.specs.Ranges.{are_bytes, are_numbers, IsNumber, count_of, PlaceInRange, EndingInRange};
-ghost use Rattle.line_text.specs.Words.{pid_text, oid_text, caps_word, thing_text, new_label_text};
+ghost use Rattle.line_text.specs.Words.{pid_text, oid_text, caps_word, thing_text, new_label_text, list_line};
 
 use crate::NoMemory;
 use cap_bits::CapState;
@@ -15,7 +17,7 @@ use cap_clause::put_caps;
 use fs_path::{put_groups, put_mode, put_number, put_quoted, put_word};
 use kern_model::{Ending, Oid, Pid, Place, Thing, put_ending, put_place};
 use lab_lattice::Label;
-use lab_text::{Policy, Word, put_label, put_numbered};
+use lab_text::{NameList, Policy, Word, put_label, put_numbered};
 use std::alloc::Global;
 use std::marker::Model;
 
@@ -116,6 +118,25 @@ impl LineWriter {
     {
         for word in words {
             self.word(word.bytes())?;
+        }
+        Ok(())
+    }
+
+    // Appends the line of a list of names.
+    fn name_list(&mut self, policy: &Policy, list: NameList) -> Result<(), NoMemory>
+        ensures { OnOk result (self.new ≡ self.old ++ list_line policy.now list) }
+    {
+        self.bytes(list.keyword())?;
+        self.words(policy.names(list))?;
+        self.line_feed()
+    }
+
+    /// Appends the line of each list of names of a policy.
+    pub fn name_lists(&mut self, policy: &Policy) -> Result<(), NoMemory>
+        ensures { OnOk result (self.new ≡ self.old ++ flat_map (list_line policy.now) all_lists) }
+    {
+        for list in NameList::ALL.iter() {
+            self.name_list(policy, *list)?;
         }
         Ok(())
     }

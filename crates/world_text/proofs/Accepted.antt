@@ -2,7 +2,7 @@
 use Rattle.std.specs.Prelude.{◌≡◌, ℕ, ◌+◌, ◌≤◌, ◌==◌, ◌&&◌, ◌||◌, not, nat_le, nat_lt, Bool, true, false, cond, List, [], ◌∷◌, ◌++◌, length, Option, None, Some, is_some, is_none, count_by, refl}
 use Rattle.std.proofs.Common.{ap, sym, ◌∙◌, subst, append-nil, append_assoc, arith}
 use Rattle.std.specs.List.{AllByRecursion, list_all}
-use Rattle.std.proofs.lemmas.Bool.{and_parts, and_from, or_parts, or_from, not-false, leb-false, ltb-false, both_ways, cond-false}
+use Rattle.std.proofs.lemmas.Bool.{and_parts, not-false, leb-false, ltb-false, both_ways}
 use Rattle.std.proofs.lemmas.Option.{cond_some, option_and_then_some, same_Some}
 use Rattle.cap_bits.specs.declared.state.CapState.{CapState}
 use Rattle.cap_bits.specs.CapSet.{is_within}
@@ -19,8 +19,12 @@ use Rattle.fs_path.proofs.WordSizes.{words_fit}
 use Rattle.fs_path.specs.Words.{words_of, is_blank}
 use Rattle.lab_lattice.specs.Label.{Label, dominates, bottom}
 use Rattle.lab_lattice.proofs.Labels.{dominates_both, dominates_bottom}
-use Rattle.lab_text.specs.Names.{Names, same_bytes, is_label_name, are_distinct}
-use Rattle.lab_text.specs.Policy.{PolicyNames, names_fault, MakePolicy, top_of}
+use Rattle.lab_text.specs.Names.{Names, same_bytes, is_label_name}
+use Rattle.lab_text.specs.Policy.{PolicyNames, with_names, no_names, names_fault, MakePolicy, top_of}
+use Rattle.lab_text.specs.Lists.{next_list}
+use Rattle.lab_text.specs.declared.lists.NameList.{NameList}
+use Rattle.lab_text.specs.declared.lists.NameList.TheVariants.{Levels}
+use Rattle.lab_text.specs.declared.policy.PolicyError.{PolicyError}
 use Rattle.lab_text.specs.Text.{is_label_text, parse_label}
 use Rattle.lab_text.proofs.Parsed.{parsed_valid}
 use Rattle.fs_path.specs.declared.words.TheConstants.{MAX_LINE}
@@ -51,7 +55,7 @@ use Rattle.world_text.specs.Tree.{Tree}
 use Rattle.world_text.specs.Placing.{is_directory, is_above, directory_of, is_root, object_fault, process_fault}
 use Rattle.world_text.specs.CanBeRead.{IsWorldText}
 use Rattle.world_text.specs.Values.{unless, refuse_or, with_form, with_value, bytes_in, caps_of, label_value, label_of, both}
-use Rattle.world_text.specs.Head.{parse_format, parse_levels, parse_categories, parse_bound, set_of}
+use Rattle.world_text.specs.Head.{fault_for, unless_fault, due_after, parse_format, parse_names, parse_bound, set_of}
 use Rattle.world_text.specs.TreeLines.{absolute_path, parse_object, object_of, parse_tree, object_fields_of, parse_plain, parse_file}
 use Rattle.world_text.specs.Processes.{proc_caps, proc_caps_of, ids_of, parse_process, parse_proc, proc_fields_of, parse_proc_line}
 use Rattle.world_text.specs.declared.format.Format.{Format}
@@ -82,16 +86,9 @@ record SoundTree (policy : PolicyNames) (t : Tree) : Type 0 where
   objects_room : (l : Label) → objects_at l t.objects ≤ MAX_OBJECTS
   procs_room : (l : Label) → procs_at l t.procs ≤ MAX_PROCS
 
-record SoundLevels (levels : Names) : Type 0 where
-  some : (length levels == 0) ≡ false
-  are_names : list_all is_label_name levels ≡ true
-  few : nat_lt 16 (length levels) ≡ false
-  apart : are_distinct levels ≡ true
-
 abbrev SoundExpecting : Expecting → Type 0
 SoundExpecting at.Format = Unit {0}
-SoundExpecting (at.Levels format) = Unit {0}
-SoundExpecting (at.Categories format levels) = SoundLevels levels
+SoundExpecting (at.Names format list names) = Unit {0}
 SoundExpecting (at.Bound format policy) = MakePolicy policy
 SoundExpecting (at.Tree w) = MakePolicy w.policy × SoundTree w.policy w.builder
 
@@ -172,27 +169,22 @@ none_is (Some x) h = absurd (cc)
 -- ---- head lines
 
 format_sound : (names : Names) → SoundParsed (parse_format names)
-format_sound (w ∷ []) = form_sound (format_named w) _ (λ format _. goes_on (at.Levels format) tt)
+format_sound (w ∷ []) = form_sound (format_named w) _ (λ format _. goes_on (at.Names format Levels no_names) tt)
 format_sound _ = refuses Syntax
 
-levels_sound : (format : Format) (names : Names) → SoundParsed (parse_levels format names)
-levels_sound format names =
-    unless_sound (length names == 0 || not (list_all is_label_name names)) _ _ (λ form.
-    unless_sound (nat_lt 16 (length names)) _ _ (λ few.
-    unless_sound (not (are_distinct names)) _ _ (λ apart.
-    let parts = or_parts (length names == 0) (not (list_all is_label_name names)) form in
-    goes_on (at.Categories format names) (record { some = parts.0; are_names = not-false _ parts.1; few = few; apart = not-false _ apart }))))
+due_sound : (format : Format) (names : PolicyNames) (next : Option NameList) → MakePolicy names → SoundParsed (GoesOn (due_after format names next))
+due_sound format names (Some list) h = goes_on (at.Names format list names) tt
+due_sound format names None h = goes_on (at.Bound format names) h
 
-categories_sound : (format : Format) (levels names : Names) → SoundLevels levels → SoundParsed (parse_categories format levels names)
-unfolding names_fault
-categories_sound format levels names h =
-    unless_sound (not (list_all is_label_name names)) _ _ (λ form.
-    unless_sound (nat_lt 64 (length names)) _ _ (λ few.
-    unless_sound (not (are_distinct names)) _ _ (λ apart.
-    let counts : (nat_lt 16 (length levels) || nat_lt 64 (length names)) ≡ false = or_from _ _ h.few few in
-    let are_names : not (list_all is_label_name levels && list_all is_label_name names) ≡ false = ap not (and_from _ _ h.are_names (not-false _ form)) in
-    let are_apart : not (are_distinct levels && are_distinct names) ≡ false = ap not (and_from _ _ h.apart (not-false _ apart)) in
-    goes_on (at.Bound format (record { levels = levels; cats = names })) (cond-false _ _ _ h.some ∙ cond-false _ _ _ counts ∙ cond-false _ _ _ are_names ∙ cond-false _ _ _ are_apart))))
+names_sound : (format : Format) (list : NameList) (before : PolicyNames) (names : Names) → SoundParsed (parse_names format list before names)
+names_sound format list before names = unless_sound (not (list_all is_label_name names)) _ _ (λ _. by_fault (names_fault known) refl)
+  where
+    known : PolicyNames
+    known = with_names before list names
+
+    by_fault : (o : Option PolicyError) → names_fault known ≡ o → SoundParsed (unless_fault o (GoesOn (due_after format known (next_list list))))
+    by_fault None e = due_sound format known (next_list list) e
+    by_fault (Some fault) e = refuses (fault_for fault)
 
 bound_sound : (format : Format) (policy : PolicyNames) (names : Names) → MakePolicy policy → SoundParsed (parse_bound format policy names)
 bound_sound format policy (w ∷ []) h = value_sound (set_of w) _ (λ bound _. goes_on (at.Tree (record { format = format; policy = policy; bound = bound; builder = record { objects = []; procs = [] } })) (h, nothing))
@@ -446,8 +438,7 @@ tree_line_sound w (first ∷ ws) h s fit = form_sound (keyword_of first) _ (λ k
 words_sound : (expecting : Expecting) (ws : List LineWord) → SoundExpecting expecting → AllFit ws → SoundParsed (parse_words expecting ws)
 unfolding parse_words
 words_sound at.Format ws h fit = keyword_sound _ ws _ fit (λ names _. format_sound names)
-words_sound (at.Levels format) ws h fit = keyword_sound _ ws _ fit (λ names _. levels_sound format names)
-words_sound (at.Categories format levels) ws h fit = keyword_sound _ ws _ fit (λ names _. categories_sound format levels names h)
+words_sound (at.Names format list before) ws h fit = keyword_sound _ ws _ fit (λ names _. names_sound format list before names)
 words_sound (at.Bound format policy) ws h fit = keyword_sound _ ws _ fit (λ names _. bound_sound format policy names h)
 words_sound (at.Tree w) ws h fit = tree_line_sound w ws h.0 h.1 fit
 

@@ -1,20 +1,38 @@
 -- Lines that are written word by word.
 use Rattle.std.specs.Prelude.{◌≡◌, ℕ, List, [], ◌∷◌, ◌++◌, map, refl}
-use Rattle.std.proofs.Common.{ap, append_assoc}
-use Rattle.fs_path.specs.Words.{after_spaces, spelling, line_text}
+use Rattle.std.proofs.Common.{ap, sym, ◌∙◌, append_assoc, append-nil}
+use Rattle.std.proofs.lemmas.Grind.{flat_map-append}
+use Rattle.std.specs.List.{flat_map}
+use Rattle.fs_path.specs.declared.words.LineWord.{LineWord}
+use Rattle.fs_path.specs.Words.{spelling, line_text}
+use Rattle.lab_text.specs.Lists.{all_lists}
+use Rattle.lab_text.specs.Policy.{PolicyNames}
+use Rattle.lab_text.specs.declared.lists.NameList.{NameList}
+use Rattle.line_text.specs.Words.{list_words, list_line}
 use Rattle.line_text.specs.Reply.{with_words}
 use Rattle.line_text.proofs.ReplyLemmas.{words_after}
-use Rattle.world_text.specs.Written.{bare, names_words}
+use Rattle.world_text.specs.Written.{bare, line_of}
 
 -- names are spelled as they stand
 spelled_bare : (names : List (List ℕ)) → map spelling (map bare names) ≡ names
 spelled_bare [] = refl
 spelled_bare (name ∷ names) = ap (λ (ns : List (List ℕ)). name ∷ ns) (spelled_bare names)
 
--- a keyword, names and a line feed after a text are the text and a line
-pub names_after : (text keyword : List ℕ) (names : List (List ℕ)) (a b new : List ℕ) → a ≡ text ++ keyword → b ≡ a ++ after_spaces names → new ≡ b ++ 10 ∷ []
-    → new ≡ text ++ (line_text (map spelling (names_words keyword names)) ++ 10 ∷ [])
-names_after text keyword names a b new s1 s2 end = rw (end, s2, s1, spelled_bare) (simp append_assoc)
+-- the lines of lists of names are spelled as they stand
+lists_spelled : (policy : PolicyNames) (lists : List NameList) → flat_map line_of (map (λ list. map bare (list_words policy list)) lists) ≡ flat_map (list_line policy) lists
+unfolding line_of
+lists_spelled policy [] = refl
+lists_spelled policy (list ∷ lists) = λ i. (line_text (spelled_bare (list_words policy list) i) ++ 10 ∷ []) ++ lists_spelled policy lists i
+
+-- a first line, those of the lists of names and a last line after a text are the text and the head
+pub head_after : (policy : PolicyNames) (first last : List LineWord) (text a b new : List ℕ) → a ≡ text ++ line_of first → b ≡ a ++ flat_map (list_line policy) all_lists → new ≡ b ++ line_of last
+    → new ≡ text ++ flat_map line_of (first ∷ (map (λ list. map bare (list_words policy list)) all_lists ++ last ∷ []))
+head_after policy first last text a b new s1 s2 end =
+    let names = flat_map (list_line policy) all_lists in
+    let lines = map (λ list. map bare (list_words policy list)) all_lists in
+    let rest : flat_map line_of (lines ++ last ∷ []) ≡ names ++ line_of last = flat_map-append line_of lines (last ∷ []) ∙ (λ i. lists_spelled policy all_lists i ++ append-nil (line_of last) i) in
+    end ∙ ap (λ (t : List ℕ). t ++ line_of last) (s2 ∙ ap (λ (t : List ℕ). t ++ names) s1) ∙ append_assoc (text ++ line_of first) names (line_of last) ∙ append_assoc text (line_of first) (names ++ line_of last)
+    ∙ ap (λ (t : List ℕ). text ++ (line_of first ++ t)) (sym rest)
 
 -- a keyword, words and a line feed after a text are the text and a line
 line_after : (text keyword : List ℕ) (words : List (List ℕ)) (line new : List ℕ) → line ≡ with_words (text ++ keyword) words → new ≡ line ++ 10 ∷ [] → new ≡ text ++ (line_text (keyword ∷ words) ++ 10 ∷ [])

@@ -1,11 +1,16 @@
 -- A line of a world is refused for a fault that a line of a world can have.
-use Rattle.std.specs.Prelude.{◌≡◌, ◌==◌, ◌&&◌, ◌||◌, not, nat_le, nat_lt, Bool, true, false, cond, List, [], ◌∷◌, length, Option, None, Some, is_some, codes, refl}
+use Rattle.std.specs.Prelude.{◌≡◌, ◌==◌, ◌&&◌, ◌||◌, not, nat_le, Bool, true, false, cond, List, [], ◌∷◌, length, Option, None, Some, is_some, codes, refl}
 use Rattle.std.proofs.Common.{sym, subst}
 use Rattle.std.specs.List.{list_all}
 use Rattle.fs_path.specs.declared.words.LineWord.{LineWord}
 use Rattle.lab_lattice.specs.Label.{bottom, dominates}
-use Rattle.lab_text.specs.Names.{Names, is_label_name, are_distinct}
-use Rattle.lab_text.specs.Policy.{PolicyNames}
+use Rattle.lab_text.specs.Lists.{next_list, keyword_of}
+use Rattle.lab_text.specs.Names.{Names, is_label_name}
+use Rattle.lab_text.specs.Policy.{PolicyNames, with_names, no_names, names_fault}
+use Rattle.lab_text.specs.declared.lists.NameList.{NameList}
+use Rattle.lab_text.specs.declared.lists.NameList.TheVariants.{Levels}
+use Rattle.lab_text.specs.declared.policy.PolicyError.{PolicyError}
+use Rattle.lab_text.specs.declared.policy.PolicyError.TheVariants as error
 use Rattle.cap_bits.specs.declared.state.CapState.{CapState}
 use Rattle.kern_model.specs.declared.limits.TheConstants.{MAX_OBJECTS, MAX_PROCS}
 use Rattle.kern_model.specs.declared.objects.Body.{Body}
@@ -30,7 +35,7 @@ use Rattle.world_text.specs.declared.values.WordValue.{WordValue}
 use Rattle.world_text.specs.declared.values.WordValue.TheVariants as value
 use Rattle.world_text.specs.declared.world.WorldText.{WorldText}
 use Rattle.world_text.specs.Expecting.{HasFaultOfWorld, is_of_world, world_of, after_keyword, parse_script, parse_after, parse_tree_line, parse_words}
-use Rattle.world_text.specs.Head.{parse_format, parse_levels, parse_categories, parse_bound}
+use Rattle.world_text.specs.Head.{unless_fault, due_after, parse_format, parse_names, parse_bound}
 use Rattle.world_text.specs.Placing.{directory_of, is_above, is_directory, is_root, object_fault, process_fault}
 use Rattle.world_text.specs.Processes.{parse_process, parse_proc, parse_proc_line}
 use Rattle.world_text.specs.TreeLines.{parse_object, parse_tree, parse_plain, parse_file}
@@ -67,23 +72,20 @@ value_has (value.Known x) k rest = rest x
 -- ---- head lines
 
 format_has : (names : Names) → HasFaultOfWorld (parse_format names)
-format_has (w ∷ []) = form_has _ _ (λ format. goes_on (at.Levels format))
+format_has (w ∷ []) = form_has _ _ (λ format. goes_on (at.Names format Levels no_names))
 format_has _ = malformed
 
-names_have : (malformed_names many repeated : Bool) (parsed : Parsed) → HasFaultOfWorld parsed
-    → HasFaultOfWorld (unless malformed_names Syntax (unless many TooMany (unless repeated Repeated parsed)))
-names_have true many repeated parsed rest = malformed
-names_have false true repeated parsed rest = refuses TooMany refl
-names_have false false true parsed rest = refuses Repeated refl
-names_have false false false parsed rest = rest
+unless_has : (malformed_names : Bool) (o : Option PolicyError) (parsed : Parsed) → HasFaultOfWorld parsed → HasFaultOfWorld (unless malformed_names Syntax (unless_fault o parsed))
+unless_has true o parsed rest = malformed
+unless_has false None parsed rest = rest
+unless_has false (Some error.TooMany) parsed rest = refuses TooMany refl
+unless_has false (Some error.Repeated) parsed rest = refuses Repeated refl
+unless_has false (Some error.Empty) parsed rest = malformed
+unless_has false (Some error.BadName) parsed rest = malformed
+unless_has false (Some (error.NoMemory e)) parsed rest = malformed
 
-levels_have : (format : Format) (names : Names) → HasFaultOfWorld (parse_levels format names)
-levels_have format names =
-    names_have (length names == 0 || not (list_all is_label_name names)) (nat_lt 16 (length names)) (not (are_distinct names)) _ (goes_on (at.Categories format names))
-
-categories_have : (format : Format) (levels names : Names) → HasFaultOfWorld (parse_categories format levels names)
-categories_have format levels names =
-    names_have (not (list_all is_label_name names)) (nat_lt 64 (length names)) (not (are_distinct names)) _ (goes_on (at.Bound format (record { levels = levels; cats = names })))
+names_have : (format : Format) (list : NameList) (before : PolicyNames) (names : Names) → HasFaultOfWorld (parse_names format list before names)
+names_have format list before names = unless_has (not (list_all is_label_name names)) (names_fault (with_names before list names)) _ (goes_on (due_after format (with_names before list names) (next_list list)))
 
 bound_has : (format : Format) (policy : PolicyNames) (names : Names) → HasFaultOfWorld (parse_bound format policy names)
 bound_has format policy (w ∷ []) = value_has _ _ (λ bound. goes_on _)
@@ -148,8 +150,7 @@ tree_line_has w (first ∷ ws) = form_has _ _ (λ keyword. keyword_has keyword w
 words_have : (expecting : Expecting) (ws : List LineWord) → HasFaultOfWorld (parse_words expecting ws)
 unfolding parse_words
 words_have at.Format ws = form_has (after_keyword (codes "world") ws) _ format_has
-words_have (at.Levels format) ws = form_has (after_keyword (codes "levels") ws) _ (levels_have format)
-words_have (at.Categories format levels) ws = form_has (after_keyword (codes "categories") ws) _ (categories_have format levels)
+words_have (at.Names format list names) ws = form_has (after_keyword (keyword_of list) ws) _ (names_have format list names)
 words_have (at.Bound format policy) ws = form_has (after_keyword (codes "bound") ws) _ (bound_has format policy)
 words_have (at.Tree w) ws = tree_line_has w ws
 

@@ -3,7 +3,7 @@ use Rattle.std.specs.Prelude.{◌≡◌, ℕ, ◌+◌, ◌≤◌, ◌==◌, ◌|
 use Rattle.std.proofs.Common.{ap, sym, ◌∙◌, subst, append-nil, append_assoc, arith}
 use Rattle.std.specs.Fmt.{decimal}
 use Rattle.std.specs.List.{AllByRecursion, list_all}
-use Rattle.std.proofs.lemmas.Bool.{and_parts, and_from, and_left, and_right, or_from, or_right, lt-leb, le-ltb, ne_eqb, cond-true, cond-false}
+use Rattle.std.proofs.lemmas.Bool.{and_parts, and_from, and_left, and_right, or_right, lt-leb, ne_eqb, cond-true, cond-false}
 use Rattle.std.proofs.lemmas.List.Folds.{list_all-append}
 use Rattle.std.proofs.lemmas.List.Sums.{sum_by-append, sum_by-cons}
 use Rattle.std.proofs.lemmas.List.{length-append, length-map}
@@ -20,9 +20,12 @@ use Rattle.fs_path.specs.Values.{mode_text, groups_text}
 use Rattle.fs_path.specs.Words.{has_spelling, with_quotes_if_needed, spelling, line_text}
 use Rattle.lab_lattice.specs.Label.{Label, dominates, bottom}
 use Rattle.lab_lattice.proofs.Labels.{dominates_itself}
-use Rattle.lab_text.proofs.PolicyFacts.{policy_facts}
+use Rattle.lab_text.proofs.PolicyFacts.{policy_facts, levels_alone}
 use Rattle.lab_text.specs.Names.{Names, same_bytes, is_label_name}
-use Rattle.lab_text.specs.Policy.{PolicyNames, MakePolicy, is_valid}
+use Rattle.lab_text.specs.Policy.{PolicyNames, names_of, with_names, no_names, MakePolicy, is_valid}
+use Rattle.lab_text.specs.Lists.{next_list, keyword_of}
+use Rattle.lab_text.specs.declared.lists.NameList.{NameList}
+use Rattle.lab_text.specs.declared.lists.NameList.TheVariants.{Levels, Categories}
 use Rattle.lab_text.specs.Text.{label_text}
 use Rattle.kern_model.specs.declared.limits.TheConstants.{MAX_OBJECTS, MAX_PROCS}
 use Rattle.kern_model.specs.declared.numbers.Ids.{Ids}
@@ -48,8 +51,8 @@ use Rattle.world_text.specs.declared.expecting.PartialWorld.{PartialWorld}
 use Rattle.world_text.specs.declared.values.WordValue.{WordValue}
 use Rattle.world_text.specs.declared.values.WordValue.TheVariants as value
 use Rattle.world_text.specs.Placing.{is_directory, is_above, directory_of, is_root, object_fault, process_fault}
-use Rattle.world_text.specs.Values.{refuse_or, with_form, with_value, both, label_of, caps_of}
-use Rattle.world_text.specs.Head.{parse_levels, parse_categories}
+use Rattle.world_text.specs.Values.{bytes_in, refuse_or, with_form, with_value, both, label_of, caps_of}
+use Rattle.world_text.specs.Head.{unless_fault, due_after, parse_names}
 use Rattle.world_text.specs.TreeLines.{object_fields_of, parse_object, parse_tree}
 use Rattle.world_text.specs.Processes.{proc_caps_of, proc_fields_of, ids_of, parse_process}
 use Rattle.world_text.specs.Expecting.{world_of, parse_words, parse_line}
@@ -111,27 +114,29 @@ names_spelling (n ∷ ns) h =
 format_spelling : (format : Format) → has_spelling (bare (format_word format)) ≡ true
 format_spelling One = refl
 
-format_line : (format : Format) → parse_line at.Format (text_of (names_words (codes "world") (format_word format ∷ []))) ≡ GoesOn (at.Levels format)
+format_line : (format : Format) → parse_line at.Format (text_of (names_words (codes "world") (format_word format ∷ []))) ≡ GoesOn (at.Names format Levels no_names)
 unfolding named parse_words
 format_line One = line_is at.Format (codes "world") (bare (codes "1") ∷ []) refl refl (omega arith)
 
-levels_line : (format : Format) (policy : PolicyNames) → MakePolicy policy → IsShort (names_words (codes "levels") policy.levels)
-    → parse_line (at.Levels format) (text_of (names_words (codes "levels") policy.levels)) ≡ GoesOn (at.Categories format policy.levels)
-unfolding parse_words
-levels_line format policy h short =
-    let is = policy_facts policy h in
-    let some : (length policy.levels == 0) ≡ false = ne_eqb (length policy.levels) 0 (λ e. let some = is.some in omega arith) in
-    let form = or_from _ _ some (ap not is.level_names) in
-    line_is (at.Levels format) (codes "levels") (map bare policy.levels) refl (names_spelling policy.levels is.level_names) short ∙ ap (parse_levels format) (canonical_names policy.levels)
-    ∙ cond-false _ _ _ form ∙ cond-false _ _ _ (le-ltb 16 (length policy.levels) is.few_levels) ∙ cond-false _ _ _ (ap not is.levels_apart)
+names_begin : (list : NameList) → begins_line (keyword_of list) ≡ true
+names_begin Levels = refl
+names_begin Categories = refl
 
-categories_line : (format : Format) (policy : PolicyNames) → MakePolicy policy → IsShort (names_words (codes "categories") policy.cats)
-    → parse_line (at.Categories format policy.levels) (text_of (names_words (codes "categories") policy.cats)) ≡ GoesOn (at.Bound format policy)
+list_spelling : (list : NameList) (names : Names) → list_all is_label_name names ≡ true → list_all has_spelling (names_words (keyword_of list) names) ≡ true
+list_spelling Levels names h = names_spelling names h
+list_spelling Categories names h = names_spelling names h
+
+names_said : (format : Format) (list : NameList) (before : PolicyNames) (names : Names) → parse_words (at.Names format list before) (names_words (keyword_of list) names) ≡ parse_names format list before (bytes_in (map bare names))
 unfolding parse_words
-categories_line format policy h short =
-    let is = policy_facts policy h in
-    line_is (at.Categories format policy.levels) (codes "categories") (map bare policy.cats) refl (names_spelling policy.cats is.cat_names) short ∙ ap (parse_categories format policy.levels) (canonical_names policy.cats)
-    ∙ cond-false _ _ _ (ap not is.cat_names) ∙ cond-false _ _ _ (le-ltb 64 (length policy.cats) is.few_cats) ∙ cond-false _ _ _ (ap not is.cats_apart)
+names_said format Levels before names = refl
+names_said format Categories before names = refl
+
+names_line : (format : Format) (list : NameList) (before : PolicyNames) (names : Names) → list_all is_label_name names ≡ true → MakePolicy (with_names before list names) → IsShort (names_words (keyword_of list) names)
+    → parse_line (at.Names format list before) (text_of (names_words (keyword_of list) names)) ≡ GoesOn (due_after format (with_names before list names) (next_list list))
+names_line format list before names are fine short =
+    let known = with_names before list names in
+    line_is (at.Names format list before) (keyword_of list) (map bare names) (names_begin list) (list_spelling list names are) short ∙ names_said format list before names ∙ ap (parse_names format list before) (canonical_names names)
+    ∙ cond-false _ _ _ (ap not are) ∙ ap (λ o. unless_fault o (GoesOn (due_after format known (next_list list)))) fine
 
 -- a tree line is expected, after these objects and processes
 abbrev tree_at : Format → PolicyNames → CapSet → List WorldObject → List WorldProc → Expecting
@@ -151,9 +156,12 @@ head_read : (format : Format) (policy : PolicyNames) (bound : CapSet) (more : Li
 head_read format policy bound more h levels cats bounded =
     let after_cats = names_words (codes "bound") (set_text bound ∷ []) ∷ more in
     let after_levels = names_words (codes "categories") policy.cats ∷ after_cats in
-    step_on 1 at.Format (at.Levels format) (names_words (codes "world") (format_word format ∷ [])) (names_words (codes "levels") policy.levels ∷ after_levels) (format_line format)
-    ∙ step_on 2 (at.Levels format) (at.Categories format policy.levels) (names_words (codes "levels") policy.levels) after_levels (levels_line format policy h levels)
-    ∙ step_on 3 (at.Categories format policy.levels) (at.Bound format policy) (names_words (codes "categories") policy.cats) after_cats (categories_line format policy h cats)
+    let known = with_names no_names Levels policy.levels in
+    step_on 1 at.Format (at.Names format Levels no_names) (names_words (codes "world") (format_word format ∷ [])) (names_words (codes "levels") policy.levels ∷ after_levels) (format_line format)
+    ∙ step_on 2 (at.Names format Levels no_names) (at.Names format Categories known) (names_words (codes "levels") policy.levels) after_levels
+    (names_line format Levels no_names policy.levels (policy_facts policy h Levels).named (levels_alone policy h) levels)
+    ∙ step_on 3 (at.Names format Categories known) (at.Bound format policy) (names_words (codes "categories") policy.cats) after_cats
+    (names_line format Categories known policy.cats (policy_facts policy h Categories).named h cats)
     ∙ step_on 4 (at.Bound format policy) (tree_at format policy bound [] []) (names_words (codes "bound") (set_text bound ∷ [])) more (bound_line format policy bound bounded)
 
 -- ---- values that are there
@@ -387,8 +395,8 @@ processes_spelling policy (p ∷ ps) h valid written = and_from _ _ (process_spe
 
 head_spelling : (format : Format) (policy : PolicyNames) (bound : CapSet) → MakePolicy policy → list_all (list_all has_spelling) (head_words format policy bound) ≡ true
 head_spelling format policy bound h =
-    let is = policy_facts policy h in
-    and_from _ _ (and_from _ _ (format_spelling format) refl) (and_from _ _ (names_spelling policy.levels is.level_names) (and_from _ _ (names_spelling policy.cats is.cat_names) (and_from _ _ (and_from _ _ (bound_bare bound) refl) refl)))
+    let named = λ (list : NameList). list_spelling list (names_of policy list) (policy_facts policy h list).named in
+    and_from _ _ (and_from _ _ (format_spelling format) refl) (and_from _ _ (named Levels) (and_from _ _ (named Categories) (and_from _ _ (and_from _ _ (bound_bare bound) refl) refl)))
 
 some_objects : (os : List WorldObject) (first : WorldObject) (others : List WorldObject) → os ≡ first ∷ others → (length os == 0) ≡ false
 some_objects [] first others e = absurd (cc)

@@ -2,6 +2,7 @@
 use Rattle.std.specs.Prelude.{◌≡◌, ℕ, ◌==◌, ◌&&◌, not, nat_lt, Bool, true, false, cond, List, [], ◌∷◌, length, Option, None, Some, codes}
 use Rattle.fs_path.specs.declared.words.LineWord.{LineWord}
 use Rattle.fs_path.specs.Words.{words_of, is_blank}
+use Rattle.lab_text.specs.Lists.{keyword_of as list_keyword}
 use Rattle.lab_text.specs.Names.{Names, same_bytes}
 use Rattle.lab_text.specs.Policy.{top_of}
 use Rattle.fs_path.specs.declared.words.TheConstants.{MAX_LINE}
@@ -17,7 +18,7 @@ use Rattle.world_text.specs.declared.keyword.Keyword.{Keyword}
 use Rattle.world_text.specs.declared.keyword.Keyword.TheVariants as key
 use Rattle.world_text.specs.declared.world.WorldText.{WorldText}
 use Rattle.world_text.specs.Values.{unless, with_form, bytes_in}
-use Rattle.world_text.specs.Head.{parse_format, parse_levels, parse_categories, parse_bound}
+use Rattle.world_text.specs.Head.{parse_format, parse_names, parse_bound}
 use Rattle.world_text.specs.TreeLines.{parse_plain, parse_file}
 use Rattle.world_text.specs.Processes.{parse_proc_line}
 use Rattle.world_text.specs.Keywords.{keyword_of}
@@ -52,8 +53,7 @@ parse_tree_line w (first ∷ ws) = with_form (keyword_of first) (λ keyword. par
 -- what the words of a line say
 unfoldable pub parse_words : Expecting → List LineWord → Parsed
 parse_words at.Format ws = with_form (after_keyword (codes "world") ws) parse_format
-parse_words (at.Levels format) ws = with_form (after_keyword (codes "levels") ws) (parse_levels format)
-parse_words (at.Categories format levels) ws = with_form (after_keyword (codes "categories") ws) (parse_categories format levels)
+parse_words (at.Names format list names) ws = with_form (after_keyword (list_keyword list) ws) (parse_names format list names)
 parse_words (at.Bound format policy) ws = with_form (after_keyword (codes "bound") ws) (parse_bound format policy)
 parse_words (at.Tree w) ws = parse_tree_line w ws
 

@@ -1,13 +1,16 @@
 -- What the head lines of a world say: its format, its names and its bound.
-use Rattle.std.specs.Prelude.{ℕ, ◌==◌, ◌||◌, not, nat_lt, List, [], ◌∷◌, length, None, Some, Result, Ok, Err, ◌≡◌}
+use Rattle.std.specs.Prelude.{ℕ, not, List, [], ◌∷◌, Option, None, Some}
 use Rattle.std.specs.List.{list_all}
-use Rattle.std.specs.Option.{option_map}
 use Rattle.cap_bits.specs.CapSet.{CapSet}
 use Rattle.cap_clause.specs.Parsed.{parse_set}
-use Rattle.lab_text.specs.Names.{Names, is_label_name, are_distinct}
-use Rattle.lab_text.specs.Policy.{PolicyNames, names_fault}
+use Rattle.lab_text.specs.Lists.{next_list}
+use Rattle.lab_text.specs.Names.{Names, is_label_name}
+use Rattle.lab_text.specs.Policy.{PolicyNames, with_names, no_names, names_fault}
+use Rattle.lab_text.specs.declared.lists.NameList.{NameList}
+use Rattle.lab_text.specs.declared.lists.NameList.TheVariants.{Levels}
 use Rattle.line_text.specs.declared.fault.LineFault.{LineFault}
 use Rattle.line_text.specs.declared.fault.LineFault.TheVariants.{Syntax, Repeated, TooMany}
+use Rattle.world_text.specs.declared.expecting.Expecting.{Expecting}
 use Rattle.world_text.specs.declared.expecting.Expecting.TheVariants as at
 use Rattle.world_text.specs.declared.values.WordValue.{WordValue}
 use Rattle.world_text.specs.declared.expecting.Parsed.{Parsed}
@@ -20,7 +23,7 @@ use Rattle.world_text.specs.Values.{unless, with_form, with_value, caps_value}
 
 -- `world FORMAT`
 abbrev pub parse_format : Names → Parsed
-parse_format (w ∷ []) = with_form (format_named w) (λ format. GoesOn (at.Levels format))
+parse_format (w ∷ []) = with_form (format_named w) (λ format. GoesOn (at.Names format Levels no_names))
 parse_format _ = Refuses Syntax
 
 -- the fault of a line whose names make no policy
@@ -29,26 +32,22 @@ fault_for error.TooMany = TooMany
 fault_for error.Repeated = Repeated
 fault_for _ = Syntax
 
--- names make this policy, or none for this fault
-abbrev pub Makes : Names → Names → Result PolicyNames LineFault → Type 0
-Makes levels cats (Ok policy) = (policy ≡ record { levels = levels; cats = cats }) × (names_fault levels cats ≡ None)
-Makes levels cats (Err fault) = option_map fault_for (names_fault levels cats) ≡ Some fault
+-- the fault of a line that gives names, and else what follows
+abbrev pub unless_fault : Option PolicyError → Parsed → Parsed
+unless_fault None parsed = parsed
+unless_fault (Some e) parsed = Refuses (fault_for e)
 
--- `levels NAME NAME ...`
-abbrev pub parse_levels : Format → Names → Parsed
-parse_levels format names =
-    unless (length names == 0 || not (list_all is_label_name names)) Syntax
-    (unless (nat_lt 16 (length names)) TooMany
-    (unless (not (are_distinct names)) Repeated
-    (GoesOn (at.Categories format names))))
+-- what is due after names: those of the next list, or the bound
+abbrev pub due_after : Format → PolicyNames → Option NameList → Expecting
+due_after format names (Some list) = at.Names format list names
+due_after format names None = at.Bound format names
 
--- `categories NAME ...`
-abbrev pub parse_categories : Format → Names → Names → Parsed
-parse_categories format levels names =
+-- the line of a list of names, as `levels NAME NAME ...`, after the names of the lists before it
+abbrev pub parse_names : Format → NameList → PolicyNames → Names → Parsed
+parse_names format list before names =
+    let known = with_names before list names in
     unless (not (list_all is_label_name names)) Syntax
-    (unless (nat_lt 64 (length names)) TooMany
-    (unless (not (are_distinct names)) Repeated
-    (GoesOn (at.Bound format (record { levels = levels; cats = names })))))
+    (unless_fault (names_fault known) (GoesOn (due_after format known (next_list list))))
 
 -- the set of a set text
 abbrev pub set_of : List ℕ → WordValue CapSet

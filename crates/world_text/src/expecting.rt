@@ -7,7 +7,7 @@ ghost use Rattle.world_text.specs.Values.{bytes_in};
 
 use crate::builder::WorldBuilder;
 use crate::format::Format;
-use crate::head::{LevelNames, parse_bound, parse_categories, parse_format, parse_levels};
+use crate::head::{parse_bound, parse_format, parse_names};
 use crate::keyword::Keyword;
 use crate::processes::parse_proc_line;
 use crate::tree::{parse_file, parse_plain};
@@ -17,7 +17,7 @@ use cap_bits::CapSet;
 use fs_path::{LineWord, is_blank, words_of};
 use kern_model::limits::MAX_LINE;
 use kern_model::{Body, World, WorldObject, WorldProc};
-use lab_text::{Policy, top};
+use lab_text::{NameList, Policy, PolicyNames, top};
 use line_text::LineFault;
 use std::alloc::Global;
 
@@ -25,10 +25,8 @@ use std::alloc::Global;
 pub enum Expecting {
     /// The format, with which the reading of a world begins.
     Format,
-    /// The names of the levels, in a world of this format.
-    Levels(Format),
-    /// The names of the categories, after these of the levels.
-    Categories(Format, LevelNames),
+    /// The names of a list, after these of the lists before it, in a world of this format.
+    Names(Format, NameList, PolicyNames),
     /// The bound, after the names of this policy.
     Bound(Format, Policy),
     /// A tree line, a process or the beginning of the script, after this part of the world.
@@ -39,8 +37,8 @@ pub enum Expecting {
 impl Drop for Expecting {
     fn drop(self) {
         match self {
-            Expecting::Format | Expecting::Levels(_) => {}
-            Expecting::Categories(_, _) | Expecting::Bound(_, _) | Expecting::Tree(_) => {}
+            Expecting::Format => {}
+            Expecting::Names(_, _, _) | Expecting::Bound(_, _) | Expecting::Tree(_) => {}
         }
     }
 }
@@ -196,15 +194,11 @@ impl Expecting {
     {
         match self {
             Expecting::Format => match after_keyword(b"world", words) {
-                Some(words) => Ok(parse_format(words)),
+                Some(words) => Ok(parse_format(alloc, words)),
                 None => Ok(syntax()),
             },
-            Expecting::Levels(format) => match after_keyword(b"levels", words) {
-                Some(words) => parse_levels(alloc, format, words),
-                None => Ok(syntax()),
-            },
-            Expecting::Categories(format, levels) => match after_keyword(b"categories", words) {
-                Some(words) => parse_categories(alloc, format, &levels, words),
+            Expecting::Names(format, list, names) => match after_keyword(list.keyword(), words) {
+                Some(words) => parse_names(alloc, format, list, names, words),
                 None => Ok(syntax()),
             },
             Expecting::Bound(format, policy) => match after_keyword(b"bound", words) {

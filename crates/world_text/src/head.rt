@@ -1,6 +1,8 @@
 // What the head lines of a world say: its format, its names and its bound.
 ghost use Rattle.std.specs.Prelude.{◌≡◌, IfOk};
-ghost use Rattle.world_text.specs.Head.{Makes, parse_format, parse_levels, parse_categories, parse_bound};
+ghost use Rattle.lab_text.specs.Lists.{next_list};
+ghost use Rattle.lab_text.specs.Policy.{MakePolicy};
+ghost use Rattle.world_text.specs.Head.{fault_for, due_after, parse_format, parse_names, parse_bound};
 ghost use Rattle.world_text.specs.Values.{bytes_in};
 
 use crate::NoMemory;
@@ -10,38 +12,22 @@ use crate::format::Format;
 use crate::values::{WordValue, caps_value, syntax, unknown_name};
 use cap_clause::set_from_text;
 use fs_path::{LineWord, List};
-use lab_text::{Policy, PolicyError, Word, are_label_names};
+use lab_text::{NameList, Policy, PolicyError, PolicyNames, Word, are_label_names};
 use line_text::LineFault;
 use std::alloc::Global;
-use std::marker::Model;
-
-/// Names of levels that make a policy.
-#[derive(Drop)]
-pub struct LevelNames {
-    names: List<Word>,
-}
-
-impl Model for LevelNames {
-    ghost use Rattle.std.specs.Prelude.{◌≡◌, [], None};
-    ghost use Rattle.lab_text.specs.Names.{Names};
-    ghost use Rattle.lab_text.specs.Policy.{names_fault};
-
-    ghost Value = { Names };
-
-    ghost view = { λ l. l.names };
-
-    ghost invariant = { λ l. names_fault l.names [] ≡ None };
-}
 
 /// `world FORMAT`.
-pub fn parse_format(words: &[LineWord<'_>]) -> Parsed
+pub fn parse_format(alloc: Global, words: &[LineWord<'_>]) -> Parsed
     ensures { result ≡ parse_format (bytes_in words.now) }
 {
     let [word] = words else {
         return syntax();
     };
     match Format::from_word(word.bytes.items()) {
-        Some(format) => Parsed::GoesOn(Expecting::Levels(format)),
+        Some(format) => {
+            let names = PolicyNames::empty(alloc);
+            Parsed::GoesOn(Expecting::Names(format, NameList::Levels, names))
+        }
         None => syntax(),
     }
 }
@@ -56,57 +42,47 @@ fn names_of(alloc: Global, words: &[LineWord<'_>]) -> Result<List<Word>, NoMemor
     Ok(names)
 }
 
-// The policy of these names, or why they make none.
-fn policy_of(
-    alloc: Global,
-    levels: &[Word],
-    cats: &[Word],
-) -> Result<Result<Policy, LineFault>, NoMemory>
-    ensures { IfOk result (Makes levels.now cats.now) }
+// The fault of a line whose names make no policy.
+fn fault_for(error: PolicyError) -> LineFault
+    ensures { result ≡ fault_for error }
 {
-    match Policy::new(alloc, levels, cats) {
-        Ok(policy) => Ok(Ok(policy)),
-        Err(PolicyError::NoMemory(e)) => Err(e),
-        Err(PolicyError::TooMany) => Ok(Err(LineFault::TooMany)),
-        Err(PolicyError::Repeated) => Ok(Err(LineFault::Repeated)),
-        Err(PolicyError::Empty | PolicyError::BadName) => Ok(Err(LineFault::Syntax)),
+    match error {
+        PolicyError::TooMany => LineFault::TooMany,
+        PolicyError::Repeated => LineFault::Repeated,
+        _ => LineFault::Syntax,
     }
 }
 
-/// `levels NAME NAME ...`.
-pub fn parse_levels(
+// What is due after names of which these are the last list.
+fn due_after(format: Format, list: NameList, names: PolicyNames) -> Expecting
+    requires { MakePolicy names }
+    ensures { result ≡ due_after format names (next_list list) }
+{
+    match list.next() {
+        Some(next) => Expecting::Names(format, next, names),
+        None => Expecting::Bound(format, names.into_policy()),
+    }
+}
+
+/// The line of a list of names, as `levels NAME NAME ...`, after the names of the lists before it.
+pub fn parse_names(
     alloc: Global,
     format: Format,
+    list: NameList,
+    before: PolicyNames,
     words: &[LineWord<'_>],
 ) -> Result<Parsed, NoMemory>
-    ensures { IfOk result (λ parsed. parsed ≡ parse_levels format (bytes_in words.now)) }
+    ensures { IfOk result (λ parsed. parsed ≡ parse_names format list before (bytes_in words.now)) }
 {
     let names = names_of(alloc, words)?;
     if !are_label_names(names.items()) {
         return Ok(syntax());
     }
-    match policy_of(alloc, names.items(), &[])? {
-        Ok(_) => Ok(Parsed::GoesOn(Expecting::Categories(format, LevelNames { names }))),
-        Err(fault) => Ok(Parsed::Refuses(fault)),
-    }
-}
-
-/// `categories NAME ...`.
-pub fn parse_categories(
-    alloc: Global,
-    format: Format,
-    levels: &LevelNames,
-    words: &[LineWord<'_>],
-) -> Result<Parsed, NoMemory>
-    ensures { IfOk result (λ parsed. parsed ≡ parse_categories format levels.now (bytes_in words.now)) }
-{
-    let names = names_of(alloc, words)?;
-    if !are_label_names(names.items()) {
-        return Ok(syntax());
-    }
-    match policy_of(alloc, levels.names.items(), names.items())? {
-        Ok(policy) => Ok(Parsed::GoesOn(Expecting::Bound(format, policy))),
-        Err(fault) => Ok(Parsed::Refuses(fault)),
+    let mut known = before;
+    known.put(list, names);
+    match known.fault() {
+        Some(error) => Ok(Parsed::Refuses(fault_for(error))),
+        None => Ok(Parsed::GoesOn(due_after(format, list, known))),
     }
 }
 

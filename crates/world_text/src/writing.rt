@@ -14,7 +14,7 @@ use cap_bits::{CapSet, CapState};
 use cap_clause::{cap_to_text, set_to_text};
 use fs_path::{Name, Path};
 use kern_model::{Body, WorldObject, WorldProc};
-use lab_text::{Policy, Word};
+use lab_text::Policy;
 use line_text::LineWriter;
 use std::alloc::Global;
 
@@ -50,15 +50,6 @@ fn put_some_caps(alloc: Global, line: &mut LineWriter, caps: &CapState) -> Resul
         return Ok(());
     }
     line.quoted(caps.as_slice())
-}
-
-#[tactic(auto, using(crate::proofs::AppendLemmas::names_after), unfolding(crate::specs::Written::line_of))]
-fn put_names_line(line: &mut LineWriter, keyword: &[u8], names: &[Word]) -> Result<(), NoMemory>
-    ensures { OnOk result (line.new ≡ line.old ++ line_of (names_words keyword.now names.now)) }
-{
-    line.bytes(keyword)?;
-    line.words(names)?;
-    line.line_feed()
 }
 
 #[tactic(auto, unfolding(crate::specs::Written::line_of))]
@@ -180,6 +171,7 @@ fn put_objects_and_processes(
 }
 
 // Appends the lines of the format, the names and the bound.
+#[tactic(auto, using(crate::proofs::AppendLemmas::head_after))]
 fn put_head(
     alloc: Global,
     line: &mut LineWriter,
@@ -191,8 +183,7 @@ fn put_head(
 {
     let bound = set_to_text(alloc, bound)?;
     put_word_line(line, b"world", format.word())?;
-    put_names_line(line, b"levels", policy.levels())?;
-    put_names_line(line, b"categories", policy.cats())?;
+    line.name_lists(policy)?;
     put_word_line(line, b"bound", bound.as_slice())
 }
 

@@ -1,13 +1,14 @@
-use Rattle.std.proofs.Common.{◌≡◌, true, ℕ, ◌+◌, drop}
+use Rattle.std.proofs.Common.{◌≡◌, true, ℕ, ◌+◌, [], drop, length}
 use Rattle.kern_model.specs.Arguments.{is_script}
 use Rattle.kern_model.specs.Run.{run, state_after_run}
 use Rattle.sec_utils.specs.Items.{items_of}
 use Rattle.lab_engine.specs.Playing.{ends}
 use Rattle.lab_engine.specs.Report.{CountsAtMost, items_reported, report_after}
-use Rattle.lab_engine.specs.Reporter.{SameEnds}
+use Rattle.lab_engine.specs.Reporter.{SameEnds, calls_seen}
 use Rattle.lab_engine.specs.declared.reporting.Report.TheVariants.{All}
 use Rattle.lab_engine.specs.Readable.{CallsReadable}
 use Rattle.lab_engine.proofs.ScriptLemmas.{Underway}
+use Rattle.lab_engine.proofs.SeenLemmas.{SeenSoFar}
 use Rattle.lab_engine.proofs.playing.play_tool.Given as goal
 
 abbrev pub invariant-loop-at : goal.invariant-loop-at
@@ -32,5 +33,9 @@ invariant-loop-at g l =
       after : state_after_run state left ≡ state_after_run start items;
       top : state.top ≡ start.top;
       playable : is_script start.top left ≡ true;
+      saw : SeenSoFar (run start items) (run state left) (calls_seen first.seen.items) (calls_seen now.seen.items);
+      numbered : l.number ≡ length (calls_seen now.seen.items);
+      going : calls_seen now.stopped.items ≡ [];
+      start : now.start.items ≡ first.start.items;
       same : SameEnds policy now.texts.policy.now first.out now.out first.trail now.trail;
     }

@@ -1,27 +1,28 @@
-use Rattle.std.proofs.Common.{◌≡◌, ◌-◌, ℕ, length, ap, subst, arith, Option}
+use Rattle.std.proofs.Common.{◌≡◌, ◌-◌, ◌≤◌, ℕ, length, ap, subst, arith, Option}
 use Rattle.std.specs.Prelude.{IfSome}
 use Rattle.lab_text.specs.Names.{Names}
-use Rattle.lab_text.proofs.PolicyFacts.{policy_facts}
+use Rattle.lab_text.specs.declared.lists.NameList.TheVariants.{Levels, Categories}
+use Rattle.lab_text.proofs.PolicyFacts.{policy_facts, some_level}
 use Rattle.lab_text.proofs.PolicyLemmas.{is_top}
 use Rattle.lab_text.proofs.policy.top.Goals as goal
 
 pub overflow_sub-highest : goal.overflow_sub-highest
-overflow_sub-highest c = let some = (policy_facts c.args.policy.now c.levels.ensures.policy).some in let count = ap (λ (names : Names). length names) c.levels.ensures.names in omega arith
+overflow_sub-highest c = let some = some_level c.args.policy.now c.levels.ensures.policy in let count = ap (λ (names : Names). length names) c.levels.ensures.names in omega arith
 
 pub overflow_cast-highest : goal.overflow_cast-highest
-overflow_cast-highest c = let few = (policy_facts c.args.policy.now c.levels.ensures.policy).few_levels in let count = ap (λ (names : Names). length names) c.levels.ensures.names in omega arith
+overflow_cast-highest c = let few : length c.args.policy.now.levels ≤ 16 = (policy_facts c.args.policy.now c.levels.ensures.policy Levels).few in let count = ap (λ (names : Names). length names) c.levels.ensures.names in omega arith
 
 pub unwrap-requires : goal.unwrap-requires
 unwrap-requires c =
-    let few = (policy_facts c.args.policy.now c.levels.ensures.policy).few_levels in
+    let few : length c.args.policy.now.levels ≤ 16 = (policy_facts c.args.policy.now c.levels.ensures.policy Levels).few in
     let count = ap (λ (names : Names). length names) c.levels.ensures.names in
     c.new.ensures.some.1 (omega arith)
 
 pub overflow_cast-cats : goal.overflow_cast-cats
-overflow_cast-cats c = let few = (policy_facts c.args.policy.now c.levels.ensures.policy).few_cats in let count = ap (λ (names : Names). length names) c.cats.ensures.names in omega arith
+overflow_cast-cats c = let few : length c.args.policy.now.cats ≤ 64 = (policy_facts c.args.policy.now c.levels.ensures.policy Categories).few in let count = ap (λ (names : Names). length names) c.cats.ensures.names in omega arith
 
 pub cats_below-requires : goal.cats_below-requires
-cats_below-requires c = let few = (policy_facts c.args.policy.now c.levels.ensures.policy).few_cats in let count = ap (λ (names : Names). length names) c.cats.ensures.names in omega arith
+cats_below-requires c = let few : length c.args.policy.now.cats ≤ 64 = (policy_facts c.args.policy.now c.levels.ensures.policy Categories).few in let count = ap (λ (names : Names). length names) c.cats.ensures.names in omega arith
 
 pub returns : goal.returns
 returns c =

@@ -3,21 +3,27 @@ use Rattle.std.proofs.lemmas.Result.{IfOk-weaker}
 use Rattle.std.specs.Prelude.{Some}
 use Rattle.lab_engine.specs.Generated.{GeneratedState}
 use Rattle.labsys.proofs.DrillLemmas.{drilled, never_ends}
-use Rattle.labsys.proofs.PlayLemmas.{read_playable}
+use Rattle.labsys.proofs.PlayLemmas.{opened_more, opened_playable, opened_small}
 use Rattle.labsys.proofs.drilling.drill_generated.Goals as goal
 
 pub drill_world-requires-clause-world : goal.drill_world-requires-clause-world
-drill_world-requires-clause-world c = (read_playable _ c.in_ok-lines.ensures _ _ _ _ c.in_ok-read.ensures.reads c.in-World.read c.in-World.is).1.world
+drill_world-requires-clause-world c = (opened_playable _ _ _ c.in_ok-opened.ensures.opens c.in-World.opened c.in-World.is).1.world
 
 pub drill_world-requires-clause-top : goal.drill_world-requires-clause-top
-drill_world-requires-clause-top c = (read_playable _ c.in_ok-lines.ensures _ _ _ _ c.in_ok-read.ensures.reads c.in-World.read c.in-World.is).1.top
+drill_world-requires-clause-top c = (opened_playable _ _ _ c.in_ok-opened.ensures.opens c.in-World.opened c.in-World.is).1.top
+
+pub drill_world-requires-clause-more : goal.drill_world-requires-clause-more
+drill_world-requires-clause-more c = opened_more _ _ _ c.in_ok-opened.ensures.opens c.in-World.opened c.in-World.is
+
+pub drill_world-requires-clause-small : goal.drill_world-requires-clause-small
+drill_world-requires-clause-small c = opened_small _ _ _ c.in_ok-opened.ensures.opens c.in-World.opened c.in-World.is
 
 pub unreachable-requires : goal.unreachable-requires
 unreachable-requires c =
     let left_is = ap (λ (s : GeneratedState). Some s.left) c.new-source.ensures in
-    never_ends _ c.in_ok-lines.ensures _ _ _ _ c.in_ok-read.ensures.reads c.args.number left_is c.requires.1 _ c.in-Ended.is
+    never_ends _ _ _ c.in_ok-opened.ensures.opens c.args.number left_is c.requires.1 _ c.in-Ended.is
 
 pub returns : goal.returns
 returns c =
     let left_is = ap (λ (s : GeneratedState). Some s.left) c.new-source.ensures in
-    IfOk-weaker c.drill_world.result _ _ (λ text did. drilled _ c.in_ok-lines.ensures _ _ _ _ c.in_ok-read.ensures.reads c.args.number left_is c.in-World.read c.in-World.is _ _ text.items did) c.drill_world.ensures
+    IfOk-weaker c.drill_world.result _ _ (λ text did. drilled _ _ _ c.in_ok-opened.ensures.opens c.args.number left_is c.in-World.opened c.in-World.is _ text.items did) c.drill_world.ensures

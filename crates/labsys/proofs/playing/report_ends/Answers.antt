@@ -1,4 +1,4 @@
-use Rattle.std.proofs.Common.{◌∙◌, ap, refl, ℕ, List, [], cond, Option}
+use Rattle.std.proofs.Common.{◌∙◌, ap, ℕ, List, [], cond, Option}
 use Rattle.std.specs.List.{flat_map}
 use Rattle.kern_model.specs.declared.numbers.Pid.{Pid}
 use Rattle.kern_model.specs.State.{State}
@@ -14,40 +14,33 @@ use Rattle.labsys.proofs.playing.report_ends.Goals as goal
 abbrev line_in : Option Label → PolicyNames → State → Pid → List ℕ
 line_in viewer policy s who = cond (is_viewed viewer who) (end_text policy who (label_in s who) (caps_in s who)) []
 
-pub returns-in_err-numbers-clause-writes : goal.returns-in_err-numbers-clause-writes
-returns-in_err-numbers-clause-writes g c = λ source trail. out_of_memory _ _ _ c.from_residual.ensures.1
+pub returns-in_err-numbers : goal.returns-in_err-numbers
+returns-in_err-numbers g c = λ source trail. out_of_memory _ _ _ c.from_residual.ensures.1
 
 pub loop-who-init : goal.loop-who-init
 unfolding to_out
-loop-who-init g c = record { written = λ source trail. all_nothing _; still = refl; same = (refl, refl, refl) }
+loop-who-init g c = λ source trail. all_nothing _
 
-pub returns-in_err-text-clause-writes : goal.returns-in_err-text-clause-writes
-returns-in_err-text-clause-writes g c = λ source trail.
-    let line = line_in c.args.viewer.now c.args.reporter.now.texts.policy.now (state_of c.args.kernel.now) in
+pub returns-in_err-text : goal.returns-in_err-text
+returns-in_err-text g c = λ source trail.
+    let line = line_in c.args.viewer.now c.args.texts.policy.now (state_of c.args.kernel.now) in
     in_order _ _ _ _ _ (ap (λ (xs : List Pid). to_out (flat_map line xs)) (c.items-who-items.ensures ∙ c.in_ok-numbers.ensures))
-    (piece_has_no_memory to_out to_out-append line c.items-who-items.result.now c.loop-who.who-index c.who-item.result c.loop-who-test.true _ _ _ (c.loop-who.invariant.written source trail) c.from_residual-in_err-text.ensures.1)
+    (piece_has_no_memory to_out to_out-append line c.items-who-items.result.now c.loop-who.who-index c.who-item.result c.loop-who-test.true _ _ _ (c.loop-who.invariant source trail) c.from_residual-in_err-text.ensures.1)
 
-pub returns-in_err-answer-clause-writes : goal.returns-in_err-answer-clause-writes
-returns-in_err-answer-clause-writes g c = λ source trail.
-    let line = line_in c.args.viewer.now c.args.reporter.now.texts.policy.now (state_of c.args.kernel.now) in
+pub returns-in_err-answer : goal.returns-in_err-answer
+returns-in_err-answer g c = λ source trail.
+    let line = line_in c.args.viewer.now c.args.texts.policy.now (state_of c.args.kernel.now) in
     in_order _ _ _ _ _ (ap (λ (xs : List Pid). to_out (flat_map line xs)) (c.items-who-items.ensures ∙ c.in_ok-numbers.ensures))
     (piece_stops to_out to_out-append line c.items-who-items.result.now c.loop-who.who-index c.who-item.result c.loop-who-test.true _ _ c.deref.result.now _ _ _
-    (c.deref.ensures.value ∙ c.in_ok-text.ensures ∙ ap (λ (p : PolicyNames). line_in c.args.viewer.now p (state_of c.args.kernel.now) c.who-item.result) c.loop-who.invariant.same.0 ∙ ap line c.who-item.is) (c.loop-who.invariant.written source trail) (c.in_err-answer.ensures.writes source trail) c.from_residual-in_err-answer.ensures.1)
+    (c.deref.ensures.value ∙ c.in_ok-text.ensures ∙ ap line c.who-item.is) (c.loop-who.invariant source trail) (c.in_err-answer.ensures source trail) c.from_residual-in_err-answer.ensures.1)
 
 pub loop-who-preserved : goal.loop-who-preserved
-loop-who-preserved g c =
-    let line = line_in c.args.viewer.now c.args.reporter.now.texts.policy.now (state_of c.args.kernel.now) in
-    let i = c.loop-who.invariant in
-    let step = c.in_ok-answer.ensures in
-    record {
-      written = λ source trail. one_more to_out to_out-append line c.items-who-items.result.now c.loop-who.who-index c.who-item.result c.loop-who-test.true c.deref.result.now _ _ _
-          (c.deref.ensures.value ∙ c.in_ok-text.ensures ∙ ap (λ (p : PolicyNames). line_in c.args.viewer.now p (state_of c.args.kernel.now) c.who-item.result) i.same.0 ∙ ap line c.who-item.is)
-          (i.written source trail) (step.writes source trail);
-      still = step.still ∙ i.still;
-      same = (step.same.0 ∙ i.same.0, i.same.1 ∙ step.same.1, i.same.2 ∙ step.same.2);
-    }
+loop-who-preserved g c = λ source trail.
+    let line = line_in c.args.viewer.now c.args.texts.policy.now (state_of c.args.kernel.now) in
+    one_more to_out to_out-append line c.items-who-items.result.now c.loop-who.who-index c.who-item.result c.loop-who-test.true c.deref.result.now _ _ _
+    (c.deref.ensures.value ∙ c.in_ok-text.ensures ∙ ap line c.who-item.is) (c.loop-who.invariant source trail) (c.in_ok-answer.ensures source trail)
 
-pub returns-clause-writes : goal.returns-clause-writes
-returns-clause-writes g c = λ source trail.
-    let line = line_in c.args.viewer.now c.args.reporter.now.texts.policy.now (state_of c.args.kernel.now) in
-    all_pieces to_out line c.items-who-items.result.now c.loop-who.who-index c.loop-who-test.false _ (ap (λ (xs : List Pid). to_out (flat_map line xs)) (c.items-who-items.ensures ∙ c.in_ok-numbers.ensures)) _ _ (c.loop-who.invariant.written source trail)
+pub returns : goal.returns
+returns g c = λ source trail.
+    let line = line_in c.args.viewer.now c.args.texts.policy.now (state_of c.args.kernel.now) in
+    all_pieces to_out line c.items-who-items.result.now c.loop-who.who-index c.loop-who-test.false _ (ap (λ (xs : List Pid). to_out (flat_map line xs)) (c.items-who-items.ensures ∙ c.in_ok-numbers.ensures)) _ _ (c.loop-who.invariant source trail)

@@ -1,7 +1,8 @@
 use Rattle.std.proofs.Common.{◌∙◌, refl, sym}
 use Rattle.labsys.proofs.ClauseLemmas.{as_play, as_view, is_play, run_counts, run_ending, run_few, run_order, run_play, run_read_fault, run_to_the_end, run_trail_fault, run_view, run_whole}
 use Rattle.labsys.proofs.PerformLemmas.{left_alone}
-use Rattle.labsys.proofs.UntouchedLemmas.{untouched_alone, untouched_few, untouched_order, untouched_play, untouched_read_fault, untouched_to_the_end, where_named}
+use Rattle.labsys.proofs.InputLemmas.{reads_nothing}
+use Rattle.labsys.proofs.UntouchedLemmas.{untouched_alone, untouched_order, untouched_play, untouched_read_fault, untouched_to_the_end, where_named}
 use Rattle.labsys.proofs.running.run.Goals as goal
 
 pub returns-in-Some-clause-left_alone : goal.returns-in-Some-clause-left_alone
@@ -69,4 +70,4 @@ pub returns-in_default-clause-to_the_end : goal.returns-in_default-clause-to_the
 returns-in_default-clause-to_the_end g c = untouched_to_the_end _ _
 
 pub returns-in_default-clause-few : goal.returns-in_default-clause-few
-returns-in_default-clause-few g c = untouched_few _
+returns-in_default-clause-few g c = reads_nothing _ _

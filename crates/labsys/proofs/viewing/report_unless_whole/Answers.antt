@@ -12,5 +12,5 @@ nothing_more : (e : InputEnd) → e ≡ Whole → (x : Ends) → SendsAll (to_ou
 unfolding to_out
 nothing_more e is x = subst (λ (k : InputEnd). SendsAll (to_out (unless_whole k)) x x) (sym is) (all_nothing x)
 
-pub returns-in-Whole-clause-writes : goal.returns-in-Whole-clause-writes
-returns-in-Whole-clause-writes g c = λ source trail. nothing_more _ c.in-Whole.is _
+pub returns-in-Whole : goal.returns-in-Whole
+returns-in-Whole g c = λ source trail. nothing_more _ c.in-Whole.is _
