@@ -2,7 +2,6 @@
 use Rattle.std.specs.Prelude.{◌≡◌, ℕ, ◌+◌, ◌%◌, ◌^◌, ◌≤◌, ◌<◌, ◌==◌, ◌&&◌, not, nat_lt, nat_le, Bool, true, false, cond, List, [], ◌∷◌, ◌++◌, Option, None, Some, codes, refl}
 use Rattle.std.proofs.Common.{ap, sym, subst, ◌∙◌, inl, inr, arith}
 use Rattle.std.specs.Fmt.{decimal}
-use Rattle.std.specs.List.{list_all}
 use Rattle.std.specs.Option.{option_and_then, option_map, option_or}
 use Rattle.std.specs.Result.{result_ok}
 use Rattle.std.proofs.lemmas.Bool.{and_parts, and_from, cond-false, ltb-true, lt-ltb, eqb-true, ne_eqb, leb-true, not_from_false, false_from_ne_true, true≢false}
@@ -14,11 +13,11 @@ use Rattle.cap_bits.specs.declared.cap.Cap.TheVariants as cap
 use Rattle.cap_bits.specs.declared.state.CapState.{CapState}
 use Rattle.cap_clause.specs.Parsed.{parse_caps}
 use Rattle.cap_clause.specs.Written.{caps_text}
-use Rattle.cap_clause.proofs.WrittenRoundTrip.{caps_round_trip, caps_text_plain}
+use Rattle.cap_clause.proofs.WrittenRoundTrip.{caps_round_trip}
 use Rattle.fs_path.proofs.RoundTrip.{decimal_bare}
 use Rattle.fs_path.specs.Split.{split_once}
 use Rattle.fs_path.specs.Options.{keep_if}
-use Rattle.fs_path.specs.Words.{is_plain, is_bare_text, quoted_text}
+use Rattle.fs_path.specs.Words.{is_bare_text, quoted_text}
 use Rattle.lab_lattice.specs.Label.{Label}
 use Rattle.lab_text.specs.Names.{same_bytes}
 use Rattle.lab_text.specs.Numbered.{numbered_text}
@@ -41,6 +40,7 @@ use Rattle.kern_model.specs.declared.numbers.Oid.{Oid}
 use Rattle.kern_model.specs.declared.numbers.Pid.{Pid}
 use Rattle.kern_model.specs.Named.{named}
 use Rattle.kern_model.proofs.NamedLaws.{named_is, call_round_trip, check_round_trip, errno_round_trip}
+use Rattle.line_text.proofs.CapWords.{caps_text_bytes}
 use Rattle.line_text.specs.Ranges.{are_bytes}
 use Rattle.line_text.specs.Reading.{choice}
 use Rattle.line_text.specs.Words.{pid_text, oid_text, caps_word, thing_text, new_label_text}
@@ -49,7 +49,7 @@ use Rattle.aud_record.specs.Fits.{numbered_fits, pid_fits, oid_fits, thing_fits,
 use Rattle.aud_record.specs.Forms.{Choice, first_of, other_of, OnOrOff, ExitOrKill, TermOrKill, Field, Number, Either, Kind, Capability, Check, Error, Call, Process, Object, Mark, NewMark, Caps, Bytes, About, Where, Of, canonical}
 use Rattle.aud_record.proofs.ListedLaws.{event_round_trip, cap_round_trip}
 use Rattle.aud_record.proofs.Numbers.{same_itself, same_is, number_is, number_round_trip}
-use Rattle.aud_record.proofs.Quoted.{unquoted_bytes, quoted_unquoted, plain_small}
+use Rattle.aud_record.proofs.Quoted.{unquoted_bytes, quoted_unquoted}
 use Rattle.aud_record.specs.Canonical.{canonical_number, canonical_label, canonical_numbered, canonical_pid, canonical_oid, after_prefix, canonical_thing, label_given, canonical_new_label, canonical_step, canonical_place, unquoted, canonical_bytes, canonical_caps}
 use Rattle.aud_record.proofs.WordLaws.{lacks, lacks-append, split_round_trip, split_is, IsWord}
 use Rattle.aud_record.specs.declared.canonical.NewLabel.{NewLabel}
@@ -317,14 +317,10 @@ caps_is word caps h =
     let is = cond_some (same_bytes (caps_word parsed) word) parsed caps kept in
     subst (λ x. Spells word (caps_word x) true) is.1 (record { text_is = sym (same_is (caps_word parsed) word is.0); fit = refl }))
 
-plain_bytes : (text : List ℕ) → list_all is_plain text ≡ true → are_bytes text ≡ true
-plain_bytes [] plain = refl
-plain_bytes (b ∷ bs) plain = let parts = and_parts (is_plain b) (list_all is_plain bs) plain in and_from (nat_lt b 256) (are_bytes bs) (lt-ltb b 256 (plain_small b parts.0)) (plain_bytes bs parts.1)
-
 caps_read : (caps : CapState) → canonical_caps (caps_word caps) ≡ Some caps
 unfolding canonical_caps
 caps_read caps =
-    ap (λ (o : Option (List ℕ)). option_and_then (λ x. keep_if (same_bytes (caps_word x) (caps_word caps)) x) (option_and_then (λ bytes. result_ok (parse_caps bytes)) o)) (quoted_unquoted (caps_text caps) (plain_bytes (caps_text caps) (caps_text_plain caps)))
+    ap (λ (o : Option (List ℕ)). option_and_then (λ x. keep_if (same_bytes (caps_word x) (caps_word caps)) x) (option_and_then (λ bytes. result_ok (parse_caps bytes)) o)) (quoted_unquoted (caps_text caps) (caps_text_bytes caps))
     ∙ ap (λ r. option_and_then (λ x. keep_if (same_bytes (caps_word x) (caps_word caps)) x) (result_ok r)) (caps_round_trip caps) ∙ ap (λ t. keep_if t caps) (same_itself (caps_word caps))
 
 -- ---- one of two words

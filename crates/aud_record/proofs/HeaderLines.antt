@@ -31,7 +31,8 @@ use Rattle.aud_record.proofs.FormLaws.{bound_is}
 use Rattle.aud_record.proofs.Numbers.{same_itself, same_is}
 use Rattle.aud_record.proofs.WordLaws.{lacks, lacks-append, split_round_trip, split_is, word_lacks}
 use Rattle.aud_record.specs.Canonical.{after_prefix}
-use Rattle.aud_record.specs.Header.{Fails, Gives, after_keyword, keyword_line, made, policy_of, names_line, names_lines, bound_number, canonical_set, bound_of, format_line}
+use Rattle.aud_record.specs.Results.{AnswersAs, FailsBy}
+use Rattle.aud_record.specs.Header.{is_no_memory, after_keyword, keyword_line, made, policy_of, names_line, names_lines, bound_number, canonical_set, bound_of, format_line}
 use Rattle.aud_record.specs.Words.{◌>>=◌}
 use Rattle.aud_record.specs.Written.{line_of}
 use Rattle.aud_record.specs.declared.header.HeaderError.{HeaderError}
@@ -179,7 +180,7 @@ unfolding names_lines
 first_line n list lists p q text rest h = ap (λ (r : Result (PolicyNames × List ℕ) HeaderError). r >>= λ first. names_lines (n + 1) lists first.0 first.1) h
 
 -- a line at fault, before others
-pub first_fails : (n : ℕ) (list : NameList) (lists : List NameList) (p : PolicyNames) (text : List ℕ) (e : HeaderError) → Fails e (names_line n list p text) → Fails e (names_lines n (list ∷ lists) p text)
+pub first_fails : (n : ℕ) (list : NameList) (lists : List NameList) (p : PolicyNames) (text : List ℕ) (e : HeaderError) → FailsBy is_no_memory e (names_line n list p text) → FailsBy is_no_memory e (names_lines n (list ∷ lists) p text)
 unfolding names_lines
 first_fails n list lists p text (error.Form k) h = ap (λ (r : Result (PolicyNames × List ℕ) HeaderError). r >>= λ first. names_lines (n + 1) lists first.0 first.1) h
 first_fails n list lists p text (error.Name k) h = ap (λ (r : Result (PolicyNames × List ℕ) HeaderError). r >>= λ first. names_lines (n + 1) lists first.0 first.1) h
@@ -216,16 +217,16 @@ line_read place d p q text rest whole within is h =
     is ∙ from_place place d p text within ∙ first_line (place + 2) (get_or all_lists place d) (drop (place + 1) all_lists) p q text rest h ∙ ap (λ n. names_lines n (drop (place + 1) all_lists) q rest) next
 
 pub line_fails : (place : ℕ) (d : NameList) (p : PolicyNames) (text : List ℕ) (e : HeaderError) (whole : Read) → place < length all_lists → whole ≡ names_lines (place + 2) (drop place all_lists) p text
-    → Fails e (names_line (place + 2) (get_or all_lists place d) p text) → Fails e whole
-line_fails place d p text e whole within is h = subst (λ (r : Read). Fails e r) (sym (is ∙ from_place place d p text within)) (first_fails (place + 2) (get_or all_lists place d) (drop (place + 1) all_lists) p text e h)
+    → FailsBy is_no_memory e (names_line (place + 2) (get_or all_lists place d) p text) → FailsBy is_no_memory e whole
+line_fails place d p text e whole within is h = subst (λ (r : Read). FailsBy is_no_memory e r) (sym (is ∙ from_place place d p text within)) (first_fails (place + 2) (get_or all_lists place d) (drop (place + 1) all_lists) p text e h)
 
 pub lines_read : (place : ℕ) (p : PolicyNames) (text : List ℕ) (whole : Read) → length all_lists ≤ place → whole ≡ names_lines (place + 2) (drop place all_lists) p text → whole ≡ Ok (p, text)
 lines_read place p text whole past is = is ∙ ap (λ (lists : List NameList). names_lines (place + 2) lists p text) (drop_all place all_lists past) ∙ no_lines (place + 2) p text
 
 -- an error that is handed on is the one that the line gives
-pub handed_on : {X Y : Type 0} (r : Result X HeaderError) (view : X → Y) (e : HeaderError) (whole : Result Y HeaderError) → IsErrAnd r (λ f. f ≡ e) → Fails e whole → Gives view r whole
+pub handed_on : {X Y : Type 0} (r : Result X HeaderError) (view : X → Y) (e : HeaderError) (whole : Result Y HeaderError) → IsErrAnd r (λ f. f ≡ e) → FailsBy is_no_memory e whole → AnswersAs is_no_memory view r whole
 handed_on (Ok x) view e whole is h = absurd is
-handed_on (Err f) view e whole is h = subst (λ (f : HeaderError). Fails f whole) (sym is) h
+handed_on (Err f) view e whole is h = subst (λ (f : HeaderError). FailsBy is_no_memory f whole) (sym is) h
 
 -- ---- the lines of names of a policy
 

@@ -1,5 +1,5 @@
 -- The header with which a text begins.
-use Rattle.std.specs.Prelude.{◌≡◌, ℕ, ◌+◌, ◌-◌, cond, List, [], ◌∷◌, ◌++◌, length, Option, None, Some, Result, Ok, Err, codes}
+use Rattle.std.specs.Prelude.{ℕ, ◌+◌, ◌-◌, Bool, true, false, cond, List, [], ◌∷◌, ◌++◌, length, Option, None, Some, Result, Ok, Err, codes}
 use Rattle.std.specs.Option.{ok_or}
 use Rattle.cap_bits.specs.CapSet.{CapSet}
 use Rattle.cap_clause.specs.declared.error.CapTextError.{CapTextError}
@@ -16,20 +16,17 @@ use Rattle.lab_text.specs.declared.policy.PolicyError.{PolicyError}
 use Rattle.lab_text.specs.declared.policy.PolicyError.TheVariants as names
 use Rattle.aud_record.specs.Canonical.{after_prefix}
 use Rattle.aud_record.specs.Words.{◌>>=◌}
+use Rattle.aud_record.specs.Written.{header_text}
 use Rattle.aud_record.specs.declared.header.Header.{Header}
 use Rattle.aud_record.specs.declared.header.HeaderError.{HeaderError}
 use Rattle.aud_record.specs.declared.header.HeaderError.TheVariants as error
 
--- ---- results
+-- ---- errors
 
--- the answer of a function, seen by view, is what was read, unless memory ran out
-abbrev pub Fails : {Y : Type 0} → HeaderError → Result Y HeaderError → Type 0
-Fails (error.NoMemory _) read = Unit {0}
-Fails e read = read ≡ Err e
-
-abbrev pub Gives : {X Y : Type 0} → (X → Y) → Result X HeaderError → Result Y HeaderError → Type 0
-Gives view (Ok x) read = read ≡ Ok (view x)
-Gives view (Err e) read = Fails e read
+-- whether an error is that memory ran out
+abbrev pub is_no_memory : HeaderError → Bool
+is_no_memory (error.NoMemory _) = true
+is_no_memory _ = false
 
 -- ---- lines
 
@@ -110,3 +107,7 @@ parse_header text = do
   words ← keyword_line bound_number (codes "bound") names.1
   bound ← bound_of words.0
   Ok (record { policy = names.0; bound = bound; used = length text - length words.1 })
+
+-- what is read of the header of this policy and this bound
+abbrev pub header_of : PolicyNames → CapSet → Header
+header_of policy bound = record { policy = policy; bound = bound; used = length (header_text policy bound) }

@@ -1,6 +1,7 @@
 pub mod Events
 pub mod Written
 pub mod Fits
+pub mod Results
 pub mod Words
 pub mod Canonical
 pub mod Forms

@@ -1,13 +1,15 @@
 -- The record with which a text begins.
-use Rattle.std.specs.Prelude.{◌≡◌, ℕ, ◌+◌, ◌-◌, ◌^◌, true, false, List, length, Option, None, Some, Result, Ok, Err}
+use Rattle.std.specs.Prelude.{◌≡◌, ℕ, ◌+◌, ◌-◌, ◌^◌, Bool, true, false, List, ◌++◌, length, take, Option, None, Some, Result, Ok, Err}
 use Rattle.fs_path.specs.Split.{split_once}
 use Rattle.lab_text.specs.Policy.{PolicyNames}
 use Rattle.kern_model.specs.declared.records.Rec.{Rec}
 use Rattle.kern_model.specs.Named.{named}
 use Rattle.aud_record.specs.Events.{event_word, all_events}
+use Rattle.aud_record.specs.Fits.{has_valid_labels}
 use Rattle.aud_record.specs.Forms.{form_of, parse_form}
 use Rattle.aud_record.specs.Canonical.{canonical_number, canonical_pid}
 use Rattle.aud_record.specs.Words.{◌>>=◌, parse_word, parse_field}
+use Rattle.aud_record.specs.Written.{rec_text}
 use Rattle.aud_record.specs.declared.fault.Fault.{Fault}
 use Rattle.aud_record.specs.declared.fault.Fault.TheVariants as fault
 use Rattle.aud_record.specs.declared.reading.ReadRec.{ReadRec}
@@ -42,7 +44,19 @@ read_by p (Some parts) = line_read (length parts.0) (parse_line p parts.0)
 unfoldable pub parse_rec : PolicyNames → List ℕ → Result ReadRec RecError
 parse_rec p text = read_by p (split_once 10 text)
 
--- what a function answers is what a text says, unless memory ran out
-abbrev pub Answers : Result ReadRec RecError → Result ReadRec RecError → Type 0
-Answers (Err (error.NoMemory _)) parsed = Unit {0}
-Answers answer parsed = parsed ≡ answer
+-- whether an error is that memory ran out
+abbrev pub is_no_memory : RecError → Bool
+is_no_memory (error.NoMemory _) = true
+is_no_memory _ = false
+
+-- what is read of the line of this record
+abbrev pub read_of : PolicyNames → ℕ → Rec → ReadRec
+read_of p call r = record { call = call; rec = r; used = length (rec_text p call r) }
+
+-- a line is read as this record, whatever follows it
+abbrev pub IsReadAs : PolicyNames → List ℕ → ℕ → Rec → Type 0
+IsReadAs p line call r = (rest : List ℕ) → parse_rec p (line ++ rest) ≡ Ok (record { call = call; rec = r; used = length line })
+
+-- a text begins with the line of a record that was read, and the labels of the record are valid
+abbrev pub BeginsWithRec : PolicyNames → List ℕ → ReadRec → Type 0
+BeginsWithRec p text read = (take read.used text ≡ rec_text p read.call read.rec) × (has_valid_labels p read.rec ≡ true)

@@ -1,7 +1,8 @@
 -- The words of a line, one space between each and the next. A fault has the number of bytes of the line from its place on.
-use Rattle.std.specs.Prelude.{◌≡◌, ℕ, ◌+◌, ◌==◌, ◌&&◌, not, nat_lt, Bool, false, cond, List, [], ◌∷◌, length, take, drop, Option, None, Some, Result, Ok, Err}
+use Rattle.std.specs.Prelude.{◌≡◌, ℕ, ◌+◌, ◌==◌, ◌&&◌, not, nat_lt, Bool, true, false, cond, List, [], ◌∷◌, length, take, drop, Option, None, Some, Result, Ok, Err}
 use Rattle.std.specs.List.{prefix_len}
 use Rattle.fs_path.specs.Words.{is_space}
+use Rattle.aud_record.specs.Results.{FailsBy}
 use Rattle.aud_record.specs.declared.fault.Fault.{Fault}
 use Rattle.aud_record.specs.declared.fault.Fault.TheVariants as fault
 
@@ -30,19 +31,15 @@ abbrev pub ◌>>=◌ : {A B E : Type 0} → Result A E → (A → Result B E) �
 (Ok x) >>= f = f x
 (Err e) >>= f = Err e
 
--- the answer of a function, seen by view, is what was read, unless memory ran out
-abbrev pub Fails : {Y : Type 0} → Fault → Result Y Fault → Type 0
-Fails (fault.NoMemory _) read = Unit {0}
-Fails f read = read ≡ Err f
+-- whether a fault is that memory ran out
+abbrev pub is_no_memory : Fault → Bool
+is_no_memory (fault.NoMemory _) = true
+is_no_memory _ = false
 
-abbrev pub Gives : {X Y : Type 0} → (X → Y) → Result X Fault → Result Y Fault → Type 0
-Gives view (Ok x) read = read ≡ Ok (view x)
-Gives view (Err f) read = Fails f read
-
--- the same where what was read is a value and what stands after it
+-- the answer of a function is the value that is read, and this is left of the line, unless memory ran out
 abbrev pub Reads : {X : Type 0} → Result X Fault → Result (X × List ℕ) Fault → List ℕ → Type 0
 Reads (Ok x) read left = read ≡ Ok (x, left)
-Reads (Err f) read left = Fails f read
+Reads (Err f) read left = FailsBy is_no_memory f read
 
 -- what stands after the space that is due
 unfoldable pub after_space : List ℕ → Result (List ℕ) Fault

@@ -6,11 +6,13 @@ use Rattle.cap_bits.specs.Cap.{cap_name}
 use Rattle.cap_bits.specs.CapSet.{CapSet}
 use Rattle.cap_clause.specs.Written.{set_text}
 use Rattle.fs_path.specs.Words.{quoted_text, line_text}
+use Rattle.lab_lattice.specs.Label.{Label}
 use Rattle.lab_text.specs.Lists.{all_lists}
 use Rattle.lab_text.specs.Policy.{PolicyNames}
 use Rattle.lab_text.specs.Text.{label_text}
 use Rattle.kern_model.specs.Names.{word_of, check_word, errno_word, place_text, ending_text}
 use Rattle.kern_model.specs.Records.{who_of}
+use Rattle.kern_model.specs.declared.numbers.Oid.{Oid}
 use Rattle.kern_model.specs.declared.records.Exercise.{Exercise}
 use Rattle.kern_model.specs.declared.records.Rec.{Rec}
 use Rattle.kern_model.specs.declared.records.Rec.TheVariants as rec
@@ -37,6 +39,10 @@ exercise_words p e =
     ∷ place_text e.place
     ∷ []
 
+-- the words of a change of the label of an object: the object, its label before the change and the one after it
+abbrev pub relabel_words : PolicyNames → Oid → Label → Label → List (List ℕ)
+relabel_words p object old new = oid_text p object ∷ label_text p old ∷ label_text p new ∷ []
+
 -- the words after the number of the process that a record is about; an ending is two words
 abbrev pub rest_words : PolicyNames → Rec → List (List ℕ)
 rest_words p (rec.Boot who label caps) = label_text p label ∷ caps_word caps ∷ []
@@ -46,7 +52,7 @@ rest_words p (rec.Exit who ending) = ending_text ending ∷ []
 rest_words p (rec.CapSetProc who caps) = caps_word caps ∷ []
 rest_words p (rec.CapSetFile who file caps) = oid_text p file ∷ caps_word caps ∷ []
 rest_words p (rec.MacSetProc who old new) = label_text p old ∷ label_text p new ∷ []
-rest_words p (rec.MacSetFile who object old new) = oid_text p object ∷ label_text p old ∷ label_text p new ∷ []
+rest_words p (rec.MacSetFile who object old new) = relabel_words p object old new
 rest_words p (rec.Exercise exercise) = exercise_words p exercise
 rest_words p (rec.Deny who call errno check place) = word_of call ∷ errno_word errno ∷ check_word check ∷ place_text place ∷ []
 rest_words p (rec.Switch who on) = switch_word on ∷ []

@@ -1,7 +1,7 @@
 // The words of each kind of record after the number of the process.
-ghost use Rattle.std.specs.Prelude.{◌≡◌};
-ghost use Rattle.aud_record.specs.Forms.{form_of, exit_form, parse_form};
-ghost use Rattle.aud_record.specs.Words.{Gives};
+ghost use Rattle.aud_record.specs.Forms.{form_of, parse_form};
+ghost use Rattle.aud_record.specs.Results.{AnswersAs};
+ghost use Rattle.aud_record.specs.Words.{is_no_memory};
 ghost use Rattle.aud_record.specs.declared.event.Event.TheVariants as event;
 
 use crate::event::Event;
@@ -12,7 +12,7 @@ use lab_text::Policy;
 use std::alloc::Global;
 
 fn boot(alloc: Global, policy: &Policy, who: Pid, words: &mut Words) -> Result<Rec, Fault>
-    ensures { Gives (λ r. r) result (parse_form policy.now (form_of event.Boot who) words.old.left.now) }
+    ensures { AnswersAs is_no_memory (λ r. r) result (parse_form policy.now (form_of event.Boot who) words.old.left.now) }
 {
     let label = words.label(alloc, policy)?;
     let caps = words.caps(alloc)?;
@@ -20,14 +20,14 @@ fn boot(alloc: Global, policy: &Policy, who: Pid, words: &mut Words) -> Result<R
 }
 
 fn fork(alloc: Global, policy: &Policy, who: Pid, words: &mut Words) -> Result<Rec, Fault>
-    ensures { Gives (λ r. r) result (parse_form policy.now (form_of event.Fork who) words.old.left.now) }
+    ensures { AnswersAs is_no_memory (λ r. r) result (parse_form policy.now (form_of event.Fork who) words.old.left.now) }
 {
     let child = words.pid(alloc, policy)?;
     words.ended(Rec::Fork { who, child })
 }
 
 fn exec(alloc: Global, policy: &Policy, who: Pid, words: &mut Words) -> Result<Rec, Fault>
-    ensures { Gives (λ r. r) result (parse_form policy.now (form_of event.Exec who) words.old.left.now) }
+    ensures { AnswersAs is_no_memory (λ r. r) result (parse_form policy.now (form_of event.Exec who) words.old.left.now) }
 {
     let file = words.oid(alloc, policy)?;
     let file_caps = words.caps(alloc)?;
@@ -41,7 +41,7 @@ fn exec(alloc: Global, policy: &Policy, who: Pid, words: &mut Words) -> Result<R
 }
 
 fn exit(alloc: Global, policy: &Policy, who: Pid, words: &mut Words) -> Result<Rec, Fault>
-    ensures { Gives (λ r. r) result (parse_form policy.now (form_of event.Exit who) words.old.left.now) }
+    ensures { AnswersAs is_no_memory (λ r. r) result (parse_form policy.now (form_of event.Exit who) words.old.left.now) }
 {
     let exits = words.choice(b"exit", b"kill")?;
     if exits {
@@ -55,14 +55,14 @@ fn exit(alloc: Global, policy: &Policy, who: Pid, words: &mut Words) -> Result<R
 }
 
 fn cap_set_proc(alloc: Global, policy: &Policy, who: Pid, words: &mut Words) -> Result<Rec, Fault>
-    ensures { Gives (λ r. r) result (parse_form policy.now (form_of event.CapSetProc who) words.old.left.now) }
+    ensures { AnswersAs is_no_memory (λ r. r) result (parse_form policy.now (form_of event.CapSetProc who) words.old.left.now) }
 {
     let caps = words.caps(alloc)?;
     words.ended(Rec::CapSetProc { who, caps })
 }
 
 fn cap_set_file(alloc: Global, policy: &Policy, who: Pid, words: &mut Words) -> Result<Rec, Fault>
-    ensures { Gives (λ r. r) result (parse_form policy.now (form_of event.CapSetFile who) words.old.left.now) }
+    ensures { AnswersAs is_no_memory (λ r. r) result (parse_form policy.now (form_of event.CapSetFile who) words.old.left.now) }
 {
     let file = words.oid(alloc, policy)?;
     let caps = words.caps(alloc)?;
@@ -70,7 +70,7 @@ fn cap_set_file(alloc: Global, policy: &Policy, who: Pid, words: &mut Words) -> 
 }
 
 fn mac_set_proc(alloc: Global, policy: &Policy, who: Pid, words: &mut Words) -> Result<Rec, Fault>
-    ensures { Gives (λ r. r) result (parse_form policy.now (form_of event.MacSetProc who) words.old.left.now) }
+    ensures { AnswersAs is_no_memory (λ r. r) result (parse_form policy.now (form_of event.MacSetProc who) words.old.left.now) }
 {
     let old = words.label(alloc, policy)?;
     let new = words.label(alloc, policy)?;
@@ -78,7 +78,7 @@ fn mac_set_proc(alloc: Global, policy: &Policy, who: Pid, words: &mut Words) -> 
 }
 
 fn mac_set_file(alloc: Global, policy: &Policy, who: Pid, words: &mut Words) -> Result<Rec, Fault>
-    ensures { Gives (λ r. r) result (parse_form policy.now (form_of event.MacSetFile who) words.old.left.now) }
+    ensures { AnswersAs is_no_memory (λ r. r) result (parse_form policy.now (form_of event.MacSetFile who) words.old.left.now) }
 {
     let object = words.oid(alloc, policy)?;
     let old = words.label(alloc, policy)?;
@@ -92,7 +92,7 @@ fn mac_set_file(alloc: Global, policy: &Policy, who: Pid, words: &mut Words) -> 
 }
 
 fn exercise(alloc: Global, policy: &Policy, who: Pid, words: &mut Words) -> Result<Rec, Fault>
-    ensures { Gives (λ r. r) result (parse_form policy.now (form_of event.Exercise who) words.old.left.now) }
+    ensures { AnswersAs is_no_memory (λ r. r) result (parse_form policy.now (form_of event.Exercise who) words.old.left.now) }
 {
     let label = words.label(alloc, policy)?;
     let cap = words.cap()?;
@@ -114,7 +114,7 @@ fn exercise(alloc: Global, policy: &Policy, who: Pid, words: &mut Words) -> Resu
 }
 
 fn deny(alloc: Global, policy: &Policy, who: Pid, words: &mut Words) -> Result<Rec, Fault>
-    ensures { Gives (λ r. r) result (parse_form policy.now (form_of event.Deny who) words.old.left.now) }
+    ensures { AnswersAs is_no_memory (λ r. r) result (parse_form policy.now (form_of event.Deny who) words.old.left.now) }
 {
     let call = words.call()?;
     let errno = words.errno()?;
@@ -130,14 +130,14 @@ fn deny(alloc: Global, policy: &Policy, who: Pid, words: &mut Words) -> Result<R
 }
 
 fn switch(policy: &Policy, who: Pid, words: &mut Words) -> Result<Rec, Fault>
-    ensures { Gives (λ r. r) result (parse_form policy.now (form_of event.Switch who) words.old.left.now) }
+    ensures { AnswersAs is_no_memory (λ r. r) result (parse_form policy.now (form_of event.Switch who) words.old.left.now) }
 {
     let on = words.choice(b"on", b"off")?;
     words.ended(Rec::Switch { who, on })
 }
 
 fn note(alloc: Global, policy: &Policy, who: Pid, words: &mut Words) -> Result<Rec, Fault>
-    ensures { Gives (λ r. r) result (parse_form policy.now (form_of event.Note who) words.old.left.now) }
+    ensures { AnswersAs is_no_memory (λ r. r) result (parse_form policy.now (form_of event.Note who) words.old.left.now) }
 {
     let bytes = words.bytes(alloc)?;
     words.ended(Rec::Note { who, bytes })
@@ -151,7 +151,7 @@ pub fn record(
     who: Pid,
     words: &mut Words,
 ) -> Result<Rec, Fault>
-    ensures { Gives (λ r. r) result (parse_form policy.now (form_of event who) words.old.left.now) }
+    ensures { AnswersAs is_no_memory (λ r. r) result (parse_form policy.now (form_of event who) words.old.left.now) }
 {
     match event {
         Event::Boot => boot(alloc, policy, who, words),

@@ -4,7 +4,8 @@ ghost use Rattle.std.specs.Option.{option_copied};
 ghost use Rattle.fs_path.specs.Split.{pieces_of_rest};
 ghost use Rattle.lab_text.specs.Lists.{all_lists};
 ghost use Rattle.lab_text.specs.Policy.{PolicyNames, no_names, MakePolicy};
-ghost use Rattle.aud_record.specs.Header.{Gives, format_line, keyword_line, names_error, names_line, names_lines, set_error, bound_of, parse_header};
+ghost use Rattle.aud_record.specs.Results.{AnswersAs};
+ghost use Rattle.aud_record.specs.Header.{is_no_memory, header_of, format_line, keyword_line, names_error, names_line, names_lines, set_error, bound_of, parse_header};
 ghost use Rattle.aud_record.specs.Written.{header_text};
 
 use crate::NoMemory;
@@ -96,7 +97,7 @@ fn keyword_line<'a>(
     keyword: &[u8],
     text: &'a [u8],
 ) -> Result<(List<Word>, &'a [u8]), HeaderError>
-    ensures words { Gives (λ x. (x.0, x.1.now)) result (keyword_line number keyword.now text.now) }
+    ensures words { AnswersAs is_no_memory (λ x. (x.0, x.1.now)) result (keyword_line number keyword.now text.now) }
     ensures shorter { IfOk result (λ x. length x.1.now ≤ length text.now) }
 {
     let (line, rest) = next_line(text).ok_or(HeaderError::Form(number))?;
@@ -127,7 +128,7 @@ fn names_line<'a>(
     names: &mut PolicyNames,
     text: &'a [u8],
 ) -> Result<&'a [u8], HeaderError>
-    ensures line { Gives (λ rest. (names.new, rest.now)) result (names_line number list names.old text.now) }
+    ensures line { AnswersAs is_no_memory (λ rest. (names.new, rest.now)) result (names_line number list names.old text.now) }
     ensures shorter { IfOk result (λ rest. length rest.now ≤ length text.now) }
 {
     let (words, rest) = keyword_line(alloc, number, list.keyword(), text)?;
@@ -140,7 +141,7 @@ fn names_line<'a>(
 
 // The policy of the lines of names, with which a text begins, and the text after them.
 fn names_lines(alloc: Global, text: &[u8]) -> Result<(Policy, &[u8]), HeaderError>
-    ensures lines { Gives (λ x. (x.0, x.1.now)) result (names_lines 2 all_lists no_names text.now) }
+    ensures lines { AnswersAs is_no_memory (λ x. (x.0, x.1.now)) result (names_lines 2 all_lists no_names text.now) }
     ensures shorter { IfOk result (λ x. length x.1.now ≤ length text.now) }
 {
     let mut names = PolicyNames::empty(alloc);
@@ -164,7 +165,7 @@ fn set_error(error: CapTextError) -> HeaderError
 // The set of which the only word is the canonical text.
 #[tactic(auto, unfolding(crate::specs::Header::bound_of))]
 fn bound_of(alloc: Global, words: &[Word]) -> Result<CapSet, HeaderError>
-    ensures { Gives (λ bound. bound) result (bound_of words.now) }
+    ensures { AnswersAs is_no_memory (λ bound. bound) result (bound_of words.now) }
 {
     let [word] = words else {
         return Err(HeaderError::Form(BOUND_LINE));
@@ -180,7 +181,7 @@ fn bound_of(alloc: Global, words: &[Word]) -> Result<CapSet, HeaderError>
 // The text after the first line, which is the format.
 #[tactic(auto, unfolding(crate::specs::Header::format_line))]
 fn format_line(text: &[u8]) -> Result<&[u8], HeaderError>
-    ensures line { Gives (λ rest. rest.now) result (format_line text.now) }
+    ensures line { AnswersAs is_no_memory (λ rest. rest.now) result (format_line text.now) }
     ensures shorter { IfOk result (λ rest. length rest.now ≤ length text.now) }
 {
     text.strip_prefix(b"trail 1\n").ok_or(HeaderError::Form(1))
@@ -189,7 +190,7 @@ fn format_line(text: &[u8]) -> Result<&[u8], HeaderError>
 // The header with which a text begins.
 #[tactic(auto, unfolding(crate::specs::Header::parse_header))]
 fn first_header(alloc: Global, text: &[u8]) -> Result<Header, HeaderError>
-    ensures parsed { Gives (λ header. header) result (parse_header text.now) }
+    ensures parsed { AnswersAs is_no_memory (λ header. header) result (parse_header text.now) }
     ensures within { IfOk result (λ header. header.used ≤ length text.now) }
 {
     let rest = format_line(text)?;
@@ -209,9 +210,10 @@ pub fn header_read(alloc: Global, text: &[u8]) -> Result<Header, HeaderError>
     // What is read is written so.
     ensures found { IfOk result (λ header. take header.used text.now ≡ header_text header.policy header.bound) }
     // What is written so is read, unless memory runs out.
-    ensures only { (policy : PolicyNames) (bound : CapSet) (rest : List ℕ) → MakePolicy policy → text.now ≡ header_text policy bound ++ rest → Gives (λ header. header) result (Ok (record { policy = policy; bound = bound; used = length (header_text policy bound) })) }
+    ensures only { (policy : PolicyNames) (bound : CapSet) (rest : List ℕ) → MakePolicy policy → text.now ≡ header_text policy bound ++ rest
+        → AnswersAs is_no_memory (λ header. header) result (Ok (header_of policy bound)) }
     // Which fault it is.
-    ensures cause { Gives (λ header. header) result (parse_header text.now) }
+    ensures cause { AnswersAs is_no_memory (λ header. header) result (parse_header text.now) }
     ensures within { IfOk result (λ header. header.used ≤ length text.now) }
 {
     first_header(alloc, text)

@@ -1,9 +1,10 @@
 // The reading of a record.
-ghost use Rattle.std.specs.Prelude.{◌≡◌, ℕ, true, List, ◌++◌, ◌≤◌, length, take, IfOk, Ok};
+ghost use Rattle.std.specs.Prelude.{◌≡◌, ℕ, true, List, ◌++◌, ◌≤◌, length, IfOk, Ok};
 ghost use Rattle.kern_model.specs.declared.records.Rec.{Rec};
 ghost use Rattle.aud_record.specs.Fits.{has_valid_labels, IsInRange};
-ghost use Rattle.aud_record.specs.Parsed.{parse_line, placed, parse_rec, Answers};
-ghost use Rattle.aud_record.specs.Words.{Gives};
+ghost use Rattle.aud_record.specs.Results.{AnswersAs};
+ghost use Rattle.aud_record.specs.Parsed.{BeginsWithRec, is_no_memory, parse_line, placed, parse_rec, read_of};
+ghost use Rattle.aud_record.specs.Words.{is_no_memory as is_line_memory};
 ghost use Rattle.aud_record.specs.Written.{rec_text};
 
 use crate::NoMemory;
@@ -51,7 +52,7 @@ pub enum RecError {
 // The number of a call and the record that a line says.
 #[tactic(auto, unfolding(crate::specs::Parsed::parse_line))]
 fn read_line(alloc: Global, policy: &Policy, line: &[u8]) -> Result<(u64, Rec), Fault>
-    ensures { Gives (λ x. x) result (parse_line policy.now line.now) }
+    ensures { AnswersAs is_line_memory (λ x. x) result (parse_line policy.now line.now) }
 {
     let mut words = Words::new(line);
     let call = words.call_number(alloc)?;
@@ -75,7 +76,7 @@ fn placed(len: usize, fault: Fault) -> RecError
 // The record with which a text begins.
 #[tactic(auto, unfolding(crate::specs::Parsed::parse_rec))]
 fn first_record(alloc: Global, policy: &Policy, text: &[u8]) -> Result<ReadRec, RecError>
-    ensures parsed { Answers result (parse_rec policy.now text.now) }
+    ensures parsed { AnswersAs is_no_memory (λ read. read) result (parse_rec policy.now text.now) }
     ensures within { IfOk result (λ read. read.used ≤ length text.now) }
 {
     let (line, _) = next_line(text).ok_or(RecError::Truncated)?;
@@ -90,11 +91,12 @@ fn first_record(alloc: Global, policy: &Policy, text: &[u8]) -> Result<ReadRec, 
 /// The record with which a text begins, whatever stands after it. The first fault of the line counts, from the left.
 pub fn rec_read(alloc: Global, policy: &Policy, text: &[u8]) -> Result<ReadRec, RecError>
     // What is read is written so, and its labels are valid.
-    ensures found { IfOk result (λ read. (take read.used text.now ≡ rec_text policy.now read.call read.rec) × (has_valid_labels policy.now read.rec ≡ true)) }
+    ensures found { IfOk result (BeginsWithRec policy.now text.now) }
     // What is written so is read, unless memory runs out.
-    ensures only { (call : ℕ) (rec : Rec) (rest : List ℕ) → has_valid_labels policy.now rec ≡ true → IsInRange call rec → text.now ≡ rec_text policy.now call rec ++ rest → Answers result (Ok (record { call = call; rec = rec; used = length (rec_text policy.now call rec) })) }
+    ensures only { (call : ℕ) (rec : Rec) (rest : List ℕ) → has_valid_labels policy.now rec ≡ true → IsInRange call rec
+        → text.now ≡ rec_text policy.now call rec ++ rest → AnswersAs is_no_memory (λ read. read) result (Ok (read_of policy.now call rec)) }
     // Which fault it is.
-    ensures cause { Answers result (parse_rec policy.now text.now) }
+    ensures cause { AnswersAs is_no_memory (λ read. read) result (parse_rec policy.now text.now) }
     ensures within { IfOk result (λ read. read.used ≤ length text.now) }
 {
     // Its names make a policy, which the clause `only` needs.

@@ -2,7 +2,8 @@
 ghost use Rattle.std.specs.Prelude.{◌≡◌, ◌≤◌, not, false, true, length};
 ghost use Rattle.std.specs.List.{prefix_len};
 ghost use Rattle.fs_path.specs.Words.{is_space};
-ghost use Rattle.aud_record.specs.Words.{Gives, Reads, quoted_len, word_len, first_word, after_word, after_space, ended, worded};
+ghost use Rattle.aud_record.specs.Results.{AnswersAs};
+ghost use Rattle.aud_record.specs.Words.{is_no_memory, Reads, quoted_len, word_len, first_word, after_word, after_space, ended, worded};
 
 use crate::fault::Fault;
 
@@ -48,7 +49,7 @@ fn word_len(left: &[u8]) -> usize
 // What stands after the space that is due.
 #[tactic(auto, unfolding(crate::specs::Words::after_space))]
 fn after_space(left: &[u8]) -> Result<&[u8], Fault>
-    ensures { Gives (λ rest. rest.now) result (after_space left.now) }
+    ensures { AnswersAs is_no_memory (λ rest. rest.now) result (after_space left.now) }
 {
     match left {
         [b' ', rest @ ..] => Ok(rest),
@@ -100,7 +101,7 @@ impl<'a> Words<'a> {
 
     /// The word after the space that is due.
     pub fn next(&self) -> Result<Due<'a>, Fault>
-        ensures { Gives (λ due. due.left.now) result (after_space self.now.left.now) }
+        ensures { AnswersAs is_no_memory (λ due. due.left.now) result (after_space self.now.left.now) }
     {
         Ok(Due::first(after_space(self.left)?))
     }
@@ -131,7 +132,7 @@ impl<'a> Words<'a> {
     /// The value, if the line ends here.
     #[tactic(auto, unfolding(crate::specs::Words::ended))]
     pub fn ended<T: Drop>(&self, value: T) -> Result<T, Fault>
-        ensures { Gives (λ x. x) result (ended value self.now.left.now) }
+        ensures { AnswersAs is_no_memory (λ x. x) result (ended value self.now.left.now) }
     {
         match self.left {
             [] => Ok(value),

@@ -1,13 +1,13 @@
 // The writing of a record.
-ghost use Rattle.std.specs.Prelude.{◌≡◌, ◌<◌, ◌^◌, true, List, ℕ, [], ◌∷◌, ◌++◌, length, IfOk, OnOk, Ok};
+ghost use Rattle.std.specs.Prelude.{◌≡◌, ◌<◌, ◌^◌, true, [], ◌∷◌, IfOk, OnOk};
 ghost use Rattle.lab_text.specs.Text.{label_text};
 ghost use Rattle.kern_model.specs.Names.{word_of, errno_word, check_word, place_text};
 ghost use Rattle.line_text.specs.Ranges.{PlaceInRange};
 ghost use Rattle.line_text.specs.Reply.{with_words};
 ghost use Rattle.line_text.specs.Words.{caps_word, oid_text};
 ghost use Rattle.aud_record.specs.Fits.{has_valid_labels, ExerciseInRange, RestInRange, IsInRange};
-ghost use Rattle.aud_record.specs.Parsed.{parse_rec};
-ghost use Rattle.aud_record.specs.Written.{exercise_words, switch_word, rest_words, rec_text};
+ghost use Rattle.aud_record.specs.Parsed.{IsReadAs};
+ghost use Rattle.aud_record.specs.Written.{exercise_words, relabel_words, switch_word, rest_words, rec_text};
 
 use crate::NoMemory;
 use crate::event::{Event, who};
@@ -73,7 +73,7 @@ fn put_object_labels(
     old: &Label,
     new: &Label,
 ) -> Result<(), NoMemory>
-    ensures text { OnOk result (line.new ≡ with_words line.old (oid_text policy.now object.now ∷ label_text policy.now old.now ∷ label_text policy.now new.now ∷ [])) }
+    ensures text { OnOk result (line.new ≡ with_words line.old (relabel_words policy.now object.now old.now new.now)) }
     ensures in_range { OnOk result (object.now.n < 2 ^ 16) }
 {
     line.oid(policy, object)?;
@@ -172,7 +172,7 @@ fn line_of(room: Vec<u8>, policy: &Policy, call: u64, rec: &Rec) -> Result<Vec<u
 pub fn rec_text(room: Vec<u8>, policy: &Policy, call: u64, rec: &Rec) -> Result<Vec<u8>, NoMemory>
     ensures text { IfOk result (λ text. text.items ≡ rec_text policy.now call rec.now) }
     // Where its labels are valid the line is read as this record, whatever follows it.
-    ensures round_trip { IfOk result (λ text. has_valid_labels policy.now rec.now ≡ true → (rest : List ℕ) → parse_rec policy.now (text.items ++ rest) ≡ Ok (record { call = call; rec = rec.now; used = length text.items })) }
+    ensures round_trip { IfOk result (λ text. has_valid_labels policy.now rec.now ≡ true → IsReadAs policy.now text.items call rec.now) }
 {
     // Its names make a policy, which the clause `round_trip` needs.
     let _names = policy.levels();

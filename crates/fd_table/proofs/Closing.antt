@@ -1,7 +1,7 @@
 -- What `close` and `drop_process` leave, as the changes that the rows make.
 use Rattle.std.specs.Prelude.{◌≡◌, ◌||◌, ◌&&◌, ◌==◌, not, ℕ, Bool, true, false, List, [], ◌∷◌, ◌++◌, Option, Some, None, cond, refl}
 use Rattle.std.specs.Prelude as list
-use Rattle.std.specs.Ordering.{nat_cmp, is_eq}
+use Rattle.std.specs.Ordering.{nat_cmp}
 use Rattle.std.specs.Option.{option_map}
 use Rattle.std.specs.List.{flat_map, list_any}
 use Rattle.std.specs.Cmp.{eq_by_cmp_equiv, nat_cmp_total, unsigned_tied}
@@ -9,7 +9,6 @@ use Rattle.std.specs.FinMap as map
 use Rattle.std.specs.FinMap.{FinMap, get-empty, get-insert, get-remove, nat_cmp-IsAntisymmetric, same_map}
 use Rattle.std.proofs.Common.{ap, sym, ◌∙◌}
 use Rattle.std.proofs.lemmas.Bool.{true≢false}
-use Rattle.std.proofs.lemmas.Cmp.{tied_itself}
 use Rattle.std.proofs.lemmas.List.Folds.{list_any-append}
 use Rattle.kern_model.specs.declared.calls.Ending.{Ending}
 use Rattle.kern_model.specs.declared.numbers.Did.{Did}
@@ -26,6 +25,7 @@ use Rattle.kern_model.specs.Valid.{IsHeld, IsThere}
 use Rattle.kern_model.proofs.KeyLaws.{did_cmp_total, did_cmp_exact, oid_cmp_total, oid_cmp_exact, pid_cmp_total, pid_cmp_exact}
 use Rattle.kern_model.proofs.MapLemmas.{get_or-absent, get_or-found, get_or-same, never_some, same_key}
 use Rattle.kern_model.proofs.Selections.{none_pass, none_passes}
+use Rattle.num_table.proofs.Sorted.{same_itself}
 use Rattle.fd_table.specs.Files.{OpenFiles, drained, emptied_if, is_held, is_open, is_unused, left_with}
 use Rattle.fd_table.specs.Rows.{AllFds, Fds, row_of}
 use Rattle.fd_table.proofs.Dropping.{get-gone, get-kept, held_by}
@@ -48,9 +48,6 @@ same_tests false true f g = sym (f refl)
 both_false : (a b : Bool) → b ≡ false → (a && b) ≡ false
 both_false true b e = e
 both_false false b e = refl
-
-same_itself : (did : Did) → same_did did did ≡ true
-same_itself did = ap is_eq (tied_itself did_cmp_total did)
 
 turned : (a b : Oid) → same_oid a b ≡ same_oid b a
 turned a b = (eq_by_cmp_equiv oid_cmp_total).symm a b
@@ -227,7 +224,7 @@ module _ (s : State) (t : OpenFiles) (shows : Shows s t) (goes : Descriptor → 
       some : list_any (λ (f : Descriptor). goes f && same_did f.did q) (descriptors s) ≡ false → list_any (λ (f : Descriptor). not (goes f) && same_did f.did q) (descriptors s) ≡ false → ⊥
       some never none =
           let h = shows.held q d at in
-          neither (goes (record { who = h.who; fd = h.fd; did = q })) (same_did q q) (same_itself q)
+          neither (goes (record { who = h.who; fd = h.fd; did = q })) (same_did q q) (same_itself did_cmp_total q)
           (none_at s (λ (f : Descriptor). goes f && same_did f.did q) never h.who h.process h.process_is h.fd q h.fd_is)
           (none_at s (λ (f : Descriptor). not (goes f) && same_did f.did q) none h.who h.process h.process_is h.fd q h.fd_is)
 
@@ -248,7 +245,7 @@ module _ (s : State) (t : OpenFiles) (shows : Shows s t) (goes : Descriptor → 
       ] refl))
     where
       first : (a : Bool) → (a && same_did q q) ≡ false → a ≡ false
-      first true e = absurd (true≢false (sym (same_itself q) ∙ e))
+      first true e = absurd (true≢false (sym (same_itself did_cmp_total q) ∙ e))
       first false e = refl
 
   get-left : (q : Did) → map.get left q ≡ cond (is_held rows q) (map.get s.descriptions q) None

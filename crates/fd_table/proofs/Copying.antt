@@ -12,6 +12,7 @@ use Rattle.kern_model.specs.State.{Description}
 use Rattle.kern_model.specs.Valid.{IsThere}
 use Rattle.kern_model.proofs.KeyLaws.{pid_cmp_total, pid_cmp_exact}
 use Rattle.kern_model.proofs.MapLemmas.{get-insert_same}
+use Rattle.kern_model.proofs.Selections.{insert-insert}
 use Rattle.fd_table.specs.declared.rows.TheConstants.{MAX_ROWS}
 use Rattle.fd_table.specs.declared.shared.Shared.{Shared}
 use Rattle.fd_table.specs.Descriptions.{SharedTable, descriptions_of}
@@ -19,7 +20,7 @@ use Rattle.fd_table.specs.Files.{AreHeld, OpenFiles}
 use Rattle.fd_table.specs.Rows.{AllFds, Fds, row_of}
 use Rattle.fd_table.proofs.Holding.{few_more, has_row, held-add, held-set, open_there, row_is}
 use Rattle.fd_table.proofs.Leaving.{descriptions-count, there_with, there_without}
-use Rattle.fd_table.proofs.Loops.{below, below-all, below-next, below-none, below-same, get-below, set_twice}
+use Rattle.fd_table.proofs.Loops.{below, below-all, below-next, below-none, below-same, get-below}
 
 -- the descriptors below n of a own that was added are counted, and each of the own refers to a description
 pub record AreCopied (t0 : OpenFiles) (to : Pid) (own : Fds) (n : ℕ) (shared : SharedTable) : Type 0 where
@@ -56,7 +57,7 @@ module _ (t0 : OpenFiles) (to : Pid) (own : Fds) (n : ℕ) (shared : SharedTable
   copied_next did at s is new more = record {
     held = subst (λ (m : SharedTable). AreHeld (map.insert t0.rows to (below (n + 1) own)) m t0.numbers) (sym more)
         (subst (λ (m : AllFds). AreHeld m (map.insert shared did (record s { holders = s.holders + 1 })) t0.numbers)
-        (set_twice pid_cmp_total pid_cmp_exact t0.rows to (below n own) (map.insert (below n own) n did) ∙ ap (map.insert t0.rows to) (below-next own n did at))
+        (insert-insert pid_cmp_total pid_cmp_exact t0.rows to (below n own) (map.insert (below n own) n did) ∙ ap (map.insert t0.rows to) (below-next own n did at))
         (held-set (map.insert t0.rows to (below n own)) shared t0.numbers are.held to (below n own) (get-insert_same pid_cmp_total t0.rows to (below n own)) n did s is next_free (are.few n did at)));
     same = ap descriptions_of more ∙ descriptions-count shared did s (record s { holders = s.holders + 1 }) is refl ∙ are.same;
     there = are.there;

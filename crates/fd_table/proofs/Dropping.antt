@@ -19,14 +19,14 @@ use Rattle.kern_model.specs.State.{Description}
 use Rattle.kern_model.specs.Valid.{IsThere}
 use Rattle.kern_model.proofs.KeyLaws.{did_cmp_total, did_cmp_exact, oid_cmp_total, oid_cmp_exact, pid_cmp_total, pid_cmp_exact}
 use Rattle.kern_model.proofs.MapLemmas.{get-insert_same, get-select_dropped, get-select_kept, insert-same, never_some}
-use Rattle.kern_model.proofs.Selections.{none_pass, none_passes}
+use Rattle.kern_model.proofs.Selections.{none_pass, none_passes, insert-insert}
 use Rattle.fd_table.specs.declared.shared.Shared.{Shared}
 use Rattle.fd_table.specs.Descriptions.{SharedTable, description_of, descriptions_of, with_one_less}
 use Rattle.fd_table.specs.Files.{AreHeld, OpenFiles, drained, emptied_if, is_held, is_open, is_unused}
 use Rattle.fd_table.specs.Rows.{AllFds, Fds}
 use Rattle.fd_table.proofs.Holding.{held-drop, held-free, open_there}
 use Rattle.fd_table.proofs.Leaving.{get-descriptions, get-drained, left_held, less_same}
-use Rattle.fd_table.proofs.Loops.{from, from-all, from-next, from-none, from-same, get-from, row_set, set_twice}
+use Rattle.fd_table.proofs.Loops.{from, from-all, from-next, from-none, from-same, get-from, row_set}
 
 abbrev Descriptions : Type 0
 Descriptions = FinMap did_cmp Description
@@ -127,7 +127,7 @@ module _ (t0 : OpenFiles) (who : Pid) (own : Fds) (n : ℕ) (shared : SharedTabl
   let_go_next did at s is new less objects' drains = record {
     held = subst (λ (m : SharedTable). AreHeld (map.insert t0.rows who (from (n + 1) own)) m t0.numbers) (sym less)
         (subst (λ (m : AllFds). AreHeld m (with_one_less shared did s) t0.numbers)
-        (set_twice pid_cmp_total pid_cmp_exact t0.rows who (from n own) (map.remove (from n own) n) ∙ ap (map.insert t0.rows who) (from-next own n))
+        (insert-insert pid_cmp_total pid_cmp_exact t0.rows who (from n own) (map.remove (from n own) n) ∙ ap (map.insert t0.rows who) (from-next own n))
         (held-free (map.insert t0.rows who (from n own)) shared t0.numbers are.held who (from n own) there n did s is (next_from (Some did) at)));
     left = λ q d e. are.left q d (fewer q d e);
     emptied = drains ∙ ap (drained (descriptions_of shared) (descriptions_of new)) are.emptied

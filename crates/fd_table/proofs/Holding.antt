@@ -10,7 +10,8 @@ use Rattle.std.proofs.Common.{ap, sym, ◌∙◌, subst, arith, T, inl, inr}
 use Rattle.std.proofs.lemmas.Bool.{cases_lt, true≢false}
 use Rattle.std.proofs.lemmas.Bool.Decides.{nat_tests}
 use Rattle.std.proofs.lemmas.Cmp.{tied_itself}
-use Rattle.std.proofs.lemmas.List.Sums.{count_by-le-length}
+use Rattle.std.proofs.lemmas.List.Elements.{All-from_recursion}
+use Rattle.std.proofs.lemmas.List.Sums.{count_by-le-length, sum_by-le}
 use Rattle.lab_lattice.specs.Label.{Label, label_cmp}
 use Rattle.lab_lattice.proofs.Labels.{label_cmp_total, label_cmp_exact}
 use Rattle.kern_model.specs.declared.limits.TheConstants.{MAX_DESCRIPTORS}
@@ -28,7 +29,7 @@ use Rattle.fd_table.specs.declared.shared.Shared.{Shared}
 use Rattle.fd_table.specs.Descriptions.{SharedTable, holders_kept, with_one_less}
 use Rattle.fd_table.specs.Files.{AreHeld}
 use Rattle.fd_table.specs.Rows.{AllFds, Fds, fd_count, holders, holders_in, row_of}
-use Rattle.fd_table.proofs.Sums.{sum-empty, sum-few, sum-insert, sum-remove, sum-replace}
+use Rattle.num_table.proofs.Sums.{sum-empty, sum-insert, sum-remove, sum-replace}
 
 -- ---- counts
 abbrev on_it : Did → ℕ → Did → ℕ
@@ -192,7 +193,7 @@ module _ (rows : AllFds) (shared : SharedTable) (numbers : FinMap label_cmp ℕ)
   unfolding holders
   holders_few did =
       let size = len-entries rows in
-      let few = sum-few (λ (row : Pid × Fds). holders_in row.1 did) (map.entries rows) (each-entries pid_cmp_total pid_cmp_exact (λ (who : Pid) (fds : Fds). holders_in fds did ≤ 32) rows (λ who fds is. in_few fds did (are.below who fds is))) in
+      let few = sum_by-le (λ (row : Pid × Fds). holders_in row.1 did) 32 (map.entries rows) (All-from_recursion (λ (row : Pid × Fds). holders_in row.1 did ≤ 32) (map.entries rows) (each-entries pid_cmp_total pid_cmp_exact (λ (who : Pid) (fds : Fds). holders_in fds did ≤ 32) rows (λ who fds is. in_few fds did (are.below who fds is)))) in
       omega (arith, size, few)
 
   pub few_more : (did : Did) (s : Shared) → map.get shared did ≡ Some s → s.holders < 18446744073709551615

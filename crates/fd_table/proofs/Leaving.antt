@@ -7,6 +7,7 @@ use Rattle.std.specs.FinMap as map
 use Rattle.std.specs.FinMap.{FinMap, get-empty, get-insert, same_map}
 use Rattle.std.proofs.Common.{ap, sym, ◌∙◌, arith}
 use Rattle.std.proofs.lemmas.Bool.Decides.{nat_tests}
+use Rattle.std.proofs.Math.Bool.{and-false, and-true, not-not}
 use Rattle.kern_model.specs.declared.numbers.Did.{Did}
 use Rattle.kern_model.specs.declared.numbers.Oid.{Oid}
 use Rattle.kern_model.specs.declared.numbers.Pid.{Pid}
@@ -25,8 +26,8 @@ use Rattle.fd_table.specs.Files.{AreHeld, drained, emptied_if, is_held, is_open,
 use Rattle.fd_table.specs.Fifo.{fifo_emptied, without_bytes}
 use Rattle.fd_table.specs.Rows.{AllFds, Fds, holders, holders_in}
 use Rattle.fd_table.proofs.Holding.{get-less, less}
-use Rattle.fd_table.proofs.Sums.{any-sum}
-use Rattle.fd_table.proofs.UseLemmas.{once, some-number, uses-remove, uses-replace, uses_some}
+use Rattle.num_table.proofs.Sums.{any-sum}
+use Rattle.fd_table.proofs.UseLemmas.{on_object, once, some-number, uses-remove, uses-replace, uses_some}
 use Rattle.lab_lattice.specs.Label.{label_cmp}
 
 -- ---- descriptions without their counts
@@ -68,9 +69,6 @@ pub description_is : (shared : SharedTable) (did : Did) (s : Shared) (d : Descri
 description_is shared did s d is at = some_same (description_of s) d (sym (get-descriptions shared did ∙ ap (option_map description_of) is) ∙ at)
 
 -- ---- which objects have descriptions
-abbrev on_object : Oid → Did → Shared → Bool
-on_object id did s = same_oid s.object id
-
 abbrev of_object : Oid → Did → Description → Bool
 of_object id did d = same_oid d.object id
 
@@ -160,19 +158,11 @@ get-emptied objects id w is q =
 -- where one object alone may have lost its last description
 pub drained_one : (old new : FinMap did_cmp Description) (objects : FinMap oid_cmp Object) (id : Oid) (b : Bool) → ((q : Oid) → is_unused old new q ≡ (same_oid id q && b)) → drained old new objects ≡ without_bytes objects (cond b (Some id) None)
 drained_one old new objects id true h = same_map oid_cmp_total oid_cmp_exact _ _ (λ q.
-    get-drained old new objects q ∙ ap (λ b. option_map (λ (o : Object). emptied_if (is_fifo o.kind && b) o) (map.get objects q)) (h q ∙ with_true (same_oid id q))
+    get-drained old new objects q ∙ ap (λ b. option_map (λ (o : Object). emptied_if (is_fifo o.kind && b) o) (map.get objects q)) (h q ∙ and-true (same_oid id q))
     ∙ sym (get-emptied objects id (map.get objects id) refl q))
-  where
-    with_true : (b : Bool) → (b && true) ≡ b
-    with_true true = refl
-    with_true false = refl
 drained_one old new objects id false h = same_map oid_cmp_total oid_cmp_exact _ _ (λ q.
-    get-drained old new objects q ∙ ap (λ b. option_map (λ (o : Object). emptied_if (is_fifo o.kind && b) o) (map.get objects q)) (h q ∙ with_false (same_oid id q))
+    get-drained old new objects q ∙ ap (λ b. option_map (λ (o : Object). emptied_if (is_fifo o.kind && b) o) (map.get objects q)) (h q ∙ and-false (same_oid id q))
     ∙ untouched (map.get objects q))
-  where
-    with_false : (b : Bool) → (b && false) ≡ false
-    with_false true = refl
-    with_false false = refl
 
 -- the object of the description with one descriptor less
 module _ (shared : SharedTable) (did : Did) (s : Shared) (is : map.get shared did ≡ Some s) where
@@ -190,14 +180,10 @@ module _ (shared : SharedTable) (did : Did) (s : Shared) (is : map.get shared di
             let same : s.object ≡ q = same_key oid_cmp_exact s.object q t in
             let some = uses_some shared did s q is (sym same) in
             let more : (uses_of shared q == 0) ≡ false = grind (arith, nat_tests) in
-            ap (λ b. not b && not (not (uses_of (with_one_less shared did s) q == 0))) more ∙ twice (uses_of (with_one_less shared did s) q == 0) ∙ ap (λ (i : Oid). uses_of (with_one_less shared did s) i == 0) (sym same)
+            ap (λ b. not b && not (not (uses_of (with_one_less shared did s) q == 0))) more ∙ not-not (uses_of (with_one_less shared did s) q == 0) ∙ ap (λ (i : Oid). uses_of (with_one_less shared did s) i == 0) (sym same)
         | false ↦ λ t. ap (λ n. not (uses_of shared q == 0) && not (not (n == 0))) (uses_less q t) ∙ never (uses_of shared q == 0)
       ] refl
     where
-      twice : (b : Bool) → not (not b) ≡ b
-      twice true = refl
-      twice false = refl
-
       never : (b : Bool) → (not b && not (not b)) ≡ false
       never true = refl
       never false = refl

@@ -7,6 +7,5 @@ pub mod Leaving
 pub mod Looking
 pub mod Loops
 pub mod Slots
-pub mod Sums
 pub mod TakenLemmas
 pub mod UseLemmas

@@ -1,5 +1,5 @@
 -- What is looked up in a table of rows, and how many there are after one is set.
-use Rattle.std.specs.Prelude.{◌≡◌, ℕ, ◌+◌, ◌-◌, ◌≤◌, Bool, true, List, [], ◌∷◌, Some, None, cond, is_some, length, refl, zero, suc}
+use Rattle.std.specs.Prelude.{◌≡◌, ℕ, ◌+◌, ◌-◌, ◌≤◌, Bool, true, List, Some, None, cond, is_some, refl, zero, suc}
 use Rattle.std.specs.declared.cmp.Ordering.{Ordering}
 use Rattle.std.specs.Cmp.{IsTotalOrder}
 use Rattle.std.specs.FinMap as map
@@ -12,6 +12,7 @@ use Rattle.std.proofs.Common.{ap, sym, ◌∙◌, arith}
 use Rattle.std.proofs.lemmas.Bool.{true≢false}
 use Rattle.kern_model.specs.declared.numbers.Pid.{Pid}
 use Rattle.kern_model.proofs.MapLemmas.{get_or-found, get_or-absent}
+use Rattle.num_table.proofs.Sums.{no_entries}
 use Rattle.fd_table.specs.Rows.{AllFds, Fds, fd_count, row_of}
 
 module _ (rows : AllFds) (who : Pid) where
@@ -44,10 +45,6 @@ module _ {K X : Type 0} {R : K → K → Ordering} (o : IsTotalOrder R) (m : Fin
 pub none_counted : fd_count map.empty ≡ 0
 none_counted = sym (len-entries (map.empty {X = Did} {R = nat_cmp})) ∙ len-empty nat_cmp Did
 
-no_elements : {X : Type 0} (xs : List X) → length xs ≡ 0 → xs ≡ []
-no_elements [] e = refl
-no_elements (x ∷ xs) e = absurd (omega arith)
-
 pub none_lowest : lowest_free map.empty ≡ 0
 unfolding lowest_free
-none_lowest = ap (λ (es : List (ℕ × Did)). first_gap 0 (list.map (λ (e : ℕ × Did). e.0) es)) (no_elements (map.entries (map.empty {X = Did} {R = nat_cmp})) none_counted)
+none_lowest = ap (λ (es : List (ℕ × Did)). first_gap 0 (list.map (λ (e : ℕ × Did). e.0) es)) (no_entries nat_cmp Did)

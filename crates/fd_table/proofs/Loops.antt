@@ -1,10 +1,10 @@
 -- The descriptors that are copied or closed so far, one after another.
+pub use Rattle.kern_model.proofs.Selections.{insert-insert as set_twice}
 use Rattle.std.specs.Prelude.{◌≡◌, ◌==◌, ℕ, ◌+◌, ◌<◌, nat_le, nat_lt, Bool, true, false, Option, Some, None, cond, refl}
 use Rattle.std.specs.Ordering.{nat_cmp, eq_by_cmp}
-use Rattle.std.specs.declared.cmp.Ordering.{Ordering}
-use Rattle.std.specs.Cmp.{IsTotalOrder, nat_cmp_total, unsigned_tied}
+use Rattle.std.specs.Cmp.{nat_cmp_total, unsigned_tied}
 use Rattle.std.specs.FinMap as map
-use Rattle.std.specs.FinMap.{FinMap, IsAntisymmetric, get-empty, get-insert, get-remove, get-retain_keys, nat_cmp-IsAntisymmetric, same_map}
+use Rattle.std.specs.FinMap.{IsAntisymmetric, get-empty, get-insert, get-remove, get-retain_keys, nat_cmp-IsAntisymmetric, same_map}
 use Rattle.std.proofs.Common.{ap, sym, ◌∙◌, arith}
 use Rattle.std.proofs.lemmas.Bool.Decides.{nat_tests}
 use Rattle.kern_model.specs.declared.limits.TheConstants.{MAX_DESCRIPTORS}
@@ -117,13 +117,6 @@ from-none fds few = same_fds _ _ (λ q. nothing q (map.get (from 32 fds) q) refl
         let low = few q did e in
         let no : nat_le 32 q ≡ false = grind (arith, nat_tests) in
         get-from 32 fds q ∙ ap (λ b. cond b (map.get fds q) None) no
-
--- an entry that is set twice
-pub set_twice : {K X : Type 0} {R : K → K → Ordering} → IsTotalOrder R → IsAntisymmetric R → (m : FinMap R X) (k : K) (x y : X) → map.insert (map.insert m k x) k y ≡ map.insert m k y
-set_twice {R = R} o exact m k x y = same_map o exact _ _ (λ q.
-    get-insert o (map.insert m k x) k y q ∙ ap (cond (eq_by_cmp R q k) (Some y)) (get-insert o m k x q)
-    ∙ elim (eq_by_cmp R q k) as (λ b. cond b (Some y) (cond b (Some x) (map.get m q)) ≡ cond b (Some y) (map.get m q)) [ true ↦ refl | false ↦ refl ]
-    ∙ sym (get-insert o m k y q))
 
 -- ---- rows
 module _ (rows : AllFds) (who : Pid) (fds : Fds) where

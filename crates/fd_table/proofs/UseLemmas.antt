@@ -17,7 +17,7 @@ use Rattle.fd_table.specs.declared.shared.Shared.{Shared}
 use Rattle.fd_table.specs.declared.uses.UseCount.{UseCount}
 use Rattle.fd_table.specs.Descriptions.{AreCounted, SharedTable, count_of, has_user, uses_of}
 use Rattle.fd_table.specs.Uses.{Includes, more_if, no_use, with_more}
-use Rattle.fd_table.proofs.Sums.{any-sum, sum-empty, sum-insert, sum-remove, sum-replace}
+use Rattle.num_table.proofs.Sums.{any-sum, sum-empty, sum-insert, sum-remove, sum-replace}
 
 -- ---- how many descriptions pass a test
 
@@ -60,7 +60,7 @@ module _ (p : Did → Shared → Bool) where
         omega (arith, both, one)
 
 -- ---- how many descriptions an object has
-abbrev on_object : Oid → Did → Shared → Bool
+abbrev pub on_object : Oid → Did → Shared → Bool
 on_object id did s = same_oid s.object id
 
 abbrev reads_object : Oid → Did → Shared → Bool

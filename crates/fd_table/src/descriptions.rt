@@ -5,16 +5,17 @@ ghost use Rattle.kern_model.specs.Valid.{IsThere};
 ghost use Rattle.fd_table.specs.Descriptions.{has_user, made_for, uses_of, with_one_less};
 ghost use Rattle.fd_table.specs.declared.shared.Shared.{Shared as Value};
 
-use crate::shared::{How, Shared, SharedTable};
+use crate::shared::{How, Shared};
 use crate::uses::Uses;
 use kern_model::{Did, NoMemory, Oid};
+use num_table::Table;
 use std::alloc::Global;
 use std::marker::Model;
 
 /// Open descriptions by their numbers.
 #[derive(Drop)]
 pub struct Descriptions {
-    shared: SharedTable,
+    shared: Table<Shared>,
     uses: Uses,
 }
 
@@ -23,6 +24,7 @@ impl Model for Descriptions {
     ghost use Rattle.std.specs.Coded.{codes};
     ghost use Rattle.lab_lattice.specs.Label.{label_code};
     ghost use Rattle.kern_model.specs.Keys.{did_cmp};
+    ghost use Rattle.num_table.specs.Keys.{by_did};
     ghost use Rattle.fd_table.specs.declared.shared.Shared.{Shared};
     ghost use Rattle.fd_table.specs.Descriptions.{AreCounted};
 
@@ -30,9 +32,9 @@ impl Model for Descriptions {
 
     ghost coded = { map.code (Prim.hlevel (codes, label_code)) (Prim.hlevel (codes, label_code)) };
 
-    ghost view = { λ d. d.shared };
+    ghost view = { λ d. by_did d.shared };
 
-    ghost invariant = { λ d. AreCounted d.shared d.uses };
+    ghost invariant = { λ d. AreCounted (by_did d.shared) d.uses };
 }
 
 impl Descriptions {
@@ -41,7 +43,7 @@ impl Descriptions {
         ensures { result ≡ map.empty }
     {
         Descriptions {
-            shared: SharedTable::new(alloc),
+            shared: Table::new(alloc),
             uses: Uses::new(alloc),
         }
     }
@@ -50,7 +52,7 @@ impl Descriptions {
     pub fn get(&self, did: &Did) -> Option<Shared>
         ensures { result ≡ map.get self.now did.now }
     {
-        self.shared.get(did)
+        self.shared.get_at(did).copied()
     }
 
     /// Makes a description of an object, to which one descriptor refers.
@@ -65,9 +67,9 @@ impl Descriptions {
             offset: 0,
             holders: 1,
         };
-        self.shared.set(*did, shared)?;
+        self.shared.set_at(did, shared)?;
         if let Err(e) = self.uses.add_one(&object, how) {
-            self.shared.remove(did);
+            self.shared.remove_at(did);
             return Err(e);
         }
         Ok(())
@@ -78,7 +80,7 @@ impl Descriptions {
         requires { IsThere self.old did.now }
         ensures { (s : Value) → map.get self.old did.now ≡ Some s → self.new ≡ map.insert self.old did.now (record s { offset = offset }) }
     {
-        let Some(shared) = self.shared.get_mut(did) else {
+        let Some(shared) = self.shared.get_mut_at(did) else {
             unreachable!();
         };
         shared.offset = offset;
@@ -90,7 +92,7 @@ impl Descriptions {
         requires few { (s : Value) → map.get self.old did.now ≡ Some s → s.holders < 18_446_744_073_709_551_615 }
         ensures { (s : Value) → map.get self.old did.now ≡ Some s → self.new ≡ map.insert self.old did.now (record s { holders = s.holders + 1 }) }
     {
-        let Some(shared) = self.shared.get_mut(did) else {
+        let Some(shared) = self.shared.get_mut_at(did) else {
             unreachable!();
         };
         shared.holders += 1;
@@ -104,7 +106,7 @@ impl Descriptions {
         ensures left { (s : Value) → map.get self.old did.now ≡ Some s → self.new ≡ with_one_less self.old did.now s }
         ensures unused { (s : Value) → map.get self.old did.now ≡ Some s → result ≡ cond (uses_of self.new s.object == 0) (Some s.object) None }
     {
-        let Some(shared) = self.shared.get_mut(did) else {
+        let Some(shared) = self.shared.get_mut_at(did) else {
             unreachable!();
         };
         if shared.holders > 1 {
@@ -112,7 +114,7 @@ impl Descriptions {
             return None;
         }
         let Shared { object, how, .. } = *shared;
-        self.shared.remove(did);
+        self.shared.remove_at(did);
         self.uses.remove_one(&object, how);
         self.unused(&object)
     }

@@ -71,7 +71,7 @@ impl Rows {
         if self.count >= MAX_ROWS {
             return Err(NoMemory);
         }
-        self.kept.set(&who.label, who.n, row)?;
+        self.kept.set_at(who, row)?;
         self.count += 1;
         Ok(())
     }
@@ -98,7 +98,7 @@ impl Rows {
     fn row(&self, who: &Pid) -> Option<&Row>
         ensures { option_copied result ≡ map.get self.now who.now }
     {
-        self.kept.get(&who.label, who.n)
+        self.kept.get_at(who)
     }
 
     // The same, for changes to it. It takes no memory.
@@ -106,7 +106,7 @@ impl Rows {
         ensures* writes_back { sem 𝓛 (LendsRow self.entry who.now result) }
         ensures value { option_copied_mut result ≡ map.get self.old who.now }
     {
-        match self.kept.get_mut(&who.label, who.n) {
+        match self.kept.get_mut_at(who) {
             Some(row) => Some(row),
             None => None,
         }
@@ -117,7 +117,7 @@ impl Rows {
         ensures removed { result ≡ map.get self.old who.now }
         ensures left { self.new ≡ map.remove self.old who.now }
     {
-        let row = self.kept.remove(&who.label, who.n)?;
+        let row = self.kept.remove_at(who)?;
         self.count -= 1;
         Some(row)
     }

@@ -1,5 +1,5 @@
 // How many descriptions each object has.
-ghost use Rattle.std.specs.Prelude.{◌≡◌, ◌+◌, IfOk, IsOk, IsSome, OnErr, OnOk, cond};
+ghost use Rattle.std.specs.Prelude.{◌≡◌, ◌+◌, IfOk, OnErr, OnOk, cond};
 ghost use Rattle.std.specs.FinMap as map;
 ghost use Rattle.kern_model.specs.Keys.{same_oid};
 ghost use Rattle.kern_model.specs.Maps.{get_or};
@@ -98,31 +98,7 @@ impl Uses {
     pub fn count(&self, id: &Oid) -> UseCount
         ensures { result ≡ get_or self.now id.now no_use }
     {
-        self.get(id).unwrap_or(NO_USE)
-    }
-
-    // The count that is kept of an object, if there is one.
-    fn get(&self, id: &Oid) -> Option<UseCount>
-        ensures { result ≡ map.get self.now id.now }
-    {
-        self.kept.get(&id.label, id.n).copied()
-    }
-
-    // Puts a count in place of what was there. Where one is there, it takes no memory.
-    #[inline(always)]
-    fn set(&mut self, id: Oid, count: UseCount) -> Result<(), NoMemory>
-        ensures ok { OnOk result (self.new ≡ map.insert self.old id count) }
-        ensures err { OnErr result (self.new ≡ self.old) }
-        ensures replaced { IsSome (map.get self.old id) → IsOk result }
-    {
-        self.kept.set(&id.label, id.n, count)
-    }
-
-    // Removes the count of an object.
-    fn remove(&mut self, id: &Oid)
-        ensures { self.new ≡ map.remove self.old id.now }
-    {
-        self.kept.remove(&id.label, id.n);
+        self.kept.get_at(id).copied().unwrap_or(NO_USE)
     }
 
     /// Counts one description more.
@@ -131,7 +107,7 @@ impl Uses {
         ensures err { OnErr result (self.new ≡ self.old) }
     {
         let count = self.count(id).plus(how)?;
-        self.set(*id, count)
+        self.kept.set_at(id, count)
     }
 
     /// Counts one description less. It takes no memory.
@@ -141,8 +117,8 @@ impl Uses {
     {
         let count = self.count(id).minus(how);
         if count == NO_USE {
-            self.remove(id);
-        } else if self.set(*id, count).is_err() {
+            self.kept.remove_at(id);
+        } else if self.kept.set_at(id, count).is_err() {
             unreachable!();
         }
     }

@@ -14,6 +14,11 @@ use Rattle.kern_model.specs.Maps.{count_entries, get_or, select, where_key}
 use Rattle.kern_model.specs.State.{State}
 use Rattle.fs_nodes.specs.Rows.{Rows, item_at, items_in}
 use Rattle.fs_dirs.specs.Directory.{name_cmp}
+use Rattle.fs_dirs.specs.declared.spots.SpotRef.{SpotRef}
+
+-- the spot that is lent
+abbrev pub spot_of : SpotRef → Spot
+spot_of s = (s.dir.now, s.name.now)
 
 -- ---- what directories contain
 

@@ -6,10 +6,11 @@ ghost use Rattle.kern_model.specs.declared.limits.TheConstants.{MAX_LINKS};
 ghost use Rattle.kern_model.specs.Keys.{spot_cmp};
 ghost use Rattle.kern_model.specs.Entries.{entry_count, holder, link_count, names_in};
 ghost use Rattle.fs_dirs.specs.Directory.{TakesFewSteps};
-ghost use Rattle.fs_dirs.specs.Entries.{AreHolders, entries_alone, objects_in};
+ghost use Rattle.fs_dirs.specs.Entries.{AreHolders, entries_alone, objects_in, spot_of};
 
 use crate::dirs::Dirs;
 use crate::links::LinkTable;
+use crate::spots::SpotRef;
 use fs_path::{Name, NameList, NoMemory, Steps};
 use kern_model::Oid;
 use std::alloc::Global;
@@ -178,22 +179,20 @@ impl Entries {
     /// Moves the entry that leads to an object to another spot, in place of the one that is there.
     pub fn relocate(
         &mut self,
-        from: &Oid,
-        old: &Name,
-        to: &Oid,
-        new: &Name,
+        from: &SpotRef<'_>,
+        to: &SpotRef<'_>,
         id: &Oid,
     ) -> Result<(), NoMemory>
-        requires there { map.get self.old (from.now, old.now) ≡ Some id.now }
-        requires apart { eq_by_cmp spot_cmp (from.now, old.now) (to.now, new.now) ≡ false }
-        ensures moved { OnOk result (self.new ≡ map.insert (map.remove self.old (from.now, old.now)) (to.now, new.now) id.now) }
+        requires there { map.get self.old (spot_of from.now) ≡ Some id.now }
+        requires apart { eq_by_cmp spot_cmp (spot_of from.now) (spot_of to.now) ≡ false }
+        ensures moved { OnOk result (self.new ≡ map.insert (map.remove self.old (spot_of from.now)) (spot_of to.now) id.now) }
         ensures err { OnErr result (self.new ≡ self.old) }
     {
-        let replaced = self.look(to, new);
-        self.dirs.insert(to, new.copy()?, id)?;
-        self.dirs.remove(from, old);
-        self.names.drop_name(&replaced, to);
-        self.names.move_name(id, from, to);
+        let replaced = self.look(to.dir, to.name);
+        self.dirs.insert(to.dir, to.name.copy()?, id)?;
+        self.dirs.remove(from.dir, from.name);
+        self.names.drop_name(&replaced, to.dir);
+        self.names.move_name(id, from.dir, to.dir);
         self.total = without_one(self.total, &replaced);
         Ok(())
     }

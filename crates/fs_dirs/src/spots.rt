@@ -1,9 +1,11 @@
-// Entries that stand in no directory yet.
+// The spots of entries, and entries that stand in no directory yet.
 ghost use Rattle.std.specs.Prelude.{◌≡◌, ◌≤◌, IfOk, OnOk};
 ghost use Rattle.std.specs.FinMap as map;
+ghost use Rattle.std.specs.Ordering.{eq_by_cmp};
+ghost use Rattle.kern_model.specs.Keys.{spot_cmp};
 ghost use Rattle.kern_model.specs.declared.limits.TheConstants.{MAX_LINKS};
 ghost use Rattle.kern_model.specs.declared.numbers.Oid.{Oid as Number};
-ghost use Rattle.fs_dirs.specs.Entries.{name_count};
+ghost use Rattle.fs_dirs.specs.Entries.{name_count, spot_of};
 
 use crate::entries::Entries;
 use fs_path::{Name, NoMemory};
@@ -14,6 +16,26 @@ use std::marker::Model;
 
 /// The spot of an entry: the directory that holds it, and its name there.
 pub type Spot = (Oid, Name);
+
+/// The spot of an entry, lent.
+#[derive(Clone, Copy)]
+pub struct SpotRef<'a> {
+    pub dir: &'a Oid,
+    pub name: &'a Name,
+}
+
+impl SpotRef<'_> {
+    /// Whether the two are one spot.
+    #[tactic(auto, unfolding(kern_model::specs::Keys::oid_cmp, kern_model::specs::Keys::spot_cmp))]
+    pub fn is_same(&self, other: &SpotRef<'_>) -> bool
+        ensures { result ≡ eq_by_cmp spot_cmp (spot_of self.now) (spot_of other.now) }
+    {
+        self.dir
+            .cmp(other.dir)
+            .then(self.name.cmp(other.name))
+            .is_eq()
+    }
+}
 
 /// Where entries lead that stand in no directory yet.
 #[derive(Drop)]

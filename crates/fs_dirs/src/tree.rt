@@ -1,7 +1,6 @@
 // The tree.
 ghost use Rattle.std.specs.Prelude.{◌≡◌, ◌↔◌, ◌<◌, ◌≤◌, ◌+◌, true, false, [], Some, None, Err, IfOk, IsErr, IsSome, OnErr, OnOk, length};
 ghost use Rattle.std.specs.List.{list_all};
-ghost use Rattle.std.specs.Ordering.{eq_by_cmp};
 ghost use Rattle.std.specs.FinMap as map;
 ghost use Rattle.kern_model.specs.declared.numbers.Oid.{Oid as Number};
 ghost use Rattle.kern_model.specs.Entries.{entry_count, is_empty, is_removed, is_under, link_count, names_in};
@@ -14,7 +13,6 @@ ghost use Rattle.kern_model.specs.Valid.{IsDir, IsThere};
 ghost use Rattle.kern_model.specs.declared.limits.TheConstants.{MAX_FILE_BYTES, MAX_OBJECTS};
 ghost use Rattle.kern_model.specs.declared.objects.Object.{Object as Value};
 ghost use Rattle.fs_nodes.specs.Nodes.{IsFile, next_in, with_new, with_object};
-ghost use Rattle.kern_model.specs.Keys.{spot_cmp};
 ghost use Rattle.fs_dirs.specs.Directory.{TakesFewSteps};
 ghost use Rattle.fs_dirs.specs.Tree.{AreEntries, MayBeAdded, root_alone, state_of_tree, would_loop};
 
@@ -22,7 +20,7 @@ use crate::NoMemory;
 use crate::below::Below;
 use crate::entries::Entries;
 use crate::numbers::same;
-use crate::spots::Spots;
+use crate::spots::{SpotRef, Spots};
 use fs_nodes::{Buffers, NodeError, Nodes, WriteError};
 use fs_path::{Name, NameList, Steps};
 use kern_model::{Attr, Body, Kind, Object, Oid};
@@ -122,14 +120,6 @@ pub fn root_directory() -> Oid
         label: bottom(),
         n: 1,
     }
-}
-
-// Whether two spots are one.
-#[tactic(auto, unfolding(kern_model::specs::Keys::oid_cmp, kern_model::specs::Keys::spot_cmp))]
-fn same_spot(from: &Oid, old: &Name, to: &Oid, new: &Name) -> bool
-    ensures { result ≡ eq_by_cmp spot_cmp (from.now, old.now) (to.now, new.now) }
-{
-    from.cmp(to).then(old.cmp(new)).is_eq()
 }
 
 // Whether it is the kind of a directory.
@@ -393,10 +383,15 @@ impl Tree {
         if self.is_removed(to) {
             return Err(MoveError::Removed);
         }
-        if same_spot(from, old, to, new) {
+        let from = SpotRef {
+            dir: from,
+            name: old,
+        };
+        let to = SpotRef { dir: to, name: new };
+        if from.is_same(&to) {
             return Ok(());
         }
-        self.entries.relocate(from, old, to, new, &id)?;
+        self.entries.relocate(&from, &to, &id)?;
         Ok(())
     }
 

@@ -27,14 +27,14 @@ use Rattle.kern_model.specs.State.{State, Process, Change, look, object_at, root
 use Rattle.kern_model.specs.Walk.{Found, Start, Entry, enter, or_missing, to_object, to_new_name, to_entry, to_entry_of_object, walk_from, walk, reach, start_of, on_path, last_place}
 use Rattle.kern_model.specs.Step.{changes_of}
 use Rattle.iso_laws.proofs.BelowRows.{CheckBelow, OwnBelow, RowBelow}
-use Rattle.iso_laws.proofs.Rows.{Passes, Ends, Gives, when, passed}
-use Rattle.iso_laws.proofs.Sight.{IsOpen, is_open}
+use Rattle.iso_laws.proofs.Rows.{Passes, ChangesSatisfy, EachCommit, cond_satisfies, check_passes}
+use Rattle.iso_laws.proofs.PartReads.{IsOpen, is_open}
 
 -- ---- what a process reaches
 -- a walk leads to the root, to the current directory, or to what an entry leads to
 pub data WalksTo (s : State) (p : Process) : Oid → Type 0 where
   ToRoot : WalksTo s p root
-  ToHome : WalksTo s p p.cwd
+  ToCurrent : WalksTo s p p.cwd
   ToEntry : (spot : Spot) (id : Oid) → map.get s.entries spot ≡ Some id → WalksTo s p id
 
 -- what a process reaches by a walk, or by a descriptor
@@ -64,20 +64,20 @@ found_after Not s p name names (Entry dir last object) f =
 -- ---- along a row
 -- Each check has a property, no refusal is a denial, and changes and own record at each end have a property. After a check it is known that it passed, and
 -- after a refusal that its condition does not hold: what "known" means is a parameter, and may mean nothing.
-module _ (Known : Check → Type 0) (Not : Bool → Type 0) (C : Check → Type 0) (K : List Change → Option Rec → Type 0) where
+module _ (Known : Check → Type 0) (Not : Bool → Type 0) (CheckHolds : Check → Type 0) (CommitHolds : List Change → Option Rec → Type 0) where
   abbrev pub Along : Row → Type 0
-  Along (Need c rest) = C c × (Known c → Along rest)
-  Along (Soft c granted weaker) = C c × ((Known c → Along granted) × Along weaker)
+  Along (Need c rest) = CheckHolds c × (Known c → Along rest)
+  Along (Soft c granted weaker) = CheckHolds c × ((Known c → Along granted) × Along weaker)
   Along (Refuse e b rest) = (is_denial e ≡ false) × (Not b → Along rest)
   Along (Fail e) = is_denial e ≡ false
-  Along (Commit cs answer own) = K cs own
+  Along (Commit cs answer own) = CommitHolds cs own
 
   -- ---- parts of rows
   pub along_cond : (b : Bool) (x y : Row) → (b ≡ true → Along x) → (b ≡ false → Along y) → Along (cond b x y)
   along_cond true x y f g = f refl
   along_cond false x y f g = g refl
 
-  pub along_need_if : (b : Bool) (c : Check) (r : Row) → C c → ((b ≡ true → Known c) → Along r) → Along (need_if b c r)
+  pub along_need_if : (b : Bool) (c : Check) (r : Row) → CheckHolds c → ((b ≡ true → Known c) → Along r) → Along (need_if b c r)
   unfolding need_if
   along_need_if true c r h rest = (h, λ known. rest (λ _. known))
   along_need_if false c r h rest = rest (λ e. cc)
@@ -125,7 +125,7 @@ module _ (Known : Check → Type 0) (Not : Bool → Type 0) (C : Check → Type 
     along_open_object fd k h = along_descriptor fd _ (λ f open_is. h f.description.object Handle (ByDescriptor fd f open_is))
 
     -- a row after a walk, where a check of a directory that was reached has the property
-    module _ (checks : (name : CheckName) (holds : Bool) (id : Oid) (place : Place) → Reaches s p id → C (on_object s name holds None id place)) where
+    module _ (checks : (name : CheckName) (holds : Bool) (id : Oid) (place : Place) → Reaches s p id → CheckHolds (on_object s name holds None id place)) where
       along_enter : (dir : Oid) (place : Place) (rest : Row) → WalksTo s p dir
           → (Known (mac_read s p dir place) → Not (not (is_dir (object_at s dir).kind)) → Along rest) → Along (enter s p dir place rest)
       along_enter dir place rest walked h =
@@ -147,7 +147,7 @@ module _ (Known : Check → Type 0) (Not : Bool → Type 0) (C : Check → Type 
           (λ found f. h found (found_after Not s p name (next ∷ names) found f))))
 
       start_walked : (path : PathValue) → WalksTo s p (start_of p path)
-      start_walked path = elim path.absolute as (λ b. WalksTo s p (cond b root p.cwd)) [ true ↦ ToRoot | false ↦ ToHome ]
+      start_walked path = elim path.absolute as (λ b. WalksTo s p (cond b root p.cwd)) [ true ↦ ToRoot | false ↦ ToCurrent ]
 
       pub along_walk : (place : ℕ → Place) (path : PathValue) (k : Found → Row) → ((found : Found) → IsFound Not s p path.names found → Along (k found))
           → Along (walk s p place path k)
@@ -161,49 +161,49 @@ module _ (Known : Check → Type 0) (Not : Bool → Type 0) (C : Check → Type 
       along_path path k h = along_reach (λ n. First n) path _ (λ id walked. h id (last_place (λ n. First n) path) walked)
 
 -- ---- what follows
--- unless an exercise is bad, the end of a row has a property that each stop, each refusal that is no denial, and what the row gives at each of its ends have
-module _ (bad : Rec → Bool) (a : Subject) (C : Check → Type 0) (K : List Change → Option Rec → Type 0) (P : End → Type 0)
+-- unless an exercise is excluded, the end of a row has a property that each stop, each refusal that is no denial, and each commit of the row has
+module _ (excluded : Rec → Bool) (a : Subject) (CheckHolds : Check → Type 0) (CommitHolds : List Change → Option Rec → Type 0) (P : End → Type 0)
     (stopped : (name : CheckName) (place : Place) → P (Stopped name place)) (refused : (e : Errno) → is_denial e ≡ false → P (Refused e))
-    (done : (cs : List Change) (answer : Answer) (own : Option Rec) → K cs own → P (Done cs answer own)) where
-  pub along_end : (used : List Rec) (r : Row) → Along (Passes bad a) (λ b. b ≡ false) C K r → list_any bad (judge a used r).used ≡ false
+    (done : (cs : List Change) (answer : Answer) (own : Option Rec) → CommitHolds cs own → P (Done cs answer own)) where
+  pub along_end : (used : List Rec) (r : Row) → Along (Passes excluded a) (λ b. b ≡ false) CheckHolds CommitHolds r → list_any excluded (judge a used r).used ≡ false
       → P (judge a used r).end
   unfolding judge
   along_end used (Need c r) h =
-      when (λ j. list_any bad j.used ≡ false → P j.end) (is_denied (verdict_of a c)) _ _ (λ _ _. stopped c.name c.place)
-      (λ granted inside. along_end (noted a c (verdict_of a c) used) r (h.1 (passed bad a c used r granted inside)) inside)
+      cond_satisfies (λ j. list_any excluded j.used ≡ false → P j.end) (is_denied (verdict_of a c)) _ _ (λ _ _. stopped c.name c.place)
+      (λ granted inside. along_end (noted a c (verdict_of a c) used) r (h.1 (check_passes excluded a c used r granted inside)) inside)
   along_end used (Soft c r w) h =
-      when (λ j. list_any bad j.used ≡ false → P j.end) (is_denied (verdict_of a c)) _ _ (λ _. along_end used w h.1.1)
-      (λ granted inside. along_end (noted a c (verdict_of a c) used) r (h.1.0 (passed bad a c used r granted inside)) inside)
-  along_end used (Refuse e b r) h = when (λ j. list_any bad j.used ≡ false → P j.end) b _ _ (λ _ _. refused e h.0) (λ not. along_end used r (h.1 not))
+      cond_satisfies (λ j. list_any excluded j.used ≡ false → P j.end) (is_denied (verdict_of a c)) _ _ (λ _. along_end used w h.1.1)
+      (λ granted inside. along_end (noted a c (verdict_of a c) used) r (h.1.0 (check_passes excluded a c used r granted inside)) inside)
+  along_end used (Refuse e b r) h = cond_satisfies (λ j. list_any excluded j.used ≡ false → P j.end) b _ _ (λ _ _. refused e h.0) (λ not. along_end used r (h.1 not))
   along_end used (Fail e) h = λ _. refused e h
   along_end used (Commit cs answer own) h = λ _. done cs answer own h
 
 -- the changes that are made have a property that those at each end have
-pub along_ends : (bad : Rec → Bool) (a : Subject) (C : Check → Type 0) (K : List Change → Option Rec → Type 0) (P : List Change → Type 0) → P []
-    → ((cs : List Change) (own : Option Rec) → K cs own → P cs)
-    → (r : Row) → Along (Passes bad a) (λ b. b ≡ false) C K r → Ends bad a P r
-along_ends bad a C K P none each r h =
-    record { ends = λ used inside. along_end bad a C K (λ e. P (changes_of e)) (λ _ _. none) (λ _ _. none) (λ cs answer own k. each cs own k) used r h inside }
+pub along_changes : (excluded : Rec → Bool) (a : Subject) (CheckHolds : Check → Type 0) (CommitHolds : List Change → Option Rec → Type 0) (P : List Change → Type 0) → P []
+    → ((cs : List Change) (own : Option Rec) → CommitHolds cs own → P cs)
+    → (r : Row) → Along (Passes excluded a) (λ b. b ≡ false) CheckHolds CommitHolds r → ChangesSatisfy excluded a P r
+along_changes excluded a CheckHolds CommitHolds P none each r h =
+    record { ends = λ used inside. along_end excluded a CheckHolds CommitHolds (λ e. P (changes_of e)) (λ _ _. none) (λ _ _. none) (λ cs answer own k. each cs own k) used r h inside }
 
 -- nothing is known
-abbrev pub Nothing_known : {X : Type 0} → X → Type 0
-Nothing_known x = ⊤
+abbrev pub NothingKnown : {X : Type 0} → X → Type 0
+NothingKnown x = ⊤
 
 -- where nothing is known after a check: each end of the row has a weaker property
-pub along_gives : (C : Check → Type 0) (K Q : List Change → Option Rec → Type 0) → ((cs : List Change) (own : Option Rec) → K cs own → Q cs own) → (r : Row)
-    → Along Nothing_known Nothing_known C K r → Gives Q r
-along_gives C K Q weaker (Need c r) h = along_gives C K Q weaker r (h.1 tt)
-along_gives C K Q weaker (Soft c r w) h = (along_gives C K Q weaker r (h.1.0 tt), along_gives C K Q weaker w h.1.1)
-along_gives C K Q weaker (Refuse e b r) h = (h.0, along_gives C K Q weaker r (h.1 tt))
-along_gives C K Q weaker (Fail e) h = h
-along_gives C K Q weaker (Commit cs answer own) h = weaker cs own h
+pub along_each_commit : (CheckHolds : Check → Type 0) (CommitHolds Q : List Change → Option Rec → Type 0) → ((cs : List Change) (own : Option Rec) → CommitHolds cs own → Q cs own) → (r : Row)
+    → Along NothingKnown NothingKnown CheckHolds CommitHolds r → EachCommit Q r
+along_each_commit CheckHolds CommitHolds Q weaker (Need c r) h = along_each_commit CheckHolds CommitHolds Q weaker r (h.1 tt)
+along_each_commit CheckHolds CommitHolds Q weaker (Soft c r w) h = (along_each_commit CheckHolds CommitHolds Q weaker r (h.1.0 tt), along_each_commit CheckHolds CommitHolds Q weaker w h.1.1)
+along_each_commit CheckHolds CommitHolds Q weaker (Refuse e b r) h = (h.0, along_each_commit CheckHolds CommitHolds Q weaker r (h.1 tt))
+along_each_commit CheckHolds CommitHolds Q weaker (Fail e) h = h
+along_each_commit CheckHolds CommitHolds Q weaker (Commit cs answer own) h = weaker cs own h
 
 -- and the labels of its checks and of its own record are below
-pub along_below : (top : Label) (C : Check → Type 0) (K : List Change → Option Rec → Type 0) → ((c : Check) → C c → CheckBelow top c)
-    → ((cs : List Change) (own : Option Rec) → K cs own → OwnBelow top own)
-    → (r : Row) → Along Nothing_known Nothing_known C K r → RowBelow top r
-along_below top C K checks owns (Need c r) h = (checks c h.0, along_below top C K checks owns r (h.1 tt))
-along_below top C K checks owns (Soft c r w) h = (checks c h.0, (along_below top C K checks owns r (h.1.0 tt), along_below top C K checks owns w h.1.1))
-along_below top C K checks owns (Refuse e b r) h = along_below top C K checks owns r (h.1 tt)
-along_below top C K checks owns (Fail e) h = tt
-along_below top C K checks owns (Commit cs answer own) h = owns cs own h
+pub along_below : (top : Label) (CheckHolds : Check → Type 0) (CommitHolds : List Change → Option Rec → Type 0) → ((c : Check) → CheckHolds c → CheckBelow top c)
+    → ((cs : List Change) (own : Option Rec) → CommitHolds cs own → OwnBelow top own)
+    → (r : Row) → Along NothingKnown NothingKnown CheckHolds CommitHolds r → RowBelow top r
+along_below top CheckHolds CommitHolds checks owns (Need c r) h = (checks c h.0, along_below top CheckHolds CommitHolds checks owns r (h.1 tt))
+along_below top CheckHolds CommitHolds checks owns (Soft c r w) h = (checks c h.0, (along_below top CheckHolds CommitHolds checks owns r (h.1.0 tt), along_below top CheckHolds CommitHolds checks owns w h.1.1))
+along_below top CheckHolds CommitHolds checks owns (Refuse e b r) h = along_below top CheckHolds CommitHolds checks owns r (h.1 tt)
+along_below top CheckHolds CommitHolds checks owns (Fail e) h = tt
+along_below top CheckHolds CommitHolds checks owns (Commit cs answer own) h = owns cs own h

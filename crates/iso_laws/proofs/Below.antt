@@ -20,30 +20,30 @@ use Rattle.kern_model.specs.World.{IsWorldProc}
 use Rattle.iso_laws.specs.Labels.{HasLabelsBelow}
 use Rattle.iso_laws.specs.Laws.{LabelsBelow}
 use Rattle.iso_laws.proofs.AllLemmas.{all-append}
-use Rattle.iso_laws.proofs.Along.{Nothing_known, along_below}
-use Rattle.iso_laws.proofs.BelowRows.{RowBelow, AllBelow, process_under, row_leaves}
+use Rattle.iso_laws.proofs.Along.{NothingKnown, along_below}
+use Rattle.iso_laws.proofs.BelowRows.{RowBelow, AllBelow, process_below, row_leaves}
 use Rattle.iso_laws.proofs.Booting.{top_boot}
 use Rattle.iso_laws.proofs.EffectLaws.{check_below, own_below_effect}
-use Rattle.iso_laws.proofs.Effects.{Holds}
+use Rattle.iso_laws.proofs.Effects.{PremiseHolds}
 use Rattle.iso_laws.proofs.RowKinds.{row_kinds}
 use Rattle.iso_laws.proofs.Runs.{first_of_script}
-use Rattle.iso_laws.proofs.Steps.{by_process, top_step, valid_step}
+use Rattle.iso_laws.proofs.Steps.{step_cases, top_step, valid_step}
 use Rattle.iso_laws.proofs.ValidBoot.{valid_boot}
 
 -- the row of each call
 row_below : (s : State) → IsValid s → (who : Pid) (p : Process) → map.get s.procs who ≡ Some p → (c : Call) → is_call s.top c ≡ true
     → RowBelow s.top (row s who p c)
 row_below s valid who p is c args =
-    along_below s.top _ _ (check_below s valid who p is (Holds s c) args) (own_below_effect s valid who p is (Holds s c) args Nothing_known Nothing_known)
+    along_below s.top _ _ (check_below s valid who p is (PremiseHolds s c) args) (own_below_effect s valid who p is (PremiseHolds s c) args NothingKnown NothingKnown)
     (row s who p c)
-    (row_kinds Nothing_known Nothing_known (Holds s c) s who p is c (λ x h. h))
+    (row_kinds NothingKnown NothingKnown (PremiseHolds s c) s who p is c (λ x h. h))
 
 -- the records of a step
 step_below : (s : State) (who : Pid) (c : Call) → is_call s.top c ≡ true → IsValid s → AllBelow s.top (step s who c).recs
-step_below s who c args valid = by_process s who c (λ o. AllBelow s.top o.recs)
+step_below s who c args valid = step_cases s who c (λ o. AllBelow s.top o.recs)
     (λ _. tt)
     (λ p is.
-    row_leaves s.top who p (process_under s valid who p is) (valid.procs who p is).below s (name_of c) (row s who p c) (row_below s valid who p is c args))
+    row_leaves s.top who p (process_below s valid who p is) (valid.procs who p is).below s (name_of c) (row s who p c) (row_below s valid who p is c args))
 
 -- the records of a run from a state on
 run_below : (items : List ScriptItem) (s : State) → is_script s.top items ≡ true → IsValid s

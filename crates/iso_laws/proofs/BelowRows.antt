@@ -24,7 +24,7 @@ use Rattle.kern_model.specs.Records.{label_of, label_if}
 use Rattle.iso_laws.specs.Labels.{AreBelow, HasLabelsBelow}
 use Rattle.iso_laws.proofs.AllLemmas.{all-append, all_if}
 use Rattle.iso_laws.proofs.DrawingLemmas.{LeadsTo, leads_where}
-use Rattle.iso_laws.proofs.Rows.{when}
+use Rattle.iso_laws.proofs.Rows.{cond_satisfies}
 
 -- ---- rows
 -- the labels of a check: those of what it is on, and the new one
@@ -66,24 +66,24 @@ module _ (top : Label) (who : Pid) (p : Process) (number : dominates top who.lab
   used_below : (used : List Rec) (r : Row) → RowBelow top r → AllBelow top used → AllBelow top (judge (subject who p) used r).used
   unfolding judge
   used_below used (Need c r) h all =
-      when (λ j. AllBelow top j.used) (is_denied (verdict_of (subject who p) c)) _ _ (λ _. all)
+      cond_satisfies (λ j. AllBelow top j.used) (is_denied (verdict_of (subject who p) c)) _ _ (λ _. all)
       (λ _. used_below (noted (subject who p) c (verdict_of (subject who p) c) used) r h.1 (noted_below c _ used h.0 all))
   used_below used (Soft c r w) h all =
-      when (λ j. AllBelow top j.used) (is_denied (verdict_of (subject who p) c)) _ _
+      cond_satisfies (λ j. AllBelow top j.used) (is_denied (verdict_of (subject who p) c)) _ _
       (λ _. used_below used w h.1.1 all) (λ _. used_below (noted (subject who p) c (verdict_of (subject who p) c) used) r h.1.0 (noted_below c _ used h.0 all))
-  used_below used (Refuse e b r) h all = when (λ j. AllBelow top j.used) b _ _ (λ _. all) (λ _. used_below used r h all)
+  used_below used (Refuse e b r) h all = cond_satisfies (λ j. AllBelow top j.used) b _ _ (λ _. all) (λ _. used_below used r h all)
   used_below used (Fail e) h all = all
   used_below used (Commit cs answer own) h all = all
 
   end_below : (used : List Rec) (r : Row) → RowBelow top r → EndBelow top (judge (subject who p) used r).end
   unfolding judge
   end_below used (Need c r) h =
-      when (λ j. EndBelow top j.end) (is_denied (verdict_of (subject who p) c)) _ _ (λ _. tt)
+      cond_satisfies (λ j. EndBelow top j.end) (is_denied (verdict_of (subject who p) c)) _ _ (λ _. tt)
       (λ _. end_below (noted (subject who p) c (verdict_of (subject who p) c) used) r h.1)
   end_below used (Soft c r w) h =
-      when (λ j. EndBelow top j.end) (is_denied (verdict_of (subject who p) c)) _ _ (λ _. end_below used w h.1.1)
+      cond_satisfies (λ j. EndBelow top j.end) (is_denied (verdict_of (subject who p) c)) _ _ (λ _. end_below used w h.1.1)
       (λ _. end_below (noted (subject who p) c (verdict_of (subject who p) c) used) r h.1.0)
-  end_below used (Refuse e b r) h = when (λ j. EndBelow top j.end) b _ _ (λ _. tt) (λ _. end_below used r h)
+  end_below used (Refuse e b r) h = cond_satisfies (λ j. EndBelow top j.end) b _ _ (λ _. tt) (λ _. end_below used r h)
   end_below used (Fail e) h = tt
   end_below used (Commit cs answer own) h = h
 
@@ -102,15 +102,15 @@ module _ (top : Label) (who : Pid) (p : Process) (number : dominates top who.lab
 -- ---- a valid state
 module _ (s : State) (valid : IsValid s) where
   -- the label of an object's number
-  abbrev pub Under : Oid → Type 0
-  Under id = dominates s.top id.label ≡ true
+  abbrev pub NumberBelow : Oid → Type 0
+  NumberBelow id = dominates s.top id.label ≡ true
 
-  number_under : (id : Oid) → IsThere s.objects id → Under id
-  number_under id there = let own = (valid.objects id there.value there.is).drawn_already in valid.object_numbers.below id.label (omega (arith, own.0, own.1))
+  number_below : (id : Oid) → IsThere s.objects id → NumberBelow id
+  number_below id there = let own = (valid.objects id there.value there.is).drawn_already in valid.object_numbers.below id.label (omega (arith, own.0, own.1))
 
   -- what leads to objects leads to such numbers
-  pub leads_under : LeadsTo Under s
-  leads_under = leads_where Under s valid number_under
+  pub leads_below : LeadsTo NumberBelow s
+  leads_below = leads_where NumberBelow s valid number_below
 
   -- the label of an object, and of what is read in place of one
   pub object_below : (id : Oid) → dominates s.top (object_at s id).label ≡ true
@@ -122,5 +122,5 @@ module _ (s : State) (valid : IsValid s) where
             subst (λ (o : Object). dominates s.top o.label ≡ true) (sym (get_or-found s.objects id (stub_object s.top) o is)) (valid.objects id o is).below
       ] refl
 
-  pub process_under : (who : Pid) (p : Process) → map.get s.procs who ≡ Some p → dominates s.top who.label ≡ true
-  process_under who p is = let own = (valid.procs who p is).drawn_already in valid.process_numbers.below who.label (omega (arith, own.0, own.1))
+  pub process_below : (who : Pid) (p : Process) → map.get s.procs who ≡ Some p → dominates s.top who.label ≡ true
+  process_below who p is = let own = (valid.procs who p is).drawn_already in valid.process_numbers.below who.label (omega (arith, own.0, own.1))

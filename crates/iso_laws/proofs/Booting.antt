@@ -20,7 +20,7 @@ use Rattle.kern_model.specs.Isolation.{Kept}
 use Rattle.kern_model.proofs.MapLemmas.{never_some}
 use Rattle.iso_laws.specs.Laws.{KeptBoot, TopBoot}
 use Rattle.iso_laws.proofs.Part.{fixed_by, top-changed}
-use Rattle.iso_laws.proofs.Changes.{kept_beside, kept_object, kept_process}
+use Rattle.iso_laws.proofs.Changes.{kept_with, kept_object, kept_process}
 
 -- ---- numbers and labels stay on one side
 module _ (l : Label) where
@@ -48,7 +48,7 @@ module _ (l : Label) where
 
   unopened_entries : (s t : State) → IsUnopened t → (dir : Oid) (names : List Name) (id : Oid) → IsUnopened (changed_by t (entry_for s dir names id))
   unopened_entries s t fresh dir [] id = fresh
-  unopened_entries s t fresh dir (name ∷ []) id = record { kept = kept_beside l t fresh.kept _ _ _ _; none = fresh.none }
+  unopened_entries s t fresh dir (name ∷ []) id = record { kept = kept_with l t fresh.kept _ _ _ _; none = fresh.none }
   unopened_entries s t fresh dir (name ∷ next ∷ names) id = unopened_entries s t fresh (unwrap_or (look s dir name) dir) (next ∷ names) id
 
   unopened_object : (s : State) (o : WorldObject) → IsUnopened s → IsUnopened (boot_object s o)
@@ -56,7 +56,7 @@ module _ (l : Label) where
   unopened_object s o fresh =
       let drew : State = changed s (DrawObject o.label (drawn s.object_numbers o.label + 1)) in
       unopened_entries s (changed drew (SetObject (next_object s o.label) (object_of o)))
-      (record { kept = kept_object l drew (kept_beside l s fresh.kept _ _ _ _) (next_object s o.label) (object_of o) refl (λ did d e. absurd (fresh.none did d e)); none = fresh.none })
+      (record { kept = kept_object l drew (kept_with l s fresh.kept _ _ _ _) (next_object s o.label) (object_of o) refl (λ did d e. absurd (fresh.none did d e)); none = fresh.none })
       root o.path.names (next_object s o.label)
 
   unopened_objects : (os : List WorldObject) (s : State) → IsUnopened s → IsUnopened (boot_objects s os)
@@ -66,7 +66,7 @@ module _ (l : Label) where
   kept_boot_process : (s : State) (w : WorldProc) → Kept l s → Kept l (boot_process s w)
   unfolding boot_process
   kept_boot_process s w kept =
-      kept_process l (changed s (DrawProcess w.label (drawn s.process_numbers w.label + 1))) (kept_beside l s kept _ _ _ _) (next_process s w.label) (process_of w)
+      kept_process l (changed s (DrawProcess w.label (drawn s.process_numbers w.label + 1))) (kept_with l s kept _ _ _ _) (next_process s w.label) (process_of w)
       (record { label = refl; parent = λ q e. cc; ended = tt; fds = λ fd did e. absurd (never_some _ did (get-empty nat_cmp fd) e); cwd = λ _. dominates_bottom l })
 
   kept_processes : (ws : List WorldProc) (s : State) → Kept l s → Kept l (boot_processes s ws)

@@ -16,7 +16,7 @@ use Rattle.kern_model.specs.declared.world.WorldObject.{WorldObject}
 use Rattle.kern_model.specs.declared.world.WorldProc.{WorldProc}
 use Rattle.kern_model.specs.Keys.{pid_cmp, same_pid}
 use Rattle.kern_model.proofs.KeyLaws.{pid_cmp_total, pid_cmp_exact}
-use Rattle.kern_model.specs.State.{State, Process, Change, SetObject, SetEntry, DropEntry, SetProcess, DropProcess, SetDescription, DropDescription, DrawObject, DrawProcess, DrawDescription, changed, changed_by, drawn, look, next_object, next_process, root}
+use Rattle.kern_model.specs.State.{State, Process, Change, SetObject, SetProcess, DropProcess, DrawObject, DrawProcess, changed, changed_by, drawn, look, next_object, next_process, root}
 use Rattle.kern_model.specs.Boot.{object_of, process_of, entry_for, boot_object, boot_process, boot_objects, boot_processes, nothing, furnished, boot, started, boot_recs}
 use Rattle.kern_model.specs.Lineage.{caps_after_one, caps_after, caps_of}
 use Rattle.kern_model.proofs.MapLemmas.{each-insert, each-remove, same_key, some_same, never_some}
@@ -44,40 +44,33 @@ have_set s f g has who new own q p e =
     ] refl (sym (get-insert pid_cmp_total s.procs who new q) ∙ e)
 
 -- a change that leaves each process the sets that it has
-abbrev pub Quiet : (Pid → CapState) → Change → Type 0
-Quiet f (SetProcess who p) = p.caps ≡ f who
-Quiet f _ = ⊤
+abbrev pub LeavesCaps : (Pid → CapState) → Change → Type 0
+LeavesCaps f (SetProcess who p) = p.caps ≡ f who
+LeavesCaps f _ = ⊤
 
-have_over : (s : State) (f : Pid → CapState) → HaveCaps s f → (c : Change) → Quiet f c → HaveCaps (changed s c) f
-have_over s f has (SetObject id o) h = has
-have_over s f has (SetEntry spot id) h = has
-have_over s f has (DropEntry spot) h = has
+have_over : (s : State) (f : Pid → CapState) → HaveCaps s f → (c : Change) → LeavesCaps f c → HaveCaps (changed s c) f
 have_over s f has (SetProcess who p) h = each-insert pid_cmp_total pid_cmp_exact (λ q x. x.caps ≡ f q) s.procs has who p h
 have_over s f has (DropProcess who) h = each-remove pid_cmp_total pid_cmp_exact (λ q x. x.caps ≡ f q) s.procs has who
-have_over s f has (SetDescription did d) h = has
-have_over s f has (DropDescription did) h = has
-have_over s f has (DrawObject label n) h = has
-have_over s f has (DrawProcess label n) h = has
-have_over s f has (DrawDescription label n) h = has
+have_over s f has c h = has
 
-pub have_quiet : (cs : List Change) (s : State) (f : Pid → CapState) → HaveCaps s f → AllByRecursion (Quiet f) cs → HaveCaps (changed_by s cs) f
-have_quiet [] s f has h = has
-have_quiet (c ∷ cs) s f has h = have_quiet cs (changed s c) f (have_over s f has c h.0) h.1
+pub have_over_all : (cs : List Change) (s : State) (f : Pid → CapState) → HaveCaps s f → AllByRecursion (LeavesCaps f) cs → HaveCaps (changed_by s cs) f
+have_over_all [] s f has h = has
+have_over_all (c ∷ cs) s f has h = have_over_all cs (changed s c) f (have_over s f has c h.0) h.1
 
 -- ---- the start
 module _ (f : Pid → CapState) where
-  quiet_entries : (s : State) (dir : Oid) (names : List Name) (id : Oid) → AllByRecursion (Quiet f) (entry_for s dir names id)
-  quiet_entries s dir [] id = tt
-  quiet_entries s dir (name ∷ []) id = (tt, tt)
-  quiet_entries s dir (name ∷ next ∷ names) id = quiet_entries s (unwrap_or (look s dir name) dir) (next ∷ names) id
+  entries_leave_caps : (s : State) (dir : Oid) (names : List Name) (id : Oid) → AllByRecursion (LeavesCaps f) (entry_for s dir names id)
+  entries_leave_caps s dir [] id = tt
+  entries_leave_caps s dir (name ∷ []) id = (tt, tt)
+  entries_leave_caps s dir (name ∷ next ∷ names) id = entries_leave_caps s (unwrap_or (look s dir name) dir) (next ∷ names) id
 
   have_objects : (os : List WorldObject) (s : State) → HaveCaps s f → HaveCaps (boot_objects s os) f
   unfolding boot_object
   have_objects [] s has = has
   have_objects (o ∷ os) s has =
       have_objects os (boot_object s o)
-      (have_quiet (DrawObject o.label (drawn s.object_numbers o.label + 1) ∷ SetObject (next_object s o.label) (object_of o) ∷ entry_for s root o.path.names (next_object s o.label)) s f has
-      (tt, (tt, quiet_entries s root o.path.names (next_object s o.label))))
+      (have_over_all (DrawObject o.label (drawn s.object_numbers o.label + 1) ∷ SetObject (next_object s o.label) (object_of o) ∷ entry_for s root o.path.names (next_object s o.label)) s f has
+      (tt, (tt, entries_leave_caps s root o.path.names (next_object s o.label))))
 
   have_furnished : (w : World) → HaveCaps (furnished w) f
   have_furnished w = have_objects w.objects (nothing w.bound w.top) (λ who p e. absurd (never_some _ p (get-empty pid_cmp who) e))

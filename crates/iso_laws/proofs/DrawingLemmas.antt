@@ -18,7 +18,7 @@ use Rattle.kern_model.specs.State.{State, Process, Description, Change, SetObjec
 use Rattle.kern_model.specs.Valid.{IsThere, IsValid}
 use Rattle.kern_model.proofs.MapLemmas.{each-insert, each-remove, get-insert_same, get_or-found, never_some}
 use Rattle.kern_model.proofs.TableLemmas.{each_set_at}
-use Rattle.iso_laws.proofs.Changes.{there_still}
+use Rattle.iso_laws.proofs.KeyLemmas.{still_there}
 
 -- ---- what leads to objects
 -- entries, current directories and descriptions lead to objects of a set
@@ -29,19 +29,19 @@ pub record LeadsTo (There : Oid → Type 0) (s : State) : Type 0 where
   pub descriptions : (did : Did) (d : Description) → map.get s.descriptions did ≡ Some d → There d.object
 
 -- the set of all objects
-abbrev pub Anything : Oid → Type 0
-Anything id = ⊤
+abbrev pub AllObjects : Oid → Type 0
+AllObjects id = ⊤
 
-pub lead_anywhere : (s : State) → LeadsTo Anything s
-lead_anywhere s = record { root_there = tt; entries = λ spot id e. tt; procs = λ who p e. tt; descriptions = λ did d e. tt }
+pub leads_to_all : (s : State) → LeadsTo AllObjects s
+leads_to_all s = record { root_there = tt; entries = λ spot id e. tt; procs = λ who p e. tt; descriptions = λ did d e. tt }
 
 -- entries, current directories and descriptions lead to objects that are there
-abbrev pub IsClosed : State → Type 0
-IsClosed s = LeadsTo (IsThere s.objects) s
+abbrev pub NoDangling : State → Type 0
+NoDangling s = LeadsTo (IsThere s.objects) s
 
 -- a valid state does
-pub closed_valid : (s : State) → IsValid s → IsClosed s
-closed_valid s valid = record {
+pub valid_no_dangling : (s : State) → IsValid s → NoDangling s
+valid_no_dangling s valid = record {
   root_there = record { value = valid.root_is.object; is = valid.root_is.is };
   entries = λ spot id e. let entry = valid.entries spot id e in record { value = entry.object; is = entry.object_is };
   procs = λ who p e. let cwd = (valid.procs who p e).cwd in record { value = cwd.object; is = cwd.is };
@@ -51,72 +51,72 @@ closed_valid s valid = record {
 -- and to what those are that are there
 pub leads_where : (There : Oid → Type 0) (s : State) → IsValid s → ((id : Oid) → IsThere s.objects id → There id) → LeadsTo There s
 leads_where There s valid h =
-    let closed : IsClosed s = closed_valid s valid in
+    let no_dangling : NoDangling s = valid_no_dangling s valid in
     record {
-      root_there = h _ closed.root_there;
-      entries = λ spot id e. h id (closed.entries spot id e);
-      procs = λ who p e. h p.cwd (closed.procs who p e);
-      descriptions = λ did d e. h d.object (closed.descriptions did d e);
+      root_there = h _ no_dangling.root_there;
+      entries = λ spot id e. h id (no_dangling.entries spot id e);
+      procs = λ who p e. h p.cwd (no_dangling.procs who p e);
+      descriptions = λ did d e. h d.object (no_dangling.descriptions did d e);
     }
 
 -- drawing a number that is at least the last one lets no count fall
 pub falls_nowhere : (old m : FinMap label_cmp ℕ) (l : Label) (n : ℕ) → NeverFalls old m → drawn m l ≤ n → NeverFalls old (map.insert m l n)
 falls_nowhere old m l n stay up = each_set_at label_cmp_total label_cmp_exact (λ q x. drawn old q ≤ x) 0 m l n (omega (arith, stay l)) stay
 
--- ---- changes that fit, from a state on, with a set of objects that are there and a set of processes that are born
+-- ---- changes numbered in order, from a state on, with a set of objects that are there and a set of processes that are born
 module _ (There : Oid → Type 0) (Born : Pid → Type 0) (s : State) where
   -- an object that was there, or is by now
-  abbrev pub Known : State → Oid → Type 0
-  Known t id = There id ⊎ IsThere t.objects id
+  abbrev pub IsPresent : State → Oid → Type 0
+  IsPresent t id = There id ⊎ IsThere t.objects id
 
   -- a process that was there, or is born with a number that was drawn since
   abbrev pub Lives : State → Pid → Type 0
   Lives t who = IsThere s.procs who ⊎ IsDrawnBetween s.process_numbers t.process_numbers who.label who.n × Born who
 
-  -- a change in a later state: what is set was there or has a number drawn since, and leads to an object that is known
-  abbrev pub Fits : State → Change → Type 0
-  Fits t (SetObject id o) = There id ⊎ IsDrawnBetween s.object_numbers t.object_numbers id.label id.n
-  Fits t (SetEntry spot id) = Known t id
-  Fits t (SetProcess who p) = Lives t who × Known t p.cwd
-  Fits t (SetDescription did d) = (IsThere s.descriptions did ⊎ IsDrawnBetween s.description_numbers t.description_numbers did.label did.n) × Known t d.object
-  Fits t (DrawObject l n) = drawn t.object_numbers l ≤ n
-  Fits t (DrawProcess l n) = drawn t.process_numbers l ≤ n
-  Fits t (DrawDescription l n) = drawn t.description_numbers l ≤ n
-  Fits t _ = ⊤
+  -- a change in a later state is numbered in order: what it sets was there or has a number drawn since, and leads to an object that is present
+  abbrev pub IsNumbered : State → Change → Type 0
+  IsNumbered t (SetObject id o) = There id ⊎ IsDrawnBetween s.object_numbers t.object_numbers id.label id.n
+  IsNumbered t (SetEntry spot id) = IsPresent t id
+  IsNumbered t (SetProcess who p) = Lives t who × IsPresent t p.cwd
+  IsNumbered t (SetDescription did d) = (IsThere s.descriptions did ⊎ IsDrawnBetween s.description_numbers t.description_numbers did.label did.n) × IsPresent t d.object
+  IsNumbered t (DrawObject l n) = drawn t.object_numbers l ≤ n
+  IsNumbered t (DrawProcess l n) = drawn t.process_numbers l ≤ n
+  IsNumbered t (DrawDescription l n) = drawn t.description_numbers l ≤ n
+  IsNumbered t _ = ⊤
 
-  -- each of these changes fits in the state after those before it
-  abbrev pub AllFit : State → List Change → Type 0
-  AllFit t [] = ⊤
-  AllFit t (c ∷ cs) = Fits t c × AllFit (changed t c) cs
+  -- each of these changes is numbered in order in the state after those before it
+  abbrev pub AreNumbered : State → List Change → Type 0
+  AreNumbered t [] = ⊤
+  AreNumbered t (c ∷ cs) = IsNumbered t c × AreNumbered (changed t c) cs
 
-  pub fit-append : (cs ds : List Change) (t : State) → AllFit t cs → AllFit (changed_by t cs) ds → AllFit t (cs ++ ds)
-  fit-append [] ds t h g = g
-  fit-append (c ∷ cs) ds t h g = (h.0, fit-append cs ds (changed t c) h.1 g)
+  pub numbered-append : (cs ds : List Change) (t : State) → AreNumbered t cs → AreNumbered (changed_by t cs) ds → AreNumbered t (cs ++ ds)
+  numbered-append [] ds t h g = g
+  numbered-append (c ∷ cs) ds t h g = (h.0, numbered-append cs ds (changed t c) h.1 g)
 
-  -- a change that fits in each later state
-  abbrev pub FitsAnywhere : Change → Type 0
-  FitsAnywhere c = (t : State) → Fits t c
+  -- a change that is numbered in order in each later state
+  abbrev pub IsNumberedAnywhere : Change → Type 0
+  IsNumberedAnywhere c = (t : State) → IsNumbered t c
 
-  pub fit_anywhere : (cs : List Change) (t : State) → AllByRecursion FitsAnywhere cs → AllFit t cs
-  fit_anywhere [] t h = tt
-  fit_anywhere (c ∷ cs) t h = (h.0 t, fit_anywhere cs (changed t c) h.1)
+  pub numbered_anywhere : (cs : List Change) (t : State) → AllByRecursion IsNumberedAnywhere cs → AreNumbered t cs
+  numbered_anywhere [] t h = tt
+  numbered_anywhere (c ∷ cs) t h = (h.0 t, numbered_anywhere cs (changed t c) h.1)
 
   -- ---- what was drawn stays drawn
-  stay_changed : (t : State) (c : Change) → Fits t c → StayDrawn s t → StayDrawn s (changed t c)
-  stay_changed t (DrawObject l n) h stay =
+  stay_drawn_changed : (t : State) (c : Change) → IsNumbered t c → StayDrawn s t → StayDrawn s (changed t c)
+  stay_drawn_changed t (DrawObject l n) h stay =
       record { objects = falls_nowhere s.object_numbers t.object_numbers l n stay.objects h; procs = stay.procs; descriptions = stay.descriptions }
-  stay_changed t (DrawProcess l n) h stay =
+  stay_drawn_changed t (DrawProcess l n) h stay =
       record { objects = stay.objects; procs = falls_nowhere s.process_numbers t.process_numbers l n stay.procs h; descriptions = stay.descriptions }
-  stay_changed t (DrawDescription l n) h stay =
+  stay_drawn_changed t (DrawDescription l n) h stay =
       record { objects = stay.objects; procs = stay.procs; descriptions = falls_nowhere s.description_numbers t.description_numbers l n stay.descriptions h }
-  stay_changed t c h stay = record { objects = stay.objects; procs = stay.procs; descriptions = stay.descriptions }
+  stay_drawn_changed t c h stay = record { objects = stay.objects; procs = stay.procs; descriptions = stay.descriptions }
 
-  pub stay_all : (cs : List Change) (t : State) → AllFit t cs → StayDrawn s t → StayDrawn s (changed_by t cs)
-  stay_all [] t h stay = stay
-  stay_all (c ∷ cs) t h stay = stay_all cs (changed t c) h.1 (stay_changed t c h.0 stay)
+  pub stay_drawn_all : (cs : List Change) (t : State) → AreNumbered t cs → StayDrawn s t → StayDrawn s (changed_by t cs)
+  stay_drawn_all [] t h stay = stay
+  stay_drawn_all (c ∷ cs) t h stay = stay_drawn_all cs (changed t c) h.1 (stay_drawn_changed t c h.0 stay)
 
-pub stay_itself : (s : State) → StayDrawn s s
-stay_itself s = record { objects = λ l. omega arith; procs = λ l. omega arith; descriptions = λ l. omega arith }
+pub stay_drawn_itself : (s : State) → StayDrawn s s
+stay_drawn_itself s = record { objects = λ l. omega arith; procs = λ l. omega arith; descriptions = λ l. omega arith }
 
 -- a number above the last one of an earlier table was drawn since
 pub drawn_since : (old m : FinMap label_cmp ℕ) (l : Label) (n last : ℕ) → drawn old l < n → n ≤ last → IsDrawnBetween old (map.insert m l last) l n
@@ -176,7 +176,7 @@ module _ {K X : Type 0} {R : K → K → Ordering} (total : IsTotalOrder R) (exa
         | Some x ↦ λ e. let h = fresh k none (record { value = x; is = e }) in absurd (omega (arith, h.0, few))
       ] refl
 
--- ---- who lives after changes that fit
+-- ---- who lives after changes numbered in order
 module _ (There : Oid → Type 0) (Born : Pid → Type 0) (s : State) where
   -- each living process was there, or was born
   abbrev pub AreBorn : State → Type 0
@@ -186,7 +186,7 @@ module _ (There : Oid → Type 0) (Born : Pid → Type 0) (s : State) where
   was_or_born t who (inl was) = inl was
   was_or_born t who (inr born) = inr born.1
 
-  born_changed : (t : State) (c : Change) → Fits There Born s t c → AreBorn t → AreBorn (changed t c)
+  born_changed : (t : State) (c : Change) → IsNumbered There Born s t c → AreBorn t → AreBorn (changed t c)
   born_changed t (SetProcess who p) h born q there =
       each-insert pid_cmp_total pid_cmp_exact (λ (k : Pid) (x : Process). IsThere s.procs k ⊎ Born k) t.procs
       (λ k x e. born k (record { value = x; is = e })) who p (was_or_born t who h.0) q there.value there.is
@@ -195,190 +195,136 @@ module _ (There : Oid → Type 0) (Born : Pid → Type 0) (s : State) where
       (λ k x e. born k (record { value = x; is = e })) who q there.value there.is
   born_changed t c h born q there = born q there
 
-  pub born_all : (cs : List Change) (t : State) → AllFit There Born s t cs → AreBorn t → AreBorn (changed_by t cs)
+  pub born_all : (cs : List Change) (t : State) → AreNumbered There Born s t cs → AreBorn t → AreBorn (changed_by t cs)
   born_all [] t h born = born
   born_all (c ∷ cs) t h born = born_all cs (changed t c) h.1 (born_changed t c h.0 born)
 
--- ---- numbers go on over changes that fit
+-- ---- numbers go on over changes numbered in order
 -- from a state to a later one: numbers go on, objects stay, and what leads to an object leads to one that is there
-pub record GoesOn (s t : State) : Type 0 where
+pub record IsLaterState (s t : State) : Type 0 where
   pub on : NumbersGoOn s t
   pub stay : (id : Oid) → IsThere s.objects id → IsThere t.objects id
-  pub closed : IsClosed t
+  pub no_dangling : NoDangling t
 
 module _ (Born : Pid → Type 0) (s : State) where
-  abbrev Fit : State → Change → Type 0
-  Fit t c = Fits (IsThere s.objects) Born s t c
+  abbrev InOrder : State → Change → Type 0
+  InOrder t c = IsNumbered (IsThere s.objects) Born s t c
 
   -- drawing a number that is at least the last one lets no count of the table fall
-  up : (m : FinMap label_cmp ℕ) (l : Label) (n : ℕ) → drawn m l ≤ n → NeverFalls m (map.insert m l n)
-  up m l n h = falls_nowhere m m l n (λ q. omega arith) h
+  never_falls_drawn : (m : FinMap label_cmp ℕ) (l : Label) (n : ℕ) → drawn m l ≤ n → NeverFalls m (map.insert m l n)
+  never_falls_drawn m l n h = falls_nowhere m m l n (λ q. omega arith) h
 
   was_or_drawn : (t : State) (who : Pid) → Lives (IsThere s.objects) Born s t who
       → IsThere s.procs who ⊎ IsDrawnBetween s.process_numbers t.process_numbers who.label who.n
   was_or_drawn t who (inl was) = inl was
   was_or_drawn t who (inr born) = inr born.0
 
-  -- numbers go on over one more change that fits
-  on_changed : (t : State) (c : Change) → Fit t c → NumbersGoOn s t → NumbersGoOn s (changed t c)
-  on_changed t (SetObject id o) h on = record {
-    stay_drawn = stay_changed (IsThere s.objects) Born s t (SetObject id o) h on.stay_drawn;
-    objects =
-        new-insert oid_cmp_total oid_cmp_exact (λ (q : Oid). q.label)
-        (λ (q : Oid). q.n) s.objects t.objects s.object_numbers t.object_numbers id o h on.objects;
-    procs = on.procs;
-    descriptions = on.descriptions;
-  }
-  on_changed t (SetProcess who p) h on = record {
-    stay_drawn = stay_changed (IsThere s.objects) Born s t (SetProcess who p) h on.stay_drawn;
-    objects = on.objects;
-    procs =
-        new-insert pid_cmp_total pid_cmp_exact (λ (q : Pid). q.label) (λ (q : Pid). q.n) s.procs t.procs s.process_numbers t.process_numbers who p
-        (was_or_drawn t who h.0) on.procs;
-    descriptions = on.descriptions;
-  }
-  on_changed t (DropProcess who) h on = record {
-    stay_drawn = stay_changed (IsThere s.objects) Born s t (DropProcess who) h on.stay_drawn;
-    objects = on.objects;
-    procs = new-remove pid_cmp_total pid_cmp_exact (λ (q : Pid). q.label) (λ (q : Pid). q.n) s.procs t.procs s.process_numbers t.process_numbers who on.procs;
-    descriptions = on.descriptions;
-  }
-  on_changed t (SetDescription did d) h on = record {
-    stay_drawn = stay_changed (IsThere s.objects) Born s t (SetDescription did d) h on.stay_drawn;
-    objects = on.objects;
-    procs = on.procs;
-    descriptions =
-        new-insert did_cmp_total did_cmp_exact (λ (q : Did). q.label)
-        (λ (q : Did). q.n) s.descriptions t.descriptions s.description_numbers t.description_numbers did d h.0 on.descriptions;
-  }
-  on_changed t (DropDescription did) h on = record {
-    stay_drawn = stay_changed (IsThere s.objects) Born s t (DropDescription did) h on.stay_drawn;
-    objects = on.objects;
-    procs = on.procs;
-    descriptions =
-        new-remove did_cmp_total did_cmp_exact (λ (q : Did). q.label)
-        (λ (q : Did). q.n) s.descriptions t.descriptions s.description_numbers t.description_numbers did on.descriptions;
-  }
-  on_changed t (DrawObject l n) h on = record {
-    stay_drawn = stay_changed (IsThere s.objects) Born s t (DrawObject l n) h on.stay_drawn;
-    objects =
-        new-drawn oid_cmp_total oid_cmp_exact (λ (q : Oid). q.label) (λ (q : Oid). q.n) s.objects t.objects s.object_numbers t.object_numbers _
-        (up t.object_numbers l n h) on.objects;
-    procs = on.procs;
-    descriptions = on.descriptions;
-  }
-  on_changed t (DrawProcess l n) h on = record {
-    stay_drawn = stay_changed (IsThere s.objects) Born s t (DrawProcess l n) h on.stay_drawn;
-    objects = on.objects;
-    procs =
-        new-drawn pid_cmp_total pid_cmp_exact (λ (q : Pid). q.label) (λ (q : Pid). q.n) s.procs t.procs s.process_numbers t.process_numbers _
-        (up t.process_numbers l n h) on.procs;
-    descriptions = on.descriptions;
-  }
-  on_changed t (DrawDescription l n) h on = record {
-    stay_drawn = stay_changed (IsThere s.objects) Born s t (DrawDescription l n) h on.stay_drawn;
-    objects = on.objects;
-    procs = on.procs;
-    descriptions =
-        new-drawn did_cmp_total did_cmp_exact (λ (q : Did). q.label)
-        (λ (q : Did). q.n) s.descriptions t.descriptions s.description_numbers t.description_numbers _ (up t.description_numbers l n h) on.descriptions;
-  }
-  on_changed t c h on = record {
-    stay_drawn = record { objects = on.stay_drawn.objects; procs = on.stay_drawn.procs; descriptions = on.stay_drawn.descriptions };
-    objects = on.objects;
-    procs = on.procs;
-    descriptions = on.descriptions;
+  -- numbers go on over one more such change: those of objects, of processes and of descriptions
+  abbrev ObjectsGoOn : State → Type 0
+  ObjectsGoOn t = AreNew oid_cmp_total oid_cmp_exact (λ (q : Oid). q.label) (λ (q : Oid). q.n) s.objects s.object_numbers t.objects t.object_numbers
+
+  objects_go_on : (t : State) (c : Change) → InOrder t c → ObjectsGoOn t → ObjectsGoOn (changed t c)
+  objects_go_on t (SetObject id o) h on = new-insert oid_cmp_total oid_cmp_exact _ _ s.objects t.objects s.object_numbers t.object_numbers id o h on
+  objects_go_on t (DrawObject l n) h on =
+      new-drawn oid_cmp_total oid_cmp_exact _ _ s.objects t.objects s.object_numbers t.object_numbers _ (never_falls_drawn t.object_numbers l n h) on
+  objects_go_on t c h on = on
+
+  abbrev ProcessesGoOn : State → Type 0
+  ProcessesGoOn t = AreNew pid_cmp_total pid_cmp_exact (λ (q : Pid). q.label) (λ (q : Pid). q.n) s.procs s.process_numbers t.procs t.process_numbers
+
+  processes_go_on : (t : State) (c : Change) → InOrder t c → ProcessesGoOn t → ProcessesGoOn (changed t c)
+  processes_go_on t (SetProcess who p) h on =
+      new-insert pid_cmp_total pid_cmp_exact _ _ s.procs t.procs s.process_numbers t.process_numbers who p (was_or_drawn t who h.0) on
+  processes_go_on t (DropProcess who) h on = new-remove pid_cmp_total pid_cmp_exact _ _ s.procs t.procs s.process_numbers t.process_numbers who on
+  processes_go_on t (DrawProcess l n) h on =
+      new-drawn pid_cmp_total pid_cmp_exact _ _ s.procs t.procs s.process_numbers t.process_numbers _ (never_falls_drawn t.process_numbers l n h) on
+  processes_go_on t c h on = on
+
+  abbrev DescriptionsGoOn : State → Type 0
+  DescriptionsGoOn t =
+      AreNew did_cmp_total did_cmp_exact (λ (q : Did). q.label) (λ (q : Did). q.n) s.descriptions s.description_numbers t.descriptions t.description_numbers
+
+  descriptions_go_on : (t : State) (c : Change) → InOrder t c → DescriptionsGoOn t → DescriptionsGoOn (changed t c)
+  descriptions_go_on t (SetDescription did d) h on =
+      new-insert did_cmp_total did_cmp_exact _ _ s.descriptions t.descriptions s.description_numbers t.description_numbers did d h.0 on
+  descriptions_go_on t (DropDescription did) h on =
+      new-remove did_cmp_total did_cmp_exact _ _ s.descriptions t.descriptions s.description_numbers t.description_numbers did on
+  descriptions_go_on t (DrawDescription l n) h on =
+      new-drawn did_cmp_total did_cmp_exact _ _ s.descriptions t.descriptions s.description_numbers t.description_numbers _
+      (never_falls_drawn t.description_numbers l n h) on
+  descriptions_go_on t c h on = on
+
+  go_on_changed : (t : State) (c : Change) → InOrder t c → NumbersGoOn s t → NumbersGoOn s (changed t c)
+  go_on_changed t c h on = record {
+    stay_drawn = stay_drawn_changed (IsThere s.objects) Born s t c h on.stay_drawn;
+    objects = objects_go_on t c h on.objects;
+    procs = processes_go_on t c h on.procs;
+    descriptions = descriptions_go_on t c h on.descriptions;
   }
 
-  -- an object that is known is there
-  known_there : (t : State) → GoesOn s t → (id : Oid) → Known (IsThere s.objects) Born s t id → IsThere t.objects id
-  known_there t goes id (inl was) = goes.stay id was
-  known_there t goes id (inr is) = is
+  -- an object that is present is there
+  present_there : (t : State) → IsLaterState s t → (id : Oid) → IsPresent (IsThere s.objects) Born s t id → IsThere t.objects id
+  present_there t later id (inl was) = later.stay id was
+  present_there t later id (inr is) = is
 
   -- no change removes an object
-  stay_changed_object : (t : State) (c : Change) (id : Oid) → IsThere t.objects id → IsThere (changed t c).objects id
-  stay_changed_object t (SetObject at o) id there = there_still oid_cmp_total t.objects at o id there
-  stay_changed_object t c id there = there
+  object_stays : (t : State) (c : Change) (id : Oid) → IsThere t.objects id → IsThere (changed t c).objects id
+  object_stays t (SetObject at o) id there = still_there oid_cmp_total t.objects at o id there
+  object_stays t c id there = there
 
-  -- what leads to an object leads to one that is there after a further change that fits
-  closed_changed : (t : State) (c : Change) → Fit t c → GoesOn s t → IsClosed (changed t c)
-  closed_changed t (SetObject at o) h goes =
-      let still : (id : Oid) → IsThere t.objects id → IsThere (map.insert t.objects at o) id = there_still oid_cmp_total t.objects at o in
-      record {
-        root_there = still root goes.closed.root_there;
-        entries = λ spot id e. still id (goes.closed.entries spot id e);
-        procs = λ who p e. still p.cwd (goes.closed.procs who p e);
-        descriptions = λ did d e. still d.object (goes.closed.descriptions did d e);
-      }
-  closed_changed t (SetEntry spot id) h goes = record {
-    root_there = goes.closed.root_there;
-    entries =
-        each-insert spot_cmp_total spot_cmp_exact (λ (k : Spot) (v : Oid). IsThere t.objects v) t.entries goes.closed.entries spot id (known_there t goes id h);
-    procs = goes.closed.procs;
-    descriptions = goes.closed.descriptions;
-  }
-  closed_changed t (DropEntry spot) h goes = record {
-    root_there = goes.closed.root_there;
-    entries = each-remove spot_cmp_total spot_cmp_exact (λ (k : Spot) (v : Oid). IsThere t.objects v) t.entries goes.closed.entries spot;
-    procs = goes.closed.procs;
-    descriptions = goes.closed.descriptions;
-  }
-  closed_changed t (SetProcess who p) h goes = record {
-    root_there = goes.closed.root_there;
-    entries = goes.closed.entries;
-    procs =
-        each-insert pid_cmp_total pid_cmp_exact (λ (k : Pid) (x : Process). IsThere t.objects x.cwd) t.procs goes.closed.procs who p
-        (known_there t goes p.cwd h.1);
-    descriptions = goes.closed.descriptions;
-  }
-  closed_changed t (DropProcess who) h goes = record {
-    root_there = goes.closed.root_there;
-    entries = goes.closed.entries;
-    procs = each-remove pid_cmp_total pid_cmp_exact (λ (k : Pid) (x : Process). IsThere t.objects x.cwd) t.procs goes.closed.procs who;
-    descriptions = goes.closed.descriptions;
-  }
-  closed_changed t (SetDescription did d) h goes = record {
-    root_there = goes.closed.root_there;
-    entries = goes.closed.entries;
-    procs = goes.closed.procs;
-    descriptions =
-        each-insert did_cmp_total did_cmp_exact (λ (k : Did) (x : Description). IsThere t.objects x.object) t.descriptions goes.closed.descriptions did d
-        (known_there t goes d.object h.1);
-  }
-  closed_changed t (DropDescription did) h goes = record {
-    root_there = goes.closed.root_there;
-    entries = goes.closed.entries;
-    procs = goes.closed.procs;
-    descriptions =
-        each-remove did_cmp_total did_cmp_exact (λ (k : Did) (x : Description). IsThere t.objects x.object) t.descriptions goes.closed.descriptions did;
-  }
-  closed_changed t c h goes =
-      record { root_there = goes.closed.root_there; entries = goes.closed.entries; procs = goes.closed.procs; descriptions = goes.closed.descriptions }
+  -- what leads to an object after one more such change leads to one that was there before it
+  entries_lead : (t : State) (c : Change) → InOrder t c → IsLaterState s t → (spot : Spot) (id : Oid) → map.get (changed t c).entries spot ≡ Some id → IsThere t.objects id
+  entries_lead t (SetEntry spot id) h later =
+      each-insert spot_cmp_total spot_cmp_exact (λ (k : Spot) (v : Oid). IsThere t.objects v) t.entries later.no_dangling.entries spot id (present_there t later id h)
+  entries_lead t (DropEntry spot) h later = each-remove spot_cmp_total spot_cmp_exact (λ (k : Spot) (v : Oid). IsThere t.objects v) t.entries later.no_dangling.entries spot
+  entries_lead t c h later = later.no_dangling.entries
 
-  -- what goes on over each change goes on over a list of changes that fit
-  pub goes_all : (cs : List Change) (t : State) → AllFit (IsThere s.objects) Born s t cs → GoesOn s t → GoesOn s (changed_by t cs)
-  goes_all [] t h goes = goes
-  goes_all (c ∷ cs) t h goes =
-      goes_all cs (changed t c) h.1
-      (record { on = on_changed t c h.0 goes.on; stay = λ id was. stay_changed_object t c id (goes.stay id was); closed = closed_changed t c h.0 goes })
+  processes_lead : (t : State) (c : Change) → InOrder t c → IsLaterState s t → (who : Pid) (p : Process) → map.get (changed t c).procs who ≡ Some p → IsThere t.objects p.cwd
+  processes_lead t (SetProcess who p) h later =
+      each-insert pid_cmp_total pid_cmp_exact (λ (k : Pid) (x : Process). IsThere t.objects x.cwd) t.procs later.no_dangling.procs who p (present_there t later p.cwd h.1)
+  processes_lead t (DropProcess who) h later = each-remove pid_cmp_total pid_cmp_exact (λ (k : Pid) (x : Process). IsThere t.objects x.cwd) t.procs later.no_dangling.procs who
+  processes_lead t c h later = later.no_dangling.procs
 
-pub on_itself : (s : State) → NumbersGoOn s s
-on_itself s = record {
-  stay_drawn = stay_itself s;
+  descriptions_lead : (t : State) (c : Change) → InOrder t c → IsLaterState s t → (did : Did) (d : Description) → map.get (changed t c).descriptions did ≡ Some d → IsThere t.objects d.object
+  descriptions_lead t (SetDescription did d) h later =
+      each-insert did_cmp_total did_cmp_exact (λ (k : Did) (x : Description). IsThere t.objects x.object) t.descriptions later.no_dangling.descriptions did d
+      (present_there t later d.object h.1)
+  descriptions_lead t (DropDescription did) h later =
+      each-remove did_cmp_total did_cmp_exact (λ (k : Did) (x : Description). IsThere t.objects x.object) t.descriptions later.no_dangling.descriptions did
+  descriptions_lead t c h later = later.no_dangling.descriptions
+
+  no_dangling_changed : (t : State) (c : Change) → InOrder t c → IsLaterState s t → NoDangling (changed t c)
+  no_dangling_changed t c h later = record {
+    root_there = object_stays t c root later.no_dangling.root_there;
+    entries = λ spot id e. object_stays t c id (entries_lead t c h later spot id e);
+    procs = λ who p e. object_stays t c p.cwd (processes_lead t c h later who p e);
+    descriptions = λ did d e. object_stays t c d.object (descriptions_lead t c h later did d e);
+  }
+
+  -- a state after a list of such changes is a later one
+  pub later_all : (cs : List Change) (t : State) → AreNumbered (IsThere s.objects) Born s t cs → IsLaterState s t → IsLaterState s (changed_by t cs)
+  later_all [] t h later = later
+  later_all (c ∷ cs) t h later =
+      later_all cs (changed t c) h.1
+      (record { on = go_on_changed t c h.0 later.on; stay = λ id was. object_stays t c id (later.stay id was); no_dangling = no_dangling_changed t c h.0 later })
+
+pub go_on_itself : (s : State) → NumbersGoOn s s
+go_on_itself s = record {
+  stay_drawn = stay_drawn_itself s;
   objects = λ id none there. absurd (never_some _ there.value none there.is);
   procs = λ who none there. absurd (never_some _ there.value none there.is);
   descriptions = λ did none there. absurd (never_some _ there.value none there.is);
 }
 
-pub goes_itself : (s : State) → IsClosed s → GoesOn s s
-goes_itself s closed = record { on = on_itself s; stay = λ id there. there; closed = closed }
+pub later_itself : (s : State) → NoDangling s → IsLaterState s s
+later_itself s no_dangling = record { on = go_on_itself s; stay = λ id there. there; no_dangling = no_dangling }
 
 -- what never falls over each of two spans never falls over both
 never_falls_over : (a b c : FinMap label_cmp ℕ) → NeverFalls a b → NeverFalls b c → NeverFalls a c
 never_falls_over a b c first second l = omega (arith, first l, second l)
 
-pub on_over : (s t u : State) → NumbersGoOn s t → NumbersGoOn t u → NumbersGoOn s u
-on_over s t u first second = record {
+pub go_on_over : (s t u : State) → NumbersGoOn s t → NumbersGoOn t u → NumbersGoOn s u
+go_on_over s t u first second = record {
   stay_drawn = record {
     objects = never_falls_over s.object_numbers t.object_numbers u.object_numbers first.stay_drawn.objects second.stay_drawn.objects;
     procs = never_falls_over s.process_numbers t.process_numbers u.process_numbers first.stay_drawn.procs second.stay_drawn.procs;

@@ -31,15 +31,15 @@ use Rattle.kern_model.specs.Step.{step, step_by, settled, subject, own_of}
 use Rattle.kern_model.specs.Table.{row}
 use Rattle.iso_laws.specs.Laws.{DropsByRecords}
 use Rattle.iso_laws.proofs.Part.{bound-changed}
-use Rattle.iso_laws.proofs.Rows.{Passes, never, none_never, used_is}
+use Rattle.iso_laws.proofs.Rows.{Passes, excludes_none, none_excluded, used_preserves}
 use Rattle.iso_laws.proofs.Steps.{fixed_after}
 use Rattle.iso_laws.proofs.Booting.{fixed_booted}
 use Rattle.iso_laws.proofs.CapsLemmas.{HaveCaps, have_same, have_booted}
 use Rattle.iso_laws.proofs.Lineage.{used_leave, have_after_step}
 use Rattle.iso_laws.proofs.Along.{along_end}
-use Rattle.iso_laws.proofs.Effects.{Premise, Holds, Effect, Note, SetSwitch, SetCaps, Execute, SetLabel, SetFileCaps, KeepLabel, Relabel, MakeChild, Finish}
+use Rattle.iso_laws.proofs.Effects.{Premise, PremiseHolds, Effect, Note, SetSwitch, SetCaps, Execute, SetLabel, SetFileCaps, KeepLabel, Relabel, MakeChild, EndProcess}
 use Rattle.iso_laws.proofs.RowKinds.{row_kinds}
-use Rattle.iso_laws.proofs.Sight.{met_rule}
+use Rattle.iso_laws.proofs.PartReads.{rule_holds}
 
 -- ---- records
 -- what a record of `cap_set_proc` makes permitted was permitted
@@ -68,7 +68,7 @@ module _ (bound : CapSet) where
   exercise_drops a f c (Some cap) = (tt, tt)
 
   used_drops : (a : Subject) (f : Pid → CapState) (r : Row) → AllDrop bound f (judge a [] r).used
-  used_drops a f r = used_is (AllDrop bound f) a (λ c used h. drop-append f used _ h (exercise_drops a (caps_after bound f used) c (cap_of c.name))) [] r tt
+  used_drops a f r = used_preserves (AllDrop bound f) a (λ c used h. drop-append f used _ h (exercise_drops a (caps_after bound f used) c (cap_of c.name))) [] r tt
 
   denied_drops : (f : Pid → CapState) (b : Bool) (who : Pid) (name : CallName) (check : CheckName) (place : Place)
       → AllDrop bound f (cond b (rec.Deny who name (denial_of check) check place ∷ []) [])
@@ -78,10 +78,10 @@ module _ (bound : CapSet) where
 -- ---- a step
 module _ (s : State) (f : Pid → CapState) (has : HaveCaps s f) (who : Pid) (p : Process) (is : map.get s.procs who ≡ Some p) (a : Subject) where
   -- the own record of each kind of effect satisfies `Drops`, where checks pass
-  drops_effect : (Given : Premise → Type 0) (cs : List Change) (own : Option Rec) → Effect (Passes never a) (λ b. b ≡ false) Given s who p cs own
+  drops_effect : (Given : Premise → Type 0) (cs : List Change) (own : Option Rec) → Effect (Passes excludes_none a) (λ b. b ≡ false) Given s who p cs own
       → AllDrop s.bound f (option_to_list own)
   drops_effect Given cs own (SetCaps caps passes) =
-      let grow = met_rule never a (cap_grow who p caps) refl passes in
+      let grow = rule_holds excludes_none a (cap_grow who p caps) refl passes in
       (ap (λ (c : CapState). is_within caps.p c.p) (sym (has who p is)) ∙ (and_parts _ _ (and_parts _ _ grow).0).0, tt)
   drops_effect Given cs own (Note bytes) = (tt, tt)
   drops_effect Given cs own (SetSwitch on) = (tt, tt)
@@ -91,15 +91,15 @@ module _ (s : State) (f : Pid → CapState) (has : HaveCaps s f) (who : Pid) (p 
   drops_effect Given cs own (KeepLabel id new place reaches written equal args) = (tt, tt)
   drops_effect Given cs own (Relabel id new place reaches written relabel args) = (tt, tt)
   drops_effect Given cs own (MakeChild left) = (tt, tt)
-  drops_effect Given cs own (Finish q x how at may) = (tt, tt)
+  drops_effect Given cs own (EndProcess q x how at may) = (tt, tt)
   drops_effect Given cs own e = tt
 
   -- and so do the records that the end of a row leaves after the exercises
   own_drops : (c : Call) → AllDrop s.bound f (own_of who p (name_of c) (judge a [] (row s who p c)).end)
   own_drops c =
-      along_end never a _ _ (λ e. AllDrop s.bound f (own_of who p (name_of c) e)) (denied_drops s.bound f p.audited who (name_of c)) (λ e _. tt)
-      (λ cs answer own. drops_effect (Holds s c) cs own) [] (row s who p c)
-      (row_kinds (Passes never a) (λ b. b ≡ false) (Holds s c) s who p is c (λ x h. h)) (none_never (judge a [] (row s who p c)).used)
+      along_end excludes_none a _ _ (λ e. AllDrop s.bound f (own_of who p (name_of c) e)) (denied_drops s.bound f p.audited who (name_of c)) (λ e _. tt)
+      (λ cs answer own. drops_effect (PremiseHolds s c) cs own) [] (row s who p c)
+      (row_kinds (Passes excludes_none a) (λ b. b ≡ false) (PremiseHolds s c) s who p is c (λ x h. h)) (none_excluded (judge a [] (row s who p c)).used)
 
 module _ (s : State) (who : Pid) (c : Call) (f : Pid → CapState) (has : HaveCaps s f) where
   settled_drops : (p : Process) → map.get s.procs who ≡ Some p → AllDrop s.bound f (settled s who p (name_of c) (judge (subject who p) [] (row s who p c))).recs

@@ -39,7 +39,7 @@ use Rattle.kern_model.specs.Rules.{created_order, on_object, on_process, on_call
 use Rattle.kern_model.specs.State.{State, Process, Change, SetObject, SetProcess, SetEntry, DropEntry, DrawProcess, drawn, next_object, next_process, object_at, look}
 use Rattle.iso_laws.proofs.PlayableCalls.{has_flags}
 use Rattle.iso_laws.proofs.Along.{Along, WalksTo, Reaches}
-use Rattle.iso_laws.proofs.Sight.{IsOpen}
+use Rattle.iso_laws.proofs.PartReads.{IsOpen}
 use Rattle.iso_laws.proofs.files.Closed.{has_fd, without_fd}
 use Rattle.iso_laws.proofs.tree.Changes.{IsFresh}
 
@@ -50,10 +50,10 @@ pub data Premise : Type 0 where
   HasNames : Premise
   HasFlags : Premise
 
-abbrev pub Holds : State → Call → Premise → Type 0
-Holds s c InRange = is_call s.top c ≡ true
-Holds s c HasNames = has_names c ≡ true
-Holds s c HasFlags = has_flags c ≡ true
+abbrev pub PremiseHolds : State → Call → Premise → Type 0
+PremiseHolds s c InRange = is_call s.top c ≡ true
+PremiseHolds s c HasNames = has_names c ≡ true
+PremiseHolds s c HasFlags = has_flags c ≡ true
 
 -- ---- checks
 -- a label that a check gives is below the highest one
@@ -74,13 +74,13 @@ pub data CheckKind (Given : Premise → Type 0) (s : State) (who : Pid) (p : Pro
 -- `Known` and `Not` mean what they mean along a row, and `Given` which premises are given.
 module _ (Known : Check → Type 0) (Not : Bool → Type 0) (Given : Premise → Type 0) (s : State) (who : Pid) (p : Process) where
   -- an object is made, where nothing has the name, in a directory that is written and not removed
-  pub record Making (dir : Oid) (name : Name) (o : Object) (place : Place) : Type 0 where
+  pub record Creates (dir : Oid) (name : Name) (o : Object) (place : Place) : Type 0 where
     pub walked : WalksTo s p dir
     pub dir_kind : Not (not (is_dir (object_at s dir).kind))
     pub free : look s dir name ≡ None
     pub written : Known (mac_write s p dir place)
     pub order : Known (created_order s p dir place)
-    pub standing : Not (is_removed s dir)
+    pub not_removed : Not (is_removed s dir)
     pub left : Not (not (has_object_number s p.label))
     pub fresh : IsFresh p o
     pub named : Given HasNames → is_name name ≡ true
@@ -91,7 +91,7 @@ module _ (Known : Check → Type 0) (Not : Bool → Type 0) (Given : Premise →
     pub number : Not (not (has_descriptions s p 1))
 
   -- an object is opened that a walk led to
-  pub record Opening (id : Oid) (flags : OpenFlags) (place : Place) : Type 0 where
+  pub record Opens (id : Oid) (flags : OpenFlags) (place : Place) : Type 0 where
     pub walked : WalksTo s p id
     pub no_dir : Not (is_dir (object_at s id).kind)
     pub flags_are : Given HasFlags → are_flags flags ≡ true
@@ -101,29 +101,29 @@ module _ (Known : Check → Type 0) (Not : Bool → Type 0) (Given : Premise →
     pub room : Room
 
   -- an entry leaves a directory that is written
-  pub record Leaving (dir : Oid) (name : Name) (id : Oid) (place : Place) : Type 0 where
+  pub record RemovesEntry (dir : Oid) (name : Name) (id : Oid) (place : Place) : Type 0 where
     pub walked : WalksTo s p dir
     pub dir_kind : Not (not (is_dir (object_at s dir).kind))
     pub at : look s dir name ≡ Some id
     pub written : Known (mac_write s p dir place)
 
   -- an entry of an object comes into a directory that is written and not removed
-  pub record Entering (into : Oid) (id : Oid) (place : Place) : Type 0 where
+  pub record AddsEntry (into : Oid) (id : Oid) (place : Place) : Type 0 where
     pub walked : WalksTo s p into
     pub dir_kind : Not (not (is_dir (object_at s into).kind))
     pub written : Known (mac_write s p into place)
     pub order : Known (held_order s id into place)
-    pub standing : Not (is_removed s into)
+    pub not_removed : Not (is_removed s into)
 
   -- an object gets another label, that it may get
-  pub record Relabelling (id : Oid) (new : Label) (place : Place) : Type 0 where
+  pub record Relabels (id : Oid) (new : Label) (place : Place) : Type 0 where
     pub allowed : Known (mac_change_of new id (object_at s id) place)
     pub order : Known (relabelled_order s id new place)
     pub no_entries : Not (is_dir (object_at s id).kind && not (is_empty s id))
 
   pub data Effect : List Change → Option Rec → Type 0 where
     -- nothing changes
-    Reads : Effect [] None
+    NoChange : Effect [] None
     -- a note is left
     Note : (bytes : List ℕ) → Effect [] (Some (rec.Note who bytes))
     -- the caller gets other users or groups, another umask or audit switch
@@ -139,37 +139,37 @@ module _ (Known : Check → Type 0) (Not : Bool → Type 0) (Given : Premise →
     SetLabel : (new : Label) → (not (same_label new p.label) ≡ true → Known (mac_subject who p new)) → (Given InRange → dominates s.top new ≡ true)
         → Effect (SetProcess who (record p { label = new }) ∷ []) (Some (rec.MacSetProc who p.label new))
     -- the caller gets another current directory
-    StandIn : (id : Oid) (place : Place) → WalksTo s p id → Known (mac_read s p id place) → Not (not (is_dir (object_at s id).kind))
+    ChangeDir : (id : Oid) (place : Place) → WalksTo s p id → Known (mac_read s p id place) → Not (not (is_dir (object_at s id).kind))
         → Effect (SetProcess who (record p { cwd = id }) ∷ []) None
     -- an entry of a directory without entries is removed, or one of another object
-    RemoveEmpty : (dir : Oid) (name : Name) (id : Oid) (place : Place) → Leaving dir name id place → Not (not (is_empty s id))
+    RemoveEmpty : (dir : Oid) (name : Name) (id : Oid) (place : Place) → RemovesEntry dir name id place → Not (not (is_empty s id))
         → Effect (DropEntry (dir, name) ∷ []) None
-    RemoveFile : (dir : Oid) (name : Name) (id : Oid) (place last : Place) → Leaving dir name id place → Known (unlink_dir s id last)
+    RemoveFile : (dir : Oid) (name : Name) (id : Oid) (place last : Place) → RemovesEntry dir name id place → Known (unlink_dir s id last)
         → Effect (DropEntry (dir, name) ∷ []) None
     -- an object gets one more entry
-    Link : (dir : Oid) (name : Name) (id : Oid) (place from : Place) → WalksTo s p id → Entering dir id place → look s dir name ≡ None
+    Link : (dir : Oid) (name : Name) (id : Oid) (place from : Place) → WalksTo s p id → AddsEntry dir id place → look s dir name ≡ None
         → Known (link_dir s id from) → Not (nat_le MAX_LINKS (link_count s id)) → (Given HasNames → is_name name ≡ true)
         → Effect (SetEntry (dir, name) id ∷ []) None
     -- an entry moves, and what stands at the target is another object without entries
-    Move : (dir : Oid) (name : Name) (id into : Oid) (new : Name) (place there : Place) → Leaving dir name id place → Entering into id there
+    Move : (dir : Oid) (name : Name) (id into : Oid) (new : Name) (place there : Place) → RemovesEntry dir name id place → AddsEntry into id there
         → Not (is_dir (object_at s id).kind && is_under s into id)
         → ((t : Oid) → look s into new ≡ Some t → (same_oid t id ≡ false) × Not (is_dir (object_at s t).kind && not (is_empty s t)))
         → (Given HasNames → is_name new ≡ true)
         → Effect (DropEntry (dir, name) ∷ SetEntry (into, new) id ∷ []) None
     -- an object is made
-    Make : (dir : Oid) (name : Name) (o : Object) (place : Place) → Making dir name o place → Effect (made s p.label dir name o) None
+    Create : (dir : Oid) (name : Name) (o : Object) (place : Place) → Creates dir name o place → Effect (made s p.label dir name o) None
     -- a descriptor is shared, moves, or closes
-    Share : (fd : ℕ) (f : Opened) → IsOpen s p fd f → Not (not (has_free_descriptors p 1)) → Effect (SetProcess who (with_descriptor p f.did) ∷ []) None
+    Duplicate : (fd : ℕ) (f : Opened) → IsOpen s p fd f → Not (not (has_free_descriptors p 1)) → Effect (SetProcess who (with_descriptor p f.did) ∷ []) None
     Seek : (fd : ℕ) (f : Opened) (offset : ℕ) → IsOpen s p fd f → Effect (moved f offset ∷ []) None
     Close : (fd : ℕ) → Effect (SetProcess who (without_fd p fd) ∷ closing s (has_fd who fd)) None
     -- bytes come out of a pipe or FIFO, or go into one
-    Take : (fd : ℕ) (f : Opened) (n : ℕ) → IsOpen s p fd f → Known (mac_write s p f.description.object Handle) → is_stream (open_object s f).kind ≡ true
+    ReadStream : (fd : ℕ) (f : Opened) (n : ℕ) → IsOpen s p fd f → Known (mac_write s p f.description.object Handle) → is_stream (open_object s f).kind ≡ true
         → Effect (with_bytes s f.description.object (drop n (open_object s f).bytes) ∷ []) None
-    Put : (fd : ℕ) (f : Opened) (bytes : List ℕ) → IsOpen s p fd f → Known (mac_write s p f.description.object Handle) → is_stream (open_object s f).kind ≡ true
+    WriteStream : (fd : ℕ) (f : Opened) (bytes : List ℕ) → IsOpen s p fd f → Known (mac_write s p f.description.object Handle) → is_stream (open_object s f).kind ≡ true
         → Not (nat_lt MAX_PIPE_BYTES (length (open_object s f).bytes + length bytes))
         → Effect (with_bytes s f.description.object ((open_object s f).bytes ++ bytes) ∷ []) None
     -- bytes go into a file, whose mode stays one
-    Write : (fd : ℕ) (f : Opened) (attr : Attr) (bytes : List ℕ) (offset : ℕ) → IsOpen s p fd f → Known (mac_write s p f.description.object Handle)
+    WriteFile : (fd : ℕ) (f : Opened) (attr : Attr) (bytes : List ℕ) (offset : ℕ) → IsOpen s p fd f → Known (mac_write s p f.description.object Handle)
         → is_stream (open_object s f).kind ≡ false
         → Not (nat_lt (length (open_object s f).bytes) (place_in (open_object s f) f))
         → Not (nat_lt MAX_FILE_BYTES (place_in (open_object s f) f + length bytes)) → (is_mode (open_object s f).attr.mode ≡ true → is_mode attr.mode ≡ true)
@@ -177,11 +177,11 @@ module _ (Known : Check → Type 0) (Not : Bool → Type 0) (Given : Premise →
         (rewritten f.description.object (open_object s f) (written_over (open_object s f).bytes (place_in (open_object s f) f) bytes) attr ∷ moved f offset ∷ [])
         None
     -- an object is opened, emptied and opened, or made and opened
-    Open : (id : Oid) (flags : OpenFlags) (place : Place) → Opening id flags place → Effect (opening s who p id flags) None
-    OpenEmptied : (id : Oid) (flags : OpenFlags) (place : Place) (attr : Attr) → Opening id flags place → (flags.t && is_file (object_at s id).kind) ≡ true
+    Open : (id : Oid) (flags : OpenFlags) (place : Place) → Opens id flags place → Effect (opening s who p id flags) None
+    OpenEmptied : (id : Oid) (flags : OpenFlags) (place : Place) (attr : Attr) → Opens id flags place → (flags.t && is_file (object_at s id).kind) ≡ true
         → (is_mode (object_at s id).attr.mode ≡ true → is_mode attr.mode ≡ true)
         → Effect (rewritten id (object_at s id) [] attr ∷ opening s who p id flags) None
-    OpenMade : (dir : Oid) (name : Name) (o : Object) (place : Place) (flags : OpenFlags) → Making dir name o place → is_file o.kind ≡ true → Room
+    OpenMade : (dir : Oid) (name : Name) (o : Object) (place : Place) (flags : OpenFlags) → Creates dir name o place → is_file o.kind ≡ true → Room
         → Effect (made s p.label dir name o ++ opening s who p (next_object s p.label) flags) None
     -- a pipe is made and opened at both ends
     MakePipe : Not (not (has_object_number s p.label)) → Not (not (has_free_descriptors p 2)) → Not (not (has_descriptions s p 2)) → Effect (piped s who p) None
@@ -196,7 +196,7 @@ module _ (Known : Check → Type 0) (Not : Bool → Type 0) (Given : Premise →
     KeepLabel : (id : Oid) (new : Label) (place : Place) → Reaches s p id → Known (mac_write s p id place) → same_label new (object_at s id).label ≡ true
         → (Given InRange → dominates s.top new ≡ true)
         → Effect (SetObject id (record (object_at s id) { label = new }) ∷ []) (Some (rec.MacSetFile who id (object_at s id).label new))
-    Relabel : (id : Oid) (new : Label) (place : Place) → Reaches s p id → Known (mac_write s p id place) → Relabelling id new place
+    Relabel : (id : Oid) (new : Label) (place : Place) → Reaches s p id → Known (mac_write s p id place) → Relabels id new place
         → (Given InRange → dominates s.top new ≡ true)
         → Effect (SetObject id (record (object_at s id) { label = new }) ∷ []) (Some (rec.MacSetFile who id (object_at s id).label new))
     -- the caller forks, or has awaited the first of its children that ended
@@ -205,7 +205,7 @@ module _ (Known : Check → Type 0) (Not : Bool → Type 0) (Given : Premise →
         (Some (rec.Fork who (next_process s p.label)))
     Await : (e : Pid × Ending) (es : List (Pid × Ending)) → p.ended ≡ e ∷ es → Effect (SetProcess who (record p { ended = es }) ∷ []) None
     -- a process ends: the caller, or one that it may end
-    Finish : (q : Pid) (x : Process) (how : Ending) → map.get s.procs q ≡ Some x → (q ≡ who) ⊎ Known (mac_write_process p q q.label)
+    EndProcess : (q : Pid) (x : Process) (how : Ending) → map.get s.procs q ≡ Some x → (q ≡ who) ⊎ Known (mac_write_process p q q.label)
         → Effect (ending_of s q x how) (Some (rec.Exit q how))
 
   -- the checks of a row, and its effects at each of its ends, are of the kinds

@@ -25,7 +25,7 @@ use Rattle.iso_laws.specs.Laws.{GrowthByRecords}
 use Rattle.iso_laws.proofs.CapsLemmas.{caps_after-append}
 use Rattle.iso_laws.proofs.Drops.{Drops, AllDrop, all_drop}
 use Rattle.iso_laws.proofs.SinceStart.{all_started}
-use Rattle.iso_laws.proofs.StartLemmas.{NoStarts, AreStarts, IsAmong, among, none_here, after_start, start_once, started_once, run_no_start, start_gives, starts_origin, ancestor-append}
+use Rattle.iso_laws.proofs.StartLemmas.{NoStarts, AreStarts, IsAmong, start_is_among, none_here, after_start, start_once, started_once, run_no_start, start_gives, starts_origin, ancestor-append}
 
 -- what follows where one of two states permits a capability, by the test that chooses the state
 by_one : (Q : Type 0) (q k : Pid) (cap : Cap) (new old : CapState) → (q ≡ k → has new.p cap ≡ true → Q) → (has old.p cap ≡ true → Q) → has (cond (same_pid q k) new old).p cap ≡ true → Q
@@ -42,14 +42,14 @@ either_parent Q false f cap who q g = g
 -- ---- where a capability is from
 -- what follows from each way in which a capability comes to be permitted follows where it is permitted after these records
 module _ (bound : CapSet) (cap : Cap) (Q : Type 0) where
-  abbrev Had : CapState → Type 0
-  Had caps = has caps.p cap ≡ true → Q
+  abbrev IfPermitted : CapState → Type 0
+  IfPermitted caps = has caps.p cap ≡ true → Q
 
   -- it was permitted to the ancestor before the record, or the record gave it
-  following : (f : Pid → CapState) (r : Rec) (q : Pid) → Drops f r → Had (f (origin r q))
-      → ((label : Label) (caps : CapState) → r ≡ rec.Boot q label caps → Had caps)
-      → ((id : Oid) (file new : CapState) → r ≡ rec.Exec q id file new → Had (exec_caps (f q) file bound))
-      → Had (caps_after_one bound f r q)
+  following : (f : Pid → CapState) (r : Rec) (q : Pid) → Drops f r → IfPermitted (f (origin r q))
+      → ((label : Label) (caps : CapState) → r ≡ rec.Boot q label caps → IfPermitted caps)
+      → ((id : Oid) (file new : CapState) → r ≡ rec.Exec q id file new → IfPermitted (exec_caps (f q) file bound))
+      → IfPermitted (caps_after_one bound f r q)
   following f (rec.Boot who label caps) q drops before start program = by_one Q q who cap caps (f q) (λ same. start label caps (ap (λ w. rec.Boot w label caps) (sym same))) before
   following f (rec.Fork who child) q drops before start program = either_parent Q (same_pid q child) f cap who q before
   following f (rec.Exec who id file new) q drops before start program = by_one Q q who cap (exec_caps (f q) file bound) (f q) (λ same. program id file new (ap (λ w. rec.Exec w id file new) (sym same))) before
@@ -57,10 +57,10 @@ module _ (bound : CapSet) (cap : Cap) (Q : Type 0) where
       by_one Q q who cap caps (f q) (λ same h. before (ap (λ w. has (f w).p cap) same ∙ within-has caps.p (f who).p drops cap h)) before
   following f r q drops before start program = before
 
-  after_all : (f : Pid → CapState) (rs : List Rec) (q : Pid) → AllDrop bound f rs → Had (f (ancestor rs q))
-      → ((before after : List Rec) (label : Label) (caps : CapState) → rs ≡ before ++ rec.Boot (ancestor after q) label caps ∷ after → Had caps)
-      → ((before after : List Rec) (id : Oid) (file new : CapState) → rs ≡ before ++ rec.Exec (ancestor after q) id file new ∷ after → Had (exec_caps (caps_after bound f before (ancestor after q)) file bound))
-      → Had (caps_after bound f rs q)
+  after_all : (f : Pid → CapState) (rs : List Rec) (q : Pid) → AllDrop bound f rs → IfPermitted (f (ancestor rs q))
+      → ((before after : List Rec) (label : Label) (caps : CapState) → rs ≡ before ++ rec.Boot (ancestor after q) label caps ∷ after → IfPermitted caps)
+      → ((before after : List Rec) (id : Oid) (file new : CapState) → rs ≡ before ++ rec.Exec (ancestor after q) id file new ∷ after → IfPermitted (exec_caps (caps_after bound f before (ancestor after q)) file bound))
+      → IfPermitted (caps_after bound f rs q)
   after_all f [] q drops before start program = before
   after_all f (r ∷ rs) q drops before start program =
       after_all (caps_after_one bound f r) rs q drops.1
@@ -105,7 +105,7 @@ module _ (bound : CapSet) (first others : List Rec) (starts : AreStarts first) (
   started_with : (q : Pid) (caps : CapState) → StartedWith Recs q caps → at_start (ancestor others q) ≡ caps
   started_with q caps with =
       let who : Pid = ancestor with.after q in
-      let is : IsAmong first others with.before (rec.Boot who with.label caps) with.after = among first others with.before who with.label caps with.after none with.split in
+      let is : IsAmong first others with.before (rec.Boot who with.label caps) with.after = start_is_among first others with.before who with.label caps with.after none with.split in
       let starts' : AreStarts (with.before ++ rec.Boot who with.label caps ∷ is.rest) = subst AreStarts is.first_is starts in
       let who_is : who ≡ ancestor others q =
       ap (λ xs. ancestor xs q) is.after_is ∙ ancestor-append is.rest others q ∙ starts_origin who (ancestor others q) is.rest (after_start with.before (rec.Boot who with.label caps) is.rest starts') in

@@ -19,17 +19,17 @@ use Rattle.kern_model.specs.Isolation.{low, crosses, Kept}
 use Rattle.kern_model.specs.Valid.{IsValid, IsDir, IsThere}
 use Rattle.kern_model.proofs.MapLemmas.{same_key}
 use Rattle.kern_model.proofs.KeyLaws.{pid_cmp_exact}
-use Rattle.iso_laws.proofs.Part.{part_changes, first_high, part_of_high}
+use Rattle.iso_laws.proofs.Part.{part_changes, hides_first, part_of_high}
 use Rattle.iso_laws.proofs.Rows.{Passes}
-use Rattle.iso_laws.proofs.Sight.{IsOpen, open_object_is, write_side, equal_side}
+use Rattle.iso_laws.proofs.PartReads.{IsOpen, open_object_is, write_side, equal_side}
 use Rattle.iso_laws.proofs.files.Closing.{closing_hidden}
 use Rattle.iso_laws.proofs.files.Closed.{has_fd, without_fd}
 use Rattle.iso_laws.proofs.processes.Ending.{ending_hidden}
-use Rattle.iso_laws.proofs.Cases.{Cases}
+use Rattle.iso_laws.proofs.Cases.{EffectCases}
 
 -- a process that is not Low changes nothing in the part
-pub hidden_cases : (l : Label) (s : State) → Kept l s → IsValid s → (who : Pid) (p : Process) (fit : Type 0) → map.get s.procs who ≡ Some p → low l who.label ≡ false → Cases (crosses l) s who p fit (λ cs. part_changes l s.top cs ≡ [])
-hidden_cases l s kept valid who p fit is high =
+pub hidden_cases : (l : Label) (s : State) → Kept l s → IsValid s → (who : Pid) (p : Process) (ArgsValid : Type 0) → map.get s.procs who ≡ Some p → low l who.label ≡ false → EffectCases (crosses l) s who p ArgsValid (λ cs. part_changes l s.top cs ≡ [])
+hidden_cases l s kept valid who p ArgsValid is high =
     let mine : low l p.label ≡ false = sym (kept.procs who p is) ∙ high in
     let wrote_there : (id : Oid) (place : Place) → Passes (crosses l) (subject who p) (mac_write s p id place) → IsThere s.objects id → low l id.label ≡ false =
     λ id place written there. sym (write_side l s kept who p id there place written) ∙ mine in
@@ -41,31 +41,31 @@ hidden_cases l s kept valid who p fit is high =
     let unseen : (q : Process) → part_changes l s.top (SetProcess who q ∷ []) ≡ [] = λ q. part_of_high l s.top (SetProcess who q ∷ []) (high, tt) in
     record {
       none = refl;
-      self = λ ids caps umask audited groups within fits. unseen _;
-      label = λ new passes fits. unseen _;
+      set_caller = λ ids caps umask audited groups within args. unseen _;
+      label = λ new passes args. unseen _;
       cwd = λ id place read dir. unseen _;
-      leave = λ dir name id place written is_dir at empty. part_of_high l s.top (DropEntry (dir, name) ∷ []) (wrote dir place written is_dir, tt);
-      enter = λ dir name id place written is_dir free standing named no_dir few order fits. part_of_high l s.top (SetEntry (dir, name) id ∷ []) (wrote dir place written is_dir, tt);
-      move = λ dir name id into new place there_place written is_dir written_there move fits. part_of_high l s.top (DropEntry (dir, name) ∷ SetEntry (into, new) id ∷ []) (wrote dir place written is_dir, (wrote into there_place written_there move.into_is, tt));
-      make = λ dir name o place making. part_of_high l s.top (made s p.label dir name o) (mine, (mine, (wrote dir place making.written making.is_dir, tt)));
+      remove_entry = λ dir name id place written is_dir at empty. part_of_high l s.top (DropEntry (dir, name) ∷ []) (wrote dir place written is_dir, tt);
+      add_entry = λ dir name id place written is_dir free not_removed named no_dir few order args. part_of_high l s.top (SetEntry (dir, name) id ∷ []) (wrote dir place written is_dir, tt);
+      move = λ dir name id into new place there_place written is_dir written_there move args. part_of_high l s.top (DropEntry (dir, name) ∷ SetEntry (into, new) id ∷ []) (wrote dir place written is_dir, (wrote into there_place written_there move.into_is, tt));
+      create = λ dir name o place making. part_of_high l s.top (made s p.label dir name o) (mine, (mine, (wrote dir place making.written making.is_dir, tt)));
       open_existing = λ id flags place may. part_of_high l s.top (opening s who p id flags) (mine, (mine, (high, tt)));
       open_emptied = λ id flags place attr may writes file mode.
-          part_of_high l s.top (SetObject id _ ∷ opening s who p id flags) (wrote_there id place (may.written writes) (record { value = may.named.object; is = may.named.is }), (mine, (mine, (high, tt))));
+          part_of_high l s.top (SetObject id _ ∷ opening s who p id flags) (wrote_there id place (may.written writes) (record { value = may.target.object; is = may.target.is }), (mine, (mine, (high, tt))));
       open_made = λ dir name o place flags making file room.
           part_of_high l s.top (made s p.label dir name o ++ opening s who p (next_object s p.label) flags) (mine, (mine, (wrote dir place making.written making.is_dir, (mine, (mine, (high, tt))))));
-      share = λ fd f open_is room. unseen _;
+      duplicate = λ fd f open_is free. unseen _;
       seek = λ fd f offset open_is. part_of_high l s.top (moved f offset ∷ []) (described fd f open_is, tt);
-      pass = λ fd f bytes open_is written stream few. part_of_high l s.top (with_bytes s f.description.object bytes ∷ []) (wrote_open fd f open_is written, tt);
-      write = λ fd f attr bytes offset open_is written file mode few. part_of_high l s.top (SetObject f.description.object _ ∷ moved f offset ∷ []) (wrote_open fd f open_is written, (described fd f open_is, tt));
-      pipe = λ left room numbers. part_of_high l s.top (piped s who p) (mine, (mine, (mine, (mine, (mine, (high, tt))))));
+      write_stream = λ fd f bytes open_is written stream few. part_of_high l s.top (with_bytes s f.description.object bytes ∷ []) (wrote_open fd f open_is written, tt);
+      write_file = λ fd f attr bytes offset open_is written file mode few. part_of_high l s.top (SetObject f.description.object _ ∷ moved f offset ∷ []) (wrote_open fd f open_is written, (described fd f open_is, tt));
+      pipe = λ left free numbers. part_of_high l s.top (piped s who p) (mine, (mine, (mine, (mine, (mine, (high, tt))))));
       close = λ fd.
-          first_high l s.top (SetProcess who (without_fd p fd)) (closing s (has_fd who fd)) high
+          hides_first l s.top (SetProcess who (without_fd p fd)) (closing s (has_fd who fd)) high
           ∙ closing_hidden l s kept valid (has_fd who fd) (λ d of gone. ap (λ (q : Pid). low l q.label) (same_key pid_cmp_exact d.who who (and_parts _ _ gone).0) ∙ high);
       attributes = λ id o attr place at written mode caps. part_of_high l s.top (SetObject id (record o { attr = attr }) ∷ []) (wrote_there id place written (record { value = o; is = at }), tt);
-      relabel = λ id o new place at written relabelling fits. part_of_high l s.top (SetObject id (record o { label = new }) ∷ []) (wrote_there id place written (record { value = o; is = at }), tt);
+      relabel = λ id o new place at written relabelling args. part_of_high l s.top (SetObject id (record o { label = new }) ∷ []) (wrote_there id place written (record { value = o; is = at }), tt);
       fork = λ left. part_of_high l s.top (DrawProcess p.label _ ∷ SetProcess (next_process s p.label) (child_of who p) ∷ []) (mine, (mine, tt));
       await = λ e es first. unseen _;
-      finish = λ q x how at reached.
+      end_process = λ q x how at reached.
           ending_hidden l s kept valid q x how at
           (elim reached as (λ w. low l q.label ≡ false) [
             | inl own ↦ ap (λ (z : Pid). low l z.label) own ∙ high

@@ -13,14 +13,13 @@ use Rattle.kern_model.specs.Step.{subject}
 use Rattle.kern_model.specs.Table.{row}
 use Rattle.kern_model.specs.Valid.{IsValid}
 use Rattle.iso_laws.proofs.PlayableCalls.{has_flags}
-use Rattle.iso_laws.proofs.Along.{along_ends}
-use Rattle.iso_laws.proofs.Cases.{Cases}
-use Rattle.iso_laws.proofs.EffectMeets.{meets_effect}
-use Rattle.iso_laws.proofs.Effects.{Holds}
-use Rattle.iso_laws.proofs.LowRows.{Same}
-use Rattle.iso_laws.proofs.Part.{by_number}
+use Rattle.iso_laws.proofs.Along.{along_changes}
+use Rattle.iso_laws.proofs.Cases.{EffectCases}
+use Rattle.iso_laws.proofs.EffectMeets.{effect_satisfies}
+use Rattle.iso_laws.proofs.Effects.{PremiseHolds}
+use Rattle.iso_laws.proofs.Part.{part_by_number}
 use Rattle.iso_laws.proofs.RowKinds.{row_kinds}
-use Rattle.iso_laws.proofs.Rows.{Ends, Passes}
+use Rattle.iso_laws.proofs.Rows.{ChangesSatisfy, Passes, SameInPart}
 use Rattle.iso_laws.proofs.files.Isolation as files
 use Rattle.iso_laws.proofs.tree.Isolation as tree
 use Rattle.iso_laws.proofs.attributes.Isolation as attributes
@@ -30,7 +29,7 @@ use Rattle.iso_laws.proofs.audit.Isolation as audit
 -- each row of a Low process ends in the part as in the state
 module _ (l : Label) (s : State) (kept : Kept l s) (valid : IsValid s) (who : Pid) (p : Process) (is : map.get s.procs who ≡ Some p)
     (is_low : low l p.label ≡ true) where
-  pub low_row : (c : Call) → has_flags c ≡ true → Same l s who p (row s who p c) (row (by_number l s) who p c)
+  pub low_row : (c : Call) → has_flags c ≡ true → SameInPart l s who p (row s who p c) (row (part_by_number l s) who p c)
   low_row (call.OpenPath path flags mode) args = files.open_low l s kept valid who p is is_low path flags mode args
   low_row (call.Close fd) _ = files.close_low l s kept valid who p is is_low fd
   low_row (call.Read fd n) _ = files.read_low l s kept valid who p is is_low fd n
@@ -77,9 +76,9 @@ module _ (l : Label) (s : State) (kept : Kept l s) (valid : IsValid s) (who : Pi
   low_row (call.AudSwitch on) _ = audit.aud_switch_low l s kept valid who p is is_low on
 
 -- the changes of each row satisfy what those of each kind of effect satisfy
-module _ (bad : Rec → Bool) (s : State) (valid : IsValid s) (who : Pid) (p : Process) (is : map.get s.procs who ≡ Some p) (fit : Type 0)
-    (P : List Change → Type 0) (cases : Cases bad s who p fit P) where
-  pub row_meets : (c : Call) → (fit → is_call s.top c ≡ true) → (fit → has_names c ≡ true) → has_flags c ≡ true → Ends bad (subject who p) P (row s who p c)
-  row_meets c ranges names flags =
-      along_ends bad (subject who p) _ _ P cases.none (meets_effect bad s valid who p is (Holds s c) fit P cases ranges names flags) (row s who p c)
-      (row_kinds (Passes bad (subject who p)) (λ b. b ≡ false) (Holds s c) s who p is c (λ x h. h))
+module _ (excluded : Rec → Bool) (s : State) (valid : IsValid s) (who : Pid) (p : Process) (is : map.get s.procs who ≡ Some p) (ArgsValid : Type 0)
+    (P : List Change → Type 0) (cases : EffectCases excluded s who p ArgsValid P) where
+  pub row_satisfies : (c : Call) → (ArgsValid → is_call s.top c ≡ true) → (ArgsValid → has_names c ≡ true) → has_flags c ≡ true → ChangesSatisfy excluded (subject who p) P (row s who p c)
+  row_satisfies c ranges names flags =
+      along_changes excluded (subject who p) _ _ P cases.none (effect_satisfies excluded s valid who p is (PremiseHolds s c) ArgsValid P cases ranges names flags) (row s who p c)
+      (row_kinds (Passes excluded (subject who p)) (λ b. b ≡ false) (PremiseHolds s c) s who p is c (λ x h. h))

@@ -34,13 +34,13 @@ use Rattle.kern_model.proofs.MapLemmas.{some_same, never_some, get-insert_same, 
 use Rattle.kern_model.proofs.KeyLaws.{oid_cmp_total}
 use Rattle.kern_model.proofs.KindLemmas.{stream_fifo}
 use Rattle.iso_laws.proofs.Rows.{Passes}
-use Rattle.iso_laws.proofs.Sight.{IsOpen, open_object_is, same_side, new_side, read_low, write_side}
-use Rattle.iso_laws.proofs.Changes.{KeptProcess, kept_of, kept_process, kept_object, kept_description, kept_beside}
+use Rattle.iso_laws.proofs.PartReads.{IsOpen, open_object_is, same_side, new_side, read_low, write_side}
+use Rattle.iso_laws.proofs.Changes.{KeptProcess, kept_of, kept_process, kept_object, kept_description, kept_with}
 use Rattle.iso_laws.proofs.files.Closing.{kept_closed}
 use Rattle.iso_laws.proofs.files.Closed.{has_fd, without_fd}
 use Rattle.iso_laws.proofs.processes.Ending.{kept_ended}
 use Rattle.kern_model.proofs.StateLemmas.{next_absent}
-use Rattle.iso_laws.proofs.Cases.{Cases, IsMaking, IsOpening, IsRelabelling}
+use Rattle.iso_laws.proofs.Cases.{EffectCases, MayCreate, MayOpen, MayRelabel}
 
 -- a label that a check allowed the caller is on the same side as its own
 given_side : (l : Label) (who : Pid) (p : Process) (new : Label) → (not (same_label new p.label) ≡ true → Passes (crosses l) (subject who p) (mac_subject who p new)) → low l p.label ≡ low l new
@@ -51,7 +51,7 @@ given_side l who p new passes =
     ] refl
 
 -- a label that a check allowed for an object is on the side of the process
-label_side : (l : Label) (s : State) (who : Pid) (p : Process) (id : Oid) (o : Object) (new : Label) (place : Place) → IsRelabelling (crosses l) s who p id o new place → low l p.label ≡ low l new
+label_side : (l : Label) (s : State) (who : Pid) (p : Process) (id : Oid) (o : Object) (new : Label) (place : Place) → MayRelabel (crosses l) s who p id o new place → low l p.label ≡ low l new
 label_side l s who p id o new place relabelling =
     elim (dominates new o.label) as (λ b. Passes (crosses l) (subject who p) (cond b (mac_upgrade s id new place) (mac_downgrade s id new place)) → low l p.label ≡ low l new) [
       | true ↦ new_side l (subject who p) (mac_upgrade s id new place) cap.MacUpgrade new refl refl refl refl
@@ -59,19 +59,19 @@ label_side l s who p id o new place relabelling =
     ] relabelling.allowed
 
 -- what a Low process opens is Low
-opening_low : (l : Label) (s : State) → Kept l s → (who : Pid) (p : Process) (id : Oid) (flags : OpenFlags) (place : Place) → IsOpening (crosses l) s who p id flags place → low l p.label ≡ true → low l id.label ≡ true
+opening_low : (l : Label) (s : State) → Kept l s → (who : Pid) (p : Process) (id : Oid) (flags : OpenFlags) (place : Place) → MayOpen (crosses l) s who p id flags place → low l p.label ≡ true → low l id.label ≡ true
 opening_low l s kept who p id flags place may is_low =
-    let there : IsThere s.objects id = record { value = may.named.object; is = may.named.is } in
+    let there : IsThere s.objects id = record { value = may.target.object; is = may.target.is } in
     elim (or_cases flags.r flags.w may.asked) as (λ w. low l id.label ≡ true) [
       | inl reads ↦ read_low l s kept who p is_low id there place (may.read reads)
       | inr writes ↦ sym (write_side l s kept who p id there place (may.written writes)) ∙ is_low
     ]
 
 -- a FIFO that a process opens is on its side
-opening_side : (l : Label) (s : State) → Kept l s → (who : Pid) (p : Process) (id : Oid) (flags : OpenFlags) (place : Place) → (may : IsOpening (crosses l) s who p id flags place) → (o : Object) → may.named.object ≡ o → is_stream o.kind ≡ true → low l p.label ≡ low l id.label
+opening_side : (l : Label) (s : State) → Kept l s → (who : Pid) (p : Process) (id : Oid) (flags : OpenFlags) (place : Place) → (may : MayOpen (crosses l) s who p id flags place) → (o : Object) → may.target.object ≡ o → is_stream o.kind ≡ true → low l p.label ≡ low l id.label
 opening_side l s kept who p id flags place may o same stream =
-    let there : IsThere s.objects id = record { value = may.named.object; is = may.named.is } in
-    let is_one : is_fifo may.named.object.kind ≡ true = stream_fifo may.named.object.kind (ap (λ (x : Object). is_stream x.kind) same ∙ stream) may.named.no_pipe in
+    let there : IsThere s.objects id = record { value = may.target.object; is = may.target.is } in
+    let is_one : is_fifo may.target.object.kind ≡ true = stream_fifo may.target.object.kind (ap (λ (x : Object). is_stream x.kind) same ∙ stream) may.target.no_pipe in
     elim (or_cases flags.r flags.w may.asked) as (λ w. low l p.label ≡ low l id.label) [
       | inl reads ↦ write_side l s kept who p id there place (may.fifo (and_from _ _ is_one reads))
       | inr writes ↦ write_side l s kept who p id there place (may.written writes)
@@ -102,10 +102,10 @@ module _ (l : Label) (s : State) (kept : Kept l s) (valid : IsValid s) (who : Pi
   kept_same : (id : Oid) (o new : Object) → map.get s.objects id ≡ Some o → new.kind ≡ o.kind → low l id.label ≡ low l new.label → Kept l (changed s (SetObject id new))
   kept_same id o new at same side = kept_object l s kept id new side (λ did d e on stream. kept.streams did d o e (ap (map.get s.objects) on ∙ at) (ap is_stream (sym same) ∙ stream))
 
-  kept_made : (fit : Type 0) (dir : Oid) (name : Name) (o : Object) (place : Place) → IsMaking (crosses l) s who p fit dir name o place → Kept l (changed_by s (made s p.label dir name o))
-  kept_made fit dir name o place making =
+  kept_made : (ArgsValid : Type 0) (dir : Oid) (name : Name) (o : Object) (place : Place) → MayCreate (crosses l) s who p ArgsValid dir name o place → Kept l (changed_by s (made s p.label dir name o))
+  kept_made ArgsValid dir name o place making =
       let new : Oid = next_object s p.label in
-      kept_beside l (changed s (SetObject new o)) (kept_new new o (ap (low l) (sym making.fresh.label)) (next_absent s valid p.label)) _ _ s.process_numbers s.description_numbers
+      kept_with l (changed s (SetObject new o)) (kept_new new o (ap (low l) (sym making.fresh.label)) (next_absent s valid p.label)) _ _ s.process_numbers s.description_numbers
 
   -- an object is opened
   kept_opened : (t : State) → Kept l t → (id : Oid) (flags : OpenFlags) → (low l p.label ≡ true → low l id.label ≡ true) → ((o : Object) → map.get t.objects id ≡ Some o → is_stream o.kind ≡ true → low l p.label ≡ low l id.label) → Kept l (changed_by t (opening s who p id flags))
@@ -113,7 +113,7 @@ module _ (l : Label) (s : State) (kept : Kept l s) (valid : IsValid s) (who : Pi
       let new : Did = next_description s p.label in
       let drawn_t : State = changed t (DrawDescription p.label (drawn s.description_numbers p.label + 1)) in
       let d : Description = record { object = id; reads = flags.r; writes = flags.w; appends = flags.a; offset = 0 } in
-      kept_fds (changed drawn_t (SetDescription new d)) (kept_description l drawn_t (kept_beside l t kept_t t.entries t.object_numbers t.process_numbers _) new d side stream) _ (one_beside p.fds own.fds new (sym own.label))
+      kept_fds (changed drawn_t (SetDescription new d)) (kept_description l drawn_t (kept_with l t kept_t t.entries t.object_numbers t.process_numbers _) new d side stream) _ (one_beside p.fds own.fds new (sym own.label))
 
   -- a descriptor gets another offset
   kept_moved : (t : State) → Kept l t → t.descriptions ≡ s.descriptions → (fd : ℕ) (f : Opened) (offset : ℕ) → IsOpen s p fd f → Kept l (changed t (moved f offset))
@@ -127,13 +127,13 @@ module _ (l : Label) (s : State) (kept : Kept l s) (valid : IsValid s) (who : Pi
       let there = open_object_is s valid p fd f open_is in
       kept_same f.description.object (open_object s f) _ there refl (kept.objects f.description.object (open_object s f) there)
 
-  kept_emptied : (id : Oid) (flags : OpenFlags) (place : Place) (attr : Attr) (may : IsOpening (crosses l) s who p id flags place) → may.named.object.kind ≡ kind.File → Kept l (changed_by s (SetObject id (record (object_at s id) { attr = attr; bytes = [] }) ∷ opening s who p id flags))
+  kept_emptied : (id : Oid) (flags : OpenFlags) (place : Place) (attr : Attr) (may : MayOpen (crosses l) s who p id flags place) → may.target.object.kind ≡ kind.File → Kept l (changed_by s (SetObject id (record (object_at s id) { attr = attr; bytes = [] }) ∷ opening s who p id flags))
   kept_emptied id flags place attr may file =
-      let old : Object = may.named.object in
+      let old : Object = may.target.object in
       let new : Object = record (object_at s id) { attr = attr; bytes = [] } in
-      let at : object_at s id ≡ old = get_or-found s.objects id (stub_object s.top) old may.named.is in
+      let at : object_at s id ≡ old = get_or-found s.objects id (stub_object s.top) old may.target.is in
       let no_stream : is_stream new.kind ≡ false = ap (λ (o : Object). is_stream o.kind) at ∙ ap is_stream file in
-      kept_opened (changed s (SetObject id new)) (kept_same id old new may.named.is (ap (λ (o : Object). o.kind) at) (kept.objects id old may.named.is ∙ ap (λ (o : Object). low l o.label) (sym at)))
+      kept_opened (changed s (SetObject id new)) (kept_same id old new may.target.is (ap (λ (o : Object). o.kind) at) (kept.objects id old may.target.is ∙ ap (λ (o : Object). low l o.label) (sym at)))
       id flags (opening_low l s kept who p id flags place may)
       (λ o e stream. absurd (true≢false (sym stream ∙ ap (λ (x : Object). is_stream x.kind) (some_same o new (sym e ∙ get-insert_same oid_cmp_total s.objects id new)) ∙ no_stream)))
 
@@ -144,14 +144,14 @@ module _ (l : Label) (s : State) (kept : Kept l s) (valid : IsValid s) (who : Pi
       let first : Did = next_description s p.label in
       let second : Did = second_description s p in
       let made_t : State = changed_by s (drawing s p.label o ++ DrawDescription p.label (drawn s.description_numbers p.label + 2) ∷ []) in
-      let made_is : Kept l made_t = kept_beside l (changed s (SetObject new o)) (kept_new new o refl (next_absent s valid p.label)) s.entries _ s.process_numbers _ in
+      let made_is : Kept l made_t = kept_with l (changed s (SetObject new o)) (kept_new new o refl (next_absent s valid p.label)) s.entries _ s.process_numbers _ in
       let half_is : Kept l (changed made_t (SetDescription first (on_pipe (next_object s p.label) true))) = kept_description l made_t made_is first (on_pipe (next_object s p.label) true) (λ h. h) (λ x e stream. refl) in
       let whole_is : Kept l (changed (changed made_t (SetDescription first (on_pipe (next_object s p.label) true))) (SetDescription second (on_pipe (next_object s p.label) false))) = kept_description l _ half_is second (on_pipe (next_object s p.label) false) (λ h. h) (λ x e stream. refl) in
       kept_fds _ whole_is _ (one_beside (with_descriptor p first).fds (one_beside p.fds own.fds first (sym own.label)) second (sym own.label))
 
   kept_forked : Kept l (changed_by s (DrawProcess p.label (drawn s.process_numbers p.label + 1) ∷ SetProcess (next_process s p.label) (child_of who p) ∷ []))
   kept_forked =
-      kept_process l (changed s (DrawProcess p.label (drawn s.process_numbers p.label + 1))) (kept_beside l s kept s.entries s.object_numbers _ s.description_numbers) (next_process s p.label) (child_of who p)
+      kept_process l (changed s (DrawProcess p.label (drawn s.process_numbers p.label + 1))) (kept_with l s kept s.entries s.object_numbers _ s.description_numbers) (next_process s p.label) (child_of who p)
       (record {
         label = refl;
         parent = λ q e. ap (λ (z : Pid). low l z.label) (some_same q who (sym e)) ∙ own.label;
@@ -161,11 +161,11 @@ module _ (l : Label) (s : State) (kept : Kept l s) (valid : IsValid s) (who : Pi
       })
 
   -- a kept state stays kept
-  pub kept_cases : (fit : Type 0) → Cases (crosses l) s who p fit (λ cs. Kept l (changed_by s cs))
-  kept_cases fit = record {
+  pub kept_cases : (ArgsValid : Type 0) → EffectCases (crosses l) s who p ArgsValid (λ cs. Kept l (changed_by s cs))
+  kept_cases ArgsValid = record {
     none = kept;
-    self = λ ids caps umask audited groups within fits. kept_process l s kept who _ (record { label = own.label; parent = own.parent; ended = own.ended; fds = own.fds; cwd = own.cwd });
-    label = λ new passes fits.
+    set_caller = λ ids caps umask audited groups within args. kept_process l s kept who _ (record { label = own.label; parent = own.parent; ended = own.ended; fds = own.fds; cwd = own.cwd });
+    label = λ new passes args.
         let side = given_side l who p new passes in
         kept_process l s kept who _ (record { label = own.label ∙ side; parent = own.parent; ended = own.ended; fds = own.fds; cwd = λ is_low. own.cwd (side ∙ is_low) });
     cwd = λ id place read dir.
@@ -176,26 +176,26 @@ module _ (l : Label) (s : State) (kept : Kept l s) (valid : IsValid s) (who : Pi
           fds = own.fds;
           cwd = λ is_low. read_low l s kept who p is_low id (record { value = dir.object; is = dir.is }) place read;
         });
-    leave = λ dir name id place written is_dir at empty. kept_beside l s kept _ s.object_numbers s.process_numbers s.description_numbers;
-    enter = λ dir name id place written is_dir free standing named no_dir few order fits. kept_beside l s kept _ s.object_numbers s.process_numbers s.description_numbers;
-    move = λ dir name id into new place there_place written is_dir written_there move fits. kept_beside l s kept _ s.object_numbers s.process_numbers s.description_numbers;
-    make = kept_made fit;
-    share = λ fd f open_is room. kept_fds s kept _ (one_beside p.fds own.fds f.did (own.fds fd f.did open_is.fd_is));
+    remove_entry = λ dir name id place written is_dir at empty. kept_with l s kept _ s.object_numbers s.process_numbers s.description_numbers;
+    add_entry = λ dir name id place written is_dir free not_removed named no_dir few order args. kept_with l s kept _ s.object_numbers s.process_numbers s.description_numbers;
+    move = λ dir name id into new place there_place written is_dir written_there move args. kept_with l s kept _ s.object_numbers s.process_numbers s.description_numbers;
+    create = kept_made ArgsValid;
+    duplicate = λ fd f open_is free. kept_fds s kept _ (one_beside p.fds own.fds f.did (own.fds fd f.did open_is.fd_is));
     seek = kept_moved s kept refl;
-    pass = λ fd f bytes open_is written stream few. kept_rewritten fd f (open_object s f).attr bytes open_is;
-    write = λ fd f attr bytes offset open_is written file mode few. kept_moved _ (kept_rewritten fd f attr bytes open_is) refl fd f offset open_is;
+    write_stream = λ fd f bytes open_is written stream few. kept_rewritten fd f (open_object s f).attr bytes open_is;
+    write_file = λ fd f attr bytes offset open_is written file mode few. kept_moved _ (kept_rewritten fd f attr bytes open_is) refl fd f offset open_is;
     open_existing = λ id flags place may.
-        kept_opened s kept id flags (opening_low l s kept who p id flags place may) (λ o e. opening_side l s kept who p id flags place may o (some_same may.named.object o (sym may.named.is ∙ e)));
+        kept_opened s kept id flags (opening_low l s kept who p id flags place may) (λ o e. opening_side l s kept who p id flags place may o (some_same may.target.object o (sym may.target.is ∙ e)));
     open_emptied = λ id flags place attr may writes file mode. kept_emptied id flags place attr may file;
-    open_made = λ dir name o place flags making file room. kept_opened (changed_by s (made s p.label dir name o)) (kept_made fit dir name o place making) (next_object s p.label) flags (λ h. h) (λ x e stream. refl);
-    pipe = λ left room numbers. kept_piped;
+    open_made = λ dir name o place flags making file room. kept_opened (changed_by s (made s p.label dir name o)) (kept_made ArgsValid dir name o place making) (next_object s p.label) flags (λ h. h) (λ x e stream. refl);
+    pipe = λ left free numbers. kept_piped;
     close = λ fd.
         kept_closed l s kept valid (has_fd who fd) (changed s (SetProcess who (without_fd p fd)))
         (kept_fds s kept _ (each-remove nat_cmp_total nat_cmp-IsAntisymmetric (λ (n : ℕ) (did : Did). low l did.label ≡ low l who.label) p.fds own.fds fd)) refl;
     attributes = λ id o attr place at written mode caps. kept_same id o (record o { attr = attr }) at refl (kept.objects id o at);
-    relabel = λ id o new place at written relabelling fits.
+    relabel = λ id o new place at written relabelling args.
         kept_same id o (record o { label = new }) at refl (sym (write_side l s kept who p id (record { value = o; is = at }) place written) ∙ label_side l s who p id o new place relabelling);
     fork = λ left. kept_forked;
     await = λ e es first. kept_process l s kept who _ (record { label = own.label; parent = own.parent; ended = (subst (AllByRecursion (λ (x : Pid × Ending). low l x.0.label ≡ low l who.label)) first own.ended).1; fds = own.fds; cwd = own.cwd });
-    finish = λ q x how at _. kept_ended l s kept valid q x how at;
+    end_process = λ q x how at _. kept_ended l s kept valid q x how at;
   }

@@ -27,13 +27,13 @@ use Rattle.kern_model.specs.Step.{step, step_by, settled, subject, state_after, 
 use Rattle.kern_model.specs.Table.{row}
 use Rattle.iso_laws.specs.Laws.{CapsByRecords}
 use Rattle.iso_laws.proofs.Part.{bound-changed}
-use Rattle.iso_laws.proofs.Rows.{Gives, used_is, end_is}
+use Rattle.iso_laws.proofs.Rows.{EachCommit, used_preserves, end_satisfies}
 use Rattle.iso_laws.proofs.Steps.{fixed_after}
 use Rattle.iso_laws.proofs.Booting.{fixed_booted}
 use Rattle.iso_laws.proofs.CapsLemmas.{HaveCaps, caps_after-append, have_same, have_booted}
-use Rattle.iso_laws.proofs.Along.{Nothing_known, along_gives}
+use Rattle.iso_laws.proofs.Along.{NothingKnown, along_each_commit}
 use Rattle.iso_laws.proofs.EffectLaws.{MatchesRecord, reports_effect}
-use Rattle.iso_laws.proofs.Effects.{Holds}
+use Rattle.iso_laws.proofs.Effects.{PremiseHolds}
 use Rattle.iso_laws.proofs.RowKinds.{row_kinds}
 
 -- ---- a step
@@ -45,7 +45,7 @@ exercise_leaves a bound f q c (Some cap) = refl
 -- exercises leave the capability sets that records give
 pub used_leave : (a : Subject) (bound : CapSet) (f : Pid → CapState) (q : Pid) (r : Row) → caps_after bound f (judge a [] r).used q ≡ f q
 used_leave a bound f q r =
-    used_is (λ used. caps_after bound f used q ≡ f q) a
+    used_preserves (λ used. caps_after bound f used q ≡ f q) a
     (λ c used h.
     caps_after-append bound f used (exercise_with a c (cap_of c.name)) q ∙ exercise_leaves a bound (caps_after bound f used) q c (cap_of c.name) ∙ h)
     [] r refl
@@ -58,17 +58,17 @@ denial_leaves bound f false who name check place q = refl
 
 -- the own record of each row gives the sets after its changes
 row_reports : (s : State) (f : Pid → CapState) → HaveCaps s f → (who : Pid) (p : Process) → map.get s.procs who ≡ Some p → (c : Call)
-    → Gives (MatchesRecord s f) (row s who p c)
+    → EachCommit (MatchesRecord s f) (row s who p c)
 row_reports s f has who p is c =
-    along_gives _ _ _ (reports_effect s f has who p is Nothing_known Nothing_known (Holds s c)) (row s who p c)
-    (row_kinds Nothing_known Nothing_known (Holds s c) s who p is c (λ x h. h))
+    along_each_commit _ _ _ (reports_effect s f has who p is NothingKnown NothingKnown (PremiseHolds s c)) (row s who p c)
+    (row_kinds NothingKnown NothingKnown (PremiseHolds s c) s who p is c (λ x h. h))
 
 -- the records that an end leaves after the exercises give the sets in the state after it
 end_reports : (s : State) (who : Pid) (p : Process) (name : CallName) (f : Pid → CapState) → HaveCaps s f → (a : Subject) (r : Row)
-    → Gives (MatchesRecord s f) r
+    → EachCommit (MatchesRecord s f) r
     → HaveCaps (state_after s (judge a [] r).end) (caps_after s.bound f (own_of who p name (judge a [] r).end))
 end_reports s who p name f has a r h =
-    end_is (λ e. HaveCaps (state_after s e) (caps_after s.bound f (own_of who p name e))) (MatchesRecord s f)
+    end_satisfies (λ e. HaveCaps (state_after s e) (caps_after s.bound f (own_of who p name e))) (MatchesRecord s f)
     (λ check place. have_same s f _ (λ q. sym (denial_leaves s.bound f p.audited who name check place q)) has) (λ e _. has) (λ cs answer own h. h) a [] r h
 
 module _ (s : State) (who : Pid) (c : Call) (f : Pid → CapState) (has : HaveCaps s f) where

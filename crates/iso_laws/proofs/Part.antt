@@ -3,6 +3,9 @@ use Rattle.std.specs.Prelude.{◌≡◌, ℕ, Bool, true, false, List, [], ◌�
 use Rattle.std.specs.List.{AllByRecursion}
 use Rattle.std.specs.FinMap as map
 use Rattle.std.proofs.Common.{sym, ◌∙◌, ap, append_assoc}
+use Rattle.std.specs.Cmp.{IsTotalOrder}
+use Rattle.std.specs.FinMap.{FinMap, IsAntisymmetric}
+use Rattle.std.specs.declared.cmp.Ordering.{Ordering}
 use Rattle.lab_lattice.specs.Label.{Label}
 use Rattle.lab_lattice.proofs.Labels.{label_cmp_total, label_cmp_exact}
 use Rattle.kern_model.specs.declared.numbers.Pid.{Pid}
@@ -17,11 +20,11 @@ use Rattle.kern_model.specs.Isolation.{low, part, shows, label_in, Kept}
 use Rattle.kern_model.proofs.MapLemmas.{select_agree, select-insert_kept, select-insert_dropped, select-remove_kept, select-remove_dropped}
 
 -- where an entry for an object leads in the part
-abbrev pub shown : Label → Label → Oid → Oid
-shown l top id = cond (low l id.label) id (stub top)
+abbrev pub shown_oid : Label → Label → Oid → Oid
+shown_oid l top id = cond (low l id.label) id (stub top)
 
-abbrev pub same : {X : Type 0} → X → X
-same x = x
+abbrev pub as_is : {X : Type 0} → X → X
+as_is x = x
 
 abbrev pub low_oid : Label → Oid → Bool
 low_oid l id = low l id.label
@@ -36,15 +39,15 @@ abbrev pub low_did : Label → Did → Bool
 low_did l did = low l did.label
 
 -- the part by the labels of numbers alone
-unfoldable pub by_number : Label → State → State
-by_number l s = record {
-  objects = select (where_key (low_oid l) (same {X = Object})) s.objects;
-  entries = select (where_key (low_spot l) (shown l s.top)) s.entries;
-  procs = select (where_key (low_pid l) (same {X = Process})) s.procs;
-  descriptions = select (where_key (low_did l) (same {X = Description})) s.descriptions;
-  object_numbers = select (where_key (low l) (same {X = ℕ})) s.object_numbers;
-  process_numbers = select (where_key (low l) (same {X = ℕ})) s.process_numbers;
-  description_numbers = select (where_key (low l) (same {X = ℕ})) s.description_numbers;
+unfoldable pub part_by_number : Label → State → State
+part_by_number l s = record {
+  objects = select (where_key (low_oid l) (as_is {X = Object})) s.objects;
+  entries = select (where_key (low_spot l) (shown_oid l s.top)) s.entries;
+  procs = select (where_key (low_pid l) (as_is {X = Process})) s.procs;
+  descriptions = select (where_key (low_did l) (as_is {X = Description})) s.descriptions;
+  object_numbers = select (where_key (low l) (as_is {X = ℕ})) s.object_numbers;
+  process_numbers = select (where_key (low l) (as_is {X = ℕ})) s.process_numbers;
+  description_numbers = select (where_key (low l) (as_is {X = ℕ})) s.description_numbers;
   bound = s.bound;
   top = s.top;
 }
@@ -64,7 +67,7 @@ change_label (DrawDescription label n) = label
 
 -- a change as the part sees it
 abbrev pub shown_change : Label → Label → Change → Change
-shown_change l top (SetEntry spot id) = SetEntry spot (shown l top id)
+shown_change l top (SetEntry spot id) = SetEntry spot (shown_oid l top id)
 shown_change l top c = c
 
 -- the change in the part, where the part sees it
@@ -80,102 +83,77 @@ part_changes-append l top [] ds = refl
 part_changes-append l top (c ∷ cs) ds = ap (λ xs. part_change l top c ++ xs) (part_changes-append l top cs ds) ∙ sym (append_assoc (part_change l top c) (part_changes l top cs) (part_changes l top ds))
 
 -- the part sees a change at a Low number
-pub first_low : (l top : Label) (c : Change) (cs : List Change) → low l (change_label c) ≡ true → part_changes l top (c ∷ cs) ≡ shown_change l top c ∷ part_changes l top cs
-first_low l top c cs h = ap (λ b. cond b (shown_change l top c ∷ []) [] ++ part_changes l top cs) h
+pub sees_first : (l top : Label) (c : Change) (cs : List Change) → low l (change_label c) ≡ true → part_changes l top (c ∷ cs) ≡ shown_change l top c ∷ part_changes l top cs
+sees_first l top c cs h = ap (λ b. cond b (shown_change l top c ∷ []) [] ++ part_changes l top cs) h
 
 -- it does not see another one
-pub first_high : (l top : Label) (c : Change) (cs : List Change) → low l (change_label c) ≡ false → part_changes l top (c ∷ cs) ≡ part_changes l top cs
-first_high l top c cs h = ap (λ b. cond b (shown_change l top c ∷ []) [] ++ part_changes l top cs) h
+pub hides_first : (l top : Label) (c : Change) (cs : List Change) → low l (change_label c) ≡ false → part_changes l top (c ∷ cs) ≡ part_changes l top cs
+hides_first l top c cs h = ap (λ b. cond b (shown_change l top c ∷ []) [] ++ part_changes l top cs) h
 
 -- of changes at Low numbers, the part sees each
 pub part_of_low : (l top : Label) (cs : List Change) → AllByRecursion (λ c. low l (change_label c) ≡ true) cs → part_changes l top cs ≡ map (shown_change l top) cs
 part_of_low l top [] h = refl
-part_of_low l top (c ∷ cs) h = first_low l top c cs h.0 ∙ ap (λ ds. shown_change l top c ∷ ds) (part_of_low l top cs h.1)
+part_of_low l top (c ∷ cs) h = sees_first l top c cs h.0 ∙ ap (λ ds. shown_change l top c ∷ ds) (part_of_low l top cs h.1)
 
 -- of changes at numbers that are not Low, the part sees none
 pub part_of_high : (l top : Label) (cs : List Change) → AllByRecursion (λ c. low l (change_label c) ≡ false) cs → part_changes l top cs ≡ []
 part_of_high l top [] h = refl
-part_of_high l top (c ∷ cs) h = first_high l top c cs h.0 ∙ part_of_high l top cs h.1
+part_of_high l top (c ∷ cs) h = hides_first l top c cs h.0 ∙ part_of_high l top cs h.1
+
+-- a change sets an entry of one table: in the part the change is made where the part sees it, and else nothing changes
+module _ {K X : Type 0} {R : K → K → Ordering} (total : IsTotalOrder R) (exact : IsAntisymmetric R) (keep : K → Bool) (g : X → X)
+    (set : FinMap R X → State) (after : List Change → State) (c : Change) (m : FinMap R X) (k : K)
+    (unseen : set (select (where_key keep g) m) ≡ after []) where
+  insert_in_part : (x : X) → set (map.insert (select (where_key keep g) m) k (g x)) ≡ after (c ∷ [])
+      → set (select (where_key keep g) (map.insert m k x)) ≡ after (cond (keep k) (c ∷ []) [])
+  insert_in_part x seen =
+      elim (keep k) as (λ b. keep k ≡ b → set (select (where_key keep g) (map.insert m k x)) ≡ after (cond b (c ∷ []) [])) [
+        | true ↦ λ e. ap set (select-insert_kept total exact keep g m k x e) ∙ seen
+        | false ↦ λ e. ap set (select-insert_dropped total exact keep g m k x e) ∙ unseen
+      ] refl
+
+  -- the same where a change removes an entry
+  remove_in_part : set (map.remove (select (where_key keep g) m) k) ≡ after (c ∷ [])
+      → set (select (where_key keep g) (map.remove m k)) ≡ after (cond (keep k) (c ∷ []) [])
+  remove_in_part seen =
+      elim (keep k) as (λ b. keep k ≡ b → set (select (where_key keep g) (map.remove m k)) ≡ after (cond b (c ∷ []) [])) [
+        | true ↦ λ _. ap set (select-remove_kept total exact keep g m k) ∙ seen
+        | false ↦ λ e. ap set (select-remove_dropped total exact keep g m k e) ∙ unseen
+      ] refl
 
 -- what a change does to the part by numbers
-pub by_number-changed : (l : Label) (s : State) (c : Change) → by_number l (changed s c) ≡ changed_by (by_number l s) (part_change l s.top c)
-unfolding by_number
-by_number-changed l s (SetObject id o) =
-    elim (low l id.label) as (λ b. low l id.label ≡ b → by_number l (changed s (SetObject id o)) ≡ changed_by (by_number l s) (cond b (SetObject id o ∷ []) [])) [
-      | true ↦ λ e. ap (λ m. record (by_number l s) { objects = m }) (select-insert_kept oid_cmp_total oid_cmp_exact (low_oid l) same s.objects id o e)
-      | false ↦ λ e. ap (λ m. record (by_number l s) { objects = m }) (select-insert_dropped oid_cmp_total oid_cmp_exact (low_oid l) same s.objects id o e)
-    ] refl
-by_number-changed l s (SetEntry spot id) =
-    elim (low l spot.0.label) as (λ b. low l spot.0.label ≡ b → by_number l (changed s (SetEntry spot id)) ≡ changed_by (by_number l s) (cond b (SetEntry spot (shown l s.top id) ∷ []) [])) [
-      | true ↦ λ e. ap (λ m. record (by_number l s) { entries = m }) (select-insert_kept spot_cmp_total spot_cmp_exact (low_spot l) (shown l s.top) s.entries spot id e)
-      | false ↦ λ e. ap (λ m. record (by_number l s) { entries = m }) (select-insert_dropped spot_cmp_total spot_cmp_exact (low_spot l) (shown l s.top) s.entries spot id e)
-    ] refl
-by_number-changed l s (DropEntry spot) =
-    elim (low l spot.0.label) as (λ b. low l spot.0.label ≡ b → by_number l (changed s (DropEntry spot)) ≡ changed_by (by_number l s) (cond b (DropEntry spot ∷ []) [])) [
-      | true ↦ λ _. ap (λ m. record (by_number l s) { entries = m }) (select-remove_kept spot_cmp_total spot_cmp_exact (low_spot l) (shown l s.top) s.entries spot)
-      | false ↦ λ e. ap (λ m. record (by_number l s) { entries = m }) (select-remove_dropped spot_cmp_total spot_cmp_exact (low_spot l) (shown l s.top) s.entries spot e)
-    ] refl
-by_number-changed l s (SetProcess who p) =
-    elim (low l who.label) as (λ b. low l who.label ≡ b → by_number l (changed s (SetProcess who p)) ≡ changed_by (by_number l s) (cond b (SetProcess who p ∷ []) [])) [
-      | true ↦ λ e. ap (λ m. record (by_number l s) { procs = m }) (select-insert_kept pid_cmp_total pid_cmp_exact (low_pid l) same s.procs who p e)
-      | false ↦ λ e. ap (λ m. record (by_number l s) { procs = m }) (select-insert_dropped pid_cmp_total pid_cmp_exact (low_pid l) same s.procs who p e)
-    ] refl
-by_number-changed l s (DropProcess who) =
-    elim (low l who.label) as (λ b. low l who.label ≡ b → by_number l (changed s (DropProcess who)) ≡ changed_by (by_number l s) (cond b (DropProcess who ∷ []) [])) [
-      | true ↦ λ _. ap (λ m. record (by_number l s) { procs = m }) (select-remove_kept pid_cmp_total pid_cmp_exact (low_pid l) same s.procs who)
-      | false ↦ λ e. ap (λ m. record (by_number l s) { procs = m }) (select-remove_dropped pid_cmp_total pid_cmp_exact (low_pid l) same s.procs who e)
-    ] refl
-by_number-changed l s (SetDescription did d) =
-    elim (low l did.label) as (λ b. low l did.label ≡ b → by_number l (changed s (SetDescription did d)) ≡ changed_by (by_number l s) (cond b (SetDescription did d ∷ []) [])) [
-      | true ↦ λ e. ap (λ m. record (by_number l s) { descriptions = m }) (select-insert_kept did_cmp_total did_cmp_exact (low_did l) same s.descriptions did d e)
-      | false ↦ λ e. ap (λ m. record (by_number l s) { descriptions = m }) (select-insert_dropped did_cmp_total did_cmp_exact (low_did l) same s.descriptions did d e)
-    ] refl
-by_number-changed l s (DropDescription did) =
-    elim (low l did.label) as (λ b. low l did.label ≡ b → by_number l (changed s (DropDescription did)) ≡ changed_by (by_number l s) (cond b (DropDescription did ∷ []) [])) [
-      | true ↦ λ _. ap (λ m. record (by_number l s) { descriptions = m }) (select-remove_kept did_cmp_total did_cmp_exact (low_did l) same s.descriptions did)
-      | false ↦ λ e. ap (λ m. record (by_number l s) { descriptions = m }) (select-remove_dropped did_cmp_total did_cmp_exact (low_did l) same s.descriptions did e)
-    ] refl
-by_number-changed l s (DrawObject label n) =
-    elim (low l label) as (λ b. low l label ≡ b → by_number l (changed s (DrawObject label n)) ≡ changed_by (by_number l s) (cond b (DrawObject label n ∷ []) [])) [
-      | true ↦ λ e. ap (λ m. record (by_number l s) { object_numbers = m }) (select-insert_kept label_cmp_total label_cmp_exact (low l) same s.object_numbers label n e)
-      | false ↦ λ e. ap (λ m. record (by_number l s) { object_numbers = m }) (select-insert_dropped label_cmp_total label_cmp_exact (low l) same s.object_numbers label n e)
-    ] refl
-by_number-changed l s (DrawProcess label n) =
-    elim (low l label) as (λ b. low l label ≡ b → by_number l (changed s (DrawProcess label n)) ≡ changed_by (by_number l s) (cond b (DrawProcess label n ∷ []) [])) [
-      | true ↦ λ e. ap (λ m. record (by_number l s) { process_numbers = m }) (select-insert_kept label_cmp_total label_cmp_exact (low l) same s.process_numbers label n e)
-      | false ↦ λ e. ap (λ m. record (by_number l s) { process_numbers = m }) (select-insert_dropped label_cmp_total label_cmp_exact (low l) same s.process_numbers label n e)
-    ] refl
-by_number-changed l s (DrawDescription label n) =
-    elim (low l label) as (λ b. low l label ≡ b → by_number l (changed s (DrawDescription label n)) ≡ changed_by (by_number l s) (cond b (DrawDescription label n ∷ []) [])) [
-      | true ↦ λ e. ap (λ m. record (by_number l s) { description_numbers = m }) (select-insert_kept label_cmp_total label_cmp_exact (low l) same s.description_numbers label n e)
-      | false ↦ λ e. ap (λ m. record (by_number l s) { description_numbers = m }) (select-insert_dropped label_cmp_total label_cmp_exact (low l) same s.description_numbers label n e)
-    ] refl
+pub part_by_number-changed : (l : Label) (s : State) (c : Change) → part_by_number l (changed s c) ≡ changed_by (part_by_number l s) (part_change l s.top c)
+unfolding part_by_number
+part_by_number-changed l s (SetObject id o) =
+    insert_in_part oid_cmp_total oid_cmp_exact (low_oid l) as_is (λ m. record (part_by_number l s) { objects = m }) (changed_by (part_by_number l s)) (SetObject id o) s.objects id refl o refl
+part_by_number-changed l s (SetEntry spot id) =
+    insert_in_part spot_cmp_total spot_cmp_exact (low_spot l) (shown_oid l s.top) (λ m. record (part_by_number l s) { entries = m }) (changed_by (part_by_number l s)) (SetEntry spot (shown_oid l s.top id)) s.entries spot refl id refl
+part_by_number-changed l s (DropEntry spot) =
+    remove_in_part spot_cmp_total spot_cmp_exact (low_spot l) (shown_oid l s.top) (λ m. record (part_by_number l s) { entries = m }) (changed_by (part_by_number l s)) (DropEntry spot) s.entries spot refl refl
+part_by_number-changed l s (SetProcess who p) =
+    insert_in_part pid_cmp_total pid_cmp_exact (low_pid l) as_is (λ m. record (part_by_number l s) { procs = m }) (changed_by (part_by_number l s)) (SetProcess who p) s.procs who refl p refl
+part_by_number-changed l s (DropProcess who) =
+    remove_in_part pid_cmp_total pid_cmp_exact (low_pid l) as_is (λ m. record (part_by_number l s) { procs = m }) (changed_by (part_by_number l s)) (DropProcess who) s.procs who refl refl
+part_by_number-changed l s (SetDescription did d) =
+    insert_in_part did_cmp_total did_cmp_exact (low_did l) as_is (λ m. record (part_by_number l s) { descriptions = m }) (changed_by (part_by_number l s)) (SetDescription did d) s.descriptions did refl d refl
+part_by_number-changed l s (DropDescription did) =
+    remove_in_part did_cmp_total did_cmp_exact (low_did l) as_is (λ m. record (part_by_number l s) { descriptions = m }) (changed_by (part_by_number l s)) (DropDescription did) s.descriptions did refl refl
+part_by_number-changed l s (DrawObject label n) =
+    insert_in_part label_cmp_total label_cmp_exact (low l) as_is (λ m. record (part_by_number l s) { object_numbers = m }) (changed_by (part_by_number l s)) (DrawObject label n) s.object_numbers label refl n refl
+part_by_number-changed l s (DrawProcess label n) =
+    insert_in_part label_cmp_total label_cmp_exact (low l) as_is (λ m. record (part_by_number l s) { process_numbers = m }) (changed_by (part_by_number l s)) (DrawProcess label n) s.process_numbers label refl n refl
+part_by_number-changed l s (DrawDescription label n) =
+    insert_in_part label_cmp_total label_cmp_exact (low l) as_is (λ m. record (part_by_number l s) { description_numbers = m }) (changed_by (part_by_number l s)) (DrawDescription label n) s.description_numbers label refl n refl
 
 -- no change alters top
 pub top-changed : (s : State) (c : Change) → (changed s c).top ≡ s.top
 top-changed s (SetObject id o) = refl
-top-changed s (SetEntry spot id) = refl
-top-changed s (DropEntry spot) = refl
-top-changed s (SetProcess who p) = refl
-top-changed s (DropProcess who) = refl
-top-changed s (SetDescription did d) = refl
-top-changed s (DropDescription did) = refl
-top-changed s (DrawObject label n) = refl
-top-changed s (DrawProcess label n) = refl
-top-changed s (DrawDescription label n) = refl
+top-changed s c = refl
 
 -- no change alters the bound
 pub bound-changed : (s : State) (c : Change) → (changed s c).bound ≡ s.bound
 bound-changed s (SetObject id o) = refl
-bound-changed s (SetEntry spot id) = refl
-bound-changed s (DropEntry spot) = refl
-bound-changed s (SetProcess who p) = refl
-bound-changed s (DropProcess who) = refl
-bound-changed s (SetDescription did d) = refl
-bound-changed s (DropDescription did) = refl
-bound-changed s (DrawObject label n) = refl
-bound-changed s (DrawProcess label n) = refl
-bound-changed s (DrawDescription label n) = refl
+bound-changed s c = refl
 
 -- what no change alters stays the same over a list of changes
 pub fixed_by : {X : Type 0} (of : State → X) → ((s : State) (c : Change) → of (changed s c) ≡ of s) → (s : State) (cs : List Change) → of (changed_by s cs) ≡ of s
@@ -187,13 +165,13 @@ changed_by-append s [] ds = refl
 changed_by-append s (c ∷ cs) ds = changed_by-append (changed s c) cs ds
 
 -- what a list of changes does to the part by numbers
-pub by_number-changed_by : (l : Label) (s : State) (cs : List Change) → by_number l (changed_by s cs) ≡ changed_by (by_number l s) (part_changes l s.top cs)
-by_number-changed_by l s [] = refl
-by_number-changed_by l s (c ∷ cs) =
-    by_number-changed_by l (changed s c) cs
-    ∙ ap (λ top. changed_by (by_number l (changed s c)) (part_changes l top cs)) (top-changed s c)
-    ∙ ap (λ t. changed_by t (part_changes l s.top cs)) (by_number-changed l s c)
-    ∙ sym (changed_by-append (by_number l s) (part_change l s.top c) (part_changes l s.top cs))
+pub part_by_number-changed_by : (l : Label) (s : State) (cs : List Change) → part_by_number l (changed_by s cs) ≡ changed_by (part_by_number l s) (part_changes l s.top cs)
+part_by_number-changed_by l s [] = refl
+part_by_number-changed_by l s (c ∷ cs) =
+    part_by_number-changed_by l (changed s c) cs
+    ∙ ap (λ top. changed_by (part_by_number l (changed s c)) (part_changes l top cs)) (top-changed s c)
+    ∙ ap (λ t. changed_by t (part_changes l s.top cs)) (part_by_number-changed l s c)
+    ∙ sym (changed_by-append (part_by_number l s) (part_change l s.top c) (part_changes l s.top cs))
 
 shows_low : (l : Label) (s : State) → Kept l s → (id : Oid) → shows l s id ≡ low l id.label
 shows_low l s kept id =
@@ -203,15 +181,15 @@ shows_low l s kept id =
     ] refl
 
 -- in a kept state, the part is the part by numbers
-pub part_by_number : (l : Label) (s : State) → Kept l s → part l s ≡ by_number l s
-unfolding part by_number
-part_by_number l s kept =
-    let objects : (part l s).objects ≡ (by_number l s).objects =
+pub part_is_by_number : (l : Label) (s : State) → Kept l s → part l s ≡ part_by_number l s
+unfolding part part_by_number
+part_is_by_number l s kept =
+    let objects : (part l s).objects ≡ (part_by_number l s).objects =
     select_agree oid_cmp_total oid_cmp_exact _ _ s.objects (λ q o e. ap (λ b. cond b (Some o) None) (sym (kept.objects q o e))) in
-    let entries : (part l s).entries ≡ (by_number l s).entries =
+    let entries : (part l s).entries ≡ (part_by_number l s).entries =
     select_agree spot_cmp_total spot_cmp_exact _ _ s.entries (λ q id e.
     ap (λ b. cond b (Some (cond (shows l s id) id (stub s.top))) None) (shows_low l s kept q.0)
     ∙ ap (λ b. cond (low_spot l q) (Some (cond b id (stub s.top))) None) (shows_low l s kept id)) in
-    let procs : (part l s).procs ≡ (by_number l s).procs =
+    let procs : (part l s).procs ≡ (part_by_number l s).procs =
     select_agree pid_cmp_total pid_cmp_exact _ _ s.procs (λ q p e. ap (λ b. cond b (Some p) None) (sym (kept.procs q p e))) in
-    λ i. record (by_number l s) { objects = objects i; entries = entries i; procs = procs i }
+    λ i. record (part_by_number l s) { objects = objects i; entries = entries i; procs = procs i }

@@ -9,7 +9,7 @@ use Rattle.kern_model.specs.declared.numbers.Pid.{Pid}
 use Rattle.kern_model.specs.Arguments.{has_names, is_call}
 use Rattle.kern_model.specs.State.{State, Process}
 use Rattle.kern_model.specs.Table.{row}
-use Rattle.iso_laws.proofs.Effects.{Premise, InRange, HasNames, HasFlags, Holds, OfKinds}
+use Rattle.iso_laws.proofs.Effects.{Premise, InRange, HasNames, HasFlags, PremiseHolds, OfKinds}
 use Rattle.iso_laws.proofs.files.Rows as files
 use Rattle.iso_laws.proofs.tree.Rows as tree
 use Rattle.iso_laws.proofs.attributes.Rows as attributes
@@ -19,7 +19,7 @@ use Rattle.iso_laws.proofs.audit.Rows as audit
 module _ (Known : Check → Type 0) (Not : Bool → Type 0) (Given : Premise → Type 0) (s : State) (who : Pid) (p : Process)
     (is : map.get s.procs who ≡ Some p) where
   -- where each premise that is given holds of the call, its row is of the kinds
-  pub row_kinds : (c : Call) → ((x : Premise) → Given x → Holds s c x) → OfKinds Known Not Given s who p (row s who p c)
+  pub row_kinds : (c : Call) → ((x : Premise) → Given x → PremiseHolds s c x) → OfKinds Known Not Given s who p (row s who p c)
   unfolding is_call has_names
   row_kinds (call.OpenPath path flags mode) given = files.open_kinds Known Not Given s who p path flags mode (given HasFlags) (given HasNames)
   row_kinds (call.Close fd) given = files.close_kinds Known Not Given s who p fd

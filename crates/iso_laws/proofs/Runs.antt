@@ -16,12 +16,12 @@ use Rattle.iso_laws.proofs.PrefixLemmas.{prefix_through}
 use Rattle.iso_laws.proofs.Steps.{low_step, other_step, kept_step, valid_step, top_step}
 
 -- what holds of the first call of a script, and of the others
-pub record First (s : State) (i : ScriptItem) (is : List ScriptItem) : Type 0 where
+pub record FirstCall (s : State) (i : ScriptItem) (is : List ScriptItem) : Type 0 where
   pub args : is_call s.top i.call ≡ true
   pub names : has_names i.call ≡ true
   pub later_args : is_script (step s i.who i.call).state.top is ≡ true
 
-pub first_of_script : (s : State) (i : ScriptItem) (is : List ScriptItem) → is_script s.top (i ∷ is) ≡ true → First s i is
+pub first_of_script : (s : State) (i : ScriptItem) (is : List ScriptItem) → is_script s.top (i ∷ is) ≡ true → FirstCall s i is
 first_of_script s i is args =
     let args' = and_parts (is_item s.top i) (is_script s.top is) args in
     record {

@@ -41,14 +41,14 @@ use Rattle.kern_model.specs.Table.{row}
 use Rattle.kern_model.specs.Valid.{IsThere}
 use Rattle.kern_model.proofs.MapLemmas.{each-insert, same_key, never_some}
 use Rattle.iso_laws.proofs.Part.{bound-changed}
-use Rattle.iso_laws.proofs.Rows.{used_is}
-use Rattle.iso_laws.proofs.Steps.{by_process, judged_row, fixed_after}
+use Rattle.iso_laws.proofs.Rows.{used_preserves}
+use Rattle.iso_laws.proofs.Steps.{step_cases, row_outcome, fixed_after}
 use Rattle.iso_laws.proofs.Booting.{fixed_booted}
 use Rattle.iso_laws.proofs.CapsLemmas.{caps_after-append}
 use Rattle.iso_laws.proofs.Lineage.{used_leave, denial_leaves}
-use Rattle.iso_laws.proofs.DrawingLemmas.{born_all, Anything, lead_anywhere}
-use Rattle.iso_laws.proofs.EffectLaws.{ReportsOwn, Fitting}
-use Rattle.iso_laws.proofs.GoingOn.{EndGives, row_ends}
+use Rattle.iso_laws.proofs.DrawingLemmas.{born_all, AllObjects, leads_to_all}
+use Rattle.iso_laws.proofs.EffectLaws.{ReportsOwn, NumberedByCaller}
+use Rattle.iso_laws.proofs.GoingOn.{EndSatisfies, row_ends}
 use Rattle.iso_laws.proofs.StartLemmas.{ancestor-append}
 
 -- ---- over further records
@@ -81,7 +81,7 @@ exercise_origin a c (Some cap) q = refl
 
 used_origin : (a : Subject) (r : Row) (q : Pid) → ancestor (judge a [] r).used q ≡ q
 used_origin a r q =
-    used_is (λ used. ancestor used q ≡ q) a
+    used_preserves (λ used. ancestor used q ≡ q) a
     (λ c used h. ancestor-append used (exercise_with a c (cap_of c.name)) q ∙ ap (ancestor used) (exercise_origin a c (cap_of c.name) q) ∙ h) [] r refl
 
 denied_origin : (b : Bool) (who : Pid) (name : CallName) (check : CheckName) (place : Place) (q : Pid) → ancestor (cond b (rec.Deny who name (denial_of check) check place ∷ []) []) q ≡ q
@@ -129,32 +129,32 @@ module _ (s : State) (who : Pid) (me : IsThere s.procs who) where
     permitted_own (Some (rec.CapSetProc w caps)) reports q cap h = of_caller q w cap caps reports h
     permitted_own (Some r) reports q cap h = permitted q cap h
 
-    permitted_end : (p : Process) (name : CallName) (e : End) → EndGives (Fitting Anything s who) e → (q : Pid) (cap : Cap) → has (caps_after bound f (own_of who p name e) q).p cap ≡ true → HasStarted seen (ancestor (own_of who p name e) q)
+    permitted_end : (p : Process) (name : CallName) (e : End) → EndSatisfies (NumberedByCaller AllObjects s who) e → (q : Pid) (cap : Cap) → has (caps_after bound f (own_of who p name e) q).p cap ≡ true → HasStarted seen (ancestor (own_of who p name e) q)
     permitted_end p name (Stopped check place) fair q cap h =
         subst (HasStarted seen) (sym (denied_origin p.audited who name check place q)) (permitted q cap (ap (λ (c : CapState). has c.p cap) (sym (denial_leaves bound f p.audited who name check place q)) ∙ h))
     permitted_end p name (Refused e) fair q cap h = permitted q cap h
     permitted_end p name (Done cs answer own) fair q cap h = permitted_own own fair.1 q cap h
 
-  lived_end : (p : Process) (name : CallName) (e : End) → EndGives (Fitting Anything s who) e → (q : Pid) → IsThere (state_after s e).procs q → IsThere s.procs (ancestor (own_of who p name e) q)
+  lived_end : (p : Process) (name : CallName) (e : End) → EndSatisfies (NumberedByCaller AllObjects s who) e → (q : Pid) → IsThere (state_after s e).procs q → IsThere s.procs (ancestor (own_of who p name e) q)
   lived_end p name (Stopped check place) fair q there = subst (IsThere s.procs) (sym (denied_origin p.audited who name check place q)) there
   lived_end p name (Refused e) fair q there = there
-  lived_end p name (Done cs answer own) fair q there = lived own fair.1 q (born_all Anything _ s cs s fair.0 (λ k was. inl was) q there)
+  lived_end p name (Done cs answer own) fair q there = lived own fair.1 q (born_all AllObjects _ s cs s fair.0 (λ k was. inl was) q there)
 
 module _ (s : State) (f : Pid → CapState) (seen : List Rec) (all : AllStarted s f seen) (who : Pid) (c : Call) where
-  settled_started : (p : Process) → map.get s.procs who ≡ Some p → AllStarted (settled s who p (name_of c) (judged_row s who c p)).state (caps_after s.bound f (settled s who p (name_of c) (judged_row s who c p)).recs) (seen ++ (settled s who p (name_of c) (judged_row s who c p)).recs)
+  settled_started : (p : Process) → map.get s.procs who ≡ Some p → AllStarted (settled s who p (name_of c) (row_outcome s who c p)).state (caps_after s.bound f (settled s who p (name_of c) (row_outcome s who c p)).recs) (seen ++ (settled s who p (name_of c) (row_outcome s who c p)).recs)
   settled_started p is =
       let me : IsThere s.procs who = record { value = p; is = is } in
-      let used : List Rec = (judged_row s who c p).used in
-      let own : List Rec = own_of who p (name_of c) (judged_row s who c p).end in
-      let fair : EndGives (Fitting Anything s who) (judged_row s who c p).end = row_ends Anything s (lead_anywhere s) who p is c in
+      let used : List Rec = (row_outcome s who c p).used in
+      let own : List Rec = own_of who p (name_of c) (row_outcome s who c p).end in
+      let fair : EndSatisfies (NumberedByCaller AllObjects s who) (row_outcome s who c p).end = row_ends AllObjects s (leads_to_all s) who p is c in
       let origin_is : (q : Pid) → ancestor own q ≡ ancestor (used ++ own) q = λ q. sym (ancestor-append used own q ∙ used_origin (subject who p) (row s who p c) (ancestor own q)) in
       let permitted : (q : Pid) (cap : Cap) → has (caps_after s.bound f used q).p cap ≡ true → HasStarted seen q = λ q cap h. all.permitted q cap (ap (λ (x : CapState). has x.p cap) (sym (used_leave (subject who p) s.bound f q (row s who p c))) ∙ h) in
       record {
         living = λ q there.
-            started_before seen (used ++ own) q (subst (HasStarted seen) (origin_is q) (all.living (ancestor own q) (lived_end s who me p (name_of c) (judged_row s who c p).end fair q there)));
+            started_before seen (used ++ own) q (subst (HasStarted seen) (origin_is q) (all.living (ancestor own q) (lived_end s who me p (name_of c) (row_outcome s who c p).end fair q there)));
         permitted = λ q cap h.
             started_before seen (used ++ own) q (subst (HasStarted seen) (origin_is q)
-            (permitted_end s who me s.bound (caps_after s.bound f used) seen (all.living who me) permitted p (name_of c) (judged_row s who c p).end fair q cap
+            (permitted_end s who me s.bound (caps_after s.bound f used) seen (all.living who me) permitted p (name_of c) (row_outcome s who c p).end fair q cap
             (ap (λ (x : CapState). has x.p cap) (sym (caps_after-append s.bound f used own q)) ∙ h)));
       }
 
@@ -162,7 +162,7 @@ module _ (s : State) (f : Pid → CapState) (seen : List Rec) (all : AllStarted 
   nothing_more = record { living = λ q there. started_before seen [] q (all.living q there); permitted = λ q cap h. started_before seen [] q (all.permitted q cap h) }
 
   step_started : AllStarted (step s who c).state (caps_after s.bound f (step s who c).recs) (seen ++ (step s who c).recs)
-  step_started = by_process s who c (λ o. AllStarted o.state (caps_after s.bound f o.recs) (seen ++ o.recs)) (λ _. nothing_more) settled_started
+  step_started = step_cases s who c (λ o. AllStarted o.state (caps_after s.bound f o.recs) (seen ++ o.recs)) (λ _. nothing_more) settled_started
 
 -- ---- a run
 run_started : (items : List ScriptItem) (s : State) (bound : CapSet) (f : Pid → CapState) (seen : List Rec) → s.bound ≡ bound → AllStarted s f seen

@@ -23,7 +23,6 @@ use Rattle.kern_model.specs.declared.world.ScriptItem.{ScriptItem}
 use Rattle.kern_model.specs.declared.world.WorldProc.{WorldProc}
 use Rattle.kern_model.specs.Boot.{boot_process, started}
 use Rattle.kern_model.specs.Drawing.{NeverFalls}
-use Rattle.kern_model.specs.Keys.{same_pid}
 use Rattle.kern_model.proofs.KeyLaws.{pid_cmp_total, pid_cmp_exact}
 use Rattle.kern_model.specs.Lineage.{caps_after_one, caps_after, origin, ancestor, StartOnce}
 use Rattle.kern_model.specs.Names.{name_of}
@@ -32,13 +31,14 @@ use Rattle.kern_model.specs.Rules.{cap_of, denial_of}
 use Rattle.kern_model.specs.Run.{CallRecord, run}
 use Rattle.kern_model.specs.State.{State, Process, drawn, next_process}
 use Rattle.kern_model.specs.Step.{step, subject, own_of}
-use Rattle.kern_model.proofs.MapLemmas.{same_key, get_or-found, get-insert_same}
-use Rattle.iso_laws.proofs.Rows.{used_is}
-use Rattle.iso_laws.proofs.Steps.{by_process, judged_row}
-use Rattle.iso_laws.proofs.DrawingLemmas.{falls_nowhere, Anything, lead_anywhere}
+use Rattle.kern_model.proofs.MapLemmas.{get_or-found, get-insert_same}
+use Rattle.iso_laws.proofs.Rows.{used_preserves}
+use Rattle.iso_laws.proofs.Steps.{step_cases, row_outcome}
+use Rattle.iso_laws.proofs.DrawingLemmas.{falls_nowhere, AllObjects, leads_to_all}
 use Rattle.iso_laws.proofs.AllLemmas.{all-append}
-use Rattle.iso_laws.proofs.EffectLaws.{IsOwn, ReportsOwn, Fitting}
-use Rattle.iso_laws.proofs.GoingOn.{EndGives, row_ends}
+use Rattle.iso_laws.proofs.EffectLaws.{IsOwnRecord, ReportsOwn, NumberedByCaller}
+use Rattle.iso_laws.proofs.GoingOn.{EndSatisfies, row_ends}
+use Rattle.iso_laws.proofs.KeyLemmas.{distinct}
 
 -- ---- no call leaves a record of a start
 -- a record that is not of a start
@@ -54,28 +54,28 @@ exercise_no_start a c None = tt
 exercise_no_start a c (Some cap) = (tt, tt)
 
 used_no_start : (a : Subject) (r : Row) → NoStarts (judge a [] r).used
-used_no_start a r = used_is NoStarts a (λ c used h. all-append IsNoStart used _ h (exercise_no_start a c (cap_of c.name))) [] r tt
+used_no_start a r = used_preserves NoStarts a (λ c used h. all-append IsNoStart used _ h (exercise_no_start a c (cap_of c.name))) [] r tt
 
 denied_no_start : (b : Bool) (who : Pid) (name : CallName) (check : CheckName) (place : Place) → NoStarts (cond b (rec.Deny who name (denial_of check) check place ∷ []) [])
 denied_no_start true who name check place = (tt, tt)
 denied_no_start false who name check place = tt
 
-own_is_no_start : (who : Pid) (r : Rec) → IsOwn who r → IsNoStart r
-own_is_no_start who (rec.Boot q label caps) h = h
-own_is_no_start who r h = tt
+own_record_is_no_start : (who : Pid) (r : Rec) → IsOwnRecord who r → IsNoStart r
+own_record_is_no_start who (rec.Boot q label caps) h = h
+own_record_is_no_start who r h = tt
 
 left_no_start : (who : Pid) (own : Option Rec) → ReportsOwn who own → NoStarts (option_to_list own)
 left_no_start who None h = tt
-left_no_start who (Some r) h = (own_is_no_start who r h, tt)
+left_no_start who (Some r) h = (own_record_is_no_start who r h, tt)
 
-own_no_start : (s : State) (who : Pid) (p : Process) (name : CallName) (e : End) → EndGives (Fitting Anything s who) e → NoStarts (own_of who p name e)
+own_no_start : (s : State) (who : Pid) (p : Process) (name : CallName) (e : End) → EndSatisfies (NumberedByCaller AllObjects s who) e → NoStarts (own_of who p name e)
 own_no_start s who p name (Stopped check place) h = denied_no_start p.audited who name check place
 own_no_start s who p name (Refused e) h = tt
 own_no_start s who p name (Done cs answer own) h = left_no_start who own h.1
 
 step_no_start : (s : State) (who : Pid) (c : Call) → NoStarts (step s who c).recs
-step_no_start s who c = by_process s who c (λ o. NoStarts o.recs) (λ _. tt) (λ p is.
-    all-append IsNoStart (judged_row s who c p).used _ (used_no_start (subject who p) _) (own_no_start s who p (name_of c) _ (row_ends Anything s (lead_anywhere s) who p is c)))
+step_no_start s who c = step_cases s who c (λ o. NoStarts o.recs) (λ _. tt) (λ p is.
+    all-append IsNoStart (row_outcome s who c p).used _ (used_no_start (subject who p) _) (own_no_start s who p (name_of c) _ (row_ends AllObjects s (leads_to_all s) who p is c)))
 
 pub run_no_start : (items : List ScriptItem) (s : State) → NoStarts (flat_map (λ (p : CallRecord). p.recs) (run s items))
 run_no_start [] s = tt
@@ -146,13 +146,13 @@ among_first b first others r after e =
 among_cons : (b : Rec) (first others before : List Rec) (x r : Rec) (after : List Rec) → b ≡ x → IsAmong first others before r after → IsAmong (b ∷ first) others (x ∷ before) r after
 among_cons b first others before x r after same among = record { rest = among.rest; first_is = λ i. same i ∷ among.first_is i; after_is = among.after_is }
 
-pub among : (first others before : List Rec) (who : Pid) (label : Label) (caps : CapState) (after : List Rec) → NoStarts others → first ++ others ≡ before ++ rec.Boot who label caps ∷ after → IsAmong first others before (rec.Boot who label caps) after
-among [] others before who label caps after none e = absurd (none_here before (rec.Boot who label caps) after (subst NoStarts e none))
-among (b ∷ first) others [] who label caps after none e = among_first b first others (rec.Boot who label caps) after e
-among (b ∷ first) others (x ∷ before) who label caps after none e =
+pub start_is_among : (first others before : List Rec) (who : Pid) (label : Label) (caps : CapState) (after : List Rec) → NoStarts others → first ++ others ≡ before ++ rec.Boot who label caps ∷ after → IsAmong first others before (rec.Boot who label caps) after
+start_is_among [] others before who label caps after none e = absurd (none_here before (rec.Boot who label caps) after (subst NoStarts e none))
+start_is_among (b ∷ first) others [] who label caps after none e = among_first b first others (rec.Boot who label caps) after e
+start_is_among (b ∷ first) others (x ∷ before) who label caps after none e =
     let head : b ≡ x = cc in
     let tail : first ++ others ≡ before ++ rec.Boot who label caps ∷ after = cc in
-    among_cons b first others before x (rec.Boot who label caps) after head (among first others before who label caps after none tail)
+    among_cons b first others before x (rec.Boot who label caps) after head (start_is_among first others before who label caps after none tail)
 
 -- the starts after a start are of other processes
 pub after_start : (before : List Rec) (r : Rec) (rest : List Rec) → AreStarts (before ++ r ∷ rest) → OthersAfter r rest
@@ -166,19 +166,15 @@ other_here who (b ∷ before) r rest h = other_here who before r rest h.1
 -- no process starts twice
 pub start_once : (first others : List Rec) → AreStarts first → NoStarts others → StartOnce (first ++ others)
 start_once first others starts none before between after who label label' caps caps' e =
-    let one : IsAmong first others before (rec.Boot who label caps) (between ++ rec.Boot who label' caps' ∷ after) = among first others before who label caps _ none e in
-    let two : IsAmong one.rest others between (rec.Boot who label' caps') after = among one.rest others between who label' caps' after none (sym one.after_is) in
+    let one : IsAmong first others before (rec.Boot who label caps) (between ++ rec.Boot who label' caps' ∷ after) = start_is_among first others before who label caps _ none e in
+    let two : IsAmong one.rest others between (rec.Boot who label' caps') after = start_is_among one.rest others between who label' caps' after none (sym one.after_is) in
     let following : AllByRecursion (StartsOther who) one.rest = after_start before (rec.Boot who label caps) one.rest (subst AreStarts one.first_is starts) in
     other_here who between (rec.Boot who label' caps') two.rest (subst (AllByRecursion (StartsOther who)) two.first_is following) refl
 
 -- ---- what starts give
-other_pid : (a q : Pid) → (q ≡ a → ⊥) → same_pid a q ≡ false
-other_pid a q other =
-    elim (same_pid a q) as (λ b. same_pid a q ≡ b → b ≡ false) [ true ↦ λ t. absurd (other (sym (same_key pid_cmp_exact a q t))) | false ↦ λ _. refl ] refl
-
 module _ (bound : CapSet) where
   other_leaves : (f : Pid → CapState) (who : Pid) (r : Rec) → StartsOther who r → caps_after_one bound f r who ≡ f who
-  other_leaves f who (rec.Boot q label caps) other = ap (λ b. cond b caps (f who)) (other_pid who q other)
+  other_leaves f who (rec.Boot q label caps) other = ap (λ b. cond b caps (f who)) (distinct pid_cmp_exact who q (λ same. other (sym same)))
   other_leaves f who r other = absurd other
 
   -- starts of other processes leave the sets of a process

@@ -33,7 +33,7 @@ use Rattle.kern_model.specs.Valid.{IsDrawn, AreFew, leads, IsRoot, IsValidObject
 use Rattle.kern_model.specs.World.{objects_at, procs_at, same_names, parent_names, given, IsPlaced, ArePlaced, IsWorldObject, IsWorldProc, IsWorld}
 use Rattle.kern_model.proofs.MapLemmas.{same_key, get_or-absent, get-insert_same, get-insert_kept, other_key, each-insert, never_some, some_same, count_entries-one}
 use Rattle.iso_laws.specs.Laws.{ValidBoot}
-use Rattle.iso_laws.proofs.Leading.{leads_kept, leads_on, IsEnd, has_end, names_itself, given-append, not_before, given_after}
+use Rattle.iso_laws.proofs.PathLemmas.{leads_still, leads_on, HasLastName, has_last_name, names_itself, given-append, not_before, given_after}
 use Rattle.iso_laws.proofs.ValidLemmas.{no_fewer, one_more, still_drawn, next_drawn, still_below, still_counted}
 
 -- ---- names and bodies
@@ -219,7 +219,7 @@ module _ (top : Label) (before : List WorldObject) (s : State) (built : IsBuilt 
       (given-append before (o ∷ []) o.path.names ∙ ap (λ w. option_or w (given (o ∷ []) o.path.names)) placed.new ∙ ap (λ b. cond b (Some o) None) (names_itself o.path.names))
 
   -- its entry is in the directory that was given for it, at a name that was free
-  module _ (dir : Stands built.names_of s.objects (parent_names o.path.names) placed.parent) (end : IsEnd o.path.names) where
+  module _ (dir : Stands built.names_of s.objects (parent_names o.path.names) placed.parent) (end : HasLastName o.path.names) where
     abbrev spot : Spot
     spot = (dir.id, end.name)
 
@@ -237,7 +237,7 @@ module _ (top : Label) (before : List WorldObject) (s : State) (built : IsBuilt 
         ] refl
 
     leads_next : (names : List Name) (id : Oid) → leads s root names ≡ Some id → leads next_state root names ≡ Some id
-    leads_next = leads_kept s next_state (get-insert_kept spot_cmp_total spot_cmp_exact s.entries spot new free) root
+    leads_next = leads_still s next_state (get-insert_kept spot_cmp_total spot_cmp_exact s.entries spot new free) root
 
     dir_led : leads s root (parent_names o.path.names) ≡ Some dir.id
     dir_led = ap (leads s root) (sym dir.named) ∙ built.led dir.id (object_of placed.parent) dir.is
@@ -308,15 +308,15 @@ module _ (top : Label) (before : List WorldObject) (s : State) (built : IsBuilt 
     }
 
   -- names that were not given before have a last one
-  new_end : (names : List Name) → given before names ≡ None → IsEnd names
-  new_end [] e = absurd (built.root_given e)
-  new_end (name ∷ names) e = has_end name names
+  new_last_name : (names : List Name) → given before names ≡ None → HasLastName names
+  new_last_name [] e = absurd (built.root_given e)
+  new_last_name (name ∷ names) e = has_last_name name names
 
   built_object : IsBuilt top (before ++ o ∷ []) (boot_object s o)
   unfolding boot_object
   built_object =
       let dir = built.stands (parent_names o.path.names) placed.parent placed.parent_given in
-      let end = new_end o.path.names placed.new in
+      let end = new_last_name o.path.names placed.new in
       subst (λ cs. IsBuilt top (before ++ o ∷ []) (changed_by (with_object s o) cs)) (sym (end.entry s root dir.id new (dir_led dir end))) (built_next dir end)
 
 built_objects : (top : Label) (os before : List WorldObject) (s : State) → IsBuilt top before s → ArePlaced before os → AllByRecursion (IsWorldObject top) os → IsBuilt top (before ++ os) (boot_objects s os)
@@ -402,7 +402,7 @@ module _ (w : World) (is : IsWorld w) (f : State) (built : IsBuilt w.top w.objec
       (λ a b x y e g p q. same_spot a b id (e ∙ ap (λ (at : Oid). Some at) (same_key oid_cmp_exact x id p)) (g ∙ ap (λ (at : Oid). Some at) (same_key oid_cmp_exact y id q)))
 
   led : (id : Oid) (x : Object) → map.get s.objects id ≡ Some x → leads s root (built.names_of id) ≡ Some id
-  led id x e = leads_kept f s (λ spot q h. h) root (built.names_of id) id (built.led id x e)
+  led id x e = leads_still f s (λ spot q h. h) root (built.names_of id) id (built.led id x e)
 
   valid_made : (id : Oid) (x : Object) → map.get s.objects id ≡ Some x → IsValidObject s id x
   valid_made id x e =

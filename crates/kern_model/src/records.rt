@@ -84,13 +84,13 @@ pub struct Exercise {
     pub label: Label,
     pub cap: Cap,
     pub check: CheckName,
-    /// What the check is about, and its present label.
+    /// Where in the call the thing stands that the check is about.
+    pub place: Place,
+    /// That thing, and its present label.
     pub thing: Thing,
     pub thing_label: Label,
     /// The label that the thing is to get, if the check has one.
     pub new_label: Option<Label>,
-    /// Where in the call the thing stands.
-    pub place: Place,
 }
 
 /// Records in order.

@@ -69,26 +69,25 @@ fn started(alloc: Global, mode: Mode) -> Option<Shared> {
 }
 
 // The walk of a path of the process.
-fn walked(
+fn walked<'a>(
     alloc: Global,
     shared: &Shared,
-    text: &[u8],
+    path: &'a Path,
     second: bool,
-) -> Option<Result<Found, WalkStop>> {
+) -> Option<Result<Found<'a>, WalkStop>> {
     let who = Pid {
         label: bottom(),
         n: 1,
     };
-    let path = Path::read(alloc, text).ok()?;
     let Some(caller) = Caller::find(shared, &who) else {
         return None;
     };
     let mut checks = Checks::new(alloc, who, caller.label(), caller.caps().e);
-    Some(walk(shared, &mut checks, &who, &path, second))
+    Some(walk(shared, &mut checks, &who, path, second))
 }
 
 // Whether a walk found where it starts, the root.
-fn is_root(walk: &Result<Found, WalkStop>) -> bool {
+fn is_root(walk: &Result<Found<'_>, WalkStop>) -> bool {
     match walk {
         Ok(Found::Start(id)) => *id == root_directory(),
         _ => false,
@@ -96,15 +95,16 @@ fn is_root(walk: &Result<Found, WalkStop>) -> bool {
 }
 
 // Whether a walk found this name in the root, and no object that has it.
-fn is_absent(walk: &Result<Found, WalkStop>, name: &[u8]) -> bool {
+fn is_absent(walk: &Result<Found<'_>, WalkStop>, name: &[u8]) -> bool {
     match walk {
-        Ok(Found::Entry(dir, last, None)) => *dir == root_directory() && last.bytes() == name,
+        Ok(Found::Entry(dir, last, None)) => *dir == root_directory()
+            && last.name().bytes() == name,
         _ => false,
     }
 }
 
 // Whether the search of the directory at this place was denied.
-fn is_denied_at(walk: &Result<Found, WalkStop>, place: Place) -> bool {
+fn is_denied_at(walk: &Result<Found<'_>, WalkStop>, place: Place) -> bool {
     match walk {
         Err(WalkStop::Denied(CheckName::DacSearch, at)) => *at == place,
         _ => false,
@@ -113,22 +113,27 @@ fn is_denied_at(walk: &Result<Found, WalkStop>, place: Place) -> bool {
 
 // Whether walks find the root, and a name without an object.
 fn finds(alloc: Global, shared: &Shared) -> Option<bool> {
-    let start = walked(alloc, shared, b"/", false)?;
-    let entry = walked(alloc, shared, b"/x", false)?;
+    let root = Path::read(alloc, b"/").ok()?;
+    let start = walked(alloc, shared, &root, false)?;
+    let absent = Path::read(alloc, b"/x").ok()?;
+    let entry = walked(alloc, shared, &absent, false)?;
     Some(is_root(&start) && is_absent(&entry, b"x"))
 }
 
 // Whether walks stop at a name that is absent and not the last, and at a file.
 fn stops(alloc: Global, shared: &Shared) -> Option<bool> {
-    let missing = walked(alloc, shared, b"/x/y", false)?;
-    let file = walked(alloc, shared, b"x", false)?;
+    let below_absent = Path::read(alloc, b"/x/y").ok()?;
+    let missing = walked(alloc, shared, &below_absent, false)?;
+    let below_file = Path::read(alloc, b"x").ok()?;
+    let file = walked(alloc, shared, &below_file, false)?;
     Some(matches!(&missing, Err(WalkStop::Missing)) && matches!(&file, Err(WalkStop::NotDir)))
 }
 
 // Whether walks of a first and of a second path are denied at their first place.
 fn denies(alloc: Global, shared: &Shared) -> Option<bool> {
-    let first = walked(alloc, shared, b"/x", false)?;
-    let second = walked(alloc, shared, b"/x", true)?;
+    let path = Path::read(alloc, b"/x").ok()?;
+    let first = walked(alloc, shared, &path, false)?;
+    let second = walked(alloc, shared, &path, true)?;
     Some(is_denied_at(&first, Place::First(0)) && is_denied_at(&second, Place::Second(0)))
 }
 

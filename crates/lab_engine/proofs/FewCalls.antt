@@ -1,5 +1,5 @@
 -- A line has no more calls than bytes.
-use Rattle.std.proofs.Common.{◌≡◌, ℕ, zero, suc, ◌+◌, ◌≤◌, Bool, true, false, ◌||◌, cond, List, [], ◌∷◌, length, Option, None, Some, refl, sym, ap, subst, arith}
+use Rattle.std.proofs.Common.{◌≡◌, ℕ, zero, suc, ◌+◌, ◌≤◌, Bool, true, false, ◌||◌, cond, List, [], ◌∷◌, length, Option, None, Some, refl, sym, subst, arith}
 use Rattle.std.specs.Prelude.{Ok, Err, nat_lt}
 use Rattle.std.specs.Option.{option_and_then, option_map}
 use Rattle.std.proofs.lemmas.List.{length-map}
@@ -17,8 +17,9 @@ use Rattle.sec_utils.proofs.ItemLaws.{items_length}
 use Rattle.script_text.specs.declared.line.Line.{Line}
 use Rattle.script_text.specs.declared.line.Line.TheVariants as line
 use Rattle.script_text.specs.declared.fault.LineError.TheVariants as error
+use Rattle.script_text.proofs.LineLaws.{both_are, from_made}
 use Rattle.script_text.specs.Argument as argument
-use Rattle.script_text.specs.Reading.{Reading, both, made}
+use Rattle.script_text.specs.Reading.{both}
 use Rattle.script_text.specs.Tools.{on_paths, parse_tool, plain, with_caps, with_mark}
 use Rattle.script_text.specs.Line.{bytes_in, item_by, parse_item, parse_line, parse_words, MayBePlayed}
 use Rattle.lab_engine.specs.Input.{items_in}
@@ -50,18 +51,6 @@ few_words text ws e = few_within (length text) text ws e
 -- ---- lines
 
 module _ (policy : PolicyNames) where
-  from_made : {A B : Type 0} (P : B → Type 0) (make : A → B) (r : Reading A) (b : B) → made make r ≡ Ok b → ((a : A) → r ≡ Ok a → P (make a)) → P b
-  unfolding made
-  from_made P make (Ok a) b e h = let same : make a ≡ b = cc in subst P same (h a refl)
-  from_made P make (Err f) b e h = absurd (cc)
-
-  first_of_both : {A B : Type 0} (a : Reading A) (b : Reading B) (args : A × B) → both a b ≡ Ok args → a ≡ Ok args.0
-  unfolding both
-  first_of_both (Ok x) (Ok y) args e = let same : (x, y) ≡ args = cc in ap (λ p. Ok p.0) same
-  first_of_both (Ok x) (Err f) args e = absurd (cc)
-  first_of_both (Err f) (Ok y) args e = absurd (cc)
-  first_of_both (Err f) (Err g) args e = absurd (cc)
-
   -- a utility has at most as many texts as arguments
   abbrev Few : ℕ → Util → Type 0
   Few n util = length util.texts ≤ n
@@ -77,10 +66,10 @@ module _ (policy : PolicyNames) where
   few_texts tag tool.GetFmac ws util e = few_on tag tool.GetFmac ws util e
   few_texts tag tool.SetFcap [] util e = absurd (cc)
   few_texts tag tool.SetFcap (w ∷ ws) util e = from_made (Few (length (w ∷ ws))) with_caps (both (on_paths policy tag tool.SetFcap ws) (argument.caps w)) util e (λ args is.
-      let le = few_on tag tool.SetFcap ws args.0 (first_of_both (on_paths policy tag tool.SetFcap ws) (argument.caps w) args is) in omega arith)
+      let le = few_on tag tool.SetFcap ws args.0 (both_are (on_paths policy tag tool.SetFcap ws) (argument.caps w) args is).0 in omega arith)
   few_texts tag tool.SetFmac [] util e = absurd (cc)
   few_texts tag tool.SetFmac (w ∷ ws) util e = from_made (Few (length (w ∷ ws))) with_mark (both (on_paths policy tag tool.SetFmac ws) (argument.label policy w)) util e (λ args is.
-      let le = few_on tag tool.SetFmac ws args.0 (first_of_both (on_paths policy tag tool.SetFmac ws) (argument.label policy w) args is) in omega arith)
+      let le = few_on tag tool.SetFmac ws args.0 (both_are (on_paths policy tag tool.SetFmac ws) (argument.label policy w) args is).0 in omega arith)
 
   few_tool : (n : ℕ) (util : Util) → Few n util → MayBePlayed (top_of policy) (line.Tool util) → length (items_in (line.Tool util)) ≤ n
   few_tool n util le may = omega (arith, items_length util may.2, may.2.texts)

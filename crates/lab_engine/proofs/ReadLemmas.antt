@@ -1,7 +1,6 @@
 -- What each answer of a reader of lines says of the world, and of the script, that is left at it.
 use Rattle.std.proofs.Common.{◌≡◌, ◌⊎◌, inl, inr, ℕ, ◌+◌, ◌≤◌, ◌<◌, Bool, true, false, cond, zero, suc, List, [], ◌∷◌, ◌++◌, length, take, refl, sym, ◌∙◌, ap, subst, arith, append_assoc, Option, Some, None}
-use Rattle.std.proofs.lemmas.Bool.{lt-ltb}
-use Rattle.std.proofs.lemmas.Bool.Decides.{nat_tests}
+use Rattle.std.proofs.lemmas.Bool.{le-ltb, lt-ltb}
 use Rattle.std.proofs.lemmas.List.{append-nil, take_all}
 use Rattle.std.specs.Prelude.{nat_lt, IsErrAnd, Result, Ok, Err}
 use Rattle.std.specs.Io.KnownBytes.{IsAtEnd}
@@ -54,9 +53,6 @@ use Rattle.lab_engine.proofs.FewCalls.{few_calls}
 pub nothing_left : (left : Option (List ℕ)) → IsAtEnd left → left_of left ≡ []
 nothing_left None h = refl
 nothing_left (Some bytes) h = h
-
-within_limit : (n k : ℕ) → k ≤ n → nat_lt n k ≡ false
-within_limit n k le = grind (arith, nat_tests)
 
 take_nothing : (n : ℕ) → has_line_feed (take n []) ≡ false
 take_nothing zero = refl
@@ -209,14 +205,14 @@ module _ (before now : LinesState) (got : List ℕ) (number : now.number ≡ bef
     world_ended e =
         input_text e (left_of left)
         ∙ ap (λ (t : List ℕ). input_by (nat_lt before.room (length t)) (reading now.number e (pieces 10 (take before.room t)))) (no_more left end)
-        ∙ ap (λ b. input_by b (reading now.number e (pieces 10 (take before.room text)))) (within_limit before.room (length text) le)
+        ∙ ap (λ b. input_by b (reading now.number e (pieces 10 (take before.room text)))) (le-ltb before.room (length text) le)
         ∙ reading_last now.number e text (pieces 10 (take before.room text)) (whole_part holds le) false
 
     script_ended : (policy : PolicyNames) → script_at policy before (got ++ left_of left) ≡ script [] (last_piece false now.number text)
     script_ended policy =
         script_text policy (left_of left)
         ∙ ap (λ (t : List ℕ). script_from (nat_lt before.room (length t)) policy now.number (pieces 10 (take before.room t))) (no_more left end)
-        ∙ ap (λ b. script_from b policy now.number (pieces 10 (take before.room text))) (within_limit before.room (length text) le)
+        ∙ ap (λ b. script_from b policy now.number (pieces 10 (take before.room text))) (le-ltb before.room (length text) le)
         ∙ script_last false policy now.number text (pieces 10 (take before.room text)) (whole_part holds le)
 
     pub world_unended : (e : Expecting) → EndsWorld e before left got (Refused now.number part.World fault.Syntax)
@@ -229,7 +225,7 @@ module _ (before now : LinesState) (got : List ℕ) (number : now.number ≡ bef
       where
         unended_piece : (t : List ℕ) → 0 < length t → length t ≤ MAX_LINE → last_piece false now.number t ≡ Refused now.number part.Script fault.Syntax
         unended_piece [] some short = absurd (omega (arith, some))
-        unended_piece (x ∷ t) some short = ap (λ b. Refused now.number part.Script (cond b fault.TooLong fault.Syntax)) (within_limit MAX_LINE (length (x ∷ t)) short)
+        unended_piece (x ∷ t) some short = ap (λ b. Refused now.number part.Script (cond b fault.TooLong fault.Syntax)) (le-ltb MAX_LINE (length (x ∷ t)) short)
 
   -- an empty text is a part of a line
   empty_part : text ≡ [] → HoldsPart text before.room
@@ -247,7 +243,7 @@ module _ (before now : LinesState) (got : List ℕ) (number : now.number ≡ bef
 
   module _ (holds : HoldsPart text before.room) (past : before.room < length text) (left : Option (List ℕ)) where
     cut : (n : ℕ) (last : List ℕ) → length last ≤ MAX_LINE → nat_lt MAX_LINE (length last) ≡ false
-    cut n last short = within_limit MAX_LINE (length last) short
+    cut n last short = le-ltb MAX_LINE (length last) short
 
     pub world_too_much : (e : Expecting) → EndsWorld e before left got TooMuch
     world_too_much e = record {

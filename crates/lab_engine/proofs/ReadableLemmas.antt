@@ -14,6 +14,7 @@ use Rattle.kern_model.specs.State.{State}
 use Rattle.kern_model.specs.Step.{step}
 use Rattle.lab_text.specs.Policy.{PolicyNames}
 use Rattle.iso_laws.proofs.AllLemmas.{all-append}
+use Rattle.world_text.proofs.RangeLemmas.{all_parts}
 use Rattle.lab_engine.specs.Readable.{IsReadable, AreReadable, CallsReadable}
 use Rattle.lab_engine.specs.Session.{numbered_from}
 
@@ -39,10 +40,6 @@ with_numbers policy n [] all = tt
 with_numbers policy n (r ∷ rs) all = (all.0, with_numbers policy n rs all.1)
 
 -- ---- the calls of a script
-
-all_parts : {X : Type 0} (P : X → Type 0) (xs ys : List X) → AllByRecursion P (xs ++ ys) → AllByRecursion P xs × AllByRecursion P ys
-all_parts P [] ys all = (tt, all)
-all_parts P (x ∷ xs) ys all = let parts = all_parts P xs ys all.1 in ((all.0, parts.0), parts.1)
 
 module _ (policy : PolicyNames) where
   -- a call, and those after it

@@ -1,5 +1,5 @@
 -- What a handler of lines did with the lines of a script.
-use Rattle.std.specs.Prelude.{◌≡◌, ◌⊎◌, ℕ, List, [], ◌++◌, length, Result, MatchResult}
+use Rattle.std.specs.Prelude.{◌≡◌, ◌⊎◌, ℕ, List, [], ◌++◌, length, Result, MatchResult, OnOk}
 use Rattle.std.specs.Io.KnownBytes.{IsAtEnd}
 use Rattle.io_ends.specs.Ends.{SourceView}
 use Rattle.io_ends.specs.LinesState.{LinesState}
@@ -19,6 +19,14 @@ use Rattle.lab_engine.specs.Reading.{Takes, left_of, script_at}
 -- a handler that is ready for calls below some labels may be given a line: its calls are below one of these
 abbrev pub MayBeHandled : (Label → Type 0) → Line → Type 0
 MayBeHandled ready line = (top : Label) × ready top × MayBePlayed top line
+
+-- a handler that was ready is ready again where it succeeds, for calls below the same labels
+abbrev pub StaysReady : {X : Type 0} → Result X Fault → (before after : Label → Type 0) → Type 0
+StaysReady result before after = (top : Label) → before top → OnOk result (after top)
+
+-- a handler handled calls after so many others, or was stopped in them by the fault that it reports
+abbrev pub HandlesOrStops : {X H : Type 0} → (ℕ → List ScriptItem → H → H → Type 0) → (ℕ → List ScriptItem → Fault → H → H → Type 0) → Result X Fault → ℕ → List ScriptItem → (h h' : H) → Type 0
+HandlesOrStops handles stops result count items h h' = MatchResult result (λ _. handles count items h h') (λ fault. stops count items fault h h')
 
 module _ {H : Type 0} (handles : ℕ → List ScriptItem → H → H → Type 0) where
   -- calls were handled, one line after another

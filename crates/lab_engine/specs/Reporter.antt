@@ -8,18 +8,21 @@ use Rattle.io_ends.specs.LinesState.{LinesState}
 use Rattle.kern_model.specs.declared.calls.Call.{Call}
 use Rattle.kern_model.specs.declared.numbers.Pid.{Pid}
 use Rattle.kern_model.specs.declared.records.Outcome.{Outcome}
+use Rattle.kern_model.specs.declared.calls.Reply.{Reply}
 use Rattle.kern_model.specs.declared.world.ScriptItem.{ScriptItem}
 use Rattle.kern_model.specs.Names.{name_of, word_of}
-use Rattle.kern_model.specs.Run.{CallRecord, run}
+use Rattle.kern_model.specs.Run.{CallRecord, played, run}
 use Rattle.kern_model.specs.State.{State}
 use Rattle.lab_lattice.specs.Label.{bottom}
 use Rattle.lab_text.specs.Policy.{PolicyNames}
+use Rattle.line_text.specs.Reply.{reply_line}
 use Rattle.script_text.specs.declared.line.Line.{Line}
 use Rattle.script_text.specs.declared.line.Line.TheVariants as line
 use Rattle.sec_utils.specs.Calls.{IsWhole}
 use Rattle.sec_utils.specs.Items.{head_at}
 use Rattle.lab_engine.specs.declared.ending.Fault.{Fault}
 use Rattle.lab_engine.specs.declared.playing.Played.{Played}
+use Rattle.lab_engine.specs.declared.replying.ReplyLine.{ReplyLine}
 use Rattle.lab_engine.specs.declared.reporting.Report.{Report}
 use Rattle.lab_engine.specs.declared.reporting.Report.TheVariants.{All}
 use Rattle.lab_engine.specs.Order.{Sent}
@@ -60,6 +63,14 @@ item_on line at call = record { who = who_on line; head = head_on line at; call 
 -- the call at an index of a line as it was played, by what came of it
 abbrev pub call_on : Line → ℕ → Outcome → CallRecord
 call_on line at outcome = call_record (who_on line) (head_on line at) outcome
+
+-- the same call as it is played from a state on
+abbrev pub played_at : State → ReplyLine → Call → CallRecord
+played_at s r call = played s (item_on r.line.now r.at call)
+
+-- the line of the output with a reply to the call
+abbrev pub reply_at : PolicyNames → ReplyLine → Reply → List ℕ
+reply_at policy r reply = reply_line policy (who_on r.line.now) (head_on r.line.now r.at) reply
 
 -- ---- the calls that were seen
 

@@ -58,9 +58,13 @@ replies_of cs = flat_map (λ (c : CallBytes). c.reply) cs
 abbrev pub records_of : List CallBytes → List ℕ
 records_of cs = flat_map (λ (c : CallBytes). c.recs) cs
 
--- the head of the trail: its header, and the records of the start
+-- the head of a trail: its header, and the lines of the records of the start
+abbrev pub trail_head : PolicyNames → CapSet → List Rec → List ℕ
+trail_head policy bound recs = header_text policy bound ++ flat_map (rec_text policy 0) recs
+
+-- the head of the trail of what was played
 unfoldable pub head_text : Session → List ℕ
-head_text s = header_text s.policy s.bound ++ flat_map (rec_text s.policy 0) s.boot_recs
+head_text s = trail_head s.policy s.bound s.boot_recs
 
 -- the end of the output: the end lines, and the last line
 unfoldable pub tail_text : Session → List ℕ

@@ -22,16 +22,17 @@ pub fn count_script<C: Calls, S: Source>(
     requires more { lines.old.more ≡ true }
     requires small { lines.old.room ≤ 2 ^ 24 }
     requires top { (C.state kernel.old).top ≡ top_of texts.policy.now }
-    ensures tally { CountsScript result texts.entry.policy.now (C.state kernel.old) (C.state kernel.new) lines.old lines.new (S.view source.old).left (S.view source.new).left }
+    ensures tally { CountsScript result texts.entry.policy.now (C.state kernel.old) (C.state kernel.new) lines.old lines.new
+        (S.view source.old).left (S.view source.new).left }
     ensures counts { (o t : ℕ) → CountsOnce result (counts (S.view source.old).faults o t) (counts (S.view source.new).faults o t) }
 {
     let report = Report::Counted(Tally::new());
-    let (room, out, trail) = (
+    let (buffer, out, trail) = (
         &mut Vec::new(texts.alloc),
         &mut SureSink::new(),
         &mut SureSink::new(),
     );
-    let mut reporter = Reporter::new(texts, report, room, out, trail);
+    let mut reporter = Reporter::new(texts, report, buffer, out, trail);
     play_script(kernel, lines, source, &mut reporter)?;
     match reporter.report {
         Report::Counted(tally) => Ok(tally),

@@ -1,11 +1,11 @@
 // What is done with the lines of a script, one after another.
-ghost use Rattle.std.specs.Prelude.{◌≡◌, ℕ, ◌≤◌, ◌^◌, ◌+◌, true, List, MatchResult, OnOk, IfOk, length};
+ghost use Rattle.std.specs.Prelude.{◌≡◌, ℕ, ◌≤◌, ◌^◌, ◌+◌, true, List, IfOk, length};
 ghost use Rattle.kern_model.specs.declared.world.ScriptItem.{ScriptItem};
 ghost use Rattle.lab_lattice.specs.Label.{Label};
 ghost use Rattle.lab_text.specs.Policy.{top_of};
 ghost use Rattle.lab_engine.specs.declared.ending.Fault.{Fault};
 ghost use Rattle.lab_engine.specs.Input.{items_in};
-ghost use Rattle.lab_engine.specs.Handling.{HandlesScript, MayBeHandled};
+ghost use Rattle.lab_engine.specs.Handling.{HandlesOrStops, HandlesScript, MayBeHandled, StaysReady};
 
 use crate::Fault;
 use crate::playing::Played;
@@ -32,9 +32,9 @@ pub trait LineHandler<C> {
     fn handle_line(&mut self, kernel: &mut C, count: u64, line: &Line) -> Result<u64, Fault>
         requires calls { MayBeHandled (ready self.old kernel.old count) line.now }
         requires small { count + length (items_in line.now) ≤ 2 ^ 60 }
-        ensures handled { MatchResult result (λ _. handles count (items_in line.now) (self.old, kernel.old) (self.new, kernel.new)) (λ fault. stops count (items_in line.now) fault (self.old, kernel.old) (self.new, kernel.new)) }
+        ensures handled { HandlesOrStops handles stops result count (items_in line.now) (self.old, kernel.old) (self.new, kernel.new) }
         ensures count { IfOk result (λ last. last ≡ count + length (items_in line.now)) }
-        ensures ready { (top : Label) → ready self.old kernel.old count top → OnOk result (ready self.new kernel.new (count + length (items_in line.now)) top) }
+        ensures ready { StaysReady result (ready self.old kernel.old count) (ready self.new kernel.new (count + length (items_in line.now))) }
         ensures same { same_borrows self.old self.new };
 
     ghost same_refl: { (a : Self) → same_borrows a a };
@@ -54,7 +54,8 @@ pub fn handle_script<C, S: Source, H: LineHandler<C>>(
     requires more { lines.old.more ≡ true }
     requires small { lines.old.room ≤ 2 ^ 24 }
     requires ready { H.ready handler.old kernel.old 0 (top_of texts.policy.now) }
-    ensures handles { HandlesScript H.handles H.stops result texts.entry.policy.now lines.old lines.new (S.view source.old) (S.view source.new) (handler.old, kernel.old) (handler.new, kernel.new) }
+    ensures handles { HandlesScript H.handles H.stops result texts.entry.policy.now lines.old lines.new (S.view source.old) (S.view source.new)
+        (handler.old, kernel.old) (handler.new, kernel.new) }
     ensures same { H.same_borrows handler.old handler.new }
 {
     let mut count = 0u64;

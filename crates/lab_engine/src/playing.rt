@@ -1,6 +1,6 @@
 // A script that is played.
 ghost use Rattle.std.specs.Prelude.{◌≡◌, ◌≤◌, ◌^◌, ◌+◌, ◌∷◌, [], true, OnOk, IfOk, length};
-ghost use Rattle.kern_model.specs.Run.{played, run, state_after_run};
+ghost use Rattle.kern_model.specs.Run.{run, state_after_run};
 ghost use Rattle.kern_model.specs.Step.{step};
 ghost use Rattle.kern_model.specs.Arguments.{is_call};
 ghost use Rattle.lab_text.specs.Policy.{top_of};
@@ -8,11 +8,9 @@ ghost use Rattle.sec_utils.specs.Items.{items_of};
 ghost use Rattle.script_text.specs.Line.{MayBePlayed};
 ghost use Rattle.script_text.specs.declared.line.Line.TheVariants as a_line;
 ghost use Rattle.lab_engine.specs.Input.{items_in};
-ghost use Rattle.lab_engine.specs.declared.reporting.Report.TheVariants as a_report;
-ghost use Rattle.lab_engine.specs.Report.{CountsAtMost, call_sends, items_reported, report_after, report_after_call};
-ghost use Rattle.lab_engine.specs.Reporter.{HasCall, HasSeen, SameEnds, SawCalls, SawScript, calls_seen, item_on, who_on};
-ghost use Rattle.lab_engine.specs.Readable.{AreReadable, CallsReadable};
-ghost use Rattle.lab_engine.specs.Playing.{PlaysScript, WritesBoth, ends};
+ghost use Rattle.lab_engine.specs.Report.{CountsAtMost, report_after, report_after_call};
+ghost use Rattle.lab_engine.specs.Reporter.{HasCall, HasSeen, calls_seen, played_at, who_on};
+ghost use Rattle.lab_engine.specs.Player.{ItemsReadableIfAll, PlaysTo, ReadableIfAll, SameBorrows, ShowsCalls, ShowsScript, WritesCall, WritesItems};
 
 use crate::handling::{LineHandler, handle_script};
 use crate::replying::ReplyLine;
@@ -37,17 +35,16 @@ fn play_call<C: Calls, K: Sink, T: Sink>(
     requires small { CountsAtMost (2 ^ 60) reporter.old.report }
     requires number { number ≡ length (calls_seen reporter.old.seen.items) + 1 }
     requires going { calls_seen reporter.old.stopped.items ≡ [] }
-    ensures writes { WritesBoth result (call_sends reporter.old.report reporter.old.texts.policy.now number (played (C.state kernel.old) (item_on line.entry.line.now line.entry.at call.now)))
-        (K.view reporter.old.out.now) (K.view reporter.new.out.now) (T.view reporter.old.trail.now) (T.view reporter.new.trail.now) }
+    ensures writes { WritesCall result number (played_at (C.state kernel.old) line.entry call.now) reporter.old reporter.new }
     ensures state { OnOk result (C.state kernel.new ≡ (step (C.state kernel.old) (who_on line.entry.line.now) call.now).state) }
-    ensures report { OnOk result (reporter.new.report ≡ report_after_call reporter.old.report (played (C.state kernel.old) (item_on line.entry.line.now line.entry.at call.now))) }
-    ensures readable { OnOk result (reporter.old.report ≡ a_report.All → AreReadable reporter.old.texts.policy.now number (step (C.state kernel.old) (who_on line.entry.line.now) call.now).recs) }
-    ensures saw { SawCalls result (played (C.state kernel.old) (item_on line.entry.line.now line.entry.at call.now) ∷ []) (calls_seen reporter.old.seen.items) (calls_seen reporter.new.seen.items) (calls_seen reporter.new.stopped.items) }
+    ensures report { OnOk result (reporter.new.report ≡ report_after_call reporter.old.report (played_at (C.state kernel.old) line.entry call.now)) }
+    ensures readable { OnOk result (ReadableIfAll reporter.old number (played_at (C.state kernel.old) line.entry call.now).recs) }
+    ensures saw { ShowsCalls result (played_at (C.state kernel.old) line.entry call.now ∷ []) reporter.old reporter.new }
     ensures start { reporter.new.start.items ≡ reporter.old.start.items }
-    ensures same { SameEnds reporter.old.texts.policy.now reporter.new.texts.policy.now reporter.old.out reporter.new.out reporter.old.trail reporter.new.trail }
+    ensures same { SameBorrows reporter.old reporter.new }
 {
     let outcome = kernel.call(line.who(), call)?;
-    reporter.saw(number, line, &outcome)
+    reporter.report_call(number, line, &outcome)
 }
 
 // Plays the calls of a utility, one for each path, and returns the number of the last one.
@@ -64,15 +61,14 @@ fn play_tool<C: Calls, K: Sink, T: Sink>(
     requires small { count + length (items_of util.now) ≤ 2 ^ 60 }
     requires counted { CountsAtMost count reporter.old.report }
     requires seen { HasSeen count reporter.old.seen.items reporter.old.stopped.items }
-    ensures writes { WritesBoth result (items_reported reporter.old.report reporter.old.texts.policy.now count (C.state kernel.old) (items_of util.now))
-        (K.view reporter.old.out.now) (K.view reporter.new.out.now) (T.view reporter.old.trail.now) (T.view reporter.new.trail.now) }
+    ensures writes { WritesItems result count (C.state kernel.old) (items_of util.now) reporter.old reporter.new }
     ensures state { OnOk result (C.state kernel.new ≡ state_after_run (C.state kernel.old) (items_of util.now)) }
     ensures report { OnOk result (reporter.new.report ≡ report_after reporter.old.report (run (C.state kernel.old) (items_of util.now))) }
     ensures count { IfOk result (λ last. last ≡ count + length (items_of util.now)) }
-    ensures readable { OnOk result (reporter.old.report ≡ a_report.All → CallsReadable reporter.old.texts.policy.now count (C.state kernel.old) (items_of util.now)) }
-    ensures saw { SawCalls result (run (C.state kernel.old) (items_of util.now)) (calls_seen reporter.old.seen.items) (calls_seen reporter.new.seen.items) (calls_seen reporter.new.stopped.items) }
+    ensures readable { OnOk result (ItemsReadableIfAll reporter.old count (C.state kernel.old) (items_of util.now)) }
+    ensures saw { ShowsCalls result (run (C.state kernel.old) (items_of util.now)) reporter.old reporter.new }
     ensures start { reporter.new.start.items ≡ reporter.old.start.items }
-    ensures same { SameEnds reporter.old.texts.policy.now reporter.new.texts.policy.now reporter.old.out reporter.new.out reporter.old.trail reporter.new.trail }
+    ensures same { SameBorrows reporter.old reporter.new }
 {
     let calls = expand(reporter.texts.alloc, util)?;
     let mut number = count;
@@ -94,15 +90,14 @@ fn play_line<C: Calls, K: Sink, T: Sink>(
     requires small { count + length (items_in line.now) ≤ 2 ^ 60 }
     requires counted { CountsAtMost count reporter.old.report }
     requires seen { HasSeen count reporter.old.seen.items reporter.old.stopped.items }
-    ensures writes { WritesBoth result (items_reported reporter.old.report reporter.old.texts.policy.now count (C.state kernel.old) (items_in line.now))
-        (K.view reporter.old.out.now) (K.view reporter.new.out.now) (T.view reporter.old.trail.now) (T.view reporter.new.trail.now) }
+    ensures writes { WritesItems result count (C.state kernel.old) (items_in line.now) reporter.old reporter.new }
     ensures state { OnOk result (C.state kernel.new ≡ state_after_run (C.state kernel.old) (items_in line.now)) }
     ensures report { OnOk result (reporter.new.report ≡ report_after reporter.old.report (run (C.state kernel.old) (items_in line.now))) }
     ensures count { IfOk result (λ last. last ≡ count + length (items_in line.now)) }
-    ensures readable { OnOk result (reporter.old.report ≡ a_report.All → CallsReadable reporter.old.texts.policy.now count (C.state kernel.old) (items_in line.now)) }
-    ensures saw { SawCalls result (run (C.state kernel.old) (items_in line.now)) (calls_seen reporter.old.seen.items) (calls_seen reporter.new.seen.items) (calls_seen reporter.new.stopped.items) }
+    ensures readable { OnOk result (ItemsReadableIfAll reporter.old count (C.state kernel.old) (items_in line.now)) }
+    ensures saw { ShowsCalls result (run (C.state kernel.old) (items_in line.now)) reporter.old reporter.new }
     ensures start { reporter.new.start.items ≡ reporter.old.start.items }
-    ensures same { SameEnds reporter.old.texts.policy.now reporter.new.texts.policy.now reporter.old.out reporter.new.out reporter.old.trail reporter.new.trail }
+    ensures same { SameBorrows reporter.old reporter.new }
 {
     match line {
         Line::Blank => Ok(count),
@@ -132,7 +127,7 @@ impl<'a, C: Calls, K: Sink, T: Sink> LineHandler<C> for Reporter<'a, K, T> {
 
     ghost stops = { λ count items fault a b. StopsCalls count items fault (player_view C.state K.Sink T.Sink a) (player_view C.state K.Sink T.Sink b) };
 
-    ghost same_borrows = { λ a b. (b.start.items ≡ a.start.items) × SameEnds a.texts.policy.now b.texts.policy.now a.out b.out a.trail b.trail };
+    ghost same_borrows = { λ a b. (b.start.items ≡ a.start.items) × SameBorrows a b };
 
     #[inline(always)]
     fn handle_line(&mut self, kernel: &mut C, count: u64, line: &Line) -> Result<u64, Fault> {
@@ -156,12 +151,12 @@ pub fn play_script<C: Calls, S: Source, K: Sink, T: Sink>(
     requires top { (C.state kernel.old).top ≡ top_of reporter.old.texts.policy.now }
     requires counted { CountsAtMost 0 reporter.old.report }
     requires seen { HasSeen 0 reporter.old.seen.items reporter.old.stopped.items }
-    ensures plays { PlaysScript result reporter.old.texts.policy.now reporter.old.report reporter.new.report (C.state kernel.old) (C.state kernel.new) lines.old lines.new (S.view source.old).left (S.view source.new).left
-        (ends (S.view source.old).faults (K.view reporter.old.out.now) (T.view reporter.old.trail.now))
-        (ends (S.view source.new).faults (K.view reporter.new.out.now) (T.view reporter.new.trail.now)) }
-    ensures saw { SawScript result reporter.old.texts.policy.now (C.state kernel.old) lines.old lines.new (S.view source.old).left (S.view source.new).left (calls_seen reporter.old.seen.items) (calls_seen reporter.new.seen.items) (calls_seen reporter.new.stopped.items) }
+    ensures plays { PlaysTo result lines.old lines.new (S.view source.old) (S.view source.new)
+        (C.state kernel.old) (C.state kernel.new) reporter.old reporter.new }
+    ensures saw { ShowsScript result lines.old lines.new (S.view source.old) (S.view source.new)
+        (C.state kernel.old) reporter.old reporter.new }
     ensures start { reporter.new.start.items ≡ reporter.old.start.items }
-    ensures same { SameEnds reporter.old.texts.policy.now reporter.new.texts.policy.now reporter.old.out reporter.new.out reporter.old.trail reporter.new.trail }
+    ensures same { SameBorrows reporter.old reporter.new }
 {
     handle_script(reporter.texts, lines, source, kernel, reporter)
 }

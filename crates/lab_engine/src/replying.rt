@@ -1,7 +1,6 @@
 // The line of the output that a reply stands on.
 ghost use Rattle.std.specs.Prelude.{◌≡◌, IfOk};
-ghost use Rattle.line_text.specs.Reply.{reply_line};
-ghost use Rattle.lab_engine.specs.Reporter.{HasCall, head_on, who_on};
+ghost use Rattle.lab_engine.specs.Reporter.{HasCall, reply_at, who_on};
 
 use kern_model::{NoMemory, Pid, Reply};
 use lab_text::Policy;
@@ -35,17 +34,17 @@ impl<'a> ReplyLine<'a> {
     #[inline(always)]
     pub(crate) fn text(
         self,
-        room: Vec<u8>,
+        buffer: Vec<u8>,
         policy: &Policy,
         reply: &Reply,
     ) -> Result<Vec<u8>, NoMemory>
         requires { HasCall self.line.now self.at }
-        ensures { IfOk result (λ text. text.items ≡ reply_line policy.now (who_on self.entry.line.now) (head_on self.entry.line.now self.entry.at) reply.now) }
+        ensures { IfOk result (λ text. text.items ≡ reply_at policy.now self.entry reply.now) }
     {
         match self.line {
             Line::Blank => unreachable!(),
-            Line::One { who, call } => reply_text(room, policy, who, call.name().word(), reply),
-            Line::Tool(util) => util_text(room, policy, util, self.at, reply),
+            Line::One { who, call } => reply_text(buffer, policy, who, call.name().word(), reply),
+            Line::Tool(util) => util_text(buffer, policy, util, self.at, reply),
         }
     }
 }

@@ -1,14 +1,14 @@
 // What reporting of a run takes, and what it writes.
-ghost use Rattle.std.specs.Prelude.{◌≡◌, ℕ, ◌+◌, ◌^◌, ◌∷◌, ◌++◌, [], List, OnOk, IfOk, length};
+ghost use Rattle.std.specs.Prelude.{◌≡◌, ◌+◌, ◌^◌, ◌∷◌, [], OnOk, IfOk, length};
 ghost use Rattle.std.specs.List.{flat_map};
-ghost use Rattle.aud_record.specs.Written.{rec_text as rec_line, header_text as head_lines};
-ghost use Rattle.line_text.specs.Reply.{reply_line};
-ghost use Rattle.lab_engine.specs.Order.{to_out, to_trail};
+ghost use Rattle.aud_record.specs.Written.{rec_text as rec_line};
+ghost use Rattle.lab_engine.specs.Order.{to_out};
+ghost use Rattle.lab_engine.specs.Session.{trail_head};
 ghost use Rattle.lab_engine.specs.Texts.{last_text};
 ghost use Rattle.lab_engine.specs.declared.reporting.Report.TheVariants as a_report;
 ghost use Rattle.lab_engine.specs.declared.reporting.Shown.TheVariants as a_shown;
 ghost use Rattle.lab_engine.specs.Report.{CountsAtMost, before_reply, call_sends, has_reply, report_after_call};
-ghost use Rattle.lab_engine.specs.Reporter.{HasCall, HasSeen, KeptSince, SameEnds, SawCalls, call_on, calls_seen, head_on, who_on};
+ghost use Rattle.lab_engine.specs.Reporter.{HasCall, HasSeen, KeptSince, SameEnds, call_on, calls_seen, reply_at};
 ghost use Rattle.lab_engine.specs.Readable.{AreReadable};
 ghost use Rattle.lab_engine.specs.Playing.{WritesBoth, WritesOut, WritesTrail};
 
@@ -26,11 +26,11 @@ use std::alloc::Global;
 use std::mem::replace;
 
 // Takes a text, and leaves an empty one in its place.
-fn take(room: &mut Vec<u8>, alloc: Global) -> Vec<u8>
-    ensures taken { result.items ≡ room.old.items }
-    ensures left { room.new.items ≡ [] }
+fn take(buffer: &mut Vec<u8>, alloc: Global) -> Vec<u8>
+    ensures taken { result.items ≡ buffer.old.items }
+    ensures left { buffer.new.items ≡ [] }
 {
-    replace(room, Vec::new(alloc))
+    replace(buffer, Vec::new(alloc))
 }
 
 // Writes a piece to the trail.
@@ -66,20 +66,20 @@ pub fn report_last<K: Sink>(
     answer(out, &text)
 }
 
-// Writes the records of a call to the trail, each as one piece. The text in `room` is not read.
+// Writes the records of a call to the trail, each as one piece. The text in `buffer` is not read.
 fn note_all<T: Sink>(
     texts: Texts<'_>,
     call: u64,
     recs: &[Rec],
-    room: &mut Vec<u8>,
+    buffer: &mut Vec<u8>,
     trail: &mut T,
 ) -> Result<(), Fault>
     ensures writes { WritesTrail result (flat_map (rec_line texts.entry.policy.now call) recs.now) (T.view trail.old) (T.view trail.new) }
     ensures readable { OnOk result (AreReadable texts.entry.policy.now call recs.now) }
 {
     for rec in recs {
-        *room = rec_text(take(room, texts.alloc), texts.policy, call, rec)?;
-        note(trail, room)?;
+        *buffer = rec_text(take(buffer, texts.alloc), texts.policy, call, rec)?;
+        note(trail, buffer)?;
     }
     Ok(())
 }
@@ -91,7 +91,7 @@ pub fn write_head<T: Sink>(
     recs: &[Rec],
     trail: &mut T,
 ) -> Result<(), Fault>
-    ensures writes { WritesTrail result (head_lines texts.entry.policy.now bound.now ++ flat_map (rec_line texts.entry.policy.now 0) recs.now) (T.view trail.old) (T.view trail.new) }
+    ensures writes { WritesTrail result (trail_head texts.entry.policy.now bound.now recs.now) (T.view trail.old) (T.view trail.new) }
     ensures readable { OnOk result (AreReadable texts.entry.policy.now 0 recs.now) }
 {
     let mut text = header_text(texts.alloc, texts.policy, bound)?;
@@ -104,24 +104,24 @@ pub fn write_head<T: Sink>(
 struct CallWriter<'t, 'a, K: Sink, T: Sink> {
     texts: Texts<'t>,
     // A text whose memory the next line takes.
-    room: &'a mut Vec<u8>,
+    buffer: &'a mut Vec<u8>,
     out: &'a mut K,
     trail: &'a mut T,
 }
 
 impl<'t, 'a, K: Sink, T: Sink> CallWriter<'t, 'a, K, T> {
     #[inline(always)]
-    fn new(texts: Texts<'t>, room: &'a mut Vec<u8>, out: &'a mut K, trail: &'a mut T) -> Self
+    fn new(texts: Texts<'t>, buffer: &'a mut Vec<u8>, out: &'a mut K, trail: &'a mut T) -> Self
         ensures policy { result.texts.policy.now ≡ texts.entry.policy.now }
         ensures same_out { result.out.ghost_name ≡ out.entry.ghost_name }
         ensures same_trail { result.trail.ghost_name ≡ trail.entry.ghost_name }
-        ensures same_room { result.room.ghost_name ≡ room.entry.ghost_name }
+        ensures same_buffer { result.buffer.ghost_name ≡ buffer.entry.ghost_name }
         ensures out { result.out.now ≡ out.old }
         ensures trail { result.trail.now ≡ trail.old }
     {
         CallWriter {
             texts,
-            room,
+            buffer,
             out,
             trail,
         }
@@ -130,15 +130,16 @@ impl<'t, 'a, K: Sink, T: Sink> CallWriter<'t, 'a, K, T> {
     // Writes what of a call comes before its reply, and returns whether the reply is to be written.
     #[inline(always)]
     fn show(&mut self, shown: Shown, number: u64, recs: &[Rec]) -> Result<bool, Fault>
-        ensures writes { WritesBoth result (before_reply shown self.old.texts.policy.now number recs.now) (K.view self.old.out.now) (K.view self.new.out.now) (T.view self.old.trail.now) (T.view self.new.trail.now) }
+        ensures writes { WritesBoth result (before_reply shown self.old.texts.policy.now number recs.now)
+            (K.view self.old.out.now) (K.view self.new.out.now) (T.view self.old.trail.now) (T.view self.new.trail.now) }
         ensures reply { IfOk result (λ reply. reply ≡ has_reply shown) }
         ensures readable { OnOk result (shown ≡ a_shown.Call → AreReadable self.old.texts.policy.now number recs.now) }
         ensures same { SameEnds self.old.texts.policy.now self.new.texts.policy.now self.old.out self.new.out self.old.trail self.new.trail }
-        ensures same_room { self.old.room.ghost_name ≡ self.new.room.ghost_name }
+        ensures same_buffer { self.old.buffer.ghost_name ≡ self.new.buffer.ghost_name }
     {
         match shown {
             Shown::Call => {
-                note_all(self.texts, number, recs, self.room, self.trail)?;
+                note_all(self.texts, number, recs, self.buffer, self.trail)?;
                 Ok(true)
             }
             Shown::Reply => Ok(true),
@@ -154,15 +155,20 @@ impl<'t, 'a, K: Sink, T: Sink> CallWriter<'t, 'a, K, T> {
     #[inline(always)]
     fn reply(&mut self, line: ReplyLine<'_>, reply: &Reply) -> Result<(), Fault>
         requires { HasCall line.line.now line.at }
-        ensures writes { WritesBoth result (to_out (reply_line self.old.texts.policy.now (who_on line.entry.line.now) (head_on line.entry.line.now line.entry.at) reply.now)) (K.view self.old.out.now) (K.view self.new.out.now) (T.view self.old.trail.now) (T.view self.new.trail.now) }
+        ensures writes { WritesBoth result (to_out (reply_at self.old.texts.policy.now line.entry reply.now))
+            (K.view self.old.out.now) (K.view self.new.out.now) (T.view self.old.trail.now) (T.view self.new.trail.now) }
         ensures same { SameEnds self.old.texts.policy.now self.new.texts.policy.now self.old.out self.new.out self.old.trail self.new.trail }
-        ensures same_room { self.old.room.ghost_name ≡ self.new.room.ghost_name }
+        ensures same_buffer { self.old.buffer.ghost_name ≡ self.new.buffer.ghost_name }
     {
-        *self.room = line.text(take(self.room, self.texts.alloc), self.texts.policy, reply)?;
-        answer(self.out, self.room)
+        *self.buffer = line.text(
+            take(self.buffer, self.texts.alloc),
+            self.texts.policy,
+            reply,
+        )?;
+        answer(self.out, self.buffer)
     }
 
-    // Takes a call into what is kept of the replies, and writes what is reported of it.
+    // Has the report go on after a call, and writes what is reported of the call.
     #[inline(always)]
     fn write_call(
         &mut self,
@@ -173,13 +179,14 @@ impl<'t, 'a, K: Sink, T: Sink> CallWriter<'t, 'a, K, T> {
     ) -> Result<(), Fault>
         requires line { HasCall line.line.now line.at }
         requires small { CountsAtMost (2 ^ 60) report.old }
-        ensures writes { WritesBoth result (call_sends report.old self.old.texts.policy.now number (call_on line.entry.line.now line.entry.at outcome.now)) (K.view self.old.out.now) (K.view self.new.out.now) (T.view self.old.trail.now) (T.view self.new.trail.now) }
+        ensures writes { WritesBoth result (call_sends report.old self.old.texts.policy.now number (call_on line.entry.line.now line.entry.at outcome.now))
+            (K.view self.old.out.now) (K.view self.new.out.now) (T.view self.old.trail.now) (T.view self.new.trail.now) }
         ensures report { OnOk result (report.new ≡ report_after_call report.old (call_on line.entry.line.now line.entry.at outcome.now)) }
         ensures readable { OnOk result (report.old ≡ a_report.All → AreReadable self.old.texts.policy.now number outcome.now.recs) }
         ensures same { SameEnds self.old.texts.policy.now self.new.texts.policy.now self.old.out self.new.out self.old.trail self.new.trail }
-        ensures same_room { self.old.room.ghost_name ≡ self.new.room.ghost_name }
+        ensures same_buffer { self.old.buffer.ghost_name ≡ self.new.buffer.ghost_name }
     {
-        let shown = report.take_in(line.who(), outcome)?;
+        let shown = report.advance(line.who(), outcome)?;
         if !self.show(shown, number, outcome.recs.items())? {
             return Ok(());
         }
@@ -199,7 +206,7 @@ pub struct Reporter<'a, K: Sink, T: Sink> {
     /// What of the run is written, and what is kept of its replies.
     pub report: Report,
     // A text whose memory the next line takes.
-    room: &'a mut Vec<u8>,
+    buffer: &'a mut Vec<u8>,
     out: &'a mut K,
     trail: &'a mut T,
     // The output, the trail and the report as they were at the start.
@@ -212,11 +219,13 @@ pub struct Reporter<'a, K: Sink, T: Sink> {
 }
 
 impl<'a, K: Sink, T: Sink> Reporter<'a, K, T> {
-    /// A reporter over an output and a trail, which has seen no call. The text in `room` is not read.
+    ghost use Rattle.lab_engine.specs.Player.{ReadableIfAll, SameBorrows, ShowsCalls, WritesCall};
+
+    /// A reporter over an output and a trail, which has seen no call. The text in `buffer` is not read.
     pub fn new(
         texts: Texts<'a>,
         report: Report,
-        room: &'a mut Vec<u8>,
+        buffer: &'a mut Vec<u8>,
         out: &'a mut K,
         trail: &'a mut T,
     ) -> Self
@@ -224,7 +233,7 @@ impl<'a, K: Sink, T: Sink> Reporter<'a, K, T> {
         ensures report { result.report ≡ report }
         ensures same_out { result.out.ghost_name ≡ out.entry.ghost_name }
         ensures same_trail { result.trail.ghost_name ≡ trail.entry.ghost_name }
-        ensures same_room { result.room.ghost_name ≡ room.entry.ghost_name }
+        ensures same_buffer { result.buffer.ghost_name ≡ buffer.entry.ghost_name }
         ensures out { result.out.now ≡ out.old }
         ensures trail { result.trail.now ≡ trail.old }
         ensures start { result.start.items ≡ (out.old, (trail.old, report)) ∷ [] }
@@ -234,7 +243,7 @@ impl<'a, K: Sink, T: Sink> Reporter<'a, K, T> {
         Reporter {
             texts,
             report,
-            room,
+            buffer,
             out,
             trail,
             start,
@@ -243,9 +252,9 @@ impl<'a, K: Sink, T: Sink> Reporter<'a, K, T> {
         }
     }
 
-    /// Takes in a call, and writes what is reported of it.
+    /// Writes what is reported of a call. The call is seen then, or is the one at which a fault stopped.
     #[inline(always)]
-    pub(crate) fn saw(
+    pub(crate) fn report_call(
         &mut self,
         number: u64,
         line: ReplyLine<'_>,
@@ -255,14 +264,14 @@ impl<'a, K: Sink, T: Sink> Reporter<'a, K, T> {
         requires small { CountsAtMost (2 ^ 60) self.old.report }
         requires number { number ≡ length (calls_seen self.old.seen.items) + 1 }
         requires going { calls_seen self.old.stopped.items ≡ [] }
-        ensures writes { WritesBoth result (call_sends self.old.report self.old.texts.policy.now number (call_on line.entry.line.now line.entry.at outcome.now)) (K.view self.old.out.now) (K.view self.new.out.now) (T.view self.old.trail.now) (T.view self.new.trail.now) }
+        ensures writes { WritesCall result number (call_on line.entry.line.now line.entry.at outcome.now) self.old self.new }
         ensures report { OnOk result (self.new.report ≡ report_after_call self.old.report (call_on line.entry.line.now line.entry.at outcome.now)) }
-        ensures readable { OnOk result (self.old.report ≡ a_report.All → AreReadable self.old.texts.policy.now number outcome.now.recs) }
-        ensures saw { SawCalls result (call_on line.entry.line.now line.entry.at outcome.now ∷ []) (calls_seen self.old.seen.items) (calls_seen self.new.seen.items) (calls_seen self.new.stopped.items) }
+        ensures readable { OnOk result (ReadableIfAll self.old number outcome.now.recs) }
+        ensures saw { ShowsCalls result (call_on line.entry.line.now line.entry.at outcome.now ∷ []) self.old self.new }
         ensures start { self.new.start.items ≡ self.old.start.items }
-        ensures same { SameEnds self.old.texts.policy.now self.new.texts.policy.now self.old.out self.new.out self.old.trail self.new.trail }
+        ensures same { SameBorrows self.old self.new }
     {
-        let mut writer = CallWriter::new(self.texts, self.room, self.out, self.trail);
+        let mut writer = CallWriter::new(self.texts, self.buffer, self.out, self.trail);
         match writer.write_call(&mut self.report, number, line, outcome) {
             Ok(()) => {
                 self.seen = self.seen.with(line.line, &line.at, outcome);

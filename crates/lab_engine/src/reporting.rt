@@ -140,11 +140,11 @@ impl Tally {
 }
 
 impl Report {
-    // Takes in a call, and returns what is written of it.
-    pub(crate) fn take_in(&mut self, who: &Pid, outcome: &Outcome) -> Result<Shown, NoMemory>
+    // Has the report go on after a call, and returns what is written of the call.
+    pub(crate) fn advance(&mut self, who: &Pid, outcome: &Outcome) -> Result<Shown, NoMemory>
         requires { CountsAtMost (2 ^ 60) self.old }
         ensures shown { IfOk result (λ shown. shown ≡ shown_of self.old who.now outcome.now.recs) }
-        ensures kept { (head : List ℕ) → OnOk result (self.new ≡ report_after_call self.old (call_record who.now head outcome.now)) }
+        ensures report { (head : List ℕ) → OnOk result (self.new ≡ report_after_call self.old (call_record who.now head outcome.now)) }
     {
         match self {
             Report::All => Ok(Shown::Call),

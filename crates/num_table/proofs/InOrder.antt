@@ -20,6 +20,7 @@ use Rattle.num_table.specs.Numbers.{Num, num_cmp}
 use Rattle.num_table.specs.Rows.{Rows, items_in, numbered, row_at}
 use Rattle.num_table.proofs.Lists.{row_kept, row_or_none}
 use Rattle.num_table.proofs.NumberLaws.{num_cmp_total, num_cmp_exact}
+use Rattle.num_table.proofs.Rows.{placed}
 use Rattle.num_table.proofs.Sorted.{entries_sorted_list}
 
 -- ---- one number is below another
@@ -38,9 +39,6 @@ unfolding num_cmp
 lower l k m n = lower_by (label_cmp l k) (nat_cmp m n)
 
 module _ {X : Type 0} where
-  abbrev placed : Label × List (Option X) → List (Num × X)
-  placed row = numbered row.0 0 row.1
-
   -- a number is below a list that goes on with greater numbers of its label
   below_later : (l : Label) (m n : ℕ) (ws : List (Option X)) (es : List (Num × X)) → m < n → T (below_all num_cmp (l, m) es) → T (below_all num_cmp (l, m) (numbered l n ws ++ es))
   below_later l m n [] es less h = h
@@ -67,15 +65,15 @@ module _ {X : Type 0} where
   sorted_rows (r ∷ rows) h = sorted_row r.0 0 r.1 (flat_map placed rows) (λ m. below_rows r.0 m rows (head_T _ _ h)) (sorted_rows rows (tail_T _ _ h))
 
   -- the numbers of a label
-  abbrev pub placed_at : Rows X → Label → List (Num × X)
+  abbrev pub placed_at : Rows (Option X) → Label → List (Num × X)
   placed_at rows label = numbered label 0 (row_at rows label)
 
-  by_label : (rows : Rows X) (es : List (Label × List (Option X))) → AllByRecursion (λ (e : Label × List (Option X)). row_at rows e.0 ≡ e.1) es → flat_map placed es ≡ flat_map (placed_at rows) (keys_of es)
+  by_label : (rows : Rows (Option X)) (es : List (Label × List (Option X))) → AllByRecursion (λ (e : Label × List (Option X)). row_at rows e.0 ≡ e.1) es → flat_map placed es ≡ flat_map (placed_at rows) (keys_of es)
   by_label rows [] all = refl
   by_label rows (e ∷ es) all = ap (λ r. numbered e.0 0 r ++ flat_map placed es) (sym all.0) ∙ ap (λ ns. placed_at rows e.0 ++ ns) (by_label rows es all.1)
 
   -- the numbers of all labels, one label after another
-  pub keys-items_in : (rows : Rows X) → map.keys (items_in rows) ≡ keys_of (flat_map (placed_at rows) (map.keys rows))
+  pub keys-items_in : (rows : Rows (Option X)) → map.keys (items_in rows) ≡ keys_of (flat_map (placed_at rows) (map.keys rows))
   unfolding items_in
   keys-items_in rows =
       ap keys_of (entries_sorted_list num_cmp_total num_cmp_exact (flat_map placed (map.entries rows)) (sorted_rows (map.entries rows) (entries_sorted rows)))
@@ -83,17 +81,17 @@ module _ {X : Type 0} where
       (each-entries label_cmp_total label_cmp_exact (λ (label : Label) (row : List (Option X)). row_at rows label ≡ row) rows (λ label row is. get_or-found rows label [] row is)))
 
   -- the numbers of labels from a place on
-  abbrev pub left : Rows X → List Label → ℕ → List Num
+  abbrev pub left : Rows (Option X) → List Label → ℕ → List Num
   left rows labels i = keys_of (flat_map (placed_at rows) (drop i labels))
 
   -- those of the next label, and of the labels after it
-  next_label : (rows : Rows X) (labels : List Label) (i : ℕ) (label : Label) → i < length labels → label ≡ get_or labels i label → left rows labels i ≡ keys_of (placed_at rows label) ++ left rows labels (i + 1)
+  next_label : (rows : Rows (Option X)) (labels : List Label) (i : ℕ) (label : Label) → i < length labels → label ≡ get_or labels i label → left rows labels i ≡ keys_of (placed_at rows label) ++ left rows labels (i + 1)
   next_label rows labels i label low is =
       at_drop_more (λ (ls : List Label). keys_of (flat_map (placed_at rows) ls)) labels i label low
       ∙ ap (λ (l : Label). keys_of (placed_at rows l ++ flat_map (placed_at rows) (drop (i + 1) labels))) (sym is)
       ∙ map-append _ (placed_at rows label) (flat_map (placed_at rows) (drop (i + 1) labels))
 
-  module _ (rows : Rows X) (labels : List Label) (i : ℕ) (before all : List Num) (is : before ++ left rows labels i ≡ all) where
+  module _ (rows : Rows (Option X)) (labels : List Label) (i : ℕ) (before all : List Num) (is : before ++ left rows labels i ≡ all) where
     -- one label on
     pub one_more : (label : Label) → i < length labels → label ≡ get_or labels i label → (o : Option (List (Option X))) → o ≡ map.get rows label
         → (new : List Num) → new ≡ before ++ keys_of (numbered label 0 (row_or_none o)) → new ++ left rows labels (i + 1) ≡ all

@@ -1,5 +1,6 @@
 -- Tables by keys that stand for numbers, after one of them is changed.
-use Rattle.std.specs.Prelude.{◌≡◌, ◌&&◌, List, [], ◌∷◌, Option, None, Some, cond, map as map_list, refl}
+pub use Rattle.num_table.specs.Laws.{dids, oids, pids}
+use Rattle.std.specs.Prelude.{◌≡◌, ◌&&◌, ℕ, List, [], ◌∷◌, Option, None, Some, cond, get_or, map as map_list, refl}
 use Rattle.std.specs.declared.cmp.Ordering.{Ordering}
 use Rattle.std.specs.Ordering.{eq_by_cmp, is_eq, is_lt}
 use Rattle.std.specs.Cmp.{IsTotalOrder}
@@ -7,37 +8,35 @@ use Rattle.std.specs.FinMap as map
 use Rattle.std.specs.FinMap.{FinMap, IsAntisymmetric, entries_sorted, find, get-empty, get-entries, get-from_entries, get-insert, get-remove, is_sorted, same_map}
 use Rattle.std.specs.FinMap.Entries.{below_all}
 use Rattle.std.proofs.Common.{ap, sym, ◌∙◌, subst, T}
-use Rattle.kern_model.specs.Keys.{did_cmp, oid_cmp, pid_cmp}
-use Rattle.num_table.specs.Keys.{did_at, keyed, oid_at, pid_at}
+use Rattle.num_table.specs.Keys.{AreNumbers, keyed}
 use Rattle.num_table.specs.Numbers.{Num, num_cmp}
+use Rattle.num_table.specs.Rows.{IsSet, Rows, item_at, row_at}
 use Rattle.num_table.proofs.NumberLaws.{num_cmp_total}
+use Rattle.num_table.proofs.Rows.{item_same, item_set}
 use Rattle.num_table.proofs.Sorted.{entries_sorted_list}
-
--- the keys of numbers give the numbers back, and are in their order
-pub record AreNumbers {K : Type 0} (R : K → K → Ordering) (key : Num → K) (number : K → Num) : Type 0 where
-  pub number_back : (n : Num) → number (key n) ≡ n
-  pub in_order : (a b : K) → R a b ≡ num_cmp (number a) (number b)
-
--- ---- the three kinds of numbers
-pub pids : AreNumbers pid_cmp pid_at (λ p. (p.label, p.n))
-unfolding pid_cmp num_cmp
-pids = record { number_back = λ n. refl; in_order = λ a b. refl }
-
-pub oids : AreNumbers oid_cmp oid_at (λ o. (o.label, o.n))
-unfolding oid_cmp num_cmp
-oids = record { number_back = λ n. refl; in_order = λ a b. refl }
-
-pub dids : AreNumbers did_cmp did_at (λ d. (d.label, d.n))
-unfolding did_cmp num_cmp
-dids = record { number_back = λ n. refl; in_order = λ a b. refl }
 
 -- ---- tables
 module _ {K : Type 0} {R : K → K → Ordering} {key : Num → K} {number : K → Num} (are : AreNumbers R key number) where
   same_order : (a b : Num) → R (key a) (key b) ≡ num_cmp a b
   same_order a b = are.in_order (key a) (key b) ∙ ap (λ n. num_cmp n (number (key b))) (are.number_back a) ∙ ap (num_cmp a) (are.number_back b)
 
-  same_number : (a b : K) → eq_by_cmp R a b ≡ eq_by_cmp num_cmp (number a) (number b)
+  pub same_number : (a b : K) → eq_by_cmp R a b ≡ eq_by_cmp num_cmp (number a) (number b)
   same_number a b = ap is_eq (are.in_order a b)
+
+  -- the list of the label of one key is another one
+  module _ {X : Type 0} (none : X) (rows : Rows X) (k : K) (row : List X) (found : row_at rows (number k).0 ≡ row) (row' : List X) (after : Rows X) (is : after ≡ map.insert rows (number k).0 row') where
+    -- where it has another item for that key alone, another item stands at that key alone
+    pub item_put : (item : X) → IsSet none row (number k).1 item row' → (q : K) → item_at none after (number q) ≡ cond (eq_by_cmp R q k) item (item_at none rows (number q))
+    item_put item set q =
+        ap (λ (r : Rows X). item_at none r (number q)) is
+        ∙ item_set none rows (number k).0 row' (number k).1 item (subst (λ (r : List X). IsSet none r (number k).1 item row') (sym found) set) (number q)
+        ∙ ap (λ b. cond b item (item_at none rows (number q))) (sym (same_number q k))
+
+    -- and where it says the same, all is as before
+    pub items_kept : ((m : ℕ) → get_or row' m none ≡ get_or row m none) → (q : K) → item_at none after (number q) ≡ item_at none rows (number q)
+    items_kept same q =
+        ap (λ (r : Rows X). item_at none r (number q)) is
+        ∙ item_same none rows (number k).0 row' (λ m. same m ∙ ap (λ (r : List X). get_or r m none) (sym found)) (number q)
 
 module _ {K X : Type 0} {R : K → K → Ordering} (o : IsTotalOrder R) (exact : IsAntisymmetric R) {key : Num → K} {number : K → Num} (are : AreNumbers R key number) where
   abbrev with_key : Num × X → K × X
@@ -89,14 +88,14 @@ module _ {K X : Type 0} {R : K → K → Ordering} (o : IsTotalOrder R) (exact :
       ap (map_list (λ (e : K × X). e.0)) (entries_sorted_list o exact (map_list with_key (map.entries m)) (subst T (sym (sorted_keyed (map.entries m))) (entries_sorted m)))
       ∙ keys_of_keyed (map.entries m)
 
--- ---- a table that is seen by its keys
+-- ---- what the table of numbers says of a key
 module _ {K X : Type 0} {R : K → K → Ordering} (o : IsTotalOrder R) (exact : IsAntisymmetric R) {key : Num → K} {number : K → Num} (are : AreNumbers R key number)
-    (kept : FinMap num_cmp X) (m : FinMap R X) (view : keyed {R = R} key kept ≡ m) (k : K) where
-  pub key_found : (w : Option X) → w ≡ map.get kept (number k) → w ≡ map.get m k
-  key_found w is = is ∙ sym (get-keyed o exact are kept k) ∙ ap (λ (m : FinMap R X). map.get m k) view
+    (m : FinMap num_cmp X) (k : K) (n : Num) (is : n ≡ number k) where
+  pub key_found : (w : Option X) → w ≡ map.get m n → w ≡ map.get (keyed {R = R} key m) k
+  key_found w found = found ∙ ap (map.get m) is ∙ sym (get-keyed o exact are m k)
 
-  pub key_set : (new : FinMap num_cmp X) (x : X) → new ≡ map.insert kept (number k) x → keyed {R = R} key new ≡ map.insert m k x
-  key_set new x is = ap (keyed key) is ∙ keyed-insert o exact are kept k x ∙ ap (λ (m : FinMap R X). map.insert m k x) view
+  pub key_set : (new : FinMap num_cmp X) (x : X) → new ≡ map.insert m n x → keyed {R = R} key new ≡ map.insert (keyed key m) k x
+  key_set new x set = ap (keyed key) (set ∙ ap (λ (n : Num). map.insert m n x) is) ∙ keyed-insert o exact are m k x
 
-  pub key_removed : (new : FinMap num_cmp X) → new ≡ map.remove kept (number k) → keyed {R = R} key new ≡ map.remove m k
-  key_removed new is = ap (keyed key) is ∙ keyed-remove o exact are kept k ∙ ap (λ (m : FinMap R X). map.remove m k) view
+  pub key_removed : (new : FinMap num_cmp X) → new ≡ map.remove m n → keyed {R = R} key new ≡ map.remove (keyed key m) k
+  key_removed new left = ap (keyed key) (left ∙ ap (map.remove m) is) ∙ keyed-remove o exact are m k

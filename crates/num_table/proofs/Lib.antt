@@ -6,3 +6,4 @@ pub mod Outcomes
 pub mod Rows
 pub mod Slots
 pub mod Sorted
+pub mod Sums

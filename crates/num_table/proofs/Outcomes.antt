@@ -1,21 +1,19 @@
 -- What follows from an outcome.
 pub use Rattle.kern_model.proofs.LabelMaps.{at_some}
-use Rattle.std.specs.Prelude.{Option, None, Some, OnSome, Result, Ok, Err, OnErr, OnOk}
+use Rattle.std.specs.Prelude.{◌≡◌, Option, None, Some, MatchOption, OnSome, Result, Ok, Err, OnErr}
+use Rattle.std.proofs.Common.{subst}
 
 -- where a value is lent
 pub lent_then : {B P Q : Type 0} (r : Option B) → OnSome r P → (P → Q) → OnSome r Q
 lent_then None h then = tt
 lent_then (Some b) h then = then h
 
--- from success
-pub on_ok : {X E P Q : Type 0} (r : Result X E) → (P → Q) → OnOk r P → OnOk r Q
-on_ok (Ok x) then h = then h
-on_ok (Err e) then h = tt
+-- where there is a value, and where there is none
+pub some_match : {X : Type 0} (P : Type 0) (Q : X → Type 0) (o : Option X) (x : X) → o ≡ Some x → MatchOption o P Q → Q x
+some_match P Q o x is h = subst (λ o. MatchOption o P Q) is h
 
--- and from failure
-pub on_err : {X E P Q : Type 0} (r : Result X E) → (P → Q) → OnErr r P → OnErr r Q
-on_err (Ok x) then h = tt
-on_err (Err e) then h = then h
+pub none_match : {X : Type 0} (P : Type 0) (Q : X → Type 0) (o : Option X) → o ≡ None → MatchOption o P Q → P
+none_match P Q o is h = subst (λ o. MatchOption o P Q) is h
 
 -- what holds in any case holds where a value is lent
 pub always : {B P : Type 0} (r : Option B) → P → OnSome r P

@@ -1,14 +1,12 @@
 -- What stands at the numbers of a table, after one of them is set.
-use Rattle.std.specs.Prelude.{◌≡◌, ◌&&◌, ℕ, ◌+◌, ◌<◌, ◌==◌, Bool, true, false, List, [], ◌∷◌, ◌++◌, Option, Some, None, cond, get_or, refl, zero, suc}
+use Rattle.std.specs.Prelude.{◌≡◌, ◌&&◌, ℕ, ◌+◌, ◌<◌, ◌==◌, Bool, true, false, List, [], ◌∷◌, Option, Some, None, cond, get_or, refl, zero, suc}
 use Rattle.std.specs.declared.cmp.Ordering.{Ordering}
-use Rattle.std.specs.declared.cmp.Ordering.TheVariants.{Less, Equal, Greater}
-use Rattle.std.specs.Ordering.{is_eq, is_lt, eq_by_cmp}
+use Rattle.std.specs.Ordering.{eq_by_cmp}
 use Rattle.std.specs.Option.{option_or}
 use Rattle.std.specs.List.{flat_map}
 use Rattle.std.specs.FinMap as map
 use Rattle.std.specs.FinMap.{find, is_sorted, entries_sorted, get-entries, get-empty, get-from_entries, get-insert, get-remove, same_map}
-use Rattle.std.specs.FinMap.Entries.{below_all}
-use Rattle.std.proofs.Common.{ap, sym, ◌∙◌, subst, arith, T}
+use Rattle.std.proofs.Common.{ap, sym, ◌∙◌, arith, T}
 use Rattle.std.proofs.lemmas.Bool.Decides.{nat_tests}
 use Rattle.lab_lattice.specs.Label.{Label, label_cmp}
 use Rattle.lab_lattice.proofs.Labels.{label_cmp_total, label_cmp_exact}
@@ -16,55 +14,37 @@ use Rattle.kern_model.specs.Maps.{with_entry}
 use Rattle.kern_model.proofs.MapLemmas.{get_or-absent, get_or-found, get_or-same, head_T, same_key, tail_T}
 use Rattle.num_table.specs.Numbers.{Num, num_cmp}
 use Rattle.num_table.specs.Rows.{IsSet, Rows, item_at, items_in, numbered, row_at}
+use Rattle.num_table.proofs.Sorted.{below_none, find_both, or_none}
 use Rattle.num_table.proofs.NumberLaws.{num_cmp_total, num_cmp_exact, same_label, same_num, same_parts}
 
 -- ---- one of them is set
-module _ {X : Type 0} (rows : Rows X) (label : Label) (row : List (Option X)) where
+module _ {X : Type 0} (none : X) (rows : Rows X) (label : Label) (row : List X) where
   row_set : (q : Label) → row_at (map.insert rows label row) q ≡ cond (same_label q label) row (row_at rows q)
   row_set q = elim (same_label q label) as (λ b. same_label q label ≡ b → row_at (map.insert rows label row) q ≡ cond b row (row_at rows q)) [
     | true ↦ λ t. get_or-found (map.insert rows label row) q [] row (get-insert label_cmp_total rows label row q ∙ ap (λ b. cond b (Some row) (map.get rows q)) t)
     | false ↦ λ t. get_or-same (map.insert rows label row) rows q [] (get-insert label_cmp_total rows label row q ∙ ap (λ b. cond b (Some row) (map.get rows q)) t)
   ] refl
 
-  item_set : (n : ℕ) (item : Option X) → IsSet (row_at rows label) n item row → (q : Num) → item_at (map.insert rows label row) q ≡ cond (same_num q (label, n)) item (item_at rows q)
+  pub item_set : (n : ℕ) (item : X) → IsSet none (row_at rows label) n item row → (q : Num) → item_at none (map.insert rows label row) q ≡ cond (same_num q (label, n)) item (item_at none rows q)
   item_set n item set q =
-      ap (λ (r : List (Option X)). get_or r q.1 None) (row_set q.0)
-      ∙ elim (same_label q.0 label) as (λ b. same_label q.0 label ≡ b → get_or (cond b row (row_at rows q.0)) q.1 None ≡ cond (b && (q.1 == n)) item (item_at rows q)) [
-        | true ↦ λ t. set q.1 ∙ ap (λ (l : Label). cond (q.1 == n) item (get_or (row_at rows l) q.1 None)) (sym (same_key label_cmp_exact q.0 label t))
+      ap (λ (r : List X). get_or r q.1 none) (row_set q.0)
+      ∙ elim (same_label q.0 label) as (λ b. same_label q.0 label ≡ b → get_or (cond b row (row_at rows q.0)) q.1 none ≡ cond (b && (q.1 == n)) item (item_at none rows q)) [
+        | true ↦ λ t. set q.1 ∙ ap (λ (l : Label). cond (q.1 == n) item (get_or (row_at rows l) q.1 none)) (sym (same_key label_cmp_exact q.0 label t))
         | false ↦ λ _. refl
       ] refl
-      ∙ ap (λ b. cond b item (item_at rows q)) (sym (same_parts q (label, n)))
+      ∙ ap (λ b. cond b item (item_at none rows q)) (sym (same_parts q (label, n)))
 
-  item_same : ((k : ℕ) → get_or row k None ≡ get_or (row_at rows label) k None) → (q : Num) → item_at (map.insert rows label row) q ≡ item_at rows q
+  -- and where the list of a label says the same, nothing changes
+  pub item_same : ((k : ℕ) → get_or row k none ≡ get_or (row_at rows label) k none) → (q : Num) → item_at none (map.insert rows label row) q ≡ item_at none rows q
   item_same same q =
-      ap (λ (r : List (Option X)). get_or r q.1 None) (row_set q.0)
-      ∙ elim (same_label q.0 label) as (λ b. same_label q.0 label ≡ b → get_or (cond b row (row_at rows q.0)) q.1 None ≡ item_at rows q) [
-        | true ↦ λ t. same q.1 ∙ ap (λ (l : Label). get_or (row_at rows l) q.1 None) (sym (same_key label_cmp_exact q.0 label t))
+      ap (λ (r : List X). get_or r q.1 none) (row_set q.0)
+      ∙ elim (same_label q.0 label) as (λ b. same_label q.0 label ≡ b → get_or (cond b row (row_at rows q.0)) q.1 none ≡ item_at none rows q) [
+        | true ↦ λ t. same q.1 ∙ ap (λ (l : Label). get_or (row_at rows l) q.1 none) (sym (same_key label_cmp_exact q.0 label t))
         | false ↦ λ _. refl
       ] refl
 
 -- ---- what stands at each number
-none_above : {X : Type 0} (q : Label) (rows : List (Label × X)) → T (below_all label_cmp q rows) → find label_cmp q rows ≡ None
-none_above q [] h = refl
-none_above q (row ∷ rows) h =
-    elim (label_cmp q row.0) as (λ r. T (is_lt r && below_all label_cmp q rows) → cond (is_eq r) (Some row.1) (find label_cmp q rows) ≡ None) [
-      | Less ↦ λ h. none_above q rows h
-      | Equal ↦ λ h. absurd h
-      | Greater ↦ λ h. absurd h
-    ] h
-
-or_none : {X : Type 0} (w v : Option X) → v ≡ None → option_or w v ≡ w
-or_none None v e = e
-or_none (Some x) v e = refl
-
 module _ {K X : Type 0} (R : K → K → Ordering) where
-  find_both : (q : K) (xs ys : List (K × X)) → find R q (xs ++ ys) ≡ option_or (find R q xs) (find R q ys)
-  find_both q [] ys = refl
-  find_both q (x ∷ xs) ys = elim (eq_by_cmp R q x.0) as (λ b. cond b (Some x.1) (find R q (xs ++ ys)) ≡ option_or (cond b (Some x.1) (find R q xs)) (find R q ys)) [
-    | true ↦ refl
-    | false ↦ find_both q xs ys
-  ]
-
   find_with : (q k : K) (w : Option X) (es : List (K × X)) → find R q (with_entry k w es) ≡ cond (eq_by_cmp R q k) (option_or w (find R q es)) (find R q es)
   find_with q k None es = elim (eq_by_cmp R q k) as (λ b. find R q es ≡ cond b (find R q es) (find R q es)) [ true ↦ refl | false ↦ refl ]
   find_with q k (Some x) es = refl
@@ -116,7 +96,7 @@ module _ {X : Type 0} where
   in_row n None = None
   in_row n (Some ws) = get_or ws n None
 
-  abbrev placed : Label × List (Option X) → List (Num × X)
+  abbrev pub placed : Label × List (Option X) → List (Num × X)
   placed row = numbered row.0 0 row.1
 
   find_all : (q : Num) (rows : List (Label × List (Option X))) → T (is_sorted label_cmp rows) → find num_cmp q (flat_map placed rows) ≡ in_row q.1 (find label_cmp q.0 rows)
@@ -127,19 +107,19 @@ module _ {X : Type 0} where
       ∙ ap (λ w. option_or w (find num_cmp q (flat_map placed rows))) (find_numbered q r.0 r.1)
       ∙ elim (same_label q.0 r.0) as (λ b. same_label q.0 r.0 ≡ b → option_or (cond b (get_or r.1 q.1 None) None) (find num_cmp q (flat_map placed rows)) ≡ in_row q.1 (cond b (Some r.1) (find label_cmp q.0 rows))) [
         | true ↦ λ t.
-            let gone : find label_cmp q.0 rows ≡ None = none_above q.0 rows (subst (λ k. T (below_all label_cmp k rows)) (sym (same_key label_cmp_exact q.0 r.0 t)) (head_T _ _ h)) in
+            let gone = below_none label_cmp_exact q.0 r.0 rows t (head_T _ _ h) in
             or_none _ _ (rest ∙ ap (in_row q.1) gone)
         | false ↦ λ _. rest
       ] refl
 
-  row_says : (rows : Rows X) (q : Num) → in_row q.1 (map.get rows q.0) ≡ item_at rows q
-  row_says rows q = elim (map.get rows q.0) as (λ w. map.get rows q.0 ≡ w → in_row q.1 w ≡ item_at rows q) [
+  row_says : (rows : Rows (Option X)) (q : Num) → in_row q.1 (map.get rows q.0) ≡ item_at None rows q
+  row_says rows q = elim (map.get rows q.0) as (λ w. map.get rows q.0 ≡ w → in_row q.1 w ≡ item_at None rows q) [
     | None ↦ λ e. sym (ap (λ (r : List (Option X)). get_or r q.1 None) (get_or-absent rows q.0 [] e))
     | Some r ↦ λ e. sym (ap (λ (r : List (Option X)). get_or r q.1 None) (get_or-found rows q.0 [] r e))
   ] refl
 
   -- the map has what stands at a number
-  pub get-items_in : (rows : Rows X) (q : Num) → map.get (items_in rows) q ≡ item_at rows q
+  pub get-items_in : (rows : Rows (Option X)) (q : Num) → map.get (items_in rows) q ≡ item_at None rows q
   unfolding items_in
   get-items_in rows q =
       get-from_entries num_cmp_total (flat_map placed (map.entries rows)) q ∙ find_all q (map.entries rows) (entries_sorted rows)
@@ -150,18 +130,18 @@ module _ {X : Type 0} where
   items_in-empty = same_map num_cmp_total num_cmp_exact _ _ (λ q.
       get-items_in map.empty q ∙ ap (λ (r : List (Option X)). get_or r q.1 None) (get_or-absent map.empty q.0 [] (get-empty label_cmp q.0)) ∙ sym (get-empty num_cmp q))
 
-  module _ (rows : Rows X) (label : Label) (row : List (Option X)) where
-    pub items_in-set : (n : ℕ) (x : X) → IsSet (row_at rows label) n (Some x) row → items_in (map.insert rows label row) ≡ map.insert (items_in rows) (label, n) x
+  module _ (rows : Rows (Option X)) (label : Label) (row : List (Option X)) where
+    pub items_in-set : (n : ℕ) (x : X) → IsSet None (row_at rows label) n (Some x) row → items_in (map.insert rows label row) ≡ map.insert (items_in rows) (label, n) x
     items_in-set n x set = same_map num_cmp_total num_cmp_exact _ _ (λ q.
-        get-items_in (map.insert rows label row) q ∙ item_set rows label row n (Some x) set q
+        get-items_in (map.insert rows label row) q ∙ item_set None rows label row n (Some x) set q
         ∙ ap (cond (same_num q (label, n)) (Some x)) (sym (get-items_in rows q)) ∙ sym (get-insert num_cmp_total (items_in rows) (label, n) x q))
 
-    pub items_in-cleared : (n : ℕ) → IsSet (row_at rows label) n None row → items_in (map.insert rows label row) ≡ map.remove (items_in rows) (label, n)
+    pub items_in-cleared : (n : ℕ) → IsSet None (row_at rows label) n None row → items_in (map.insert rows label row) ≡ map.remove (items_in rows) (label, n)
     items_in-cleared n set = same_map num_cmp_total num_cmp_exact _ _ (λ q.
-        get-items_in (map.insert rows label row) q ∙ item_set rows label row n None set q
+        get-items_in (map.insert rows label row) q ∙ item_set None rows label row n None set q
         ∙ ap (cond (same_num q (label, n)) None) (sym (get-items_in rows q)) ∙ sym (get-remove num_cmp_total (items_in rows) (label, n) q))
 
     -- a list that says of each count what the list of its label said
     pub items_in-same : ((k : ℕ) → get_or row k None ≡ get_or (row_at rows label) k None) → items_in (map.insert rows label row) ≡ items_in rows
     items_in-same same = same_map num_cmp_total num_cmp_exact _ _ (λ q.
-        get-items_in (map.insert rows label row) q ∙ item_same rows label row same q ∙ sym (get-items_in rows q))
+        get-items_in (map.insert rows label row) q ∙ item_same None rows label row same q ∙ sym (get-items_in rows q))

@@ -1,5 +1,5 @@
 -- Tables by keys that stand for numbers.
-use Rattle.std.specs.Prelude.{map as map_list}
+use Rattle.std.specs.Prelude.{◌≡◌, map as map_list}
 use Rattle.std.specs.declared.cmp.Ordering.{Ordering}
 use Rattle.std.specs.FinMap as map
 use Rattle.std.specs.FinMap.{FinMap}
@@ -8,6 +8,11 @@ use Rattle.kern_model.specs.declared.numbers.Oid.{Oid}
 use Rattle.kern_model.specs.declared.numbers.Pid.{Pid}
 use Rattle.kern_model.specs.Keys.{did_cmp, oid_cmp, pid_cmp}
 use Rattle.num_table.specs.Numbers.{Num, num_cmp}
+
+-- the keys of numbers give the numbers back, and are in their order
+pub record AreNumbers {K : Type 0} (R : K → K → Ordering) (key : Num → K) (number : K → Num) : Type 0 where
+  pub number_back : (n : Num) → number (key n) ≡ n
+  pub in_order : (a b : K) → R a b ≡ num_cmp (number a) (number b)
 
 -- the entries with the key of each number in its place
 unfoldable pub keyed : {K X : Type 0} {R : K → K → Ordering} → (Num → K) → FinMap num_cmp X → FinMap R X

@@ -1,4 +1,5 @@
 pub mod Keys
+pub mod Laws
 pub mod Lending
 pub mod Numbers
 pub mod Rows

@@ -1,5 +1,5 @@
 -- What is kept at numbers: a list for each label, with a place for each count of a draw.
-use Rattle.std.specs.Prelude.{◌≡◌, ℕ, ◌+◌, ◌==◌, List, [], ◌∷◌, Option, None, cond, get_or}
+use Rattle.std.specs.Prelude.{◌≡◌, ℕ, ◌+◌, ◌==◌, List, [], ◌∷◌, Option, cond, get_or}
 use Rattle.std.specs.List.{flat_map}
 use Rattle.std.specs.FinMap as map
 use Rattle.std.specs.FinMap.{FinMap}
@@ -10,19 +10,19 @@ use Rattle.num_table.specs.Numbers.{Num, num_cmp}
 
 -- a list for each label
 abbrev pub Rows : Type 0 → Type 0
-Rows X = FinMap label_cmp (List (Option X))
+Rows X = FinMap label_cmp (List X)
 
 -- the list of a label, empty where there is none
-abbrev pub row_at : {X : Type 0} → Rows X → Label → List (Option X)
+abbrev pub row_at : {X : Type 0} → Rows X → Label → List X
 row_at rows label = maps.get_or rows label []
 
--- what stands at a number, and nothing where the list of its label is not that long
-abbrev pub item_at : {X : Type 0} → Rows X → Num → Option X
-item_at rows n = get_or (row_at rows n.0) n.1 None
+-- what stands at a number, and `none` where the list of its label is not that long
+abbrev pub item_at : {X : Type 0} → X → Rows X → Num → X
+item_at none rows n = get_or (row_at rows n.0) n.1 none
 
--- a list with an item at a count, or with none there, and all others as they were
-abbrev pub IsSet : {X : Type 0} → List (Option X) → ℕ → Option X → List (Option X) → Type 0
-IsSet old n item new = (m : ℕ) → get_or new m None ≡ cond (m == n) item (get_or old m None)
+-- a list with an item at a count, and all others as they were
+abbrev pub IsSet : {X : Type 0} → X → List X → ℕ → X → List X → Type 0
+IsSet none old n item new = (m : ℕ) → get_or new m none ≡ cond (m == n) item (get_or old m none)
 
 -- the numbers of a label from a count on, where something stands
 abbrev pub numbered : {X : Type 0} → Label → ℕ → List (Option X) → List (Num × X)
@@ -30,5 +30,5 @@ numbered label n [] = []
 numbered label n (item ∷ items) = with_entry (label, n) item (numbered label (n + 1) items)
 
 -- what stands at each number
-unfoldable pub items_in : {X : Type 0} → Rows X → FinMap num_cmp X
+unfoldable pub items_in : {X : Type 0} → Rows (Option X) → FinMap num_cmp X
 items_in {X = X} rows = map.from_entries (flat_map (λ (row : Label × List (Option X)). numbered row.0 0 row.1) (map.entries rows))

@@ -2,8 +2,10 @@
 #![tactic(auto)]
 
 mod keys;
+mod number;
 mod row;
 mod table;
 
 pub use kern_model::NoMemory;
+pub use number::Number;
 pub use table::Table;

@@ -43,7 +43,7 @@ impl Row {
 
     /// Puts a key at a count, in place of one that is there.
     pub fn set(&mut self, n: u16, key: u32) -> Result<(), NoMemory>
-        ensures ok { OnOk result (IsSet self.old n (Some key) self.new) }
+        ensures ok { OnOk result (IsSet None self.old n (Some key) self.new) }
         ensures err { OnErr result (self.new ≡ self.old) }
     {
         let place = n as usize;
@@ -57,7 +57,7 @@ impl Row {
     /// Removes the key at a count, if there is one, and returns it. It takes no memory.
     pub fn remove(&mut self, n: u16) -> Option<u32>
         ensures removed { result ≡ get_or self.old n None }
-        ensures left { IsSet self.old n None self.new }
+        ensures left { IsSet None self.old n None self.new }
     {
         self.kept.get_mut(n as usize)?.take()
     }

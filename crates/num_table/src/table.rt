@@ -4,6 +4,7 @@ ghost use Rattle.std.specs.Borrow.{sem};
 ghost use Rattle.std.specs.FinMap as map;
 
 use crate::keys::Keys;
+use crate::number::Number;
 use kern_model::NoMemory;
 use lab_lattice::Label;
 use slab::Slab;
@@ -42,7 +43,8 @@ impl<T> Model for Table<T> {
 
 impl<T: Drop> Table<T> {
     ghost use Rattle.std.specs.Option.{option_copied_mut};
-    ghost use Rattle.num_table.specs.Lending.{LendsItem};
+    ghost use Rattle.num_table.specs.Keys.{keyed};
+    ghost use Rattle.num_table.specs.Lending.{LendsAt, LendsItem};
 
     /// No value.
     pub fn new(alloc: Global) -> Self
@@ -115,5 +117,41 @@ impl<T: Drop> Table<T> {
         ensures { IfOk result (λ numbers. numbers.items ≡ map.keys self.now) }
     {
         self.keys.numbers(alloc)
+    }
+
+    /// The value at a key, if there is one.
+    #[inline(always)]
+    pub fn get_at<K: Number>(&self, key: &K) -> Option<&T>
+        ensures { option_copied result ≡ map.get (keyed {R = K.order} K.key self.now) key.now }
+    {
+        self.get(key.label(), key.count())
+    }
+
+    /// The value at a key, for changes to it, if there is one.
+    #[inline(always)]
+    pub fn get_mut_at<K: Number>(&mut self, key: &K) -> Option<&mut T>
+        ensures* writes_back { sem 𝓛 (LendsAt K.order K.key T.row self.entry key.now result) }
+        ensures value { option_copied_mut result ≡ map.get (keyed {R = K.order} K.key self.old) key.now }
+    {
+        self.get_mut(key.label(), key.count())
+    }
+
+    /// Puts a value at a key, in place of one that is there. Where one is there, it takes no memory.
+    #[inline(always)]
+    pub fn set_at<K: Number>(&mut self, key: &K, item: T) -> Result<(), NoMemory>
+        ensures ok { OnOk result (keyed {R = K.order} K.key self.new ≡ map.insert (keyed K.key self.old) key.now item) }
+        ensures err { OnErr result (self.new ≡ self.old) }
+        ensures replaced { IsSome (map.get (keyed {R = K.order} K.key self.old) key.now) → IsOk result }
+    {
+        self.set(key.label(), key.count(), item)
+    }
+
+    /// Removes the value at a key, if there is one, and returns it. It takes no memory.
+    #[inline(always)]
+    pub fn remove_at<K: Number>(&mut self, key: &K) -> Option<T>
+        ensures removed { result ≡ map.get (keyed {R = K.order} K.key self.old) key.now }
+        ensures left { keyed {R = K.order} K.key self.new ≡ map.remove (keyed K.key self.old) key.now }
+    {
+        self.remove(key.label(), key.count())
     }
 }

@@ -1,5 +1,5 @@
 -- The number of each living process is drawn.
-use Rattle.std.specs.Prelude.{◌≡◌, ℕ, ◌+◌, ◌≤◌, Option, Some, None, MatchOption, refl}
+use Rattle.std.specs.Prelude.{◌≡◌, ℕ, ◌+◌, ◌≤◌, Some, None, refl}
 use Rattle.std.specs.FinMap as map
 use Rattle.std.specs.FinMap.{FinMap, get-empty}
 use Rattle.std.proofs.Common.{sym, subst, arith}
@@ -13,10 +13,6 @@ use Rattle.kern_model.proofs.MapLemmas.{each-insert, get-insert_same, get_or-fou
 use Rattle.kern_model.proofs.TableLemmas.{each_set_at}
 use Rattle.proc_creds.specs.Credentials.{Credentials}
 use Rattle.proc_table.specs.Procs.{AreDrawn, set_creds, under_creds, with_creds}
-
--- what stands where there is something
-pub some_match : {X : Type 0} (P : Type 0) (Q : X → Type 0) (o : Option X) (x : X) → o ≡ Some x → MatchOption o P Q → Q x
-some_match P Q o x is h = subst (λ o. MatchOption o P Q) is h
 
 -- a number that was drawn next
 pub drawn_next : (numbers : FinMap label_cmp ℕ) (label : Label) (who : Pid) → who ≡ record { label = label; n = drawn numbers label + 1 } → who.n ≡ drawn numbers who.label + 1

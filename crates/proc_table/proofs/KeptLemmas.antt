@@ -4,6 +4,7 @@ use Rattle.std.specs.FinMap as map
 use Rattle.std.specs.FinMap.{FinMap, get-empty, get-insert, len-empty, len-insert}
 use Rattle.std.specs.Ordering.{eq_by_cmp}
 use Rattle.std.proofs.Common.{sym, ap, ◌∙◌, arith}
+use Rattle.std.proofs.Math.Bool.{and-false}
 use Rattle.kern_model.specs.declared.numbers.Pid.{Pid}
 use Rattle.kern_model.specs.Keys.{is_pid, pid_cmp, same_pid}
 use Rattle.kern_model.specs.State.{Process}
@@ -25,10 +26,6 @@ none_kept children none = record {
 pub alone : (a : Bool) → (a && true || false) ≡ a
 alone true = refl
 alone false = refl
-
-pub neither : (a : Bool) → (a && false) ≡ false
-neither true = refl
-neither false = refl
 
 module _ (living : FinMap pid_cmp Process) (children : ChildIndex) (made : ℕ) (kept : IsKept living children made) where
   -- the same children are kept
@@ -72,7 +69,7 @@ module _ (living : FinMap pid_cmp Process) (children : ChildIndex) (made : ℕ) 
 
     undone : (q c : Pid) (b : Bool) → same_pid c who ≡ b → (not b && (is_pid q parent && b || is_child children q c)) ≡ is_child children q c
     undone q c true t = sym (ap (is_child children q) (same_key pid_cmp_exact c who t) ∙ is_new q)
-    undone q c false _ = ap (λ b. b || is_child children q c) (neither (is_pid q parent))
+    undone q c false _ = ap (λ b. b || is_child children q c) (and-false (is_pid q parent))
 
     -- a child is entered, and removed again
     pub kept_undone : (added : ChildIndex) → ((q c : Pid) → is_child added q c ≡ (is_pid q parent && same_pid c who || is_child children q c))
@@ -88,7 +85,7 @@ module _ (living : FinMap pid_cmp Process) (children : ChildIndex) (made : ℕ) 
           index = λ q c. adds q c
               ∙ elim (same_pid c who) as (λ b. same_pid c who ≡ b → (is_pid q parent && b || is_child children q c) ≡ has_parent (cond b (Some p) (map.get living c)) q) [
                 | true ↦ λ t. ap (λ b. is_pid q parent && true || b) (kept.index q c ∙ ap (λ (o : Option Process). has_parent o q) (ap (map.get living) (same_key pid_cmp_exact c who t) ∙ none)) ∙ alone (is_pid q parent) ∙ ap (is_pid q) (sym its)
-                | false ↦ λ _. ap (λ b. b || is_child children q c) (neither (is_pid q parent)) ∙ kept.index q c
+                | false ↦ λ _. ap (λ b. b || is_child children q c) (and-false (is_pid q parent)) ∙ kept.index q c
               ] refl
               ∙ ap (λ (o : Option Process). has_parent o q) (sym (get-insert pid_cmp_total living who p c));
           room = each-insert pid_cmp_total pid_cmp_exact (λ (q : Pid) (x : Process). length x.ended + map.len (map.insert living who p) ≤ made + 1) living

@@ -1,24 +1,20 @@
 -- What stands at a place of a list, and which numbers are one.
 use Rattle.std.specs.Prelude.{◌≡◌, ◌≢◌, ℕ, ◌-◌, ◌==◌, true, false, List, [], ◌∷◌, ◌++◌, Some, None, length, refl, slice_get, zero, suc}
-use Rattle.std.specs.Ordering.{is_eq}
 use Rattle.std.proofs.Common.{sym, ap, ◌∙◌, arith}
 use Rattle.std.proofs.lemmas.Bool.{true≢false}
 use Rattle.std.proofs.lemmas.Bool.Decides.{nat_tests}
-use Rattle.std.proofs.lemmas.Cmp.{tied_itself}
 use Rattle.std.proofs.lemmas.Option.{slice_get-get_or}
 use Rattle.kern_model.specs.declared.numbers.Pid.{Pid}
 use Rattle.kern_model.specs.Keys.{same_pid}
 use Rattle.kern_model.proofs.KeyLaws.{pid_cmp_total, pid_cmp_exact}
 use Rattle.kern_model.proofs.MapLemmas.{never_some, same_key}
+use Rattle.num_table.proofs.Sorted.{same_itself}
 
 -- two numbers are one or not
-pub is_itself : (a : Pid) → same_pid a a ≡ true
-is_itself a = ap is_eq (tied_itself pid_cmp_total a)
-
 pub by_pids : {P : Type 0} (a b : Pid) → (a ≡ b → P) → (a ≢ b → P) → P
 by_pids {P = P} a b one two = elim (same_pid a b) as (λ t. same_pid a b ≡ t → P) [
   | true ↦ λ t. one (same_key pid_cmp_exact a b t)
-  | false ↦ λ t. two (λ e. true≢false (sym (is_itself b) ∙ ap (λ c. same_pid c b) (sym e) ∙ t))
+  | false ↦ λ t. two (λ e. true≢false (sym (same_itself pid_cmp_total b) ∙ ap (λ c. same_pid c b) (sym e) ∙ t))
 ] refl
 
 pub by_places : {P : Type 0} (i j : ℕ) → (i ≡ j → P) → (i ≢ j → P) → P

@@ -3,15 +3,18 @@ use Rattle.std.specs.Prelude.{◌≡◌, ◌≢◌, ℕ, ◌+◌, ◌-◌, true,
 use Rattle.std.specs.FinMap as map
 use Rattle.std.specs.FinMap.{FinMap, get-empty, get-insert, get-remove}
 use Rattle.std.proofs.Common.{sym, ap, ◌∙◌, arith, subst}
+use Rattle.std.proofs.Math.Bool.{and-false}
 use Rattle.std.proofs.lemmas.Bool.{true≢false}
 use Rattle.kern_model.specs.declared.numbers.Pid.{Pid}
 use Rattle.kern_model.specs.Keys.{is_pid, pid_cmp, same_pid}
 use Rattle.kern_model.proofs.KeyLaws.{pid_cmp_total, pid_cmp_exact}
-use Rattle.kern_model.proofs.MapLemmas.{get_or-absent, get_or-found, get_or-same, never_some, same_key, some_same}
+use Rattle.kern_model.proofs.MapLemmas.{get-insert_same, get_or-absent, get_or-found, get_or-same, never_some, same_key, some_same}
+use Rattle.kern_model.proofs.Selections.{get-remove_same}
+use Rattle.num_table.proofs.Sorted.{same_itself}
 use Rattle.proc_table.specs.declared.positions.Position.{Position}
 use Rattle.proc_table.specs.Children.{AreInPlace, IsSwapRemoved, IsSwapRemovedAt, ChildIndex, child_count, is_child, list_at, parent_by}
-use Rattle.proc_table.proofs.KeptLemmas.{alone, neither}
-use Rattle.proc_table.proofs.PlaceLemmas.{at_end, by_pids, by_places, is_itself, none_last, not_at_end, past_end}
+use Rattle.proc_table.proofs.KeptLemmas.{alone}
+use Rattle.proc_table.proofs.PlaceLemmas.{at_end, by_pids, by_places, none_last, not_at_end, past_end}
 
 pub some_there : {X : Type 0} {o : Option X} → None ≡ o → IsSome o → ⊥
 some_there {o = None} is some = absurd (cc)
@@ -25,14 +28,8 @@ module _ {X : Type 0} (m : FinMap pid_cmp X) (k : Pid) where
     | false ↦ λ _. refl
   ] refl
 
-  put_there : (x : X) → map.get (map.insert m k x) k ≡ Some x
-  put_there x = get-insert pid_cmp_total m k x k ∙ ap (λ b. cond b (Some x) (map.get m k)) (is_itself k)
-
   put_elsewhere : (x : X) (q : Pid) → q ≢ k → map.get (map.insert m k x) q ≡ map.get m q
   put_elsewhere x q apart = get-insert pid_cmp_total m k x q ∙ ap (λ b. cond b (Some x) (map.get m q)) (unlike q apart)
-
-  taken_there : map.get (map.remove m k) k ≡ None
-  taken_there = get-remove pid_cmp_total m k k ∙ ap (λ b. cond b None (map.get m k)) (is_itself k)
 
   taken_elsewhere : (q : Pid) → q ≢ k → map.get (map.remove m k) q ≡ map.get m q
   taken_elsewhere q apart = get-remove pid_cmp_total m k q ∙ ap (λ b. cond b None (map.get m q)) (unlike q apart)
@@ -40,13 +37,13 @@ module _ {X : Type 0} (m : FinMap pid_cmp X) (k : Pid) where
 -- ---- lists
 module _ (lists : FinMap pid_cmp (List Pid)) (k : Pid) where
   pub listed_there : (l : List Pid) → list_at (map.insert lists k l) k ≡ l
-  listed_there l = get_or-found (map.insert lists k l) k [] l (put_there lists k l)
+  listed_there l = get_or-found (map.insert lists k l) k [] l (get-insert_same pid_cmp_total lists k l)
 
   pub listed_elsewhere : (l : List Pid) (q : Pid) → q ≢ k → list_at (map.insert lists k l) q ≡ list_at lists q
   listed_elsewhere l q apart = get_or-same (map.insert lists k l) lists q [] (put_elsewhere lists k l q apart)
 
   pub dropped_there : list_at (map.remove lists k) k ≡ []
-  dropped_there = get_or-absent (map.remove lists k) k [] (taken_there lists k)
+  dropped_there = get_or-absent (map.remove lists k) k [] (get-remove_same pid_cmp_total lists k)
 
   pub dropped_elsewhere : (q : Pid) → q ≢ k → list_at (map.remove lists k) q ≡ list_at lists q
   dropped_elsewhere q apart = get_or-same (map.remove lists k) lists q [] (taken_elsewhere lists k q apart)
@@ -128,7 +125,7 @@ module _ (lists : FinMap pid_cmp (List Pid)) (positions : FinMap pid_cmp Positio
     added = record {
       there = λ c position is. by_pids c child
           (λ same.
-          let its : last_position ≡ position = some_same _ _ (sym (put_there positions child last_position) ∙ ap (map.get more_positions) (sym same) ∙ is) in
+          let its : last_position ≡ position = some_same _ _ (sym (get-insert_same pid_cmp_total positions child last_position) ∙ ap (map.get more_positions) (sym same) ∙ is) in
           subst (λ (p : Position). slice_get (list_at more_lists p.parent) p.place ≡ Some c) its (end_there ∙ ap Some (sym same)))
           (λ other. stays position.parent position.place c (are.there c position (sym (put_elsewhere positions child last_position c other) ∙ is)));
       placed = λ q i c is. by_pids q parent
@@ -138,7 +135,7 @@ module _ (lists : FinMap pid_cmp (List Pid)) (positions : FinMap pid_cmp Positio
           (by_places i (length (list_at lists parent))
           (λ last.
           let mine : child ≡ c = some_same _ _ (sym end_there ∙ ap (slice_get (list_at more_lists parent)) (sym last) ∙ its) in
-          ap (map.get more_positions) (sym mine) ∙ put_there positions child last_position ∙ ap (λ j. Some (position_at parent j)) (sym last))
+          ap (map.get more_positions) (sym mine) ∙ get-insert_same pid_cmp_total positions child last_position ∙ ap (λ j. Some (position_at parent j)) (sym last))
           (λ apart. kept_position c (position_at parent i) (are.placed parent i c (sym (before_end i apart) ∙ its)))))
           (λ other. kept_position c (position_at q i) (are.placed q i c (sym (ap (λ (l : List Pid). slice_get l i) (listed_elsewhere lists parent (list_at lists parent ++ child ∷ []) q other)) ∙ is)));
     }
@@ -156,13 +153,13 @@ module _ (lists : FinMap pid_cmp (List Pid)) (positions : FinMap pid_cmp Positio
         ap (λ o. is_pid q (parent_by o)) (get-insert pid_cmp_total positions child last_position c)
         ∙ elim (same_pid c child) as (λ b. same_pid c child ≡ b → is_pid q (parent_by (cond b (Some last_position) (map.get positions c))) ≡ (same_pid q parent && b || is_pid q (parent_by (map.get positions c)))) [
           | true ↦ λ t. sym (ap (λ o. same_pid q parent && true || is_pid q (parent_by o)) (ap (map.get positions) (same_key pid_cmp_exact c child t) ∙ absent) ∙ alone (same_pid q parent))
-          | false ↦ λ _. sym (ap (λ b. b || is_pid q (parent_by (map.get positions c))) (neither (same_pid q parent)))
+          | false ↦ λ _. sym (ap (λ b. b || is_pid q (parent_by (map.get positions c))) (and-false (same_pid q parent)))
         ] refl
 
   -- ---- one of a parent's children
   pub is_first : (q c : Pid) (i : ℕ) → slice_get (list_at lists q) i ≡ Some c → is_child (child_index lists positions) q c ≡ true
   unfolding is_child
-  is_first q c i is = ap (λ o. is_pid q (parent_by o)) (are.placed q i c is) ∙ is_itself q
+  is_first q c i is = ap (λ o. is_pid q (parent_by o)) (are.placed q i c is) ∙ same_itself pid_cmp_total q
 
   pub none_first : (q : Pid) → slice_get (list_at lists q) (length (list_at lists q) - 1) ≡ None → (c : Pid) → is_child (child_index lists positions) q c ≡ false
   unfolding is_child
@@ -200,7 +197,7 @@ module _ (lists : FinMap pid_cmp (List Pid)) (positions : FinMap pid_cmp Positio
   unfolding is_child
   absent_position none = elim (map.get positions child) as (λ o. map.get positions child ≡ o → o ≡ None) [
     | None ↦ λ _. refl
-    | Some position ↦ λ is. absurd (true≢false (sym (is_itself position.parent) ∙ sym (ap (λ o. is_pid position.parent (parent_by o)) is) ∙ none position.parent))
+    | Some position ↦ λ is. absurd (true≢false (sym (same_itself pid_cmp_total position.parent) ∙ sym (ap (λ o. is_pid position.parent (parent_by o)) is) ∙ none position.parent))
   ] refl
 
 module _ (lists : FinMap pid_cmp (List Pid)) (positions : FinMap pid_cmp Position) (are : AreInPlace (child_index lists positions)) (child : Pid) (position : Position) (is : map.get positions child ≡ Some position)
@@ -237,7 +234,7 @@ module _ (lists : FinMap pid_cmp (List Pid)) (positions : FinMap pid_cmp Positio
 
   left_position : (c : Pid) (p : Position) → map.get (map.remove positions child) c ≡ Some p → (c ≢ child) × (map.get positions c ≡ Some p)
   left_position c p its =
-      let other : c ≢ child = λ e. never_some (map.get (map.remove positions child) c) p (ap (map.get (map.remove positions child)) e ∙ taken_there positions child) its in
+      let other : c ≢ child = λ e. never_some (map.get (map.remove positions child) c) p (ap (map.get (map.remove positions child)) e ∙ get-remove_same pid_cmp_total positions child) its in
       (other, sym (taken_elsewhere positions child c other) ∙ its)
 
   -- it stood last
@@ -288,7 +285,7 @@ module _ (lists : FinMap pid_cmp (List Pid)) (positions : FinMap pid_cmp Positio
     moved_there = record {
       there = λ c p its. by_pids c moved
           (λ same.
-          let mine : position ≡ p = some_same _ _ (sym (put_there (map.remove positions child) moved position) ∙ ap (map.get new_positions) (sym same) ∙ its) in
+          let mine : position ≡ p = some_same _ _ (sym (get-insert_same pid_cmp_total (map.remove positions child) moved position) ∙ ap (map.get new_positions) (sym same) ∙ its) in
           subst (λ (p : Position). slice_get (list_at new p.parent) p.place ≡ Some c) mine (here ∙ ap Some (sym same)))
           (λ other.
           let old = left_position c p (sym (put_elsewhere (map.remove positions child) moved position c other) ∙ its) in
@@ -309,7 +306,7 @@ module _ (lists : FinMap pid_cmp (List Pid)) (positions : FinMap pid_cmp Positio
           (λ at.
           let mine : moved ≡ c = some_same _ _ (sym here ∙ ap (slice_get (list_at new position.parent)) (sym at) ∙ subst (λ (q : Pid). slice_get (list_at new q) i ≡ Some c) same now) in
           let is_at : position ≡ position_at q i = ap (λ (q : Pid). position_at q position.place) (sym same) ∙ ap (λ j. position_at q j) (sym at) in
-          ap (map.get new_positions) (sym mine) ∙ put_there (map.remove positions child) moved position ∙ ap Some is_at)
+          ap (map.get new_positions) (sym mine) ∙ get-insert_same pid_cmp_total (map.remove positions child) moved position ∙ ap Some is_at)
           (λ elsewhere. rest (λ _. elsewhere)))
           (λ other. rest (λ same. absurd (other same)));
     }

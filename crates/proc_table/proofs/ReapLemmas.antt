@@ -1,8 +1,7 @@
 -- A child that ended is taken off the list of its parent.
-use Rattle.std.specs.Prelude.{◌≡◌, ℕ, ◌≤◌, true, false, List, [], ◌∷◌, Option, Some, None, MatchOption, Result, Ok, Err, OnErr, cond, length, refl}
+use Rattle.std.specs.Prelude.{◌≡◌, ℕ, ◌≤◌, true, false, List, [], ◌∷◌, Option, Some, None, MatchOption, length, refl}
 use Rattle.std.specs.FinMap as map
-use Rattle.std.specs.FinMap.{FinMap, get-insert, same_map}
-use Rattle.std.specs.Ordering.{eq_by_cmp}
+use Rattle.std.specs.FinMap.{FinMap}
 use Rattle.std.proofs.Common.{sym, ap, ◌∙◌, subst, arith}
 use Rattle.std.proofs.lemmas.Bool.{true≢false}
 use Rattle.lab_lattice.specs.Label.{label_cmp}
@@ -11,20 +10,12 @@ use Rattle.kern_model.specs.declared.numbers.Pid.{Pid}
 use Rattle.kern_model.specs.Keys.{is_pid, pid_cmp}
 use Rattle.kern_model.specs.State.{Process}
 use Rattle.kern_model.proofs.KeyLaws.{pid_cmp_total, pid_cmp_exact}
-use Rattle.kern_model.proofs.MapLemmas.{same_key}
+use Rattle.kern_model.proofs.MapLemmas.{insert-same}
 use Rattle.kern_model.proofs.Selections.{none_pass, one_passes}
 use Rattle.proc_table.specs.Children.{IsKept, ChildIndex, has_parent, is_child}
 use Rattle.proc_table.specs.Procs.{AreDrawn, TakesEnded, has_living_child}
 use Rattle.proc_table.proofs.DrawnLemmas.{still_drawn}
 use Rattle.proc_table.proofs.KeptLemmas.{kept_changed}
-
--- what is there already is put there
-unchanged : (m : FinMap pid_cmp Process) (who : Pid) (p : Process) → map.get m who ≡ Some p → map.insert m who p ≡ m
-unchanged m who p is = same_map pid_cmp_total pid_cmp_exact _ _ (λ q. get-insert pid_cmp_total m who p q
-    ∙ elim (eq_by_cmp pid_cmp q who) as (λ b. eq_by_cmp pid_cmp q who ≡ b → cond b (Some p) (map.get m q) ≡ map.get m q) [
-      | true ↦ λ t. sym (ap (map.get m) (same_key pid_cmp_exact q who t) ∙ is)
-      | false ↦ λ _. refl
-    ] refl)
 
 shorter : (first : Option (Pid × Ending)) (xs left : List (Pid × Ending)) → MatchOption first ((xs ≡ []) × (left ≡ [])) (λ e. xs ≡ e ∷ left) → length left ≤ length xs
 shorter None xs left h = let none = ap length h.1 in omega (arith, none)
@@ -33,7 +24,7 @@ shorter (Some e) xs left h = let more = ap length h in omega (arith, more)
 module _ (living new : FinMap pid_cmp Process) (who : Pid) (p : Process) (is : map.get living who ≡ Some p) where
   -- nothing changes where no child ended
   pub none_taken : TakesEnded living new who p None → new ≡ living
-  none_taken t = t.now ∙ ap (λ (l : List (Pid × Ending)). map.insert living who (record p { ended = l })) (t.list.1 ∙ sym t.list.0) ∙ unchanged living who p is
+  none_taken t = t.now ∙ ap (λ (l : List (Pid × Ending)). map.insert living who (record p { ended = l })) (t.list.1 ∙ sym t.list.0) ∙ insert-same pid_cmp_total pid_cmp_exact living who p is
 
   -- the processes stay drawn, and the same children are kept
   pub taken_kept : (first : Option (Pid × Ending)) → TakesEnded living new who p first → (numbers : FinMap label_cmp ℕ) (children : ChildIndex) (made : ℕ)
@@ -52,10 +43,3 @@ module _ (living : FinMap pid_cmp Process) (children : ChildIndex) (made : ℕ) 
     | None ↦ λ is. absurd (true≢false (sym t ∙ kept.index who c ∙ ap (λ (o : Option Process). has_parent o who) is))
     | Some x ↦ λ is. one_passes pid_cmp_total pid_cmp_exact (λ (q : Pid) (child : Process). is_pid who child.parent) living c x is (ap (λ (o : Option Process). has_parent o who) (sym is) ∙ sym (kept.index who c) ∙ t)
   ] refl
-
-pub none_match : {X : Type 0} (P : Type 0) (Q : X → Type 0) (o : Option X) → o ≡ None → MatchOption o P Q → P
-none_match P Q o is h = subst (λ o. MatchOption o P Q) is h
-
-pub on_err : {A E P : Type 0} (r : Result A E) → P → OnErr r P
-on_err (Ok x) p = tt
-on_err (Err e) p = p

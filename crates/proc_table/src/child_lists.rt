@@ -112,7 +112,7 @@ impl ChildLists {
     pub fn count(&self, parent: &Pid) -> usize
         ensures { result ≡ length (list_at self.now parent.now) }
     {
-        match self.kept.get(&parent.label, parent.n) {
+        match self.kept.get_at(parent) {
             Some(list) => list.len(),
             None => 0,
         }
@@ -122,7 +122,7 @@ impl ChildLists {
     pub fn last(&self, parent: &Pid) -> Option<Pid>
         ensures { result ≡ slice_get (list_at self.now parent.now) (length (list_at self.now parent.now) - 1) }
     {
-        self.kept.get(&parent.label, parent.n)?.last()
+        self.kept.get_at(parent)?.last()
     }
 
     /// Appends a child of a parent.
@@ -130,10 +130,10 @@ impl ChildLists {
         ensures ok { OnOk result (self.new ≡ map.insert self.old parent.now (list_at self.old parent.now ++ child.now ∷ [])) }
         ensures err { OnErr result (self.new ≡ self.old) }
     {
-        if let Some(list) = self.kept.get_mut(&parent.label, parent.n) {
+        if let Some(list) = self.kept.get_mut_at(parent) {
             return list.push(*child);
         }
-        self.kept.set(&parent.label, parent.n, ChildList::new(self.alloc, *child))
+        self.kept.set_at(parent, ChildList::new(self.alloc, *child))
     }
 
     /// Removes the child at a place of a parent's list, to which the last one moves. Returns who stands there then, if someone
@@ -143,12 +143,12 @@ impl ChildLists {
         ensures removed { IsSwapRemovedAt self.old parent.now place self.new }
         ensures moved { result ≡ slice_get (list_at self.new parent.now) place }
     {
-        let Some(list) = self.kept.get_mut(&parent.label, parent.n) else {
+        let Some(list) = self.kept.get_mut_at(parent) else {
             unreachable!();
         };
         let moved = list.swap_remove(place);
         if list.len() == 0 {
-            drop(self.kept.remove(&parent.label, parent.n));
+            drop(self.kept.remove_at(parent));
         }
         moved
     }

@@ -5,8 +5,9 @@ ghost use Rattle.kern_model.specs.declared.numbers.Pid.{Pid as Number};
 ghost use Rattle.proc_table.specs.Children.{child_count, is_child};
 
 use crate::child_lists::ChildLists;
-use crate::positions::{Position, Positions};
+use crate::positions::{Position, change};
 use kern_model::{NoMemory, Pid};
+use num_table::Table;
 use std::alloc::Global;
 use std::marker::Model;
 
@@ -14,21 +15,22 @@ use std::marker::Model;
 #[derive(Drop)]
 pub struct Children {
     lists: ChildLists,
-    positions: Positions,
+    positions: Table<Position>,
 }
 
 impl Model for Children {
     ghost use Rattle.std.specs.Coded.{codes};
     ghost use Rattle.lab_lattice.specs.Label.{label_code};
+    ghost use Rattle.num_table.specs.Keys.{by_pid};
     ghost use Rattle.proc_table.specs.Children.{AreInPlace, ChildIndex, child_index_code};
 
     ghost Value = { ChildIndex };
 
     ghost coded = { child_index_code (Prim.hlevel (codes, label_code)) (Prim.hlevel (codes, label_code)) (Prim.hlevel (codes, label_code)) };
 
-    ghost view = { λ c. record { lists = c.lists; positions = c.positions } };
+    ghost view = { λ c. record { lists = c.lists; positions = by_pid c.positions } };
 
-    ghost invariant = { λ c. AreInPlace (record { lists = c.lists; positions = c.positions }) };
+    ghost invariant = { λ c. AreInPlace (record { lists = c.lists; positions = by_pid c.positions }) };
 }
 
 impl Children {
@@ -38,7 +40,7 @@ impl Children {
     {
         Children {
             lists: ChildLists::new(alloc),
-            positions: Positions::new(alloc),
+            positions: Table::new(alloc),
         }
     }
 
@@ -62,9 +64,9 @@ impl Children {
     {
         let place = self.lists.count(parent);
         let parent = *parent;
-        self.positions.set(child, Position { parent, place })?;
+        self.positions.set_at(child, Position { parent, place })?;
         if let Err(e) = self.lists.push(&parent, child) {
-            self.positions.remove(child);
+            self.positions.remove_at(child);
             return Err(e);
         }
         Ok(())
@@ -75,9 +77,9 @@ impl Children {
         ensures left { (q c : Number) → is_child self.new q c ≡ (not (same_pid c child.now) && is_child self.old q c) }
         ensures count { (q : Number) → is_child self.old q child.now ≡ true → child_count self.new q + 1 ≡ child_count self.old q }
     {
-        if let Some(position) = self.positions.remove(child) {
+        if let Some(position) = self.positions.remove_at(child) {
             if let Some(moved) = self.lists.swap_remove(&position.parent, position.place) {
-                self.positions.change(&moved, position);
+                change(&mut self.positions, &moved, position);
             }
         }
     }

@@ -60,7 +60,7 @@ impl Living {
     pub fn get(&self, who: &Pid) -> Option<&Proc>
         ensures { option_copied result ≡ map.get self.now who.now }
     {
-        self.kept.get(&who.label, who.n)
+        self.kept.get_at(who)
     }
 
     /// The process with a number, for changes to it, if there is one.
@@ -68,7 +68,7 @@ impl Living {
         ensures* writes_back { sem 𝓛 (LendsProcess self.entry who.now result) }
         ensures value { option_copied_mut result ≡ map.get self.old who.now }
     {
-        self.kept.get_mut(&who.label, who.n)
+        self.kept.get_mut_at(who)
     }
 
     /// The credentials of the process with a number, for changes to them, if there is one.
@@ -139,7 +139,7 @@ impl Living {
         ensures ok { OnOk result (self.new ≡ map.insert self.old who process) }
         ensures err { OnErr result (self.new ≡ self.old) }
     {
-        self.kept.set(&who.label, who.n, process)
+        self.kept.set_at(&who, process)
     }
 
     /// Removes the process with a number, if there is one, and returns it. It takes no memory.
@@ -147,7 +147,7 @@ impl Living {
         ensures removed { result ≡ map.get self.old who.now }
         ensures left { self.new ≡ map.remove self.old who.now }
     {
-        self.kept.remove(&who.label, who.n)
+        self.kept.remove_at(who)
     }
 
     /// The numbers of the processes, in order.

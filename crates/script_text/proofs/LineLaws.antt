@@ -55,14 +55,16 @@ there : {X : Type 0} (o : Option X) (e : LineError) (x : X) → ok_or o e ≡ Ok
 there None e x h = absurd (cc)
 there (Some y) e x h = cc
 
-both_are : {A B : Type 0} (a : Reading A) (b : Reading B) (p : A × B) → both a b ≡ Ok p → (a ≡ Ok p.0) × (b ≡ Ok p.1)
+-- a pair that was read: each part was read
+pub both_are : {A B : Type 0} (a : Reading A) (b : Reading B) (p : A × B) → both a b ≡ Ok p → (a ≡ Ok p.0) × (b ≡ Ok p.1)
 unfolding both
 both_are (Ok x) (Ok y) p h = let e : (x, y) ≡ p = cc in (ap (λ (q : _ × _). Ok q.0) e, ap (λ (q : _ × _). Ok q.1) e)
 both_are (Ok x) (Err f) p h = absurd (cc)
 both_are (Err e) (Ok y) p h = absurd (cc)
 both_are (Err e) (Err f) p h = absurd (cc)
 
-from_made : {A B : Type 0} (P : B → Type 0) (make : A → B) (a : Reading A) (b : B) → made make a ≡ Ok b → ((x : A) → a ≡ Ok x → P (make x)) → P b
+-- what holds of all that is made of a value that was read holds of what was made
+pub from_made : {A B : Type 0} (P : B → Type 0) (make : A → B) (a : Reading A) (b : B) → made make a ≡ Ok b → ((x : A) → a ≡ Ok x → P (make x)) → P b
 unfolding made
 from_made P make (Ok x) b h p = let e : make x ≡ b = cc in subst P e (p x refl)
 from_made P make (Err e) b h p = absurd (cc)

@@ -54,8 +54,8 @@ fn ask_mode(
     ensures { StepOn checks.old object.now (λ s id. asks_mode caller.now.process mode id place (object_at s id)) result checks.new }
 {
     caller.owner(checks, object, place)?;
-    let plain = keeps_by_right(caller, object, mode);
-    mode_kept(caller, checks, object, mode, plain, place)
+    let by_right = keeps_by_right(caller, object, mode);
+    mode_kept(caller, checks, object, AskedMode { mode, by_right }, place)
 }
 
 // Whether the caller may set this mode in full without a capability: it has no set-id bit, or the caller owns the object.
@@ -65,23 +65,29 @@ fn keeps_by_right(caller: &Caller<'_>, object: &Metadata, mode: Mode) -> bool
     !has_set_id(mode) || caller.is_owner(object)
 }
 
-/// The mode that an object gets where this one is asked for: all of it where `plain` holds or the caller may keep set-id bits,
+/// A mode that is asked for, and whether an object gets all of it without a capability of the caller.
+#[derive(Clone, Copy, Debug, PartialEq, Eq)]
+pub struct AskedMode {
+    pub mode: Mode,
+    pub by_right: bool,
+}
+
+/// The mode that an object gets where this one is asked for: all of it where that is by right or the caller may keep set-id bits,
 /// and else its permission bits.
 pub fn mode_kept(
     caller: &Caller<'_>,
     checks: &mut Checks,
     object: &Metadata,
-    mode: Mode,
-    plain: bool,
+    asked: AskedMode,
     place: Place,
 ) -> Result<Mode, Stop>
-    ensures { StepOn checks.old object.now (λ s id. keeps_mode plain mode id place (object_at s id)) result checks.new }
+    ensures { StepOn checks.old object.now (λ s id. keeps_mode asked.by_right asked.mode id place (object_at s id)) result checks.new }
 {
-    let keeps = caller.fsetid(checks, object, plain, place)?;
+    let keeps = caller.fsetid(checks, object, asked.by_right, place)?;
     if keeps {
-        Ok(mode)
+        Ok(asked.mode)
     } else {
-        Ok(mode & MAX_PERMISSIONS)
+        Ok(asked.mode & MAX_PERMISSIONS)
     }
 }
 

@@ -8,11 +8,11 @@ ghost use Rattle.sys_lookup.specs.PlaysRow.{PlaysRow};
 ghost use Rattle.sys_lookup.specs.StepOn.{StepOn};
 
 use crate::changing::give_attr;
-use crate::modes::mode_kept;
+use crate::modes::{AskedMode, mode_kept};
 use crate::objects::{ObjectArgument, write_named};
 use chk_rules::{Checks, Stop};
-use kern_model::{Attr, Gid, Mode, Path, Pid, Place, Uid};
-use sys_lookup::{Caller, Effect, Metadata, Shared, has_set_id};
+use kern_model::{Attr, Mode, Path, Pid, Place};
+use sys_lookup::{Caller, Effect, Metadata, Ownership, Shared, has_set_id};
 
 /// `chown`: an object gets an owner and a group. Its set-id bits go where the caller may not keep them.
 pub fn chown(
@@ -20,22 +20,21 @@ pub fn chown(
     checks: &mut Checks,
     who: &Pid,
     path: &Path,
-    owner: Uid,
-    group: Gid,
+    to: Ownership,
 ) -> Result<Effect, Stop>
     requires valid { ∥ IsValid shared.old ∥₁ }
     requires living { IsSome (map.get shared.old.procs who.now) }
-    ensures { PlaysRow shared.old checks.old (chown_row shared.old who.now (process_at shared.old who.now) path.now owner group) result shared.new checks.new }
+    ensures { PlaysRow shared.old checks.old (chown_row shared.old who.now (process_at shared.old who.now) path.now to.owner to.group) result shared.new checks.new }
 {
     let caller = Caller::new(shared, who);
     let (object, place) = write_named(&caller, checks, ObjectArgument::Path(path))?;
-    let mode = ask_owner(&caller, checks, &object, owner, group, place)?;
+    let mode = ask_owner(&caller, checks, &object, to, place)?;
     give_attr(
         shared,
         &object.id,
         Attr {
-            owner,
-            group,
+            owner: to.owner,
+            group: to.group,
             mode,
             ..object.attr
         },
@@ -48,13 +47,13 @@ fn ask_owner(
     caller: &Caller<'_>,
     checks: &mut Checks,
     object: &Metadata,
-    owner: Uid,
-    group: Gid,
+    to: Ownership,
     place: Place,
 ) -> Result<Mode, Stop>
-    ensures { StepOn checks.old object.now (λ s id. asks_owner caller.now.process owner group id place (object_at s id)) result checks.new }
+    ensures { StepOn checks.old object.now (λ s id. asks_owner caller.now.process to.owner to.group id place (object_at s id)) result checks.new }
 {
-    caller.chown(checks, object, owner, group, place)?;
+    caller.chown(checks, object, to, place)?;
     let mode = object.attr.mode;
-    mode_kept(caller, checks, object, mode, !has_set_id(mode), place)
+    let by_right = !has_set_id(mode);
+    mode_kept(caller, checks, object, AskedMode { mode, by_right }, place)
 }

@@ -16,7 +16,7 @@ use crate::objects::ObjectArgument;
 use crate::owners::chown;
 use chk_rules::{Checks, Stop};
 use kern_model::{Call, Pid};
-use sys_lookup::{Effect, Shared};
+use sys_lookup::{Effect, Ownership, Shared};
 
 /// Plays a call of a living process on modes, owners, the umask, capability sets of files, or labels of objects.
 #[inline(never)]
@@ -35,7 +35,10 @@ pub fn play(
 {
     match call {
         Call::Chmod(path, mode) => chmod(shared, checks, who, path, *mode),
-        Call::Chown(path, owner, group) => chown(shared, checks, who, path, *owner, *group),
+        Call::Chown(path, owner, group) => {
+            let (owner, group) = (*owner, *group);
+            chown(shared, checks, who, path, Ownership { owner, group })
+        }
         Call::Umask(mode) => umask(shared, checks, who, *mode),
         Call::CapGetFile(path) => cap_get(shared, checks, who, ObjectArgument::Path(path)),
         Call::CapGetFd(fd) => cap_get(shared, checks, who, ObjectArgument::Descriptor(*fd)),

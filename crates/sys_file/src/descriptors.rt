@@ -77,23 +77,29 @@ pub fn fstat(caller: &Caller<'_>, checks: &mut Checks, fd: Fd) -> Result<Effect,
     Ok(Effect::answers(Answer::Stat(stat)))
 }
 
+/// Where `lseek` moves an offset: so many bytes from the start, from where it is, or from the end.
+#[derive(Clone, Copy, Debug, PartialEq, Eq)]
+pub struct Seek {
+    pub from: Whence,
+    pub offset: i64,
+}
+
 /// `lseek`: the offset of a descriptor on a file moves, within the file's bytes.
 pub fn lseek(
     shared: &mut Shared,
     checks: &mut Checks,
     who: &Pid,
     fd: Fd,
-    from: Whence,
-    offset: i64,
+    seek: Seek,
 ) -> Result<Effect, Stop>
     requires valid { ∥ IsValid shared.old ∥₁ }
     requires living { IsSome (map.get shared.old.procs who.now) }
-    ensures { PlaysRow shared.old checks.old (lseek_row shared.old who.now (process_at shared.old who.now) fd from offset) result shared.new checks.new }
+    ensures { PlaysRow shared.old checks.old (lseek_row shared.old who.now (process_at shared.old who.now) fd seek.from seek.offset) result shared.new checks.new }
 {
     let caller = Caller::new(shared, who);
     let opened = opened_to_seek(&caller, checks, fd)?;
     let size = file_size(shared, &opened.object);
-    match sum(base_of(&opened, from, size), offset) {
+    match sum(base_of(&opened, seek.from, size), seek.offset) {
         Some(to) => move_to(shared, who, fd, to, size),
         None => Err(Stop::Refused(Errno::EINVAL)),
     }

@@ -10,6 +10,7 @@ ghost use Rattle.kern_model.specs.OpenRows.{allowed_by_kind, allowed_by_label, a
 ghost use Rattle.kern_model.specs.State.{State, changed, changed_by, look, object_at, process_at};
 ghost use Rattle.kern_model.specs.Valid.{IsDir, IsValid};
 ghost use Rattle.kern_model.specs.declared.numbers.Oid.{Oid as Number};
+ghost use Rattle.kern_model.specs.declared.objects.Body.TheVariants as body;
 ghost use Rattle.kern_model.specs.declared.objects.Object.{Object};
 ghost use Rattle.chk_rules.specs.CheckLog.{CheckLog};
 ghost use Rattle.chk_rules.specs.Ends.{GoesOn};
@@ -23,11 +24,18 @@ ghost use Rattle.sys_file.specs.Opening.{CanBeEmptied, EmptiesFiles};
 use chk_rules::{Checks, Stop, refuse_if};
 use fd_table::{FdError, How};
 use kern_model::{
-    Answer, Attr, Body, ByteList, Errno, Fd, Kind, Mode, Name, NoMemory, Oid, OpenFlags, Path, Pid,
-    Place,
+    Answer, Attr, Body, ByteList, Errno, Fd, Kind, Mode, NoMemory, Oid, OpenFlags, Path, Pid, Place,
 };
 use std::alloc::Global;
-use sys_lookup::{Caller, Effect, Found, Metadata, PathArgument, Shared, create};
+use sys_lookup::{Caller, Effect, Found, Metadata, NewObject, PathArgument, Shared, Spot, create};
+
+/// What `open` is asked for: a path, flags, and the mode of a file that is made, before the caller's umask.
+#[derive(Clone, Copy)]
+pub struct OpenRequest<'a> {
+    pub path: &'a Path,
+    pub flags: OpenFlags,
+    pub mode: Option<Mode>,
+}
 
 /// `open`: an object is opened at the caller's lowest free descriptor. With `c` a file is made where nothing has the name.
 pub fn open(
@@ -35,15 +43,14 @@ pub fn open(
     shared: &mut Shared,
     checks: &mut Checks,
     who: &Pid,
-    path: &Path,
-    flags: OpenFlags,
-    mode: Option<Mode>,
+    opening: &OpenRequest<'_>,
 ) -> Result<Effect, Stop>
     requires valid { ∥ IsValid shared.old ∥₁ }
     requires living { IsSome (map.get shared.old.procs who.now) }
-    ensures played { PlaysRow shared.old checks.old (open_row shared.old who.now (process_at shared.old who.now) path.now flags mode) result shared.new checks.new }
-    ensures names { are_names path.now ≡ true }
+    ensures played { PlaysRow shared.old checks.old (open_row shared.old who.now (process_at shared.old who.now) opening.now.path.now opening.now.flags opening.now.mode) result shared.new checks.new }
+    ensures names { are_names opening.now.path.now ≡ true }
 {
+    let OpenRequest { path, flags, mode } = *opening;
     let _names = path.components();
     let caller = Caller::new(shared, who);
     caller.may_open(1)?;
@@ -63,7 +70,8 @@ pub fn open(
                 let place = PathArgument::First.dir_place(path);
                 may_make(&caller, checks, flags, &dir, place)?;
                 let mode = mode.unwrap_or(0);
-                open_new(alloc, shared, who, &dir, &name, flags, mode)
+                let body = Body::File(ByteList::new(alloc));
+                open_new(shared, who, &(dir, name), flags, NewObject { mode, body })
             }
         },
     }
@@ -208,28 +216,26 @@ fn open_present(
 
 // Makes an empty file of the caller under a new name, and opens it.
 fn open_new(
-    alloc: Global,
     shared: &mut Shared,
     who: &Pid,
-    dir: &Oid,
-    name: &Name,
+    spot: &Spot<'_>,
     flags: OpenFlags,
-    mode: Mode,
+    file: NewObject,
 ) -> Result<Effect, Stop>
     requires valid { ∥ IsValid shared.old ∥₁ }
     requires living { IsSome (map.get shared.old.procs who.now) }
     requires free { has_free_descriptors (process_at shared.old who.now) 1 ≡ true }
     requires left { has_descriptions shared.old (process_at shared.old who.now) 1 ≡ true }
-    requires dir { IsDir shared.old.objects dir.now }
-    requires stands { is_removed shared.old dir.now ≡ false }
-    requires absent { look shared.old dir.now name.now ≡ None }
-    ensures { (log : CheckLog) → PlaysRow shared.old log (opens_new shared.old who.now (process_at shared.old who.now) flags mode dir.now name.now) result shared.new log }
+    requires dir { IsDir shared.old.objects spot.now.0 }
+    requires stands { is_removed shared.old spot.now.0 ≡ false }
+    requires absent { look shared.old spot.now.0 spot.now.1 ≡ None }
+    requires empty { file.body ≡ body.File [] }
+    ensures { (log : CheckLog) → PlaysRow shared.old log (opens_new shared.old who.now (process_at shared.old who.now) flags file.mode spot.now.0 spot.now.1) result shared.new log }
 {
     let caller = Caller::new(shared, who);
-    let attr = caller.new_attr(mode);
+    let attr = caller.new_attr(file.mode);
     let label = caller.label();
-    let empty = Body::File(ByteList::new(alloc));
-    let id = create(shared, dir, name, label, attr, empty)?;
+    let id = create(shared, spot, label, attr, file.body)?;
     let fd = describe(shared, who, &id, flags)?;
     Ok(Effect::answers(Answer::Number(fd)))
 }

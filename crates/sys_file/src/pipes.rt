@@ -15,7 +15,7 @@ use crate::opening::describe;
 use cap_bits::CapState;
 use chk_rules::{Checks, Stop, refuse_if};
 use kern_model::{Answer, Attr, Body, Errno, Mode, Oid, OpenFlags, Path, Pid};
-use sys_lookup::{Caller, Effect, NoMemory, Shared, make};
+use sys_lookup::{Caller, Effect, NewObject, NoMemory, Shared, make};
 
 /// `mkfifo`: a FIFO is made where nothing has the name.
 pub fn mkfifo(
@@ -30,7 +30,8 @@ pub fn mkfifo(
     ensures played { PlaysRow shared.old checks.old (mkfifo_row shared.old who.now (process_at shared.old who.now) path.now mode) result shared.new checks.new }
     ensures names { are_names path.now ≡ true }
 {
-    make(shared, checks, who, path, mode, Body::Fifo)
+    let body = Body::Fifo;
+    make(shared, checks, who, path, NewObject { mode, body })
 }
 
 /// `pipe`: a pipe is made. The caller's two lowest free descriptors are opened on it, the first for reading and the second for

@@ -9,8 +9,8 @@ ghost use Rattle.sys_lookup.specs.Memory.{takes_no_memory};
 ghost use Rattle.sys_lookup.specs.PlaysRow.{LeavesNothing, PlaysRow};
 ghost use Rattle.sys_file.specs.Playing.{is_file_call};
 
-use crate::descriptors::{close, dup, fstat, lseek};
-use crate::opening::open;
+use crate::descriptors::{Seek, close, dup, fstat, lseek};
+use crate::opening::{OpenRequest, open};
 use crate::pipes::{mkfifo, pipe};
 use crate::reading::read;
 use crate::writing::write;
@@ -36,11 +36,23 @@ pub fn play(
     ensures nothing { takes_no_memory call.now ≡ true → LeavesNothing result }
 {
     match call {
-        Call::OpenPath(path, flags, mode) => open(alloc, shared, checks, who, path, *flags, *mode),
+        Call::OpenPath(path, flags, mode) => {
+            let (flags, mode) = (*flags, *mode);
+            open(
+                alloc,
+                shared,
+                checks,
+                who,
+                &OpenRequest { path, flags, mode },
+            )
+        }
         Call::Close(fd) => close(shared, who, *fd),
         Call::Read(fd, n) => read(shared, checks, who, *fd, *n),
         Call::Write(fd, bytes) => write(shared, checks, who, *fd, bytes.items()),
-        Call::Lseek(fd, from, offset) => lseek(shared, checks, who, *fd, *from, *offset),
+        Call::Lseek(fd, from, offset) => {
+            let (from, offset) = (*from, *offset);
+            lseek(shared, checks, who, *fd, Seek { from, offset })
+        }
         Call::Dup(fd) => dup(shared, who, *fd),
         Call::Pipe => pipe(shared, who),
         Call::Mkfifo(path, mode) => mkfifo(shared, checks, who, path, *mode),

@@ -7,19 +7,20 @@ ghost use Rattle.chk_rules.specs.CheckLog.{CheckLog};
 ghost use Rattle.chk_rules.specs.Ends.{GoesOn};
 ghost use Rattle.sys_lookup.specs.Walks.{IsEntry, IsFound, IsLedTo, found_of};
 
+use crate::last_name::LastName;
 use chk_rules::Stop;
-use kern_model::{Errno, Name, Oid};
+use kern_model::{Errno, Oid};
 
-/// What a walk found.
+/// What a walk found. The last name is lent from the path.
 #[derive(Debug, Drop)]
-pub enum Found {
+pub enum Found<'a> {
     /// The path has no names: where it starts.
     Start(Oid),
     /// The last directory, the last name, and the object that has it, if one does.
-    Entry(Oid, Name, Option<Oid>),
+    Entry(Oid, LastName<'a>, Option<Oid>),
 }
 
-impl Found {
+impl<'a> Found<'a> {
     /// The object at the end of the path, or a refusal where there is none.
     #[tactic(auto, unfolding(kern_model::specs::Row::judge, chk_rules::specs::Ends::EndsBy))]
     pub fn to_object(&self) -> Result<Oid, Stop>
@@ -34,9 +35,9 @@ impl Found {
 
     /// The directory and the name of an object that is to be made, or a refusal where the name is taken.
     #[tactic(auto, unfolding(kern_model::specs::Row::judge, chk_rules::specs::Ends::EndsBy))]
-    pub fn into_new_name(self) -> Result<(Oid, Name), Stop>
-        ensures entry { (s : State) (start : Number) → IsFound s start self → IfOk result (λ e. IsEntry s e.0 e.1 None) }
-        ensures step { (log : CheckLog) → GoesOn log (λ rest. to_new_name (found_of self) (λ dir name. rest (dir, name))) result log }
+    pub fn into_new_name(self) -> Result<(Oid, LastName<'a>), Stop>
+        ensures entry { (s : State) (start : Number) → IsFound s start self.entry → IfOk result (λ e. IsEntry s e.0 e.1 None) }
+        ensures step { (log : CheckLog) → GoesOn log (λ rest. to_new_name (found_of self.entry) (λ dir name. rest (dir, name))) result log }
     {
         match self {
             Found::Entry(dir, name, None) => Ok((dir, name)),
@@ -46,9 +47,9 @@ impl Found {
 
     /// The directory, the name and its object, if it has one, or a refusal where the path has no names.
     #[tactic(auto, unfolding(kern_model::specs::Row::judge, chk_rules::specs::Ends::EndsBy))]
-    pub fn into_entry(self) -> Result<(Oid, Name, Option<Oid>), Stop>
-        ensures entry { (s : State) (start : Number) → IsFound s start self → IfOk result (λ e. IsEntry s e.0 e.1 e.2) }
-        ensures step { (log : CheckLog) → GoesOn log (λ rest. to_entry (found_of self) (λ dir name object. rest (dir, name, object))) result log }
+    pub fn into_entry(self) -> Result<(Oid, LastName<'a>, Option<Oid>), Stop>
+        ensures entry { (s : State) (start : Number) → IsFound s start self.entry → IfOk result (λ e. IsEntry s e.0 e.1 e.2) }
+        ensures step { (log : CheckLog) → GoesOn log (λ rest. to_entry (found_of self.entry) (λ dir name object. rest (dir, name, object))) result log }
     {
         match self {
             Found::Start(_) => Err(Stop::Refused(Errno::EBUSY)),
@@ -58,9 +59,9 @@ impl Found {
 
     /// The directory, the name and its object, or a refusal where there is none.
     #[tactic(auto, unfolding(kern_model::specs::Row::judge, chk_rules::specs::Ends::EndsBy))]
-    pub fn into_entry_of_object(self) -> Result<(Oid, Name, Oid), Stop>
-        ensures entry { (s : State) (start : Number) → IsFound s start self → IfOk result (λ e. IsEntry s e.0 e.1 (Some e.2)) }
-        ensures step { (log : CheckLog) → GoesOn log (λ rest. to_entry_of_object (found_of self) (λ dir name id. rest (dir, name, id))) result log }
+    pub fn into_entry_of_object(self) -> Result<(Oid, LastName<'a>, Oid), Stop>
+        ensures entry { (s : State) (start : Number) → IsFound s start self.entry → IfOk result (λ e. IsEntry s e.0 e.1 (Some e.2)) }
+        ensures step { (log : CheckLog) → GoesOn log (λ rest. to_entry_of_object (found_of self.entry) (λ dir name id. rest (dir, name, id))) result log }
     {
         let (dir, name, object) = self.into_entry()?;
         let id = present(object)?;

@@ -17,12 +17,23 @@ ghost use Rattle.sys_lookup.specs.Walks.{IsEntry};
 use crate::argument::PathArgument;
 use crate::caller::Caller;
 use crate::effect::Effect;
+use crate::last_name::LastName;
 use crate::shared::Shared;
 use cap_bits::CapState;
 use chk_rules::{Checks, Stop, refuse_if};
 use kern_model::limits::MAX_PERMISSIONS;
-use kern_model::{Attr, Body, Errno, Mode, Name, Oid, Path, Pid};
+use kern_model::{Attr, Body, Errno, Mode, Oid, Path, Pid};
 use lab_lattice::Label;
+
+/// The spot of an entry that is to be made: a directory, and a name that nothing has in it.
+pub type Spot<'a> = (Oid, LastName<'a>);
+
+/// What is to be made: its mode, before the caller's umask, and its body.
+#[derive(Drop)]
+pub struct NewObject {
+    pub mode: Mode,
+    pub body: Body,
+}
 
 /// Makes an object of the caller where nothing has the name at the end of a path. The bits of the caller's umask are taken
 /// from the mode.
@@ -31,21 +42,20 @@ pub fn make(
     checks: &mut Checks,
     who: &Pid,
     path: &Path,
-    mode: Mode,
-    body: Body,
+    object: NewObject,
 ) -> Result<Effect, Stop>
     requires valid { ∥ IsValid shared.old ∥₁ }
     requires living { IsSome (map.get shared.old.procs who.now) }
-    requires no_pipe { kind_of body ≡ kind.Pipe → ⊥ }
-    ensures played { PlaysRow shared.old checks.old (make_row shared.old who.now (process_at shared.old who.now) path.now mode body) result shared.new checks.new }
+    requires no_pipe { kind_of object.body ≡ kind.Pipe → ⊥ }
+    ensures played { PlaysRow shared.old checks.old (make_row shared.old who.now (process_at shared.old who.now) path.now object.mode object.body) result shared.new checks.new }
     ensures names { are_names path.now ≡ true }
 {
     let _names = path.components();
     let caller = Caller::new(shared, who);
-    let (dir, name) = new_spot(&caller, checks, path)?;
+    let spot = new_spot(&caller, checks, path)?;
     let label = caller.label();
-    let attr = caller.new_attr(mode);
-    create(shared, &dir, &name, label, attr, body)?;
+    let attr = caller.new_attr(object.mode);
+    create(shared, &spot, label, attr, object.body)?;
     Ok(Effect::done())
 }
 
@@ -53,29 +63,28 @@ pub fn make(
 #[tactic(auto, unfolding(chk_rules::specs::Ends::EndsBy, crate::specs::PlaysRow::Keeps))]
 pub fn create(
     shared: &mut Shared,
-    dir: &Oid,
-    name: &Name,
+    spot: &Spot<'_>,
     label: Label,
     attr: Attr,
     body: Body,
 ) -> Result<Oid, Stop>
     requires valid { ∥ IsValid shared.old ∥₁ }
-    requires dir { IsDir shared.old.objects dir.now }
-    requires stands { is_removed shared.old dir.now ≡ false }
-    requires absent { look shared.old dir.now name.now ≡ None }
+    requires dir { IsDir shared.old.objects spot.now.0 }
+    requires stands { is_removed shared.old spot.now.0 ≡ false }
+    requires absent { look shared.old spot.now.0 spot.now.1 ≡ None }
     requires no_pipe { kind_of body ≡ kind.Pipe → ⊥ }
     ensures step { (log : CheckLog) → GoesOn log (to_number shared.old label) result log }
-    ensures made { OnOk result (shared.new ≡ changed_by shared.old (made shared.old label dir.now name.now (object_with label attr body))) }
+    ensures made { OnOk result (shared.new ≡ changed_by shared.old (made shared.old label spot.now.0 spot.now.1 (object_with label attr body))) }
     ensures kept { IfErr result (λ how. Keeps how shared.old shared.new) }
 {
     refuse_if(!shared.can_create(&label), Errno::ENOSPC)?;
     let id = shared.create(label, attr, body)?;
-    shared.add_entry(dir, name, &id)?;
+    shared.add_entry(&spot.0, &spot.1, &id)?;
     Ok(id)
 }
 
 // The directory and the name of what is to be made.
-fn new_spot(caller: &Caller<'_>, checks: &mut Checks, path: &Path) -> Result<(Oid, Name), Stop>
+fn new_spot<'a>(caller: &Caller<'_>, checks: &mut Checks, path: &'a Path) -> Result<Spot<'a>, Stop>
     ensures step { GoesOn checks.old (make_spot caller.now.state caller.now.process path.now) result checks.new }
     ensures entry { IfOk result (λ e. IsEntry caller.now.state e.0 e.1 None) }
     ensures stands { IfOk result (λ e. is_removed caller.now.state e.0 ≡ false) }

@@ -43,6 +43,13 @@ pub fn has_set_id(mode: Mode) -> bool
     sets_user(mode) || sets_group(mode)
 }
 
+/// The owner and the group that an object is to get.
+#[derive(Clone, Copy, Debug, PartialEq, Eq)]
+pub struct Ownership {
+    pub owner: Uid,
+    pub group: Gid,
+}
+
 impl Metadata {
     /// Whether the object is a regular file.
     pub fn is_file(&self) -> bool
@@ -78,15 +85,14 @@ impl Caller<'_> {
         &self,
         checks: &mut Checks,
         object: &Metadata,
-        user: Uid,
-        group: Gid,
+        to: Ownership,
         place: Place,
     ) -> Result<(), Stop>
-        ensures { StepOn checks.old object.now (λ s id rest. Need (chown_rule s self.now.process id user group place) (rest tt)) result checks.new }
+        ensures { StepOn checks.old object.now (λ s id rest. Need (chown_rule s self.now.process id to.owner to.group place) (rest tt)) result checks.new }
     {
         let creds = self.creds();
-        let stays = user == object.attr.owner;
-        let holds = stays && self.is_owner(object) && has_group(&creds.ids, group);
+        let stays = to.owner == object.attr.owner;
+        let holds = stays && self.is_owner(object) && has_group(&creds.ids, to.group);
         must(checks, &check_of(CheckName::Chown, holds, object, place))
     }
 

@@ -7,10 +7,11 @@ ghost use Rattle.kern_model.specs.State.{SetEntry, changed, changed_by, look, ne
 ghost use Rattle.kern_model.specs.Valid.{IsDir};
 ghost use Rattle.fs_dirs.specs.Tree.{MayBeAdded};
 
+use crate::last_name::LastName;
 use crate::shared::Shared;
 use fs_dirs::AddError;
 use fs_nodes::NodeError;
-use kern_model::{Attr, Body, Name, NoMemory, Oid};
+use kern_model::{Attr, Body, NoMemory, Oid};
 use lab_lattice::Label;
 
 impl Shared {
@@ -35,14 +36,14 @@ impl Shared {
     }
 
     /// Has a new name in a directory that is not removed lead to an object.
-    pub fn add_entry(&mut self, dir: &Oid, name: &Name, id: &Oid) -> Result<(), NoMemory>
+    pub fn add_entry(&mut self, dir: &Oid, name: &LastName<'_>, id: &Oid) -> Result<(), NoMemory>
         requires dir { IsDir self.old.objects dir.now }
         requires stands { is_removed self.old dir.now ≡ false }
         requires absent { look self.old dir.now name.now ≡ None }
         requires may { MayBeAdded self.old id.now }
         ensures { OnOk result (self.new ≡ changed self.old (SetEntry (dir.now, name.now) id.now)) }
     {
-        match self.tree.add(dir, name, id) {
+        match self.tree.add(dir, name.name(), id) {
             Ok(()) => Ok(()),
             Err(AddError::NoMemory(e)) => Err(e),
             Err(AddError::Exists | AddError::Removed) => unreachable!(),

@@ -68,13 +68,13 @@ fn argument(second: bool) -> PathArgument
 }
 
 /// Walks a path of a call of a living process from where it starts. Its last name may be absent.
-pub fn walk(
+pub fn walk<'a>(
     shared: &Shared,
     checks: &mut Checks,
     who: &Pid,
-    path: &Path,
+    path: &'a Path,
     second: bool,
-) -> Result<Found, WalkStop>
+) -> Result<Found<'a>, WalkStop>
     requires living { IsSome (map.get shared.now.procs who.now) }
     ensures step { GoesOn checks.old (walk shared.now (process_at shared.now who.now) (place_in (argument_of second)) path.now) (found_by (stopped_by result)) checks.new }
     ensures found { IfOk result (IsFound shared.now (start_of (process_at shared.now who.now) path.now)) }

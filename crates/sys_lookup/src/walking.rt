@@ -1,5 +1,5 @@
 // The walk of a path.
-ghost use Rattle.std.specs.Prelude.{◌≤◌, ◌+◌, ◌∷◌, length, IfOk, OnOk};
+ghost use Rattle.std.specs.Prelude.{◌≡◌, ◌≤◌, ◌+◌, ◌∷◌, length, IfOk, OnOk};
 ghost use Rattle.kern_model.specs.Walk.{enter, last_place, reach, start_of, walk, walk_from};
 ghost use Rattle.kern_model.specs.Valid.{IsDir};
 ghost use Rattle.kern_model.specs.declared.numbers.Oid.{Oid as Number};
@@ -9,9 +9,27 @@ ghost use Rattle.sys_lookup.specs.Walks.{IsFound, IsLedTo, find_name, found_by, 
 use crate::argument::PathArgument;
 use crate::caller::Caller;
 use crate::found::{Found, present};
+use crate::last_name::LastName;
 use chk_rules::{Checks, Stop, refuse_if};
 use fs_dirs::root_directory;
 use kern_model::{Errno, Name, Oid, Path, Place};
+
+// A directory that the walk of a path has reached, after so many names.
+#[derive(Clone, Copy)]
+struct Reached {
+    which: PathArgument,
+    names: u8,
+    dir: Oid,
+}
+
+impl Reached {
+    // Its place.
+    fn place(&self) -> Place
+        ensures { result ≡ place_in self.now.which self.now.names }
+    {
+        self.which.place(self.names)
+    }
+}
 
 impl Caller<'_> {
     /// Walks a path to an object that is there, and returns its number and its place.
@@ -30,18 +48,26 @@ impl Caller<'_> {
     }
 
     /// Walks a path from where it starts. Its last name may be absent.
-    pub fn walk(&self, checks: &mut Checks, which: PathArgument, path: &Path) -> Result<Found, Stop>
+    pub fn walk<'a>(
+        &self,
+        checks: &mut Checks,
+        which: PathArgument,
+        path: &'a Path,
+    ) -> Result<Found<'a>, Stop>
         ensures step { GoesOn checks.old (walk self.now.state self.now.process (place_in which) path.now) (found_by result) checks.new }
         ensures found { IfOk result (IsFound self.now.state (start_of self.now.process path.now)) }
     {
-        let start = if path.absolute {
+        let dir = if path.absolute {
             root_directory()
         } else {
             self.cwd()
         };
         match path.components() {
-            [] => Ok(Found::Start(start)),
-            [first, rest @ ..] => self.walk_from(checks, which, 0, start, first, rest),
+            [] => Ok(Found::Start(dir)),
+            [first, rest @ ..] => {
+                let names = 0;
+                self.walk_from(checks, Reached { which, names, dir }, first, rest)
+            }
         }
     }
 
@@ -57,44 +83,45 @@ impl Caller<'_> {
         self.dac_search(checks, &object, place)
     }
 
-    // Walks a name and the rest of a path from a directory, which is reached after so many names.
-    fn walk_from(
+    // Walks a name and the rest of a path from the directory that is reached.
+    fn walk_from<'a>(
         &self,
         checks: &mut Checks,
-        which: PathArgument,
-        at: u8,
-        dir: Oid,
-        name: &Name,
-        rest: &[Name],
-    ) -> Result<Found, Stop>
-        requires { at + length rest.now ≤ 31 }
-        ensures step { GoesOn checks.old (walk_from self.now.state self.now.process (place_in which) at dir (name.now ∷ rest.now)) (found_by result) checks.new }
+        at: Reached,
+        name: &'a Name,
+        rest: &'a [Name],
+    ) -> Result<Found<'a>, Stop>
+        requires { at.names + length rest.now ≤ 31 }
+        ensures step { GoesOn checks.old (walk_from self.now.state self.now.process (place_in at.which) at.names at.dir (name.now ∷ rest.now)) (found_by result) checks.new }
         ensures found { (start : Number) → IfOk result (IsFound self.now.state start) }
     {
+        let place = at.place();
+        let Reached { which, names, dir } = at;
         match rest {
-            [] => self.find_name(checks, which.place(at), dir, name),
+            [] => self.find_name(checks, place, dir, name),
             [next, rest @ ..] => {
-                let dir = self.pass(checks, which.place(at), dir, name)?;
-                self.walk_from(checks, which, at + 1, dir, next, rest)
+                let dir = self.pass(checks, place, dir, name)?;
+                let names = names + 1;
+                self.walk_from(checks, Reached { which, names, dir }, next, rest)
             }
         }
     }
 
     // Looks up the last name of a walk, which may be absent.
     #[tactic(auto, unfolding(chk_rules::specs::Ends::EndsBy))]
-    fn find_name(
+    fn find_name<'a>(
         &self,
         checks: &mut Checks,
         place: Place,
         dir: Oid,
-        name: &Name,
-    ) -> Result<Found, Stop>
+        name: &'a Name,
+    ) -> Result<Found<'a>, Stop>
         ensures step { GoesOn checks.old (find_name self.now.state self.now.process place dir name.now) (found_by result) checks.new }
         ensures found { (start : Number) → IfOk result (IsFound self.now.state start) }
     {
         self.enter(checks, &dir, place)?;
         let object = self.look(&dir, name);
-        Ok(Found::Entry(dir, name.copy()?, object))
+        Ok(Found::Entry(dir, LastName::new(name), object))
     }
 
     // Looks up a name that is not the last: it leads to where the walk goes on.

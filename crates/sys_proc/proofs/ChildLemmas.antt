@@ -1,8 +1,7 @@
 -- Children that are made, and children that ended.
-use Rattle.std.specs.Prelude.{◌≡◌, ◌+◌, ◌==◌, ◌&&◌, ◌≤◌, nat_le, not, ⊤, Bool, true, false, List, [], ◌∷◌, drop, length, None, Some, Result, Ok, Err, OnErr, OnOk, refl}
+use Rattle.std.specs.Prelude.{◌≡◌, ◌+◌, ◌==◌, ◌&&◌, ◌≤◌, nat_le, not, Bool, true, false, List, [], ◌∷◌, drop, length, None, Some, Result, Ok, Err, OnErr, OnOk, refl}
 use Rattle.std.specs.FinMap as map
 use Rattle.std.specs.FinMap.{FinMap}
-use Rattle.std.specs.declared.alloc.AllocError.{AllocError}
 use Rattle.std.proofs.Common.{ap, sym, ◌∙◌, subst, arith}
 use Rattle.std.proofs.Math.Logic.{∥∥₁_elim}
 use Rattle.std.proofs.lemmas.Bool.Decides.{nat_tests}
@@ -20,7 +19,6 @@ use Rattle.kern_model.specs.Valid.{IsThere, IsValid}
 use Rattle.kern_model.proofs.KeyLaws.{pid_cmp_total, pid_cmp_exact}
 use Rattle.kern_model.proofs.MapLemmas.{get-insert_same}
 use Rattle.kern_model.proofs.Selections.{any_entry-select, insert-insert}
-use Rattle.proc_table.specs.declared.procs.ProcError.{ProcError}
 use Rattle.proc_table.specs.declared.procs.ReapError.{ReapError}
 use Rattle.proc_table.specs.declared.procs.ReapError.TheVariants as reap
 use Rattle.proc_table.specs.Procs.{ProcTable, has_living_child, next_in, reaped, with_new, with_process}
@@ -36,14 +34,14 @@ use Rattle.sys_lookup.specs.PlaysRow.{PlaysRow}
 use Rattle.sys_lookup.specs.Shared.{holding, state_of, with_fds}
 use Rattle.sys_lookup.proofs.FdChanges.{with_fds-row}
 use Rattle.sys_lookup.proofs.FdLemmas.{found, with_fds-process}
-use Rattle.sys_lookup.proofs.OwnerLemmas.{owners_known, owners_process, owners_row}
+use Rattle.sys_lookup.proofs.OwnerLemmas.{owners_known}
 use Rattle.sys_lookup.proofs.PlayLemmas.{commits, commits_as, fails_row, refuse_plays, refuse_stops_row}
 use Rattle.sys_lookup.proofs.RefuseLemmas.{lets_on, refuses}
 
 -- ---- a child is made
 
 -- a process that is added with its descriptors shows in the state
-pub with_fds-new : (procs : FinMap pid_cmp Process) (rows : AllFds) (who : Pid) (q : Process) (fds : Fds)
+with_fds-new : (procs : FinMap pid_cmp Process) (rows : AllFds) (who : Pid) (q : Process) (fds : Fds)
     → with_fds (map.insert procs who q) (map.insert rows who fds) ≡ map.insert (with_fds procs rows) who (record q { fds = fds })
 with_fds-new procs rows who q fds =
     with_fds-row (map.insert procs who q) rows who q fds (get-insert_same pid_cmp_total procs who q)
@@ -88,22 +86,10 @@ pub refuses_child : (h : Inside) (log : CheckLog) (who : Pid) (q : Process) (pro
 refuses_child h log who q procs full same =
     refuse_stops_row (Err (stop.Refused errno.EAGAIN)) refl (λ i. record (state_of h) { procs = with_fds (same i).procs h.fds.rows; process_numbers = (same i).numbers }) (refuses full)
 
--- ---- owners
-
--- whether or not it was added
-pub owners_forked : (h : Inside) → ∥ HasOwners h.procs.procs h.fds.rows ∥₁ → (who : Pid) (q : Process) (r : Result Pid ProcError) (procs : ProcTable) → OnOk r (procs ≡ with_new h.procs (child_of who q)) → OnErr r (procs ≡ h.procs) → ∥ HasOwners procs.procs h.fds.rows ∥₁
-owners_forked h owners who q (Ok child) procs made same = subst (λ (t : ProcTable). ∥ HasOwners t.procs h.fds.rows ∥₁) (sym made) (owners_process h.procs.procs h.fds.rows (next_in h.procs q.label) (child_of who q) owners)
-owners_forked h owners who q (Err e) procs made same = subst (λ (t : ProcTable). ∥ HasOwners t.procs h.fds.rows ∥₁) (sym same) owners
-
--- and whether or not its row was
-pub owners_copied : (procs : FinMap pid_cmp Process) (old new : OpenFiles) (child : Pid) (row : Fds) (r : Result ⊤ AllocError) → IsThere procs child → ∥ HasOwners procs old.rows ∥₁ → OnOk r (new ≡ with_row old child row) → OnErr r (new ≡ old) → ∥ HasOwners procs new.rows ∥₁
-owners_copied procs old new child row (Ok x) there known made same = subst (λ (t : OpenFiles). ∥ HasOwners procs t.rows ∥₁) (sym made) (owners_row procs old.rows child row there known)
-owners_copied procs old new child row (Err e) there known made same = subst (λ (t : OpenFiles). ∥ HasOwners procs t.rows ∥₁) (sym same) known
-
--- whether or not a child was taken
-pub owners_reaped : (h : Inside) → ∥ HasOwners h.procs.procs h.fds.rows ∥₁ → (who : Pid) (q : Process) (r : Result (Pid × Ending) ReapError) (procs : ProcTable) → OnOk r (procs ≡ with_process h.procs who q) → OnErr r (procs ≡ h.procs) → ∥ HasOwners procs.procs h.fds.rows ∥₁
-owners_reaped h owners who q (Ok e) procs taken same = subst (λ (t : ProcTable). ∥ HasOwners t.procs h.fds.rows ∥₁) (sym taken) (owners_process h.procs.procs h.fds.rows who q owners)
-owners_reaped h owners who q (Err e) procs taken same = subst (λ (t : ProcTable). ∥ HasOwners t.procs h.fds.rows ∥₁) (sym same) owners
+-- what holds of both tables that a call may leave holds of the one that it left
+pub left_either : {X E T : Type 0} (P : T → Type 0) (r : Result X E) (made old new : T) → OnOk r (new ≡ made) → OnErr r (new ≡ old) → P made → P old → P new
+left_either P (Ok x) made old new is same holds kept = subst P (sym is) holds
+left_either P (Err e) made old new is same holds kept = subst P (sym same) kept
 
 -- ---- a child that ended is taken
 

@@ -5,6 +5,7 @@ use Rattle.std.specs.FinMap as map
 use Rattle.std.specs.FinMap.{FinMap, get-insert, get-remove, same_map}
 use Rattle.std.specs.Ordering.{is_eq}
 use Rattle.std.proofs.Common.{ap, sym, ◌∙◌}
+use Rattle.std.proofs.Math.Bool.{and-false}
 use Rattle.std.proofs.Math.Logic.{∥∥₁_map}
 use Rattle.std.proofs.lemmas.Bool.{true≢false}
 use Rattle.std.proofs.lemmas.Cmp.{tied_itself}
@@ -21,7 +22,7 @@ use Rattle.kern_model.specs.ProcessRows.{ending_of, kill_with, left_by, survives
 use Rattle.kern_model.specs.State.{State, Process, SetProcess, changed_by}
 use Rattle.kern_model.specs.Valid.{IsThere, IsValid}
 use Rattle.kern_model.proofs.KeyLaws.{pid_cmp_total, pid_cmp_exact}
-use Rattle.kern_model.proofs.MapLemmas.{each-entries, get_or-same, never_some, same_key}
+use Rattle.kern_model.proofs.MapLemmas.{each-entries, get_or-same, never_some, same_key, some_same}
 use Rattle.kern_model.proofs.Selections.{get-remove_none, get-remove_other, get-select_each, none_pass, none_passes}
 use Rattle.fd_table.specs.Files.{OpenFiles, drained, left_with}
 use Rattle.fd_table.specs.Rows.{AllFds, row_of}
@@ -99,21 +100,14 @@ module _ (procs : FinMap pid_cmp Process) (who : Pid) (p : Process) (how : Endin
       elim (same_pid q k) as (λ b. same_pid q k ≡ b → (is_left k other && b) ≡ false) [
         | true ↦ λ same.
             let one : k ≡ q = sym (same_key pid_cmp_exact q k same) in
-            let alike : other ≡ x = some_is other x (sym at ∙ ap (map.get procs) one ∙ is) in
+            let alike : other ≡ x = some_same other x (sym at ∙ ap (map.get procs) one ∙ is) in
             (λ i. is_left (one i) (alike i) && true) ∙ ap (λ b. b && true) stays
-        | false ↦ λ _. neither (is_left k other)
+        | false ↦ λ _. and-false (is_left k other)
       ] refl))
     where
       first : (a : Bool) → (a && same_pid q q) ≡ false → a ≡ false
       first true e = absurd (true≢false (sym (ap is_eq (tied_itself pid_cmp_total q)) ∙ e))
       first false e = refl
-
-      neither : (a : Bool) → (a && false) ≡ false
-      neither true = refl
-      neither false = refl
-
-      some_is : (a b : Process) → Some a ≡ Some b → a ≡ b
-      some_is a b e = cc
 
   -- a process that does not change is left as it is
   stays : (q : Pid) (x : Process) (a b : Bool) → cond (a || b) (Some (record x { parent = cond a None x.parent; ended = cond b (x.ended ++ (who, how) ∷ []) x.ended })) (Some x)
@@ -143,7 +137,7 @@ module _ (procs : FinMap pid_cmp Process) (who : Pid) (p : Process) (how : Endin
   ] refl
 
   -- where the process is gone, the changes of the others leave what `ended_by` says
-  pub survivors : (s : State) → s.procs ≡ map.remove procs who → changed_by s (flat_map (survives who p how) (map.entries procs)) ≡ record s { procs = ended_by procs who p how }
+  survivors : (s : State) → s.procs ≡ map.remove procs who → changed_by s (flat_map (survives who p how) (map.entries procs)) ≡ record s { procs = ended_by procs who p how }
   unfolding any_entry
   survivors s gone =
       let es = map.entries procs in
@@ -164,7 +158,7 @@ module _ (procs : FinMap pid_cmp Process) (rows : AllFds) (who : Pid) (q : Proce
   alike k same None = refl
   alike k same (Some x) = λ i. Some (record (left_by who q how k x) { fds = same i })
 
-  pub with_fds-ended : with_fds (ended_by procs who q how) without ≡ ended_by (with_fds procs rows) who (holding rows who q) how
+  with_fds-ended : with_fds (ended_by procs who q how) without ≡ ended_by (with_fds procs rows) who (holding rows who q) how
   with_fds-ended = same_map pid_cmp_total pid_cmp_exact _ _ (λ k.
       get-with_fds (ended_by procs who q how) without k
       ∙ ap (option_map (holding without k)) (get-select_each pid_cmp_total pid_cmp_exact (left_by who q how) (map.remove procs who) k ∙ ap (option_map (left_by who q how k)) (get-remove pid_cmp_total procs who k))
@@ -190,7 +184,7 @@ module _ (procs : FinMap pid_cmp Process) (rows : AllFds) (who : Pid) (q : Proce
       ] refl)
 
 -- a process ends, and its descriptors close
-pub ends_so : (h : Inside) → ∥ HasOwners h.procs.procs h.fds.rows ∥₁ → ∥ IsValid (state_of h) ∥₁ → (who : Pid) (q : Process) (how : Ending) → (
+ends_so : (h : Inside) → ∥ HasOwners h.procs.procs h.fds.rows ∥₁ → ∥ IsValid (state_of h) ∥₁ → (who : Pid) (q : Process) (how : Ending) → (
     let left : OpenFiles = left_with h.fds (map.remove h.fds.rows who) in
     record (state_of h) { procs = with_fds (ended_by h.procs.procs who q how) (map.remove h.fds.rows who); descriptions = left.descriptions; objects = drained h.fds.descriptions left.descriptions (state_of h).objects }
     ≡ changed_by (state_of h) (ending_of (state_of h) who (holding h.fds.rows who q) how))

@@ -1,24 +1,16 @@
--- Credentials of a process: what is checked of them, and how the state shows that they changed.
-use Rattle.std.specs.Prelude.{◌≡◌, Bool, Option, None, Some, IsSome, option_map}
+-- Credentials of a process, and how the state shows that they changed.
+use Rattle.std.specs.Prelude.{◌≡◌, None, Some, IsSome, option_map}
 use Rattle.std.specs.FinMap as map
 use Rattle.std.proofs.Common.{ap, sym, ◌∙◌, subst}
-use Rattle.kern_model.specs.declared.checks.Check.{Check}
-use Rattle.kern_model.specs.declared.checks.CheckName.{CheckName}
 use Rattle.kern_model.specs.declared.numbers.Pid.{Pid}
-use Rattle.kern_model.specs.Rules.{on_caller}
-use Rattle.kern_model.specs.State.{State, Process, process_at}
+use Rattle.kern_model.specs.State.{State, process_at}
 use Rattle.kern_model.proofs.StateLemmas.{process_there}
-use Rattle.lab_lattice.specs.Label.{Label}
 use Rattle.proc_creds.specs.Credentials.{Credentials}
 use Rattle.proc_table.specs.Procs.{creds_of, under_creds, with_creds}
 use Rattle.sys_lookup.specs.Shared.{state_of, with_fds}
 use Rattle.sys_lookup.specs.declared.shared.Shared.TheInside.{Inside}
 use Rattle.sys_lookup.proofs.LendLemmas.{creds_left, creds_lent, creds_there}
 use Rattle.sys_proc.specs.Changing.{becoming}
-
--- a check of the caller, where its rule is an equal one
-pub equal_rule : {r : Check} {name : CheckName} {new : Option Label} {who : Pid} {a b : Bool} (p : Process) → r ≡ on_caller name a new who p → a ≡ b → r ≡ on_caller name b new who p
-equal_rule {name = name} {new = new} {who = who} p is same = is ∙ ap (λ holds. on_caller name holds new who p) same
 
 -- the state where a process was left with other credentials
 abbrev pub under : Inside → Pid → Credentials → State

@@ -1,5 +1,6 @@
 mod ChildLemmas
 mod EndLemmas
+mod IdLemmas
 mod LentLemmas
 mod OwnLemmas
 mod ReceiverLemmas

@@ -1,17 +1,16 @@
 // The call `cap_set_proc`.
-ghost use Rattle.std.specs.Prelude.{◌≡◌, IsSome, true};
+ghost use Rattle.std.specs.Prelude.{◌≡◌, IsSome};
 ghost use Rattle.std.specs.FinMap as map;
 ghost use Rattle.kern_model.specs.ProcessRows.{cap_set_proc_row};
-ghost use Rattle.kern_model.specs.Rules.{cap_grow, may_become};
+ghost use Rattle.kern_model.specs.Rules.{cap_grow};
 ghost use Rattle.kern_model.specs.State.{process_at};
 ghost use Rattle.sys_lookup.specs.PlaysRow.{PlaysRow};
-ghost use Rattle.sys_proc.specs.Changing.{becoming};
 
+use crate::changing::{CredsChange, change_creds};
 use crate::checking::check_of_caller;
 use cap_bits::CapState;
 use chk_rules::{Checks, Stop, must};
 use kern_model::{Answer, Check, CheckName, Pid, Rec};
-use proc_creds::NotAllowed;
 use sys_lookup::{Caller, Effect, Shared};
 
 /// `cap_set_proc`: the caller sets its capability sets.
@@ -26,7 +25,7 @@ pub fn cap_set_proc(
 {
     let caller = Caller::new(shared, who);
     must(checks, &cap_grow(&caller, who, &caps))?;
-    set_caps(shared, who, caps);
+    change_creds(shared, who, CredsChange::Caps(caps));
     Ok(Effect {
         answer: Answer::Nothing,
         own: Some(Rec::CapSetProc { who: *who, caps }),
@@ -39,19 +38,4 @@ fn cap_grow(caller: &Caller<'_>, who: &Pid, caps: &CapState) -> Check
 {
     let creds = caller.creds();
     check_of_caller(CheckName::CapGrow, creds.may_set(caps), None, caller, who)
-}
-
-// A living process gets capability sets that it may set. No memory is taken.
-fn set_caps(shared: &mut Shared, who: &Pid, caps: CapState)
-    requires living { IsSome (map.get shared.old.procs who.now) }
-    requires may { may_become (process_at shared.old who.now).caps caps ≡ true }
-    ensures { shared.new ≡ becoming shared.old who.now (λ p. record p { caps = caps }) }
-{
-    let Some(creds) = shared.procs.creds_mut(who) else {
-        unreachable!();
-    };
-    match creds.cap_set(caps) {
-        Ok(()) => {}
-        Err(NotAllowed) => unreachable!(),
-    }
 }

@@ -6,8 +6,8 @@ ghost use Rattle.kern_model.specs.Rules.{mac_subject};
 ghost use Rattle.kern_model.specs.State.{process_at};
 ghost use Rattle.chk_rules.specs.Ends.{GoesOn};
 ghost use Rattle.sys_lookup.specs.PlaysRow.{PlaysRow};
-ghost use Rattle.sys_proc.specs.Changing.{becoming};
 
+use crate::changing::{CredsChange, change_creds};
 use crate::checking::check_of_caller;
 use chk_rules::{Checks, Stop, mac_write_ok, must};
 use kern_model::{Answer, Check, CheckName, Pid, Rec};
@@ -27,7 +27,7 @@ pub fn mac_set_proc(
     let caller = Caller::new(shared, who);
     may_get(&caller, checks, who, &label)?;
     let old = caller.label();
-    set_label(shared, who, label);
+    change_creds(shared, who, CredsChange::Label(label));
     Ok(Effect {
         answer: Answer::Nothing,
         own: Some(Rec::MacSetProc {
@@ -54,15 +54,4 @@ fn mac_subject(caller: &Caller<'_>, who: &Pid, label: &Label) -> Check
     ensures { result ≡ mac_subject who.now caller.now.process label.now }
 {
     check_of_caller(CheckName::MacSubject, false, Some(*label), caller, who)
-}
-
-// A living process gets a label. No memory is taken.
-fn set_label(shared: &mut Shared, who: &Pid, label: Label)
-    requires { IsSome (map.get shared.old.procs who.now) }
-    ensures { shared.new ≡ becoming shared.old who.now (λ p. record p { label = label }) }
-{
-    let Some(creds) = shared.procs.creds_mut(who) else {
-        unreachable!();
-    };
-    creds.mac_set(label);
 }

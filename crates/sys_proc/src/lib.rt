@@ -2,22 +2,22 @@
 #![tactic(auto)]
 
 mod capabilities;
+mod changing;
 mod checking;
 mod children;
 mod ends;
-mod groups;
+mod id_kind;
+mod ids;
 mod labels;
 mod playing;
 mod programs;
 mod reporting;
-mod users;
 
 pub use capabilities::cap_set_proc;
 pub use children::{fork, wait};
 pub use ends::{exit, kill};
-pub use groups::setgid;
+pub use ids::{setgid, setuid};
 pub use labels::mac_set_proc;
 pub use playing::play;
 pub use programs::exec;
 pub use reporting::report;
-pub use users::setuid;

@@ -12,17 +12,17 @@ ghost use Rattle.sys_proc.specs.Playing.{is_process_call};
 use crate::capabilities::cap_set_proc;
 use crate::children::{fork, wait};
 use crate::ends::{exit, kill};
-use crate::groups::setgid;
+use crate::ids::{setgid, setuid};
 use crate::labels::mac_set_proc;
 use crate::programs::exec;
 use crate::reporting::report;
-use crate::users::setuid;
 use chk_rules::{Checks, Stop};
 use kern_model::{Call, Pid};
 use sys_lookup::{Caller, Effect, Shared};
 
 /// Plays a call of a living process on processes: their children and ends, ids, programs, capability sets and labels.
 #[inline(never)]
+#[tactic(auto, using(crate::proofs::OwnLemmas::process_names))]
 pub fn play(
     shared: &mut Shared,
     checks: &mut Checks,

@@ -15,6 +15,7 @@ use proc_creds::copy_ids;
 use sys_lookup::{Caller, Effect};
 
 /// `getpid`, `getppid`, `getids`, `cap_get_proc` and `mac_get_proc`: what the caller is. Of these only `getids` takes memory.
+#[tactic(auto, using(crate::proofs::OwnLemmas::own_names))]
 pub fn report(caller: &Caller<'_>, who: &Pid, call: &Call) -> Result<Effect, Stop>
     requires { is_own_call call.now ≡ true }
     ensures played { (s : State) (log : CheckLog) → PlaysRow s log (row s who.now caller.now.process call.now) result s log }

@@ -14,8 +14,8 @@ ghost use Rattle.sys_lookup.specs.Walks.{IsEntry};
 
 use chk_rules::{Checks, Stop, refuse_if};
 use kern_model::limits::MAX_LINKS;
-use kern_model::{Errno, Name, Oid, Path, Pid, Place};
-use sys_lookup::{Caller, Effect, PathArgument, Shared};
+use kern_model::{Errno, Oid, Path, Pid, Place};
+use sys_lookup::{Caller, Effect, PathArgument, Shared, Spot};
 
 /// `link`: an object that is no directory gets one more name.
 pub fn link(
@@ -52,12 +52,12 @@ fn ask_name(caller: &Caller<'_>, checks: &mut Checks, id: &Oid, place: Place) ->
 }
 
 // The directory and the name of an entry that is to be made for an object.
-fn name_spot(
+fn name_spot<'a>(
     caller: &Caller<'_>,
     checks: &mut Checks,
     id: &Oid,
-    to: &Path,
-) -> Result<(Oid, Name), Stop>
+    to: &'a Path,
+) -> Result<Spot<'a>, Stop>
     ensures step { GoesOn checks.old (name_spot caller.now.state caller.now.process to.now id.now) result checks.new }
     ensures entry { IfOk result (λ e. IsEntry caller.now.state e.0 e.1 None) }
     ensures stands { IfOk result (λ e. is_removed caller.now.state e.0 ≡ false) }

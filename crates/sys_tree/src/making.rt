@@ -9,7 +9,7 @@ ghost use Rattle.sys_lookup.specs.PlaysRow.{PlaysRow};
 
 use chk_rules::{Checks, Stop};
 use kern_model::{Body, Mode, Path, Pid};
-use sys_lookup::{Effect, Shared, make};
+use sys_lookup::{Effect, NewObject, Shared, make};
 
 /// `mkdir`: a directory is made where nothing has the name.
 pub fn mkdir(
@@ -24,5 +24,6 @@ pub fn mkdir(
     ensures played { PlaysRow shared.old checks.old (mkdir_row shared.old who.now (process_at shared.old who.now) path.now mode) result shared.new checks.new }
     ensures names { are_names path.now ≡ true }
 {
-    make(shared, checks, who, path, mode, Body::Dir)
+    let body = Body::Dir;
+    make(shared, checks, who, path, NewObject { mode, body })
 }

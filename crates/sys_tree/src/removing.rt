@@ -11,8 +11,8 @@ ghost use Rattle.sys_tree.specs.Entries.{IsReadBy, entry_taken};
 
 use chk_rules::{Checks, Stop, refuse_if};
 use fs_dirs::Absent;
-use kern_model::{Errno, Name, Oid, Path, Pid};
-use sys_lookup::{Caller, Effect, Metadata, PathArgument, Shared};
+use kern_model::{Errno, Oid, Path, Pid};
+use sys_lookup::{Caller, Effect, LastName, Metadata, PathArgument, Shared};
 
 /// `rmdir`: the entry of an empty directory is taken away.
 pub fn rmdir(
@@ -49,11 +49,11 @@ pub fn unlink(
 }
 
 /// An entry that may be taken away: its directory, its name, and the metadata of its object.
-pub fn old_entry(
+pub fn old_entry<'a>(
     caller: &Caller<'_>,
     checks: &mut Checks,
-    path: &Path,
-) -> Result<(Oid, Name, Metadata), Stop>
+    path: &'a Path,
+) -> Result<(Oid, LastName<'a>, Metadata), Stop>
     ensures step { GoesOn checks.old (entry_taken caller.now path.now) result checks.new }
     ensures entry { IfOk result (λ e. IsEntry caller.now.state e.0 e.1 (Some e.2.id)) }
     ensures object { IfOk result (λ e. IsReadBy caller.now e.2) }
@@ -74,11 +74,11 @@ fn must_be_empty(caller: &Caller<'_>, object: &Metadata) -> Result<(), Stop>
 }
 
 // Takes away an entry that is there.
-fn drop_entry(shared: &mut Shared, dir: &Oid, name: &Name)
+fn drop_entry(shared: &mut Shared, dir: &Oid, name: &LastName<'_>)
     requires { IsSome (look shared.old dir.now name.now) }
     ensures { shared.new ≡ changed shared.old (DropEntry (dir.now, name.now)) }
 {
-    match shared.tree.remove(dir, name) {
+    match shared.tree.remove(dir, name.name()) {
         Ok(()) => {}
         Err(Absent) => unreachable!(),
     }

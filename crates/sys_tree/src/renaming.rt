@@ -15,8 +15,8 @@ ghost use Rattle.sys_tree.specs.Entries.{IsReadBy, replaces, target_left};
 use crate::removing::old_entry;
 use chk_rules::{Checks, Stop, refuse_if};
 use fs_dirs::MoveError;
-use kern_model::{Errno, Name, Oid, Path, Pid};
-use sys_lookup::{Caller, Effect, Metadata, PathArgument, Shared};
+use kern_model::{Errno, Oid, Path, Pid};
+use sys_lookup::{Caller, Effect, LastName, Metadata, PathArgument, Shared};
 
 /// `rename`: an entry moves to another name, in place of what is there.
 pub fn rename(
@@ -43,12 +43,12 @@ pub fn rename(
 }
 
 // The entry to which an object is to move: its directory, its name, and what has it, if something does.
-fn target_entry(
+fn target_entry<'a>(
     caller: &Caller<'_>,
     checks: &mut Checks,
     id: &Oid,
-    to: &Path,
-) -> Result<(Oid, Name, Option<Oid>), Stop>
+    to: &'a Path,
+) -> Result<(Oid, LastName<'a>, Option<Oid>), Stop>
     ensures step { GoesOn checks.old (target_entry caller.now.state caller.now.process to.now id.now) result checks.new }
     ensures entry { IfOk result (λ e. IsEntry caller.now.state e.0 e.1 e.2) }
 {
@@ -103,15 +103,15 @@ fn only_first(a: bool, b: bool) -> bool
 fn move_entry(
     shared: &mut Shared,
     dir: &Oid,
-    name: &Name,
+    name: &LastName<'_>,
     into: &Oid,
-    new: &Name,
+    new: &LastName<'_>,
 ) -> Result<Effect, Stop>
     requires into { IsDir shared.old.objects into.now }
     requires there { IsSome (look shared.old dir.now name.now) }
     ensures { (id : Number) (log : CheckLog) → look shared.old dir.now name.now ≡ Some id → PlaysRow shared.old log (move_row shared.old dir.now name.now id into.now new.now) result shared.new log }
 {
-    match shared.tree.move_entry(dir, name, into, new) {
+    match shared.tree.move_entry(dir, name.name(), into, new.name()) {
         Ok(()) => Ok(Effect::done()),
         Err(MoveError::Loop) => Err(Stop::Refused(Errno::EINVAL)),
         Err(MoveError::Removed) => Err(Stop::Refused(Errno::ENOENT)),

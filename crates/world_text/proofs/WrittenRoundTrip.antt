@@ -61,6 +61,7 @@ use Rattle.world_text.specs.Reading.{Accepted, after, reading, read_text}
 use Rattle.world_text.specs.Written.{bare, quoted, path_text, names_words, head_words, body_keyword, body_words, object_words, process_words, script_words, lines_of, next_number, written}
 use Rattle.world_text.specs.CanBeRead.{IsShort, CanBeRead}
 use Rattle.lab_text.proofs.BareLemmas.{label_bare, label_name_bare}
+use Rattle.world_text.proofs.RangeLemmas.{all_parts}
 use Rattle.world_text.proofs.WrittenForms.{IsCanonicalBody, IsCanonicalObject, IsCanonicalIds, canonical_objects, objects_below, objects_plain, canonical_procs, procs_below, procs_within}
 use Rattle.world_text.proofs.WrittenWords.{written_pieces, pieces_round_trip, begins_line, line_is}
 use Rattle.world_text.proofs.WrittenValues.{path_round_trip, path_spelling, label_round_trip, caps_known, proc_caps_known, none_known, bound_known, caps_spelling, bound_bare}
@@ -378,10 +379,6 @@ script_line : (format : Format) (policy : PolicyNames) (bound : CapSet) (objects
     → parse_line (tree_at format policy bound objects procs) (text_of script_words) ≡ Begins (world_of (record { format = format; policy = policy; bound = bound; builder = record { objects = objects; procs = procs } }))
 unfolding named parse_words
 script_line format policy bound objects procs some = line_is (tree_at format policy bound objects procs) (codes "script") [] refl refl (omega arith) ∙ cond-false _ _ _ some
-
-all_parts : {X : Type 0} (P : X → Type 0) (xs ys : List X) → AllByRecursion P (xs ++ ys) → AllByRecursion P xs × AllByRecursion P ys
-all_parts P [] ys all = (tt, all)
-all_parts P (x ∷ xs) ys all = let parts = all_parts P xs ys all.1 in ((all.0, parts.0), parts.1)
 
 objects_spelling : (policy : PolicyNames) (os : List WorldObject) → MakePolicy policy → AllByRecursion (λ (o : WorldObject). is_valid policy o.label ≡ true) os
     → AllByRecursion (λ (o : WorldObject). IsCanonicalObject o) os → list_all (list_all has_spelling) (map (object_words policy) os) ≡ true

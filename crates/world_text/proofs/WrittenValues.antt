@@ -1,11 +1,12 @@
 -- Round trips of paths, labels and capability texts.
-use Rattle.std.specs.Prelude.{◌≡◌, ℕ, ◌+◌, ◌≤◌, ◌<◌, ◌==◌, ◌&&◌, not, nat_le, nat_lt, Bool, true, false, cond, List, [], ◌∷◌, ◌++◌, length, Option, None, Some, is_none, codes, position, map, refl}
+use Rattle.std.specs.Prelude.{◌≡◌, ℕ, ◌+◌, ◌≤◌, ◌<◌, ◌==◌, ◌&&◌, not, nat_le, Bool, true, false, cond, List, [], ◌∷◌, ◌++◌, length, Option, None, Some, is_none, codes, position, map, refl}
 use Rattle.std.proofs.Common.{ap, sym, ◌∙◌, subst, append-nil, arith}
 use Rattle.std.specs.Cmp.{unsigned_Decides}
 use Rattle.std.specs.Cmp.Lexicographic.{pointwise_decides}
 use Rattle.std.specs.List.{All, filter, flat_map, list_all, list_any, position_or_len, slice_split, starts_with}
 use Rattle.std.specs.Option.{option_map, option_or}
 use Rattle.std.proofs.lemmas.Bool.{and_parts, and_from, and_left, and_right, or_from, not-true, leb-true, lt-ltb, le-ltb, lt-leb, ne_eqb, cond-true, cond-false}
+use Rattle.std.proofs.Math.Bool.{and-true}
 use Rattle.std.proofs.lemmas.Bool.Decides.{nat_tests}
 use Rattle.std.proofs.lemmas.List.Elements.{All-nil, All-cons}
 use Rattle.std.proofs.lemmas.List.Splits.{slice_split_none, slice_split_at}
@@ -18,7 +19,7 @@ use Rattle.cap_bits.specs.CapSet.{CapSet, is_within}
 use Rattle.cap_bits.proofs.CapSets.{has-no_caps}
 use Rattle.cap_bits.specs.State.{no_flags}
 use Rattle.cap_clause.specs.Written.{firsts_of, is_first, group_text, clauses_text, caps_text, set_text}
-use Rattle.cap_clause.proofs.WrittenRoundTrip.{caps_round_trip, caps_text_exact, set_round_trip, caps_text_plain, set_text_bare, set_text_some}
+use Rattle.cap_clause.proofs.WrittenRoundTrip.{caps_round_trip, caps_text_exact, set_round_trip, set_text_bare, set_text_some}
 use Rattle.fs_path.specs.declared.path.PathError.{PathError}
 use Rattle.fs_path.specs.declared.path.PathError.TheVariants as error
 use Rattle.fs_path.proofs.RoundTrip.{word_spelling}
@@ -27,14 +28,14 @@ use Rattle.fs_path.specs.Options.{keep_if, then}
 use Rattle.fs_path.specs.Path.{PathValue, HasForm, written_len}
 use Rattle.fs_path.specs.PathText.{is_slash, is_empty_or_dot, starts_badly, counts, names_of, component_fault, first_fault, components_of, path_fault, parse_path}
 use Rattle.fs_path.specs.Split.{Piece, placed}
-use Rattle.fs_path.specs.Words.{is_plain, is_bare_text, has_spelling, with_quotes_if_needed}
+use Rattle.fs_path.specs.Words.{is_bare_text, has_spelling, with_quotes_if_needed}
 use Rattle.lab_lattice.specs.Label.{Label}
 use Rattle.fs_path.proofs.SplitLemmas.{any_before_end}
 use Rattle.lab_text.specs.Names.{same_bytes}
 use Rattle.lab_text.specs.Policy.{PolicyNames, MakePolicy, is_valid}
 use Rattle.lab_text.proofs.Parsed.{parse_text}
 use Rattle.lab_text.specs.Text.{label_text}
-use Rattle.line_text.specs.Ranges.{are_bytes}
+use Rattle.line_text.proofs.CapWords.{caps_text_bytes}
 use Rattle.line_text.specs.Reading.{path_of}
 use Rattle.world_text.specs.declared.values.WordValue.TheVariants as value
 use Rattle.world_text.specs.Values.{caps_value, label_of, caps_of}
@@ -117,14 +118,10 @@ no_zeros (b ∷ bs) h =
     let parts = and_parts (is_name_byte b) (list_all is_name_byte bs) h in
     or_from (b == 0) (list_any (λ b. b == 0) bs) (not-true (b == 0) (and_parts (not (b == 0)) (not (b == 47)) parts.0).0) (no_zeros bs parts.1)
 
-and_true : (v : Bool) → (v && true) ≡ v
-and_true true = refl
-and_true false = refl
-
 starts_well : (n : List ℕ) → 1 ≤ length n → list_all is_name_byte n ≡ true → is_dots n ≡ false → starts_badly n ≡ false
 starts_well [] some bytes no_dots = absurd (omega arith)
 starts_well (a ∷ []) some bytes no_dots = or_from _ _ (and_right (a == 46) false refl) (no_zero a (and_parts (is_name_byte a) true bytes).0)
-starts_well (a ∷ b ∷ []) some bytes no_dots = or_from _ _ (ap (λ v. a == 46 && v) (and_true (b == 46)) ∙ no_dots) (no_zero a (and_parts (is_name_byte a) (list_all is_name_byte (b ∷ [])) bytes).0)
+starts_well (a ∷ b ∷ []) some bytes no_dots = or_from _ _ (ap (λ v. a == 46 && v) (and-true (b == 46)) ∙ no_dots) (no_zero a (and_parts (is_name_byte a) (list_all is_name_byte (b ∷ [])) bytes).0)
 starts_well (a ∷ b ∷ c ∷ cs) some bytes no_dots =
     or_from _ _ (and_right (a == 46) (b == 46 && false) (and_right (b == 46) false refl)) (no_zero a (and_parts (is_name_byte a) (list_all is_name_byte (b ∷ c ∷ cs)) bytes).0)
 
@@ -216,16 +213,9 @@ no_flags_text = ap (λ (test : Cap → Bool). clauses_text (map (group_text no_f
 pub none_known : (caps : CapState) → same_bytes (caps_text caps) (codes "=") ≡ true → caps ≡ no_flags
 none_known caps e = caps_text_exact caps no_flags ((pointwise_decides unsigned_Decides (caps_text caps) (codes "=")).0 e ∙ sym no_flags_text)
 
-plain_byte : (b : ℕ) → is_plain b ≡ true → nat_lt b 256 ≡ true
-plain_byte b h = grind (arith, nat_tests)
-
-plain_bytes : (bytes : List ℕ) → list_all is_plain bytes ≡ true → are_bytes bytes ≡ true
-plain_bytes [] h = refl
-plain_bytes (b ∷ bs) h = let parts = and_parts (is_plain b) (list_all is_plain bs) h in and_from (nat_lt b 256) (are_bytes bs) (plain_byte b parts.0) (plain_bytes bs parts.1)
-
 -- the text of a state can be written between quotes
 pub caps_spelling : (caps : CapState) → has_spelling (quoted (caps_text caps)) ≡ true
-caps_spelling caps = plain_bytes (caps_text caps) (caps_text_plain caps)
+caps_spelling caps = caps_text_bytes caps
 
 -- the text of a bound denotes that bound
 pub bound_known : (bound : CapSet) → set_of (set_text bound) ≡ value.Known bound

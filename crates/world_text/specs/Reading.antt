@@ -38,6 +38,10 @@ reading n expecting (line ∷ next ∷ ls) = after (parse_line expecting line) n
 abbrev pub read_text : List ℕ → Reading
 read_text text = reading 1 at.Format (pieces 10 text)
 
+-- what the text of a world says, with no script after it
+abbrev pub reading_of : WorldText → Reading
+reading_of world = Accepted world (next_number world) ([] ∷ [])
+
 -- a text says this world
 abbrev pub IsRead : Reading → WorldText → Type 0
 IsRead (Accepted world n script) w = world ≡ w
@@ -72,5 +76,5 @@ IsWorldWritten _ text = ⊥
 
 -- a text is read as a world, and the written form of this world is read as the same where its lines are short
 abbrev pub RoundTrips : Reading → Reading → Type 0
-RoundTrips (Accepted world n script) round_trip = HasShortLines world → round_trip ≡ Accepted world (next_number world) ([] ∷ [])
+RoundTrips (Accepted world n script) round_trip = HasShortLines world → round_trip ≡ reading_of world
 RoundTrips _ round_trip = ⊥

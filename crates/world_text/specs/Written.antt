@@ -80,6 +80,14 @@ unfoldable pub process_words : PolicyNames → WorldProc → List LineWord
 process_words policy p =
     bare (codes "proc") ∷ bare (label_text policy p.label) ∷ bare (decimal p.ids.euid) ∷ bare (decimal p.ids.egid) ∷ bare (groups_text p.ids.groups) ∷ quoted (caps_text p.caps) ∷ []
 
+-- the lines of objects
+abbrev pub objects_text : PolicyNames → List WorldObject → List ℕ
+objects_text policy objects = flat_map (λ object. line_of (object_words policy object)) objects
+
+-- the lines of processes
+abbrev pub processes_text : PolicyNames → List WorldProc → List ℕ
+processes_text policy processes = flat_map (λ process. line_of (process_words policy process)) processes
+
 -- the line after which the script begins
 abbrev pub script_words : List LineWord
 script_words = names_words (codes "script") []

@@ -5,8 +5,8 @@ ghost use Rattle.fs_path.specs.Words.{with_quotes_if_needed, spelling};
 ghost use Rattle.line_text.specs.Ranges.{are_bytes};
 ghost use Rattle.line_text.specs.Reply.{with_words};
 ghost use Rattle.world_text.specs.CanBeRead.{HasBytes, IsWrittenObject, IsWrittenIds, IsWorldText, HasShortLines};
-ghost use Rattle.world_text.specs.Reading.{Accepted, read_text};
-ghost use Rattle.world_text.specs.Written.{path_text, line_of, names_words, head_words, body_keyword, caps_words, body_words, object_words, process_words, next_number, written};
+ghost use Rattle.world_text.specs.Reading.{reading_of, read_text};
+ghost use Rattle.world_text.specs.Written.{path_text, line_of, names_words, head_words, body_keyword, caps_words, body_words, object_words, objects_text, process_words, processes_text, written};
 
 use crate::format::Format;
 use crate::{NoMemory, WorldText};
@@ -129,7 +129,7 @@ fn put_objects(
     policy: &Policy,
     objects: &[WorldObject],
 ) -> Result<(), NoMemory>
-    ensures text { OnOk result (line.new ≡ line.old ++ flat_map (λ object. line_of (object_words policy.now object)) objects.now) }
+    ensures text { OnOk result (line.new ≡ line.old ++ objects_text policy.now objects.now) }
     ensures in_range { OnOk result (AllByRecursion IsWrittenObject objects.now) }
 {
     for object in objects {
@@ -143,7 +143,7 @@ fn put_processes(
     policy: &Policy,
     processes: &[WorldProc],
 ) -> Result<(), NoMemory>
-    ensures text { OnOk result (line.new ≡ line.old ++ flat_map (λ process. line_of (process_words policy.now process)) processes.now) }
+    ensures text { OnOk result (line.new ≡ line.old ++ processes_text policy.now processes.now) }
     ensures in_range { OnOk result (AllByRecursion (λ process. IsWrittenIds process.ids) processes.now) }
 {
     for process in processes {
@@ -161,7 +161,7 @@ fn put_objects_and_processes(
     objects: &[WorldObject],
     processes: &[WorldProc],
 ) -> Result<(), NoMemory>
-    ensures text { OnOk result (line.new ≡ line.old ++ (flat_map (λ object. line_of (object_words policy.now object)) objects.now ++ flat_map (λ process. line_of (process_words policy.now process)) processes.now)) }
+    ensures text { OnOk result (line.new ≡ line.old ++ (objects_text policy.now objects.now ++ processes_text policy.now processes.now)) }
     ensures objects_in_range { OnOk result (AllByRecursion IsWrittenObject objects.now) }
     ensures processes_in_range { OnOk result (AllByRecursion (λ process. IsWrittenIds process.ids) processes.now) }
 {
@@ -193,7 +193,7 @@ impl WorldText {
     pub fn write(&self) -> Result<Vec<u8>, NoMemory>
         ensures text { IfOk result (λ text. text.items ≡ written self.now) }
         // If no line is too long, the text is read as this world.
-        ensures round_trip { IfOk result (λ text. IsWorldText self.now → HasShortLines self.now → read_text text.items ≡ Accepted self.now (next_number self.now) ([] ∷ [])) }
+        ensures round_trip { IfOk result (λ text. IsWorldText self.now → HasShortLines self.now → read_text text.items ≡ reading_of self.now) }
     {
         // The names of its levels make a policy, which the clause `round_trip` needs.
         let _names = self.policy.levels();

@@ -1,11 +1,9 @@
 -- An object that gets another label: the order of labels in the part, and a valid state stays valid.
 use Rattle.std.specs.Prelude.{◌≡◌, ◌&&◌, not, true, false, Some, None, refl, cond}
-use Rattle.std.specs.Ordering.{is_eq}
 use Rattle.std.specs.FinMap as map
 use Rattle.std.specs.FinMap.{FinMap, get-insert}
 use Rattle.std.proofs.Common.{sym, ◌∙◌, ap}
 use Rattle.std.proofs.lemmas.Bool.{true≢false, and_parts, not-false, false_from_ne_true, not-true}
-use Rattle.std.proofs.lemmas.Cmp.{tied_itself}
 use Rattle.lab_lattice.specs.Label.{Label, dominates}
 use Rattle.kern_model.specs.declared.numbers.Did.{Did}
 use Rattle.kern_model.specs.declared.numbers.Oid.{Oid}
@@ -21,21 +19,23 @@ use Rattle.kern_model.specs.State.{State, Process, Description, SetObject, chang
 use Rattle.kern_model.specs.Valid.{IsValid, IsDir, IsThere, IsValidObject, IsValidEntry, IsValidProcess, IsValidDescription}
 use Rattle.kern_model.proofs.KeyLaws.{oid_cmp_total, oid_cmp_exact, spot_cmp_total, spot_cmp_exact}
 use Rattle.kern_model.proofs.MapLemmas.{each-insert, get-insert_same, get_or-found, same_key, some_same}
-use Rattle.iso_laws.proofs.Part.{by_number, shown, low_spot}
+use Rattle.iso_laws.proofs.Part.{part_by_number, shown_oid, low_spot}
 use Rattle.kern_model.proofs.Selections.{test_after, any_entry-select, none_passes}
-use Rattle.iso_laws.proofs.Sight.{object_low}
-use Rattle.iso_laws.proofs.files.Changes.{content_of, open_ended, open_object}
-use Rattle.iso_laws.proofs.tree.Entries.{holder_low, shown_is}
+use Rattle.iso_laws.proofs.PartReads.{object_low}
+use Rattle.iso_laws.proofs.files.Changes.{open_object_in}
+use Rattle.iso_laws.proofs.tree.Entries.{holder_low, shown_oid_is}
+use Rattle.std.proofs.lemmas.Cmp.{eq_by_cmp_equiv}
+use Rattle.iso_laws.proofs.ValidIn.{content_of, alone_of, IsOfKind, held_in, description_in, process_in}
 
 -- a label is above the directories that hold a Low object in the part where it is in the state
 module _ (l : Label) (s : State) (kept : Kept l s) (valid : IsValid s) (id : Oid) (there : IsThere s.objects id) (is_low : low l id.label ≡ true) where
-  pub above_low : (new : Label) → is_above_holders (by_number l s) id new ≡ is_above_holders s id new
-  unfolding is_above_holders by_number
+  pub above_low : (new : Label) → is_above_holders (part_by_number l s) id new ≡ is_above_holders s id new
+  unfolding is_above_holders part_by_number
   above_low new =
       let p : State → Spot → Oid → _ = λ t spot at. same_oid at id && not (dominates new (object_at t spot.0).label) in
-      ap not (any_entry-select spot_cmp_total spot_cmp_exact (where_key (low_spot l) (shown l s.top)) (p s) (p (by_number l s)) s.entries (λ spot at e.
-      elim (low l spot.0.label) as (λ b. low l spot.0.label ≡ b → test_after (p (by_number l s)) spot (cond b (Some (shown l s.top at)) None) ≡ p s spot at) [
-        | true ↦ λ h. λ i. shown_is l s kept valid id there is_low at i && not (dominates new (object_low l s spot.0 h i).label)
+      ap not (any_entry-select spot_cmp_total spot_cmp_exact (where_key (low_spot l) (shown_oid l s.top)) (p s) (p (part_by_number l s)) s.entries (λ spot at e.
+      elim (low l spot.0.label) as (λ b. low l spot.0.label ≡ b → test_after (p (part_by_number l s)) spot (cond b (Some (shown_oid l s.top at)) None) ≡ p s spot at) [
+        | true ↦ λ h. λ i. shown_oid_is l s kept valid id there is_low at i && not (dominates new (object_low l s spot.0 h i).label)
         | false ↦ λ high. sym (false_from_ne_true (p s spot at) (λ t.
             true≢false (sym (holder_low l s kept valid id there is_low spot (e ∙ ap (λ (q : Oid). Some q) (same_key oid_cmp_exact at id (and_parts _ _ t).0))) ∙ high)))
       ] refl))
@@ -54,21 +54,16 @@ module _ (s : State) (valid : IsValid s) (id : Oid) (o : Object) (is : map.get s
   other_is : (q : Oid) → same_oid q id ≡ false → map.get objects q ≡ map.get s.objects q
   other_is q other = get-insert oid_cmp_total s.objects id relabelled q ∙ ap (λ b. cond b (Some relabelled) (map.get s.objects q)) other
 
-  -- an object is there with its kind
-  record IsSo (q : Oid) (x : Object) : Type 0 where
-    pub object : Object
-    pub object_is : map.get objects q ≡ Some object
-    pub kind_is : object.kind ≡ x.kind
-
-  so : (q : Oid) (x : Object) → map.get s.objects q ≡ Some x → IsSo q x
-  so q x e =
-      elim (same_oid q id) as (λ b. same_oid q id ≡ b → IsSo q x) [
+  -- each object is there with its kind
+  kind_stays : (q : Oid) (x : Object) → map.get s.objects q ≡ Some x → IsOfKind objects q x
+  kind_stays q x e =
+      elim (same_oid q id) as (λ b. same_oid q id ≡ b → IsOfKind objects q x) [
         | true ↦ λ t. record {
           object = relabelled;
-          object_is = get-insert oid_cmp_total s.objects id relabelled q ∙ ap (λ b. cond b (Some relabelled) (map.get s.objects q)) t;
+          is = get-insert oid_cmp_total s.objects id relabelled q ∙ ap (λ b. cond b (Some relabelled) (map.get s.objects q)) t;
           kind_is = ap (λ (y : Object). y.kind) (some_same o x (sym is ∙ ap (map.get s.objects) (sym (same_key oid_cmp_exact q id t)) ∙ e));
         }
-        | false ↦ λ t. record { object = x; object_is = other_is q t ∙ e; kind_is = refl }
+        | false ↦ λ t. record { object = x; is = other_is q t ∙ e; kind_is = refl }
       ] refl
 
   -- a directory that holds it is dominated by its new label
@@ -77,7 +72,7 @@ module _ (s : State) (valid : IsValid s) (id : Oid) (o : Object) (is : map.get s
   holder_below spot dir e dir_is =
       let none = none_passes spot_cmp_total spot_cmp_exact (λ (at : Spot) (q : Oid). same_oid q id && not (dominates new (object_at s at.0).label)) s.entries (not-true _ above) spot id e in
       let at_dir : object_at s spot.0 ≡ dir = get_or-found s.objects spot.0 (stub_object s.top) dir dir_is in
-      not-false _ (ap (λ b. b && not (dominates new dir.label)) (sym (ap is_eq (tied_itself oid_cmp_total id))) ∙ ap (λ (d : Object). same_oid id id && not (dominates new d.label)) (sym at_dir) ∙ none)
+      not-false _ (ap (λ b. b && not (dominates new dir.label)) (sym ((eq_by_cmp_equiv oid_cmp_total).refl id)) ∙ ap (λ (d : Object). same_oid id id && not (dominates new d.label)) (sym at_dir) ∙ none)
 
   next_entry : (spot : Spot) (q : Oid) → map.get s.entries spot ≡ Some q → IsValidEntry next_state spot q
   next_entry spot q e =
@@ -118,38 +113,18 @@ module _ (s : State) (valid : IsValid s) (id : Oid) (o : Object) (is : map.get s
       let told : IsValidObject s id o = valid.objects id o is in
       let content = content_of s id o told in
       each-insert oid_cmp_total oid_cmp_exact (IsValidObject next_state) s.objects
-      (λ q x e. let old = valid.objects q x e in open_object s objects s.procs s.descriptions s.process_numbers s.description_numbers q x x old refl old.below (content_of s q x old) old.fifo_bytes)
+      (λ q x e. let old = valid.objects q x e in open_object_in s objects s.procs s.descriptions s.process_numbers s.description_numbers q x x old refl old.below (content_of s q x old) old.fifo_bytes)
       id relabelled
-      (open_object s objects s.procs s.descriptions s.process_numbers s.description_numbers id o relabelled told refl below
+      (open_object_in s objects s.procs s.descriptions s.process_numbers s.description_numbers id o relabelled told refl below
       (record { mode = content.mode; only_files = content.only_files; dir_bytes = content.dir_bytes; file_bytes = content.file_bytes; stream_bytes = content.stream_bytes }) told.fifo_bytes)
 
   next_process : (who : Pid) (p : Process) → map.get s.procs who ≡ Some p → IsValidProcess next_state who p
-  next_process who p e =
-      let old : IsValidProcess s who p = valid.procs who p e in
-      let cwd : IsSo p.cwd old.cwd.object = so p.cwd old.cwd.object old.cwd.is in
-      record {
-        below = old.below;
-        drawn_already = old.drawn_already;
-        within = old.within;
-        umask = old.umask;
-        few_groups = old.few_groups;
-        cwd = record { object = cwd.object; is = cwd.object_is; dir = cwd.kind_is ∙ old.cwd.dir };
-        parent = old.parent;
-        ended = open_ended s objects s.procs s.descriptions s.process_numbers s.description_numbers (λ label n h. h) p.ended old.ended;
-        fds = old.fds;
-      }
+  next_process who p e = let old = valid.procs who p e in process_in s next_state refl kind_stays (λ label n h. h) who p (alone_of s who p old) old.parent old.fds
 
   next_description : (did : Did) (d : Description) → map.get s.descriptions did ≡ Some d → IsValidDescription next_state did d
   next_description did d e =
-      let old : IsValidDescription s did d = valid.descriptions did d e in
-      let object : IsSo d.object old.object = so d.object old.object old.object_is in
-      record {
-        drawn_already = old.drawn_already;
-        object = object.object;
-        object_is = object.object_is;
-        no_dir = λ dir. old.no_dir (sym object.kind_is ∙ dir);
-        held = record { who = old.held.who; process = old.held.process; fd = old.held.fd; process_is = old.held.process_is; fd_is = old.held.fd_is };
-      }
+      let old = valid.descriptions did d e in
+      description_in s next_state refl kind_stays did d old old.drawn_already (held_in s next_state refl (λ who p e. e) did old.held)
 
   -- a state stays valid where an object gets a label
   pub valid_relabelled : IsValid next_state
@@ -158,7 +133,7 @@ module _ (s : State) (valid : IsValid s) (id : Oid) (o : Object) (is : map.get s
       let was_dir : (q : Oid) (x : Object) → map.get objects q ≡ Some x → x.kind ≡ kind.Dir → IsDir s.objects q =
       each-insert oid_cmp_total oid_cmp_exact (λ (q : Oid) (x : Object). x.kind ≡ kind.Dir → IsDir s.objects q) s.objects (λ q x e dir. record { object = x; is = e; dir = dir }) id relabelled (λ dir. record { object = o; is = is; dir = dir }) in
       record {
-        root_is = record { object = r.object; is = other_is root (false_from_ne_true _ (λ t. true≢false (ap is_eq (sym (tied_itself oid_cmp_total id)) ∙ ap (same_oid id) (sym (same_key oid_cmp_exact root id t)) ∙ no_root))) ∙ r.is; root_dir = r.root_dir; root_label = r.root_label };
+        root_is = record { object = r.object; is = other_is root (false_from_ne_true _ (λ t. true≢false (sym ((eq_by_cmp_equiv oid_cmp_total).refl id) ∙ ap (same_oid id) (sym (same_key oid_cmp_exact root id t)) ∙ no_root))) ∙ r.is; root_dir = r.root_dir; root_label = r.root_label };
         objects = next_object;
         entries = next_entry;
         one_entry = λ a b q x e g q_is q_dir. let dir = was_dir q x q_is q_dir in valid.one_entry a b q dir.object e g dir.is dir.dir;

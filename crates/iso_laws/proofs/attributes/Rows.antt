@@ -17,34 +17,34 @@ use Rattle.kern_model.specs.Rules.{on_object, same_label, mac_upgrade, mac_downg
 use Rattle.kern_model.specs.State.{State, Process, Change, object_at}
 use Rattle.kern_model.specs.Walk.{on_path}
 use Rattle.iso_laws.proofs.Along.{Reaches, ByWalk, along_cond, along_path, along_open_object}
-use Rattle.iso_laws.proofs.Effects.{Premise, OfKinds, of_reached, of_caller, InRange, CheckKind, OfObject, Effect, Reads, SetAttr, SetFileCaps, KeepLabel, Relabel}
+use Rattle.iso_laws.proofs.Effects.{Premise, OfKinds, of_reached, of_caller, InRange, CheckKind, OfObject, Effect, NoChange, SetAttr, SetFileCaps, KeepLabel, Relabel}
 use Rattle.iso_laws.proofs.Effects.{permissions_are_mode}
 
 module _ (Known : Check → Type 0) (Not : Bool → Type 0) (Given : Premise → Type 0) (s : State) (who : Pid) (p : Process) where
   -- the kinds of checks, and those of effects
-  abbrev C : Check → Type 0
-  C = CheckKind Given s who p
+  abbrev KindOfCheck : Check → Type 0
+  KindOfCheck = CheckKind Given s who p
 
-  abbrev K : List Change → Option Rec → Type 0
-  K = Effect Known Not Given s who p
+  abbrev KindOfEffect : List Change → Option Rec → Type 0
+  KindOfEffect = Effect Known Not Given s who p
 
   -- a check of an object that gets a label
   gets : (name : CheckName) (holds : Bool) (new : Label) (id : Oid) (place : Place) → Reaches s p id → (Given InRange → dominates s.top new ≡ true)
-      → C (on_object s name holds (Some new) id place)
+      → KindOfCheck (on_object s name holds (Some new) id place)
   gets name holds new id place reached below = OfObject name holds (Some new) id place reached (λ l same given. cc (below given))
 
   -- the row goes on from what a path leads to, or from the object of a descriptor
-  on_it : (path : PathValue) (k : Oid → Place → Row) → ((id : Oid) (place : Place) → Reaches s p id → OfKinds Known Not Given s who p (k id place))
+  on_reached : (path : PathValue) (k : Oid → Place → Row) → ((id : Oid) (place : Place) → Reaches s p id → OfKinds Known Not Given s who p (k id place))
       → OfKinds Known Not Given s who p (on_path s p path k)
-  on_it path k h = along_path Known Not C K s p of_reached path k (λ id place walked. h id place (ByWalk id walked))
+  on_reached path k h = along_path Known Not KindOfCheck KindOfEffect s p of_reached path k (λ id place walked. h id place (ByWalk id walked))
 
   on_open : (fd : ℕ) (k : Oid → Place → Row) → ((id : Oid) (place : Place) → Reaches s p id → OfKinds Known Not Given s who p (k id place))
       → OfKinds Known Not Given s who p (on_open_object s p fd k)
-  on_open = along_open_object Known Not C K s p
+  on_open = along_open_object Known Not KindOfCheck KindOfEffect s p
 
   -- ---- modes and owners
   pub chmod_kinds : (path : PathValue) (mode : ℕ) → (Given InRange → is_mode mode ≡ true) → OfKinds Known Not Given s who p (chmod_row s who p path mode)
-  chmod_kinds path mode args = on_it path (written s p (change_mode p mode)) (λ id place reached.
+  chmod_kinds path mode args = on_reached path (written s p (change_mode p mode)) (λ id place reached.
       let old : Attr = (object_at s id).attr in (
         of_reached _ _ id place reached,
         λ may. (
@@ -60,7 +60,7 @@ module _ (Known : Check → Type 0) (Not : Bool → Type 0) (Given : Premise →
       ))
 
   pub chown_kinds : (path : PathValue) (user group : ℕ) → OfKinds Known Not Given s who p (chown_row s who p path user group)
-  chown_kinds path user group = on_it path (written s p (change_owner p user group)) (λ id place reached.
+  chown_kinds path user group = on_reached path (written s p (change_owner p user group)) (λ id place reached.
       let old : Attr = (object_at s id).attr in (
         of_reached _ _ id place reached,
         λ may. (
@@ -78,7 +78,7 @@ module _ (Known : Check → Type 0) (Not : Bool → Type 0) (Given : Premise →
 
   -- ---- capability sets of files
   get_caps_kinds : (id : Oid) (place : Place) → Reaches s p id → OfKinds Known Not Given s who p (get_caps s p id place)
-  get_caps_kinds id place reached = (of_reached _ _ id place reached, λ _. (refl, λ _. Reads))
+  get_caps_kinds id place reached = (of_reached _ _ id place reached, λ _. (refl, λ _. NoChange))
 
   set_caps_kinds : (caps : CapState) (id : Oid) (place : Place) → Reaches s p id → OfKinds Known Not Given s who p (set_caps s who p caps id place)
   set_caps_kinds caps id place reached = (
@@ -93,20 +93,20 @@ module _ (Known : Check → Type 0) (Not : Bool → Type 0) (Given : Premise →
   )
 
   pub cap_get_file_kinds : (path : PathValue) → OfKinds Known Not Given s who p (cap_get_file_row s who p path)
-  cap_get_file_kinds path = on_it path (get_caps s p) get_caps_kinds
+  cap_get_file_kinds path = on_reached path (get_caps s p) get_caps_kinds
 
   pub cap_get_fd_kinds : (fd : ℕ) → OfKinds Known Not Given s who p (cap_get_fd_row s who p fd)
   cap_get_fd_kinds fd = on_open fd (get_caps s p) get_caps_kinds
 
   pub cap_set_file_kinds : (path : PathValue) (caps : CapState) → OfKinds Known Not Given s who p (cap_set_file_row s who p path caps)
-  cap_set_file_kinds path caps = on_it path (set_caps s who p caps) (set_caps_kinds caps)
+  cap_set_file_kinds path caps = on_reached path (set_caps s who p caps) (set_caps_kinds caps)
 
   pub cap_set_fd_kinds : (fd : ℕ) (caps : CapState) → OfKinds Known Not Given s who p (cap_set_fd_row s who p fd caps)
   cap_set_fd_kinds fd caps = on_open fd (set_caps s who p caps) (set_caps_kinds caps)
 
   -- ---- labels of objects
   get_label_kinds : (id : Oid) (place : Place) → Reaches s p id → OfKinds Known Not Given s who p (get_label s p id place)
-  get_label_kinds id place reached = (of_reached _ _ id place reached, λ _. Reads)
+  get_label_kinds id place reached = (of_reached _ _ id place reached, λ _. NoChange)
 
   set_label_kinds : (new : Label) → (Given InRange → dominates s.top new ≡ true) → (id : Oid) (place : Place) → Reaches s p id
       → OfKinds Known Not Given s who p (set_label s who p new id place)
@@ -115,10 +115,10 @@ module _ (Known : Check → Type 0) (Not : Bool → Type 0) (Given : Premise →
     λ may. (
       of_reached _ _ id place reached,
       λ _.
-          along_cond Known Not C K (same_label new (object_at s id).label) _ _
+          along_cond Known Not KindOfCheck KindOfEffect (same_label new (object_at s id).label) _ _
           (λ equal. KeepLabel id new place reached may equal below)
           (λ _. (
-            elim (dominates new (object_at s id).label) as (λ b. C (cond b (mac_upgrade s id new place) (mac_downgrade s id new place))) [
+            elim (dominates new (object_at s id).label) as (λ b. KindOfCheck (cond b (mac_upgrade s id new place) (mac_downgrade s id new place))) [
               | true ↦ gets _ _ new id place reached below
               | false ↦ gets _ _ new id place reached below
             ],
@@ -131,14 +131,14 @@ module _ (Known : Check → Type 0) (Not : Bool → Type 0) (Given : Premise →
   )
 
   pub mac_get_file_kinds : (path : PathValue) → OfKinds Known Not Given s who p (mac_get_file_row s who p path)
-  mac_get_file_kinds path = on_it path (get_label s p) get_label_kinds
+  mac_get_file_kinds path = on_reached path (get_label s p) get_label_kinds
 
   pub mac_get_fd_kinds : (fd : ℕ) → OfKinds Known Not Given s who p (mac_get_fd_row s who p fd)
   mac_get_fd_kinds fd = on_open fd (get_label s p) get_label_kinds
 
   pub mac_set_file_kinds : (path : PathValue) (new : Label) → (Given InRange → dominates s.top new ≡ true)
       → OfKinds Known Not Given s who p (mac_set_file_row s who p path new)
-  mac_set_file_kinds path new below = on_it path (set_label s who p new) (set_label_kinds new below)
+  mac_set_file_kinds path new below = on_reached path (set_label s who p new) (set_label_kinds new below)
 
   pub mac_set_fd_kinds : (fd : ℕ) (new : Label) → (Given InRange → dominates s.top new ≡ true) → OfKinds Known Not Given s who p (mac_set_fd_row s who p fd new)
   mac_set_fd_kinds fd new below = on_open fd (set_label s who p new) (set_label_kinds new below)

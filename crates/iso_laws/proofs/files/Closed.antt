@@ -1,13 +1,12 @@
 -- The state once descriptors closed: a valid state stays valid.
 use Rattle.std.specs.Prelude.{◌≡◌, ◌⊎◌, ℕ, ◌==◌, ◌&&◌, not, Bool, true, false, List, [], ◌∷◌, Some, None, refl, cond}
 use Rattle.std.specs.List.{flat_map}
-use Rattle.std.specs.Ordering.{nat_cmp, eq_by_cmp, is_eq}
+use Rattle.std.specs.Ordering.{nat_cmp, eq_by_cmp}
 use Rattle.std.specs.Cmp.{nat_cmp_total}
 use Rattle.std.specs.FinMap as table
 use Rattle.std.specs.FinMap.{FinMap, nat_cmp-IsAntisymmetric, find, get-insert, get-remove, get-entries}
 use Rattle.std.proofs.Common.{sym, ◌∙◌, ap, subst, arith, inl, inr}
 use Rattle.std.proofs.lemmas.Bool.{and_parts, and_from, true≢false, eqb-true, eqb-false, false_from_ne_true}
-use Rattle.std.proofs.lemmas.Cmp.{tied_itself}
 use Rattle.lab_lattice.specs.Label.{dominates}
 use Rattle.kern_model.specs.declared.numbers.Did.{Did}
 use Rattle.kern_model.specs.declared.numbers.Oid.{Oid}
@@ -22,12 +21,14 @@ use Rattle.kern_model.specs.Valid.{IsValid, IsThere, IsValidObject, IsValidProce
 use Rattle.kern_model.proofs.KeyLaws.{oid_cmp_total, oid_cmp_exact, pid_cmp_total, pid_cmp_exact, did_cmp_total, did_cmp_exact}
 use Rattle.kern_model.proofs.MapLemmas.{each-insert, get-insert_same, get_or-found, never_some, same_key, some_same}
 use Rattle.iso_laws.proofs.AllLemmas.{all_each, all_always}
-use Rattle.iso_laws.proofs.Changes.{there_still}
 use Rattle.iso_laws.proofs.ClosingLemmas.{let_go_each, each_closing}
-use Rattle.iso_laws.proofs.Part.{same, changed_by-append}
+use Rattle.iso_laws.proofs.Part.{changed_by-append}
 use Rattle.kern_model.proofs.Selections.{none_pass, none_passes, some_passes, get-remove_same, get-remove_other, get-remove_none}
-use Rattle.iso_laws.proofs.files.Changes.{IsLike, IsValidAlone, HasValidContent, alone_of, content_of, with_open, open_object, open_process, valid_open}
-use Rattle.iso_laws.proofs.files.Closing.{IsOf, Carries, over_changes, stays_there, holder_of}
+use Rattle.iso_laws.proofs.files.Changes.{IsLike, with_open, open_object_in, open_process_in, valid_open}
+use Rattle.iso_laws.proofs.files.Closing.{IsDescriptorOf, Preserves, preserved_over, stays_there, staying_descriptor}
+use Rattle.iso_laws.proofs.KeyLemmas.{still_there}
+use Rattle.std.proofs.lemmas.Cmp.{eq_by_cmp_equiv}
+use Rattle.iso_laws.proofs.ValidIn.{HasValidContent, content_of, IsValidAlone, alone_of}
 
 -- ---- the descriptions and objects that are left
 module _ (s : State) (goes : Descriptor → Bool) where
@@ -56,10 +57,10 @@ module _ (s : State) (goes : Descriptor → Bool) where
       ∙ one_stays did e (λ gone. false_from_ne_true _ (λ same. true≢false (sym gone ∙ ap (is_let_go s goes) (sym (same_key did_cmp_exact did e.0 same)) ∙ stays))) t
 
   -- what the changes of closing carry holds after those of any list of descriptions
-  going_carries : (Of : State → Type 0) → ((did : Did) → Carries Of (DropDescription did)) → ((id : Oid) → Carries Of (emptied s id)) → (es : List (Did × Description)) (t : State) → Of t → Of (changed_by t (going es))
-  going_carries Of drop empty es =
-      over_changes Of (going es)
-      (all_each (λ (e : Did × Description). Unit {0}) (Carries Of) (let_go s goes) (λ e _. let_go_each s (Carries Of) goes e (λ _. (drop e.0, λ _. empty e.1.object))) es (all_always (λ (e : Did × Description). Unit {0}) (λ e. tt) es))
+  going_preserves : (Of : State → Type 0) → ((did : Did) → Preserves Of (DropDescription did)) → ((id : Oid) → Preserves Of (emptied s id)) → (es : List (Did × Description)) (t : State) → Of t → Of (changed_by t (going es))
+  going_preserves Of drop empty es =
+      preserved_over Of (going es)
+      (all_each (λ (e : Did × Description). Unit {0}) (Preserves Of) (let_go s goes) (λ e _. let_go_each s (Preserves Of) goes e (λ _. (drop e.0, λ _. empty e.1.object))) es (all_always (λ (e : Did × Description). Unit {0}) (λ e. tt) es))
 
   -- a description that is let go is gone
   listed_goes : (did : Did) → is_let_go s goes did ≡ true → (es : List (Did × Description)) (t : State) → table.get t.descriptions did ≡ find did_cmp did es → table.get (changed_by t (going es)).descriptions did ≡ None
@@ -73,7 +74,7 @@ module _ (s : State) (goes : Descriptor → Bool) where
             let none : table.get after.descriptions did ≡ None =
             ap (λ b. table.get (changed_by t (cond b (DropDescription e.0 ∷ cond (is_drained s goes e.1.object) (emptied s e.1.object ∷ []) []) [])).descriptions did) (ap (is_let_go s goes) (sym on) ∙ gone)
             ∙ ap (λ m. table.get m did) (dropped e.0 e.1.object (is_drained s goes e.1.object) t) ∙ ap (table.get (table.remove t.descriptions e.0)) on ∙ get-remove_same did_cmp_total t.descriptions e.0 in
-            going_carries (λ u. table.get u.descriptions did ≡ None) (λ q u none_u. get-remove_none did_cmp_total u.descriptions q did none_u) (λ id u none_u. none_u) es after none
+            going_preserves (λ u. table.get u.descriptions did ≡ None) (λ q u none_u. get-remove_none did_cmp_total u.descriptions q did none_u) (λ id u none_u. none_u) es after none
         | false ↦ λ other at_es. listed_goes did gone es after (one_stays did e (λ _. other) t ∙ at_es)
       ] refl at
 
@@ -81,7 +82,7 @@ module _ (s : State) (goes : Descriptor → Bool) where
   abbrev IsEmptyAt : Oid → State → Type 0
   IsEmptyAt id t = (o : Object) → table.get t.objects id ≡ Some o → o.bytes ≡ []
 
-  set_empty : (id at : Oid) → Carries (IsEmptyAt id) (emptied s at)
+  set_empty : (id at : Oid) → Preserves (IsEmptyAt id) (emptied s at)
   set_empty id at t h o e =
       each-insert oid_cmp_total oid_cmp_exact (λ (k : Oid) (x : Object). k ≡ id → x.bytes ≡ []) t.objects (λ k x is on. h x (ap (table.get t.objects) (sym on) ∙ is)) at (record (object_at s at) { bytes = [] }) (λ _. refl) id o e refl
 
@@ -98,7 +99,7 @@ module _ (s : State) (goes : Descriptor → Bool) where
             let first : let_go s goes e ≡ DropDescription did ∷ emptied s d.object ∷ [] =
             (λ i. let_go s goes (sym (same_key did_cmp_exact did e.0 same) i, some_same e.1 d at_e i))
             ∙ (λ i. cond (gone i) (DropDescription did ∷ cond (drained i) (emptied s d.object ∷ []) []) []) in
-            going_carries (IsEmptyAt d.object) (λ q u h. h) (set_empty d.object) es (changed_by t (let_go s goes e)) (subst (λ cs. IsEmptyAt d.object (changed_by t cs)) (sym first) (now_empty d.object (changed t (DropDescription did))))
+            going_preserves (IsEmptyAt d.object) (λ q u h. h) (set_empty d.object) es (changed_by t (let_go s goes e)) (subst (λ cs. IsEmptyAt d.object (changed_by t cs)) (sym first) (now_empty d.object (changed t (DropDescription did))))
         | false ↦ λ _ at_es. listed_drains did d gone drained es (changed_by t (let_go s goes e)) at_es
       ] refl at)
 
@@ -121,16 +122,16 @@ module _ (s : State) (valid : IsValid s) (goes : Descriptor → Bool) (procs : F
   abbrev start : State
   start = record s { procs = procs }
 
-  abbrev pub closed : State
-  closed = changed_by start (closing s goes)
+  abbrev pub after_closing : State
+  after_closing = changed_by start (closing s goes)
 
   -- what no closing alters
-  unaltered : {X : Type 0} (of : State → X) → ((t : State) (did : Did) → of (changed t (DropDescription did)) ≡ of t) → ((t : State) (id : Oid) (o : Object) → of (changed t (SetObject id o)) ≡ of t) → of closed ≡ of start
+  unaltered : {X : Type 0} (of : State → X) → ((t : State) (did : Did) → of (changed t (DropDescription did)) ≡ of t) → ((t : State) (id : Oid) (o : Object) → of (changed t (SetObject id o)) ≡ of t) → of after_closing ≡ of start
   unaltered of drop set =
-      over_changes (λ t. of t ≡ of start) (closing s goes) (each_closing s (Carries (λ t. of t ≡ of start)) (λ did t h. drop t did ∙ h) (λ did d _ t h. set t d.object _ ∙ h) goes) start refl
+      preserved_over (λ t. of t ≡ of start) (closing s goes) (each_closing s (Preserves (λ t. of t ≡ of start)) (λ did t h. drop t did ∙ h) (λ did d _ t h. set t d.object _ ∙ h) goes) start refl
 
   -- the state once descriptors closed has other objects and descriptions
-  pub closed_is : closed ≡ with_open s closed.objects procs closed.descriptions s.process_numbers s.description_numbers
+  pub closed_is : after_closing ≡ with_open s after_closing.objects procs after_closing.descriptions s.process_numbers s.description_numbers
   closed_is =
       let entries = unaltered (λ t. t.entries) (λ t did. refl) (λ t id o. refl) in
       let living = unaltered (λ t. t.procs) (λ t did. refl) (λ t id o. refl) in
@@ -139,22 +140,22 @@ module _ (s : State) (valid : IsValid s) (goes : Descriptor → Bool) (procs : F
       let description_numbers = unaltered (λ t. t.description_numbers) (λ t did. refl) (λ t id o. refl) in
       let bound = unaltered (λ t. t.bound) (λ t did. refl) (λ t id o. refl) in
       let top = unaltered (λ t. t.top) (λ t did. refl) (λ t id o. refl) in
-      λ i. record closed { entries = entries i; procs = living i; object_numbers = object_numbers i; process_numbers = process_numbers i; description_numbers = description_numbers i; bound = bound i; top = top i }
+      λ i. record after_closing { entries = entries i; procs = living i; object_numbers = object_numbers i; process_numbers = process_numbers i; description_numbers = description_numbers i; bound = bound i; top = top i }
 
   -- each description that is left was there, and is not let go
-  was_there : (did : Did) (d : Description) → table.get closed.descriptions did ≡ Some d → (table.get s.descriptions did ≡ Some d) × (is_let_go s goes did ≡ false)
+  was_there : (did : Did) (d : Description) → table.get after_closing.descriptions did ≡ Some d → (table.get s.descriptions did ≡ Some d) × (is_let_go s goes did ≡ false)
   unfolding closing
   was_there did d e =
       elim (is_let_go s goes did) as (λ b. is_let_go s goes did ≡ b → (table.get s.descriptions did ≡ Some d) × (b ≡ false)) [
-        | true ↦ λ gone. absurd (never_some (table.get closed.descriptions did) d (listed_goes s goes did gone (table.entries s.descriptions) start (get-entries s.descriptions did)) e)
+        | true ↦ λ gone. absurd (never_some (table.get after_closing.descriptions did) d (listed_goes s goes did gone (table.entries s.descriptions) start (get-entries s.descriptions did)) e)
         | false ↦ λ stays. (sym (listed_stays s goes did stays (table.entries s.descriptions) start) ∙ e, refl)
       ] refl
 
-  same_there : (did : Did) → is_let_go s goes did ≡ false → table.get closed.descriptions did ≡ table.get s.descriptions did
+  same_there : (did : Did) → is_let_go s goes did ≡ false → table.get after_closing.descriptions did ≡ table.get s.descriptions did
   unfolding closing
   same_there did stays = listed_stays s goes did stays (table.entries s.descriptions) start
 
-  drains : (did : Did) (d : Description) → table.get s.descriptions did ≡ Some d → is_let_go s goes did ≡ true → is_drained s goes d.object ≡ true → IsEmptyAt s goes d.object closed
+  drains : (did : Did) (d : Description) → table.get s.descriptions did ≡ Some d → is_let_go s goes did ≡ true → is_drained s goes d.object ≡ true → IsEmptyAt s goes d.object after_closing
   unfolding closing
   drains did d e gone drained = listed_drains s goes did d gone drained (table.entries s.descriptions) start (sym (get-entries s.descriptions did) ∙ e)
 
@@ -162,21 +163,21 @@ module _ (s : State) (valid : IsValid s) (goes : Descriptor → Bool) (procs : F
   AreLeft t = ((id : Oid) (o : Object) → table.get t.objects id ≡ Some o → IsLeft s id o) × ((id : Oid) → IsThere s.objects id → IsThere t.objects id)
 
   -- each object that is left is one of the state, and each one of the state is left
-  are_left : AreLeft closed
-  are_left = over_changes AreLeft (closing s goes) (each_closing s (Carries AreLeft) (λ did t h. h) (λ did d e t h.
+  are_left : AreLeft after_closing
+  are_left = preserved_over AreLeft (closing s goes) (each_closing s (Preserves AreLeft) (λ did t h. h) (λ did d e t h.
       let described = valid.descriptions did d e in
       let at : object_at s d.object ≡ described.object = get_or-found s.objects d.object (stub_object s.top) described.object described.object_is in (
         each-insert oid_cmp_total oid_cmp_exact (IsLeft s) t.objects h.0 d.object (record (object_at s d.object) { bytes = [] }) (record { old = described.object; is = described.object_is; same_but = λ i. record (at i) { bytes = [] }; bytes = inr refl }),
-        λ id there. there_still oid_cmp_total t.objects d.object _ id (h.1 id there),
+        λ id there. still_there oid_cmp_total t.objects d.object _ id (h.1 id there),
       )) goes)
       start (λ id o e. record { old = o; is = e; same_but = refl; bytes = inl refl }, λ id there. there)
 
-  left_like : (id : Oid) (o : Object) → table.get closed.objects id ≡ Some o → IsLike s.objects id o
+  left_like : (id : Oid) (o : Object) → table.get after_closing.objects id ≡ Some o → IsLike s.objects id o
   left_like id o e =
       let left : IsLeft s id o = are_left.0 id o e in
       record { object = left.old; is = left.is; kind_is = ap (λ (x : Object). x.kind) (sym left.same_but); label_is = ap (λ (x : Object). x.label) (sym left.same_but) }
 
-  still_like : (id : Oid) (o : Object) → table.get s.objects id ≡ Some o → IsLike closed.objects id o
+  still_like : (id : Oid) (o : Object) → table.get s.objects id ≡ Some o → IsLike after_closing.objects id o
   still_like id o e =
       let there = are_left.1 id (record { value = o; is = e }) in
       let was : IsLike s.objects id there.value = left_like id there.value there.is in
@@ -184,10 +185,10 @@ module _ (s : State) (valid : IsValid s) (goes : Descriptor → Bool) (procs : F
       record { object = there.value; is = there.is; kind_is = sym was.kind_is ∙ ap (λ (x : Object). x.kind) same; label_is = sym was.label_is ∙ ap (λ (x : Object). x.label) same }
 
   abbrev pub closed_state : State
-  closed_state = with_open s closed.objects procs closed.descriptions s.process_numbers s.description_numbers
+  closed_state = with_open s after_closing.objects procs after_closing.descriptions s.process_numbers s.description_numbers
 
   -- a FIFO of which no description is left is empty
-  fifo_empty : (id : Oid) (o : Object) → table.get closed.objects id ≡ Some o → o.kind ≡ kind.Fifo → any_open closed_state (λ d. true) id ≡ false → o.bytes ≡ []
+  fifo_empty : (id : Oid) (o : Object) → table.get after_closing.objects id ≡ Some o → o.kind ≡ kind.Fifo → any_open closed_state (λ d. true) id ≡ false → o.bytes ≡ []
   fifo_empty id o e fifo none =
       let left : IsLeft s id o = are_left.0 id o e in
       let on : Did → Description → Bool = λ did d. same_oid d.object id && true in
@@ -195,7 +196,7 @@ module _ (s : State) (valid : IsValid s) (goes : Descriptor → Bool) (procs : F
       let goes_too : (did : Did) (d : Description) → table.get s.descriptions did ≡ Some d → on did d ≡ true → is_let_go s goes did ≡ true = λ did d e_d t.
       elim (is_let_go s goes did) as (λ b. is_let_go s goes did ≡ b → b ≡ true) [
         | true ↦ λ _. refl
-        | false ↦ λ stays. absurd (true≢false (sym t ∙ none_passes did_cmp_total did_cmp_exact on closed.descriptions none did d (same_there did stays ∙ e_d)))
+        | false ↦ λ stays. absurd (true≢false (sym t ∙ none_passes did_cmp_total did_cmp_exact on after_closing.descriptions none did d (same_there did stays ∙ e_d)))
       ] refl in
       elim (any_open s (λ d. true) id) as (λ b. any_open s (λ d. true) id ≡ b → o.bytes ≡ []) [
         | true ↦ λ some.
@@ -205,27 +206,27 @@ module _ (s : State) (valid : IsValid s) (goes : Descriptor → Bool) (procs : F
             let drained : is_drained s goes id ≡ true =
             and_from _ _ is_fifo_at (ap not (none_pass did_cmp_total did_cmp_exact (λ (did : Did) (d : Description). same_oid d.object id && not (is_let_go s goes did)) s.descriptions (λ did d e_d.
             elim (same_oid d.object id) as (λ b. same_oid d.object id ≡ b → (b && not (is_let_go s goes did)) ≡ false) [ true ↦ λ t. ap not (goes_too did d e_d (and_from _ _ t refl)) | false ↦ λ _. refl ] refl))) in
-            drains found.key found.value found.is (goes_too found.key found.value found.is found.passes) (ap (is_drained s goes) at ∙ drained) o (ap (table.get closed.objects) at ∙ e)
+            drains found.key found.value found.is (goes_too found.key found.value found.is found.passes) (ap (is_drained s goes) at ∙ drained) o (ap (table.get after_closing.objects) at ∙ e)
         | false ↦ λ unopened. elim left.bytes as (λ w. o.bytes ≡ []) [ inl same_bytes ↦ same_bytes ∙ (valid.objects id left.old left.is).fifo_bytes old_fifo unopened | inr empty ↦ empty ]
       ] refl
 
-  closed_object : (id : Oid) (o : Object) → table.get closed.objects id ≡ Some o → IsValidObject closed_state id o
+  closed_object : (id : Oid) (o : Object) → table.get after_closing.objects id ≡ Some o → IsValidObject closed_state id o
   closed_object id o e =
       let left : IsLeft s id o = are_left.0 id o e in
       let old = valid.objects id left.old left.is in
-      open_object s closed.objects procs closed.descriptions s.process_numbers s.description_numbers id left.old o old (ap (λ (x : Object). x.kind) left.same_but) (ap (λ (x : Object). dominates s.top x.label) left.same_but ∙ old.below)
+      open_object_in s after_closing.objects procs after_closing.descriptions s.process_numbers s.description_numbers id left.old o old (ap (λ (x : Object). x.kind) left.same_but) (ap (λ (x : Object). dominates s.top x.label) left.same_but ∙ old.below)
       (subst HasValidContent (sym left.same_but) (content_left left.old o.bytes (content_of s id left.old old) left.bytes)) (fifo_empty id o e)
 
   -- a state is valid once descriptors closed, where each process is valid, and has what it had but for the descriptors that close
   pub valid_closed : ((who : Pid) (p : Process) → table.get procs who ≡ Some p → IsValidAlone s who p)
       → ((who : Pid) (p : Process) → table.get procs who ≡ Some p → (q : Pid) → p.parent ≡ Some q → IsThere procs q)
-      → ((d : Descriptor) → IsOf start d → IsOf s d × (goes d ≡ false))
-      → ((d : Descriptor) → IsOf s d → goes d ≡ false → IsOf start d)
-      → IsValid closed
+      → ((d : Descriptor) → IsDescriptorOf start d → IsDescriptorOf s d × (goes d ≡ false))
+      → ((d : Descriptor) → IsDescriptorOf s d → goes d ≡ false → IsDescriptorOf start d)
+      → IsValid after_closing
   valid_closed alone parents stayed stay =
       subst IsValid (sym closed_is)
-      (valid_open s closed.objects procs closed.descriptions s.process_numbers s.description_numbers valid still_like left_like closed_object
-      (λ who p e. open_process s closed.objects procs closed.descriptions s.process_numbers s.description_numbers still_like (λ label n h. h) who p (alone who p e) (parents who p e) (λ fd did e_fd.
+      (valid_open s after_closing.objects procs after_closing.descriptions s.process_numbers s.description_numbers valid still_like left_like closed_object
+      (λ who p e. open_process_in s after_closing.objects procs after_closing.descriptions s.process_numbers s.description_numbers still_like (λ label n h. h) who p (alone who p e) (parents who p e) (λ fd did e_fd.
       let d : Descriptor = record { who = who; fd = fd; did = did } in
       let was = stayed d (record { process = p; process_is = e; fd_is = e_fd }) in
       let has = (valid.procs who was.0.process was.0.process_is).fds fd did was.0.fd_is in
@@ -233,9 +234,9 @@ module _ (s : State) (valid : IsValid s) (goes : Descriptor → Bool) (procs : F
       (λ did d e.
       let was = was_there did d e in
       let described = valid.descriptions did d was.0 in
-      let object : IsLike closed.objects d.object described.object = still_like d.object described.object described.object_is in
-      let holder = holder_of s valid goes did d was.0 was.1 in
-      let holds : IsOf start holder.descriptor = stay holder.descriptor holder.is holder.stays in
+      let object : IsLike after_closing.objects d.object described.object = still_like d.object described.object described.object_is in
+      let holder = staying_descriptor s valid goes did d was.0 was.1 in
+      let holds : IsDescriptorOf start holder.descriptor = stay holder.descriptor holder.is holder.stays in
       record {
         drawn_already = described.drawn_already;
         object = object.object;
@@ -265,16 +266,16 @@ module _ (s : State) (who : Pid) (p : Process) (is : table.get s.procs who ≡ S
   other_fd n other = false_from_ne_true _ (λ t. eqb-false n fd other (same_key nat_cmp-IsAntisymmetric n fd t))
 
   fd_itself : (n : ℕ) → eq_by_cmp nat_cmp n fd ≡ false → (n == fd) ≡ false
-  fd_itself n other = false_from_ne_true _ (λ t. true≢false (ap is_eq (sym (tied_itself nat_cmp_total n)) ∙ ap (eq_by_cmp nat_cmp n) (eqb-true n fd t) ∙ other))
+  fd_itself n other = false_from_ne_true _ (λ t. true≢false (sym ((eq_by_cmp_equiv nat_cmp_total).refl n) ∙ ap (eq_by_cmp nat_cmp n) (eqb-true n fd t) ∙ other))
 
   -- what is open then was open, and does not close
-  stayed_open : (d : Descriptor) → IsOf (record s { procs = procs_without }) d → IsOf s d × (has_fd who fd d ≡ false)
-  stayed_open d of =
-      elim (eq_by_cmp pid_cmp d.who who) as (λ b. eq_by_cmp pid_cmp d.who who ≡ b → cond b (Some without) (table.get s.procs d.who) ≡ Some of.process → IsOf s d × ((b && d.fd == fd) ≡ false)) [
+  was_open : (d : Descriptor) → IsDescriptorOf (record s { procs = procs_without }) d → IsDescriptorOf s d × (has_fd who fd d ≡ false)
+  was_open d of =
+      elim (eq_by_cmp pid_cmp d.who who) as (λ b. eq_by_cmp pid_cmp d.who who ≡ b → cond b (Some without) (table.get s.procs d.who) ≡ Some of.process → IsDescriptorOf s d × ((b && d.fd == fd) ≡ false)) [
         | true ↦ λ t e.
             let mine : without ≡ of.process = some_same without of.process e in
             let left : cond (eq_by_cmp nat_cmp d.fd fd) None (table.get p.fds d.fd) ≡ Some d.did = sym (get-remove nat_cmp_total p.fds fd d.fd) ∙ ap (λ (x : Process). table.get x.fds d.fd) mine ∙ of.fd_is in
-            elim (eq_by_cmp nat_cmp d.fd fd) as (λ b. eq_by_cmp nat_cmp d.fd fd ≡ b → cond b None (table.get p.fds d.fd) ≡ Some d.did → IsOf s d × ((d.fd == fd) ≡ false)) [
+            elim (eq_by_cmp nat_cmp d.fd fd) as (λ b. eq_by_cmp nat_cmp d.fd fd ≡ b → cond b None (table.get p.fds d.fd) ≡ Some d.did → IsDescriptorOf s d × ((d.fd == fd) ≡ false)) [
               | true ↦ λ _ none. absurd (never_some None d.did refl none)
               | false ↦ λ other fd_is. (record { process = p; process_is = ap (table.get s.procs) (same_key pid_cmp_exact d.who who t) ∙ is; fd_is = fd_is }, fd_itself d.fd other)
             ] refl left
@@ -282,9 +283,9 @@ module _ (s : State) (who : Pid) (p : Process) (is : table.get s.procs who ≡ S
       ] refl (sym (get-insert pid_cmp_total s.procs who without d.who) ∙ of.process_is)
 
   -- what was open and does not close is open still
-  stays_open : (d : Descriptor) → IsOf s d → has_fd who fd d ≡ false → IsOf (record s { procs = procs_without }) d
+  stays_open : (d : Descriptor) → IsDescriptorOf s d → has_fd who fd d ≡ false → IsDescriptorOf (record s { procs = procs_without }) d
   stays_open d of stays =
-      elim (eq_by_cmp pid_cmp d.who who) as (λ b. eq_by_cmp pid_cmp d.who who ≡ b → (b && d.fd == fd) ≡ false → IsOf (record s { procs = procs_without }) d) [
+      elim (eq_by_cmp pid_cmp d.who who) as (λ b. eq_by_cmp pid_cmp d.who who ≡ b → (b && d.fd == fd) ≡ false → IsDescriptorOf (record s { procs = procs_without }) d) [
         | true ↦ λ t other.
             let mine : of.process ≡ p = some_same of.process p (sym of.process_is ∙ ap (table.get s.procs) (same_key pid_cmp_exact d.who who t) ∙ is) in
             record {
@@ -299,9 +300,9 @@ module _ (s : State) (who : Pid) (p : Process) (is : table.get s.procs who ≡ S
   pub valid_close : IsValid s → IsValid (changed_by s (SetProcess who without ∷ closing s (has_fd who fd)))
   valid_close valid =
       let own : IsValidProcess s who p = valid.procs who p is in
-      let still : (q : Pid) → IsThere s.procs q → IsThere procs_without q = there_still pid_cmp_total s.procs who without in
+      let still : (q : Pid) → IsThere s.procs q → IsThere procs_without q = still_there pid_cmp_total s.procs who without in
       valid_closed s valid (has_fd who fd) procs_without
       (each-insert pid_cmp_total pid_cmp_exact (IsValidAlone s) s.procs (λ q x e. alone_of s q x (valid.procs q x e)) who without
       (record { below = own.below; drawn_already = own.drawn_already; within = own.within; umask = own.umask; few_groups = own.few_groups; cwd = own.cwd; ended = own.ended }))
       (each-insert pid_cmp_total pid_cmp_exact (λ (q : Pid) (x : Process). (r : Pid) → x.parent ≡ Some r → IsThere procs_without r) s.procs (λ q x e r at. still r ((valid.procs q x e).parent r at)) who without (λ r at. still r (own.parent r at)))
-      stayed_open stays_open
+      was_open stays_open

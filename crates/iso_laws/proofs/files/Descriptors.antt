@@ -1,7 +1,7 @@
 -- The lowest free descriptor, and which descriptions of an object are open, in the state and in its part.
 use Rattle.std.specs.Prelude.{◌≡◌, ℕ, ◌+◌, ◌<◌, ◌≤◌, ◌==◌, ◌&&◌, nat_lt, Bool, true, false, List, [], ◌∷◌, Some, None, refl, cond, length, map}
 use Rattle.std.specs.List.{AllByRecursion}
-use Rattle.std.specs.Ordering.{nat_cmp, eq_by_cmp, is_lt}
+use Rattle.std.specs.Ordering.{nat_cmp, is_lt}
 use Rattle.std.specs.declared.cmp.Ordering.TheVariants.{Less, Equal, Greater}
 use Rattle.std.specs.FinMap as table
 use Rattle.std.specs.FinMap.{FinMap, find, is_sorted, get-entries, entries_sorted, nat_cmp-IsAntisymmetric}
@@ -22,8 +22,9 @@ use Rattle.kern_model.specs.State.{State, Process, Description, object_at, stub_
 use Rattle.kern_model.specs.Valid.{IsValid}
 use Rattle.kern_model.proofs.KeyLaws.{oid_cmp_exact, did_cmp_total, did_cmp_exact}
 use Rattle.kern_model.proofs.MapLemmas.{head_T, tail_T, same_key, get_or-found}
-use Rattle.iso_laws.proofs.Part.{by_number, low_did, same}
+use Rattle.iso_laws.proofs.Part.{part_by_number, low_did, as_is}
 use Rattle.kern_model.proofs.Selections.{test_after, any_entry-select}
+use Rattle.iso_laws.proofs.KeyLemmas.{distinct}
 
 -- ---- the lowest free descriptor
 gap_few : (n : ℕ) (ks : List ℕ) → first_gap n ks ≤ n + length ks
@@ -37,9 +38,6 @@ gap_from n [] = omega arith
 gap_from n (k ∷ ks) =
     let rest = gap_from (n + 1) ks in
     elim (k == n) as (λ b. n ≤ cond b (first_gap (n + 1) ks) n) [ true ↦ omega (arith, rest) | false ↦ omega arith ]
-
-other_number : (a b : ℕ) → (a ≡ b → ⊥) → eq_by_cmp nat_cmp a b ≡ false
-other_number a b other = false_from_ne_true _ (λ t. other (same_key nat_cmp-IsAntisymmetric a b t))
 
 module _ {X : Type 0} where
   abbrev AreFrom : ℕ → List (ℕ × X) → Type 0
@@ -62,7 +60,7 @@ module _ {X : Type 0} where
 
   absent_below : (n : ℕ) (es : List (ℕ × X)) → AreFrom (n + 1) es → find nat_cmp n es ≡ None
   absent_below n [] h = refl
-  absent_below n (e ∷ es) h = ap (λ b. cond b (Some e.1) (find nat_cmp n es)) (other_number n e.0 (λ same. omega (arith, same, h.0))) ∙ absent_below n es h.1
+  absent_below n (e ∷ es) h = ap (λ b. cond b (Some e.1) (find nat_cmp n es)) (distinct nat_cmp-IsAntisymmetric n e.0 (λ same. omega (arith, same, h.0))) ∙ absent_below n es h.1
 
   gap_absent : (n : ℕ) (es : List (ℕ × X)) → T (is_sorted nat_cmp es) → AreFrom n es → find nat_cmp (first_gap n (map (λ (e : ℕ × X). e.0) es)) es ≡ None
   gap_absent n [] sorted h = refl
@@ -72,7 +70,7 @@ module _ {X : Type 0} where
       elim (e.0 == n) as (λ b. (e.0 == n) ≡ b → find nat_cmp (cond b (first_gap (n + 1) ks) n) (e ∷ es) ≡ None) [
         | true ↦ λ t.
             let is : e.0 ≡ n = eqb-true e.0 n t in
-            ap (λ b. cond b (Some e.1) (find nat_cmp (first_gap (n + 1) ks) es)) (other_number (first_gap (n + 1) ks) e.0 (λ same. omega (arith, same, is, gap_from (n + 1) ks)))
+            ap (λ b. cond b (Some e.1) (find nat_cmp (first_gap (n + 1) ks) es)) (distinct nat_cmp-IsAntisymmetric (first_gap (n + 1) ks) e.0 (λ same. omega (arith, same, is, gap_from (n + 1) ks)))
             ∙ gap_absent (n + 1) es (tail_T _ _ sorted) (from_less (n + 1) (e.0 + 1) (omega (arith, is)) es after)
         | false ↦ λ t.
             let more : n + 1 ≤ e.0 = omega (arith, eqb-false e.0 n t, h.0) in
@@ -91,9 +89,9 @@ lowest_absent fds = get-entries fds (lowest_free fds) ∙ gap_absent 0 (table.en
 -- where a descriptor is left, the lowest free one is below the limit
 pub lowest_below : (p : Process) → open_count p + 1 ≤ MAX_DESCRIPTORS → lowest_free p.fds < MAX_DESCRIPTORS
 unfolding lowest_free
-lowest_below p room =
+lowest_below p free =
     let ks : List ℕ = map (λ (e : ℕ × Did). e.0) (table.entries p.fds) in
-    omega (arith, room, gap_few 0 ks, length-map (table.entries p.fds) (λ (e : ℕ × Did). e.0))
+    omega (arith, free, gap_few 0 ks, length-map (table.entries p.fds) (λ (e : ℕ × Did). e.0))
 
 -- ---- the open descriptions of an object
 module _ (l : Label) (s : State) (kept : Kept l s) (valid : IsValid s) (id : Oid) (is_low : low l id.label ≡ true) (stream : is_stream (object_at s id).kind ≡ true) where
@@ -106,11 +104,11 @@ module _ (l : Label) (s : State) (kept : Kept l s) (valid : IsValid s) (id : Oid
       kept.streams did d described.object is described.object_is on ∙ ap (λ (q : Oid). low l q.label) at ∙ is_low
 
   -- some description of it passes a test in the part where one does in the state
-  pub any_open_low : (test : Description → Bool) → any_open (by_number l s) test id ≡ any_open s test id
-  unfolding by_number
+  pub any_open_low : (test : Description → Bool) → any_open (part_by_number l s) test id ≡ any_open s test id
+  unfolding part_by_number
   any_open_low test =
       let p : Did → Description → Bool = λ did d. same_oid d.object id && test d in
-      any_entry-select did_cmp_total did_cmp_exact (where_key (low_did l) (same {X = Description})) p p s.descriptions (λ did d is.
+      any_entry-select did_cmp_total did_cmp_exact (where_key (low_did l) (as_is {X = Description})) p p s.descriptions (λ did d is.
       elim (low l did.label) as (λ b. low l did.label ≡ b → test_after p did (cond b (Some d) None) ≡ p did d) [
         | true ↦ λ _. refl
         | false ↦ λ high. sym (false_from_ne_true (p did d) (λ t.

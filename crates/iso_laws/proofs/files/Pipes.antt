@@ -23,12 +23,13 @@ use Rattle.kern_model.specs.Valid.{IsValid, IsReached, IsValidObject}
 use Rattle.kern_model.proofs.KeyLaws.{oid_cmp_total, oid_cmp_exact, pid_cmp_total, pid_cmp_exact, spot_cmp_total, spot_cmp_exact}
 use Rattle.kern_model.proofs.MapLemmas.{each-insert, get-insert_same, get-insert_kept, get_or-found, never_some, count_entries-none}
 use Rattle.kern_model.proofs.TableLemmas.{each_set_at}
-use Rattle.iso_laws.proofs.Leading.{leads_kept}
+use Rattle.iso_laws.proofs.PathLemmas.{leads_still}
 use Rattle.kern_model.proofs.Selections.{insert-insert}
 use Rattle.iso_laws.proofs.ValidLemmas.{still_drawn, next_drawn, still_below}
 use Rattle.iso_laws.proofs.files.Changes.{valid_opened}
 use Rattle.kern_model.proofs.StateLemmas.{next_absent}
-use Rattle.iso_laws.proofs.tree.Changes.{distinct, tree_entry, tree_object, valid_tree, with_tree}
+use Rattle.iso_laws.proofs.tree.Changes.{tree_entry, tree_object, valid_tree, with_tree}
+use Rattle.iso_laws.proofs.KeyLemmas.{distinct}
 
 -- ---- an object is made that no entry leads to
 module _ (s : State) (valid : IsValid s) (who : Pid) (p : Process) (is : map.get s.procs who ≡ Some p) where
@@ -51,12 +52,12 @@ module _ (s : State) (valid : IsValid s) (who : Pid) (p : Process) (is : map.get
   still = get-insert_kept oid_cmp_total oid_cmp_exact s.objects new pipe (next_absent s valid p.label)
 
   still_reached : (q : Oid) → IsReached s q → IsReached drawn_state q
-  still_reached q r = record { names = r.names; lead = leads_kept s drawn_state (λ at x e. e) root r.names q r.lead }
+  still_reached q r = record { names = r.names; lead = leads_still s drawn_state (λ at x e. e) root r.names q r.lead }
 
   no_names : link_count s new ≡ 0
   no_names = count_entries-none spot_cmp_total spot_cmp_exact (λ (at : Spot) (x : Oid). same_oid x new) s.entries (λ at q e.
       let entry = valid.entries at q e in
-      distinct q new (λ same. never_some (map.get s.objects new) entry.object (next_absent s valid p.label) (ap (map.get s.objects) (sym same) ∙ entry.object_is)))
+      distinct oid_cmp_exact q new (λ same. never_some (map.get s.objects new) entry.object (next_absent s valid p.label) (ap (map.get s.objects) (sym same) ∙ entry.object_is)))
 
   -- a state stays valid where a pipe is made
   pub valid_drawn : has_object_number s p.label ≡ true → IsValid (changed_by s (drawing s p.label pipe))
@@ -116,15 +117,15 @@ module _ (s : State) (valid : IsValid s) (who : Pid) (p : Process) (is : map.get
 
   -- a valid state stays valid where a pipe is made and opened at both ends
   pub valid_piped : has_object_number s p.label ≡ true → open_count p + 2 ≤ MAX_DESCRIPTORS → drawn s.description_numbers p.label + 2 ≤ MAX_DESCRIPTIONS → IsValid (changed_by s (piped s who p))
-  valid_piped left room numbers =
+  valid_piped left free numbers =
       let n : ℕ = drawn s.description_numbers p.label in
       let o : Object = new_pipe p in
       let no_dir : o.kind ≡ kind.Dir → ⊥ = λ dir. let no : kind.Pipe ≡ kind.Dir = dir in cc in
       let there : map.get made_state.objects (next_object s p.label) ≡ Some o = get-insert_same oid_cmp_total s.objects (next_object s p.label) o in
-      let half : IsValid half_state = valid_opened made_state (valid_drawn s valid who p is left) who p is (on_pipe (next_object s p.label) true) o there no_dir (omega (arith, room)) (omega (arith, numbers)) in
+      let half : IsValid half_state = valid_opened made_state (valid_drawn s valid who p is left) who p is (on_pipe (next_object s p.label) true) o there no_dir (omega (arith, free)) (omega (arith, numbers)) in
       let drawn_now : drawn half_state.description_numbers p.label ≡ n + 1 = get_or-found _ p.label 0 _ (get-insert_same label_cmp_total s.description_numbers p.label (n + 1)) in
       let whole : IsValid (whole_state (drawn half_state.description_numbers p.label + 1)) =
-      valid_opened half_state half who one_end (get-insert_same pid_cmp_total s.procs who one_end) (on_pipe (next_object s p.label) false) o there no_dir (omega (arith, room, one_more p first)) (omega (arith, numbers, drawn_now)) in
+      valid_opened half_state half who one_end (get-insert_same pid_cmp_total s.procs who one_end) (on_pipe (next_object s p.label) false) o there no_dir (omega (arith, free, one_more p first)) (omega (arith, numbers, drawn_now)) in
       let second : drawn half_state.description_numbers p.label + 1 ≡ n + 2 = omega (arith, drawn_now) in
       subst IsValid
       (λ i. record (whole_state (n + 2)) {

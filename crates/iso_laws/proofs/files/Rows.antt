@@ -26,8 +26,8 @@ use Rattle.kern_model.specs.Rules.{on_object, mac_write, created_order}
 use Rattle.kern_model.specs.State.{State, Process, object_at}
 use Rattle.kern_model.specs.Walk.{Found, Start, Entry, last_place, dir_place}
 use Rattle.iso_laws.proofs.Along.{WalksTo, ToEntry, Reaches, ByWalk, ByDescriptor, IsEntry, IsFound, along_cond, along_need_if, along_descriptor, along_walk}
-use Rattle.iso_laws.proofs.Effects.{Premise, OfKinds, of_reached, HasNames, HasFlags, CheckKind, Effect, Making, Room, Opening, Reads, Share, Seek, Close, Take, Put, Write, Open, OpenEmptied, OpenMade, MakePipe}
-use Rattle.iso_laws.proofs.Sight.{IsOpen}
+use Rattle.iso_laws.proofs.Effects.{Premise, OfKinds, of_reached, HasNames, HasFlags, CheckKind, Effect, Creates, Room, Opens, NoChange, Duplicate, Seek, Close, ReadStream, WriteStream, WriteFile, Open, OpenEmptied, OpenMade, MakePipe}
+use Rattle.iso_laws.proofs.PartReads.{IsOpen}
 use Rattle.iso_laws.proofs.Effects.{masked_is_mode, permissions_are_mode}
 
 module _ (Known : Check → Type 0) (Not : Bool → Type 0) (Given : Premise → Type 0) (s : State) (who : Pid) (p : Process) where
@@ -52,7 +52,7 @@ module _ (Known : Check → Type 0) (Not : Bool → Type 0) (Given : Premise →
   at_handle name holds fd f open_is = of_reached name holds f.description.object Handle (ByDescriptor fd f open_is)
 
   -- ---- open
-  emptying_kinds : (flags : OpenFlags) (id : Oid) (place : Place) → Opening Known Not Given s who p id flags place
+  emptying_kinds : (flags : OpenFlags) (id : Oid) (place : Place) → Opens Known Not Given s who p id flags place
       → OfKinds Known Not Given s who p (open_emptying s who p flags id place)
   emptying_kinds flags id place may =
       let old : Attr = (object_at s id).attr in
@@ -74,14 +74,14 @@ module _ (Known : Check → Type 0) (Not : Bool → Type 0) (Given : Premise →
   making : (path : PathValue) → (Given HasNames → are_names path ≡ true) → (mode : ℕ) (dir : Oid) (name : Name) (place : Place)
       → IsEntry Not s p path.names dir name None
       → Known (mac_write s p dir place) → Known (created_order s p dir place) → Not (is_removed s dir) → Not (not (has_object_number s p.label))
-      → Making Known Not Given s who p dir name (new_file mode) place
-  making path names mode dir name place e written order standing left = record {
+      → Creates Known Not Given s who p dir name (new_file mode) place
+  making path names mode dir name place e written order not_removed left = record {
     walked = e.walked;
     dir_kind = e.dir_kind;
     free = e.at;
     written = written;
     order = order;
-    standing = standing;
+    not_removed = not_removed;
     left = left;
     fresh =
         record { label = refl; mode = masked_is_mode mode p.umask; caps = refl; bytes = refl; no_pipe = λ pipe. let no : kind.File ≡ kind.Pipe = pipe in cc };
@@ -119,7 +119,7 @@ module _ (Known : Check → Type 0) (Not : Bool → Type 0) (Given : Premise →
               of_reached _ _ dir place reached,
               λ _. (
                 of_reached _ _ dir place reached,
-                λ order. (refl, λ standing. (refl, λ left. OpenMade dir name (new_file mode) place flags (may written order standing left) refl room)),
+                λ order. (refl, λ not_removed. (refl, λ left. OpenMade dir name (new_file mode) place flags (may written order not_removed left) refl room)),
               ),
             ),
           ),
@@ -155,7 +155,7 @@ module _ (Known : Check → Type 0) (Not : Bool → Type 0) (Given : Premise →
       at_handle _ _ fd f open_is,
       λ _.
           where_asked _ _ _ (at_handle _ _ fd f open_is) (λ written.
-          (refl, λ _. either (is_stream (open_object s f).kind) _ _ (λ stream. Take fd f n open_is (written stream) stream) (λ _. Seek fd f _ open_is))),
+          (refl, λ _. either (is_stream (open_object s f).kind) _ _ (λ stream. ReadStream fd f n open_is (written stream) stream) (λ _. Seek fd f _ open_is))),
     ),
   ))
 
@@ -172,8 +172,8 @@ module _ (Known : Check → Type 0) (Not : Bool → Type 0) (Given : Premise →
               (λ _. (
                 at_handle _ _ fd f open_is,
                 (
-                  (λ _. Write fd f old bytes _ open_is written no_stream inside fits (λ mode. mode)),
-                  Write fd f (cleared old) bytes _ open_is written no_stream inside fits (λ _. permissions_are_mode old.mode),
+                  (λ _. WriteFile fd f old bytes _ open_is written no_stream inside fits (λ mode. mode)),
+                  WriteFile fd f (cleared old) bytes _ open_is written no_stream inside fits (λ _. permissions_are_mode old.mode),
                 ),
               )),
         ),
@@ -185,7 +185,7 @@ module _ (Known : Check → Type 0) (Not : Bool → Type 0) (Given : Premise →
     λ _. (
       at_handle _ _ fd f open_is,
       λ written.
-          either (is_stream (open_object s f).kind) _ _ (λ stream. (refl, λ _. (refl, λ fits. Put fd f bytes open_is written stream fits)))
+          either (is_stream (open_object s f).kind) _ _ (λ stream. (refl, λ _. (refl, λ fits. WriteStream fd f bytes open_is written stream fits)))
           (writing_kinds fd f bytes open_is written),
     ),
   ))
@@ -194,10 +194,10 @@ module _ (Known : Check → Type 0) (Not : Bool → Type 0) (Given : Premise →
   lseek_kinds fd from offset = on_open fd _ (λ f open_is. (at_handle _ _ fd f open_is, λ _. (refl, λ _. (refl, λ _. Seek fd f _ open_is))))
 
   pub dup_kinds : (fd : ℕ) → OfKinds Known Not Given s who p (dup_row s who p fd)
-  dup_kinds fd = on_open fd _ (λ f open_is. (refl, λ free. Share fd f open_is free))
+  dup_kinds fd = on_open fd _ (λ f open_is. (refl, λ free. Duplicate fd f open_is free))
 
   pub pipe_kinds : OfKinds Known Not Given s who p (pipe_row s who p)
   pipe_kinds = (refl, λ descriptors. (refl, λ numbers. (refl, λ left. MakePipe left descriptors numbers)))
 
   pub fstat_kinds : (fd : ℕ) → OfKinds Known Not Given s who p (fstat_row s who p fd)
-  fstat_kinds fd = on_open fd _ (λ f open_is. (at_handle _ _ fd f open_is, λ _. Reads))
+  fstat_kinds fd = on_open fd _ (λ f open_is. (at_handle _ _ fd f open_is, λ _. NoChange))

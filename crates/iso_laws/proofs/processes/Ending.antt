@@ -1,12 +1,11 @@
 -- A process that ends: in a state and in its part, and what the state is then.
 use Rattle.std.specs.Prelude.{◌≡◌, ◌&&◌, ◌||◌, not, Bool, true, false, List, [], ◌∷◌, ◌++◌, Option, Some, None, refl, cond}
 use Rattle.std.specs.List.{AllByRecursion, flat_map}
-use Rattle.std.specs.Ordering.{eq_by_cmp, is_eq}
+use Rattle.std.specs.Ordering.{eq_by_cmp}
 use Rattle.std.specs.FinMap as table
 use Rattle.std.specs.FinMap.{FinMap, find, get-insert, get-remove, get-entries}
 use Rattle.std.proofs.Common.{sym, ◌∙◌, ap, subst, arith, inl, inr}
 use Rattle.std.proofs.lemmas.Bool.{and_parts, or_cases, or_parts, true≢false, false_from_ne_true}
-use Rattle.std.proofs.lemmas.Cmp.{tied_itself}
 use Rattle.lab_lattice.specs.Label.{Label}
 use Rattle.kern_model.specs.declared.calls.Ending.{Ending}
 use Rattle.kern_model.specs.declared.numbers.Pid.{Pid}
@@ -20,21 +19,22 @@ use Rattle.kern_model.specs.Valid.{IsValid, IsThere, IsValidEnd, IsValidProcess}
 use Rattle.kern_model.proofs.KeyLaws.{pid_cmp_total, pid_cmp_exact}
 use Rattle.kern_model.proofs.MapLemmas.{each-entries, each-insert, each-remove, get-insert_same, never_some, same_key, some_same}
 use Rattle.iso_laws.proofs.AllLemmas.{all-append, all_each, all_when}
-use Rattle.iso_laws.proofs.Changes.{KeptProcess, kept_of, kept_process}
+use Rattle.iso_laws.proofs.Changes.{kept_procs, KeptProcess, kept_of, kept_process}
 use Rattle.iso_laws.proofs.ClosingLemmas.{each_closing}
-use Rattle.iso_laws.proofs.Part.{by_number, low_pid, same, part_changes, part_changes-append, first_low, first_high, part_of_low, part_of_high, change_label, changed_by-append}
+use Rattle.iso_laws.proofs.Part.{part_by_number, low_pid, as_is, part_changes, part_changes-append, sees_first, hides_first, part_of_low, part_of_high, change_label, changed_by-append}
 use Rattle.kern_model.proofs.Selections.{list_after, flat_map-select, get-remove_other}
-use Rattle.iso_laws.proofs.files.Changes.{IsValidAlone}
-use Rattle.iso_laws.proofs.files.Closing.{Carries, over_changes, part_changes-flat_map, closing_low, closing_hidden, kept_closed}
-use Rattle.iso_laws.proofs.files.Closed.{closed, valid_closed}
+use Rattle.iso_laws.proofs.files.Closing.{Preserves, preserved_over, part_changes-flat_map, closing_low, closing_hidden, kept_closed}
+use Rattle.iso_laws.proofs.files.Closed.{after_closing, valid_closed}
+use Rattle.std.proofs.lemmas.Cmp.{eq_by_cmp_equiv}
+use Rattle.iso_laws.proofs.ValidIn.{IsValidAlone}
 
 pub is_pid_some : (a : Pid) (o : Option Pid) → is_pid a o ≡ true → o ≡ Some a
 is_pid_some a None h = absurd (true≢false (sym h))
 is_pid_some a (Some b) h = ap (λ (q : Pid). Some q) (sym (same_key pid_cmp_exact a b h))
 
 -- the descriptors of a process
-abbrev pub is_of : Pid → Descriptor → Bool
-is_of who d = same_pid d.who who
+abbrev pub is_held_by : Pid → Descriptor → Bool
+is_held_by who d = same_pid d.who who
 
 -- whether a process changes where another one ends
 abbrev is_left : Pid → Process → Pid × Process → Bool
@@ -43,7 +43,7 @@ is_left who p e = not (same_pid e.0 who) && (is_pid who e.1.parent || is_pid e.0
 -- ---- in the part
 module _ (l : Label) (s : State) (kept : Kept l s) (valid : IsValid s) (who : Pid) (p : Process) (how : Ending) where
   abbrev part_s : State
-  part_s = by_number l s
+  part_s = part_by_number l s
 
   survivor_seen : (q : Pid) (x : Process) → low l q.label ≡ true → survives who p how (q, x) ≡ part_changes l s.top (survives who p how (q, x))
   survivor_seen q x is_low =
@@ -56,11 +56,11 @@ module _ (l : Label) (s : State) (kept : Kept l s) (valid : IsValid s) (who : Pi
   survivor_hidden q x high = part_of_high l s.top (survives who p how (q, x)) (all_when (λ c. low l (change_label c) ≡ false) (is_left who p (q, x)) (SetProcess q (left_by who p how q x) ∷ []) (λ _. (high, tt)))
 
   survivors_low : flat_map (survives who p how) (table.entries part_s.procs) ≡ part_changes l s.top (flat_map (survives who p how) (table.entries s.procs))
-  unfolding by_number
+  unfolding part_by_number
   survivors_low =
       let seen : Pid → Process → List Change = λ q x. part_changes l s.top (survives who p how (q, x)) in
       let in_part : Pid → Process → List Change = λ q x. survives who p how (q, x) in
-      flat_map-select pid_cmp_total pid_cmp_exact (where_key (low_pid l) (same {X = Process})) seen in_part s.procs (λ q x e.
+      flat_map-select pid_cmp_total pid_cmp_exact (where_key (low_pid l) (as_is {X = Process})) seen in_part s.procs (λ q x e.
       elim (low l q.label) as (λ b. low l q.label ≡ b → list_after in_part q (cond b (Some x) None) ≡ seen q x) [
         | true ↦ λ is_low. survivor_seen q x is_low
         | false ↦ λ high. sym (survivor_hidden q x high)
@@ -71,17 +71,17 @@ module _ (l : Label) (s : State) (kept : Kept l s) (valid : IsValid s) (who : Pi
   pub ending_low : low l who.label ≡ true → ending_of part_s who p how ≡ part_changes l s.top (ending_of s who p how)
   unfolding ending_of
   ending_low is_low =
-      let goes : Descriptor → Bool = is_of who in
+      let goes : Descriptor → Bool = is_held_by who in
       let left : List Change = flat_map (survives who p how) (table.entries s.procs) in
       (λ i. DropProcess who ∷ (closing_low l s kept valid goes i ++ survivors_low i))
       ∙ ap (λ cs. DropProcess who ∷ cs) (sym (part_changes-append l s.top (closing s goes) left))
-      ∙ sym (first_low l s.top (DropProcess who) (closing s goes ++ left) is_low)
+      ∙ sym (sees_first l s.top (DropProcess who) (closing s goes ++ left) is_low)
 
   -- the part does not see that another process ends
   pub ending_hidden : table.get s.procs who ≡ Some p → low l who.label ≡ false → part_changes l s.top (ending_of s who p how) ≡ []
   unfolding ending_of
   ending_hidden is high =
-      let goes : Descriptor → Bool = is_of who in
+      let goes : Descriptor → Bool = is_held_by who in
       let left : List Change = flat_map (survives who p how) (table.entries s.procs) in
       let none : part_changes l s.top left ≡ [] =
       part_of_high l s.top left
@@ -92,24 +92,13 @@ module _ (l : Label) (s : State) (kept : Kept l s) (valid : IsValid s) (who : Pi
         | inl child ↦ sym (kept.parents q who x e (is_pid_some who x.parent child)) ∙ high
         | inr parent ↦ kept.parents who q p is (is_pid_some q p.parent parent) ∙ high
       ]))) in
-      first_high l s.top (DropProcess who) (closing s goes ++ left) high
+      hides_first l s.top (DropProcess who) (closing s goes ++ left) high
       ∙ part_changes-append l s.top (closing s goes) left
       ∙ ap (λ cs. cs ++ part_changes l s.top left) (closing_hidden l s kept valid goes (λ d _ gone. ap (λ (q : Pid). low l q.label) (same_key pid_cmp_exact d.who who gone) ∙ high))
       ∙ none
 
   kept_gone : Kept l (changed s (DropProcess who))
-  kept_gone =
-      let each : (q : Pid) (x : Process) → table.get (table.remove s.procs who) q ≡ Some x → KeptProcess l q x = each-remove pid_cmp_total pid_cmp_exact (KeptProcess l) s.procs (kept_of l s kept) who in
-      record {
-        objects = kept.objects;
-        procs = λ q x e. (each q x e).label;
-        parents = λ q parent x e f. (each q x e).parent parent f;
-        ended = λ q x e. (each q x e).ended;
-        fds = λ q x fd did e f. (each q x e).fds fd did f;
-        cwd = λ q x e. (each q x e).cwd;
-        descriptions = kept.descriptions;
-        streams = kept.streams;
-      }
+  kept_gone = kept_procs l s kept (table.remove s.procs who) (each-remove pid_cmp_total pid_cmp_exact (KeptProcess l) s.procs (kept_of l s kept) who)
 
   -- what a process is once another one ended is on its side
   kept_left : table.get s.procs who ≡ Some p → (q : Pid) (x : Process) → table.get s.procs q ≡ Some x → KeptProcess l q (left_by who p how q x)
@@ -130,13 +119,13 @@ module _ (l : Label) (s : State) (kept : Kept l s) (valid : IsValid s) (who : Pi
   pub kept_ended : table.get s.procs who ≡ Some p → Kept l (changed_by s (ending_of s who p how))
   unfolding ending_of
   kept_ended is =
-      let goes : Descriptor → Bool = is_of who in
+      let goes : Descriptor → Bool = is_held_by who in
       let left : List Change = flat_map (survives who p how) (table.entries s.procs) in
       let gone : State = changed s (DropProcess who) in
       subst (Kept l) (sym (changed_by-append gone (closing s goes) left))
-      (over_changes (Kept l) left
-      (all_each (λ (e : Pid × Process). KeptProcess l e.0 (left_by who p how e.0 e.1)) (Carries (Kept l)) (survives who p how)
-      (λ e h. all_when (Carries (Kept l)) (is_left who p e) (SetProcess e.0 (left_by who p how e.0 e.1) ∷ []) (λ _. (λ u kept_u. kept_process l u kept_u e.0 _ h, tt))) (table.entries s.procs)
+      (preserved_over (Kept l) left
+      (all_each (λ (e : Pid × Process). KeptProcess l e.0 (left_by who p how e.0 e.1)) (Preserves (Kept l)) (survives who p how)
+      (λ e h. all_when (Preserves (Kept l)) (is_left who p e) (SetProcess e.0 (left_by who p how e.0 e.1) ∷ []) (λ _. (λ u kept_u. kept_process l u kept_u e.0 _ h, tt))) (table.entries s.procs)
       (each-entries pid_cmp_total pid_cmp_exact (λ (q : Pid) (x : Process). KeptProcess l q (left_by who p how q x)) s.procs (kept_left is)))
       (changed_by gone (closing s goes)) (kept_closed l s kept valid goes gone kept_gone refl))
 
@@ -175,10 +164,10 @@ module _ (s : State) (valid : IsValid s) (who : Pid) (p : Process) (is : table.g
       (each-entries pid_cmp_total pid_cmp_exact (λ (q : Pid) (x : Process). is_left who p (q, x) ≡ true → P (SetProcess q (left_by who p how q x))) s.procs
       (λ q x e t. h q x e (false_from_ne_true _ (λ same. true≢false (sym (and_parts _ _ t).0 ∙ ap not same)))))
 
-  ended_is : changed_by s (ending_of s who p how) ≡ closed s valid (is_of who) living
+  ended_is : changed_by s (ending_of s who p how) ≡ after_closing s valid (is_held_by who) living
   unfolding ending_of
   ended_is =
-      let goes : Descriptor → Bool = is_of who in
+      let goes : Descriptor → Bool = is_held_by who in
       let beside : (m : FinMap pid_cmp Process) → changed_by (record s { procs = m }) (closing s goes) ≡ record (changed_by s (closing s goes)) { procs = m } =
       λ m. closes_beside m (closing s goes) (each_closing s (λ c. (t : State) → changed (record t { procs = m }) c ≡ record (changed t c) { procs = m }) (λ did t. refl) (λ did d _ t. refl) goes) s in
       changed_by-append gone (closing s goes) left
@@ -189,7 +178,7 @@ module _ (s : State) (valid : IsValid s) (who : Pid) (p : Process) (is : table.g
   -- each process that lives was one of the others
   others_live : (q : Pid) (y : Process) → table.get living q ≡ Some y → IsThere s.procs q × (eq_by_cmp pid_cmp q who ≡ false)
   others_live =
-      over_changes (λ (u : State). (q : Pid) (y : Process) → table.get u.procs q ≡ Some y → IsThere s.procs q × (eq_by_cmp pid_cmp q who ≡ false)) left
+      preserved_over (λ (u : State). (q : Pid) (y : Process) → table.get u.procs q ≡ Some y → IsThere s.procs q × (eq_by_cmp pid_cmp q who ≡ false)) left
       (each_survivor _ (λ q x e other u h. each-insert pid_cmp_total pid_cmp_exact (λ (r : Pid) (y : Process). IsThere s.procs r × (eq_by_cmp pid_cmp r who ≡ false)) u.procs h q (left_by who p how q x) (record { value = x; is = e }, other)))
       gone
       (λ q y e.
@@ -214,11 +203,11 @@ module _ (s : State) (valid : IsValid s) (who : Pid) (p : Process) (is : table.g
         ] refl
 
     -- setting the processes of a list that are left
-    sets_carry : (es : List (Pid × Process)) → AllByRecursion (λ (e : Pid × Process). table.get s.procs e.0 ≡ Some e.1) es → (u : State) → IsLeftAt u → IsLeftAt (changed_by u (flat_map (survives who p how) es))
-    sets_carry es h =
-        over_changes IsLeftAt (flat_map (survives who p how) es)
-        (all_each (λ (e : Pid × Process). table.get s.procs e.0 ≡ Some e.1) (Carries IsLeftAt) (survives who p how)
-        (λ e e_is. all_when (Carries IsLeftAt) (is_left who p e) (SetProcess e.0 (left_by who p how e.0 e.1) ∷ []) (λ _. (λ u now. set_left u e.0 e.1 e_is (λ _. now), tt))) es h)
+    sets_preserve : (es : List (Pid × Process)) → AllByRecursion (λ (e : Pid × Process). table.get s.procs e.0 ≡ Some e.1) es → (u : State) → IsLeftAt u → IsLeftAt (changed_by u (flat_map (survives who p how) es))
+    sets_preserve es h =
+        preserved_over IsLeftAt (flat_map (survives who p how) es)
+        (all_each (λ (e : Pid × Process). table.get s.procs e.0 ≡ Some e.1) (Preserves IsLeftAt) (survives who p how)
+        (λ e e_is. all_when (Preserves IsLeftAt) (is_left who p e) (SetProcess e.0 (left_by who p how e.0 e.1) ∷ []) (λ _. (λ u now. set_left u e.0 e.1 e_is (λ _. now), tt))) es h)
 
     listed_left : is_left who p (q, x) ≡ true → (es : List (Pid × Process)) → AllByRecursion (λ (e : Pid × Process). table.get s.procs e.0 ≡ Some e.1) es → find pid_cmp q es ≡ Some x → (u : State) → IsLeftAt (changed_by u (flat_map (survives who p how) es))
     listed_left changes [] h found u = absurd (never_some None x refl found)
@@ -229,7 +218,7 @@ module _ (s : State) (valid : IsValid s) (who : Pid) (p : Process) (is : table.g
           | true ↦ λ t at.
               let same : (q, x) ≡ e = λ i. (same_key pid_cmp_exact q e.0 t i, some_same x e.1 (sym at) i) in
               let set : survives who p how e ≡ SetProcess q (left_by who p how q x) ∷ [] = ap (survives who p how) (sym same) ∙ ap (λ b. cond b (SetProcess q (left_by who p how q x) ∷ []) []) changes in
-              sets_carry es h.1 next (subst (λ cs. IsLeftAt (changed_by u cs)) (sym set) (get-insert_same pid_cmp_total u.procs q (left_by who p how q x)))
+              sets_preserve es h.1 next (subst (λ cs. IsLeftAt (changed_by u cs)) (sym set) (get-insert_same pid_cmp_total u.procs q (left_by who p how q x)))
           | false ↦ λ _ at. listed_left changes es h.1 at next
         ] refl found)
 
@@ -249,7 +238,7 @@ module _ (s : State) (valid : IsValid s) (who : Pid) (p : Process) (is : table.g
         let there : table.get (table.remove s.procs who) q ≡ Some x = get-remove_other pid_cmp_total s.procs who q other ∙ q_is in
         elim (is_left who p (q, x)) as (λ b. is_left who p (q, x) ≡ b → IsLeftAt (changed_by gone left)) [
           | true ↦ λ changes. listed_left changes (table.entries s.procs) listed (sym (get-entries s.procs q) ∙ q_is) gone
-          | false ↦ λ same. sets_carry (table.entries s.procs) listed gone (there ∙ ap (λ (y : Process). Some y) (sym (unchanged same)))
+          | false ↦ λ same. sets_preserve (table.entries s.procs) listed gone (there ∙ ap (λ (y : Process). Some y) (sym (unchanged same)))
         ] refl
 
   -- each process that lives is one of the others, as the end leaves it
@@ -285,7 +274,7 @@ module _ (s : State) (valid : IsValid s) (who : Pid) (p : Process) (is : table.g
         | true ↦ λ _ none. absurd (never_some None r refl none)
         | false ↦ λ apart at.
             let there = (valid.procs q x e).parent r at in
-            let other : eq_by_cmp pid_cmp r who ≡ false = false_from_ne_true _ (λ t. true≢false (ap is_eq (sym (tied_itself pid_cmp_total who)) ∙ ap (same_pid who) (sym (same_key pid_cmp_exact r who t)) ∙ ap (is_pid who) (sym at) ∙ apart)) in
+            let other : eq_by_cmp pid_cmp r who ≡ false = false_from_ne_true _ (λ t. true≢false (sym ((eq_by_cmp_equiv pid_cmp_total).refl who) ∙ ap (same_pid who) (sym (same_key pid_cmp_exact r who t)) ∙ ap (is_pid who) (sym at) ∙ apart)) in
             record { value = left_by who p how r there.value; is = other_lives r there.value there.is other }
       ] refl
 
@@ -293,7 +282,7 @@ module _ (s : State) (valid : IsValid s) (who : Pid) (p : Process) (is : table.g
   pub valid_ended : IsValid (changed_by s (ending_of s who p how))
   valid_ended =
       subst IsValid (sym ended_is)
-      (valid_closed s valid (is_of who) living
+      (valid_closed s valid (is_held_by who) living
       (λ q y e. let o = other_of q y e in subst (IsValidAlone s q) (sym o.now) (other_alone q o.was o.was_is))
       (λ q y e r at. let o = other_of q y e in other_parent q o.was o.was_is r (ap (λ (z : Process). z.parent) (sym o.now) ∙ at))
       (λ d of. let o = other_of d.who of.process of.process_is in (record { process = o.was; process_is = o.was_is; fd_is = ap (λ (z : Process). table.get z.fds d.fd) (sym o.now) ∙ of.fd_is }, o.other))

@@ -1,25 +1,24 @@
--- A process that is forked, and one whose child is awaited: a valid state stays valid.
-use Rattle.std.specs.Prelude.{◌≡◌, ℕ, ◌+◌, ◌<◌, ◌≤◌, List, [], ◌∷◌, Some, None, refl}
-use Rattle.std.specs.List.{AllByRecursion}
+-- A process that is forked: a valid state stays valid.
+use Rattle.std.specs.Prelude.{◌≡◌, ℕ, ◌+◌, ◌<◌, ◌≤◌, [], ◌∷◌, Some, None, refl}
 use Rattle.std.specs.FinMap as map
 use Rattle.std.specs.FinMap.{FinMap}
-use Rattle.std.proofs.Common.{sym, ◌∙◌, ap, subst, arith}
+use Rattle.std.proofs.Common.{subst, arith}
 use Rattle.lab_lattice.specs.Label.{Label, label_cmp}
 use Rattle.lab_lattice.proofs.Labels.{label_cmp_total, label_cmp_exact}
-use Rattle.kern_model.specs.declared.calls.Ending.{Ending}
 use Rattle.kern_model.specs.declared.limits.TheConstants.{MAX_PROCS}
 use Rattle.kern_model.specs.declared.numbers.Did.{Did}
 use Rattle.kern_model.specs.declared.numbers.Pid.{Pid}
 use Rattle.kern_model.specs.Keys.{pid_cmp}
 use Rattle.kern_model.specs.ProcessRows.{child_of}
-use Rattle.kern_model.specs.State.{State, Process, SetProcess, DrawProcess, changed, changed_by, drawn, next_process}
-use Rattle.kern_model.specs.Valid.{IsValid, IsThere, IsHeld, IsValidEnd, IsValidProcess}
+use Rattle.kern_model.specs.State.{State, Process, SetProcess, DrawProcess, changed_by, drawn, next_process}
+use Rattle.kern_model.specs.Valid.{IsValid, IsThere, IsHeld, IsValidProcess}
 use Rattle.kern_model.proofs.KeyLaws.{pid_cmp_total, pid_cmp_exact}
 use Rattle.kern_model.proofs.MapLemmas.{each-insert, get-insert_kept, some_same}
 use Rattle.kern_model.proofs.TableLemmas.{each_set_at}
-use Rattle.iso_laws.proofs.Changes.{there_still, valid_process}
 use Rattle.iso_laws.proofs.ValidLemmas.{still_drawn, next_drawn, still_below}
-use Rattle.iso_laws.proofs.files.Changes.{alone_of, content_of, itself_like, open_object, open_process, valid_open, with_open}
+use Rattle.iso_laws.proofs.files.Changes.{itself_like, open_process_in, valid_open, with_open, still_valid_object, still_valid_description}
+use Rattle.iso_laws.proofs.KeyLemmas.{still_there}
+use Rattle.iso_laws.proofs.ValidIn.{alone_of, held_in}
 
 module _ (s : State) (valid : IsValid s) (who : Pid) (p : Process) (is : map.get s.procs who ≡ Some p) where
   -- no process has the next number
@@ -43,24 +42,18 @@ module _ (s : State) (valid : IsValid s) (who : Pid) (p : Process) (is : map.get
   forked_state = with_open s s.objects more_procs s.descriptions more_numbers s.description_numbers
 
   forked_held : (did : Did) → IsHeld s did → IsHeld forked_state did
-  forked_held did held = record {
-    who = held.who;
-    process = held.process;
-    fd = held.fd;
-    process_is = get-insert_kept pid_cmp_total pid_cmp_exact s.procs child (child_of who p) next_process_absent held.who held.process held.process_is;
-    fd_is = held.fd_is;
-  }
+  forked_held = held_in s forked_state refl (get-insert_kept pid_cmp_total pid_cmp_exact s.procs child (child_of who p) next_process_absent)
 
   -- a state stays valid where a process is forked
   pub valid_forked : drawn s.process_numbers p.label < MAX_PROCS → IsValid (changed_by s (DrawProcess p.label (drawn s.process_numbers p.label + 1) ∷ SetProcess child (child_of who p) ∷ []))
   valid_forked left =
       let own : IsValidProcess s who p = valid.procs who p is in
-      let still : (q : Pid) → IsThere s.procs q → IsThere more_procs q = there_still pid_cmp_total s.procs child (child_of who p) in
+      let still : (q : Pid) → IsThere s.procs q → IsThere more_procs q = still_there pid_cmp_total s.procs child (child_of who p) in
       valid_open s s.objects more_procs s.descriptions more_numbers s.description_numbers valid (itself_like s.objects) (itself_like s.objects)
-      (λ id o e. let old = valid.objects id o e in open_object s s.objects more_procs s.descriptions more_numbers s.description_numbers id o o old refl old.below (content_of s id o old) old.fifo_bytes)
+      (still_valid_object s valid more_procs s.descriptions more_numbers s.description_numbers (λ id none. none))
       (each-insert pid_cmp_total pid_cmp_exact (IsValidProcess forked_state) s.procs
       (λ q x e. let old = valid.procs q x e in
-      open_process s s.objects more_procs s.descriptions more_numbers s.description_numbers (itself_like s.objects) (still_drawn s.process_numbers p.label) q x (alone_of s q x old) (λ r at. still r (old.parent r at)) old.fds)
+      open_process_in s s.objects more_procs s.descriptions more_numbers s.description_numbers (itself_like s.objects) (still_drawn s.process_numbers p.label) q x (alone_of s q x old) (λ r at. still r (old.parent r at)) old.fds)
       child (child_of who p) (record {
         below = own.below;
         drawn_already = next_drawn s.process_numbers p.label;
@@ -72,26 +65,9 @@ module _ (s : State) (valid : IsValid s) (who : Pid) (p : Process) (is : map.get
         ended = tt;
         fds = own.fds;
       }))
-      (λ did d e. let old = valid.descriptions did d e in record { drawn_already = old.drawn_already; object = old.object; object_is = old.object_is; no_dir = old.no_dir; held = forked_held did old.held })
+      (still_valid_description s valid more_procs s.descriptions more_numbers s.description_numbers (λ did d old. old.drawn_already) forked_held)
       (record {
         below = still_below s.process_numbers p.label s.top own.below valid.process_numbers.below;
         few = each_set_at label_cmp_total label_cmp_exact (λ (l : Label) (n : ℕ). n ≤ MAX_PROCS) 0 s.process_numbers p.label (drawn s.process_numbers p.label + 1) (omega (arith, left)) valid.process_numbers.few;
       })
       valid.description_numbers
-
-  -- a state stays valid where a process has awaited its first child that ended
-  pub valid_awaited : (e : Pid × Ending) (es : List (Pid × Ending)) → p.ended ≡ e ∷ es → IsValid (changed s (SetProcess who (record p { ended = es })))
-  valid_awaited e es first =
-      let own : IsValidProcess s who p = valid.procs who p is in
-      valid_process s valid who _ (λ old at. ap (λ (x : Process). x.fds) (some_same p old (sym is ∙ at)))
-      (record {
-        below = own.below;
-        drawn_already = own.drawn_already;
-        within = own.within;
-        umask = own.umask;
-        few_groups = own.few_groups;
-        cwd = own.cwd;
-        parent = own.parent;
-        ended = (subst (AllByRecursion (IsValidEnd s)) first own.ended).1;
-        fds = own.fds;
-      })

@@ -19,7 +19,7 @@ use Rattle.kern_model.specs.State.{State, Process}
 use Rattle.kern_model.specs.Walk.{read_object}
 use Rattle.kern_model.proofs.MapLemmas.{some_same}
 use Rattle.iso_laws.proofs.Along.{Reaches, ByWalk, along_need_if, along_path}
-use Rattle.iso_laws.proofs.Effects.{Premise, OfKinds, of_reached, of_caller, InRange, CheckKind, OfCaller, OfNumber, OfLiving, Effect, Reads, SetIds, SetUmask, SetCaps, Execute, SetLabel, MakeChild, Await, Finish}
+use Rattle.iso_laws.proofs.Effects.{Premise, OfKinds, of_reached, of_caller, InRange, CheckKind, OfCaller, OfNumber, OfLiving, Effect, NoChange, SetIds, SetUmask, SetCaps, Execute, SetLabel, MakeChild, Await, EndProcess}
 
 module _ (Known : Check → Type 0) (Not : Bool → Type 0) (Given : Premise → Type 0) (s : State) (who : Pid) (p : Process) where
   -- a check that is made where it is asked for
@@ -39,13 +39,13 @@ module _ (Known : Check → Type 0) (Not : Bool → Type 0) (Given : Premise →
   wait_kinds = (refl, λ _. take_kinds p.ended refl)
 
   pub exit_kinds : map.get s.procs who ≡ Some p → (code : ℕ) → OfKinds Known Not Given s who p (exit_row s who p code)
-  exit_kinds is code = Finish who p (ending.Exit code) is (inl refl)
+  exit_kinds is code = EndProcess who p (ending.Exit code) is (inl refl)
 
   signalled_kinds : (target : Pid) (t : Process) → map.get s.procs target ≡ Some t → Known (mac_write_process p target target.label) → (sig : Signal)
       → OfKinds Known Not Given s who p (signalled s target t sig)
-  signalled_kinds target t at written signal.Zero = Reads
-  signalled_kinds target t at written signal.Term = Finish target t ending.Term at (inr written)
-  signalled_kinds target t at written signal.Kill = Finish target t ending.Kill at (inr written)
+  signalled_kinds target t at written signal.Zero = NoChange
+  signalled_kinds target t at written signal.Term = EndProcess target t ending.Term at (inr written)
+  signalled_kinds target t at written signal.Kill = EndProcess target t ending.Kill at (inr written)
 
   send_kinds : (target : Pid) (sig : Signal) → Known (mac_write_process p target target.label) → (o : Option Process) → map.get s.procs target ≡ o
       → OfKinds Known Not Given s who p (send s p target sig o)
@@ -67,19 +67,19 @@ module _ (Known : Check → Type 0) (Not : Bool → Type 0) (Given : Premise →
 
   -- ---- what a process reports of itself
   pub getpid_kinds : OfKinds Known Not Given s who p (getpid_row s who p)
-  getpid_kinds = Reads
+  getpid_kinds = NoChange
 
   pub getppid_kinds : OfKinds Known Not Given s who p (getppid_row s who p)
-  getppid_kinds = Reads
+  getppid_kinds = NoChange
 
   pub getids_kinds : OfKinds Known Not Given s who p (getids_row s who p)
-  getids_kinds = Reads
+  getids_kinds = NoChange
 
   pub cap_get_proc_kinds : OfKinds Known Not Given s who p (cap_get_proc_row s who p)
-  cap_get_proc_kinds = Reads
+  cap_get_proc_kinds = NoChange
 
   pub mac_get_proc_kinds : OfKinds Known Not Given s who p (mac_get_proc_row s who p)
-  mac_get_proc_kinds = Reads
+  mac_get_proc_kinds = NoChange
 
   -- ---- what a process sets of itself
   pub setuid_kinds : (user : ℕ) → OfKinds Known Not Given s who p (setuid_row s who p user)

@@ -1,22 +1,17 @@
 -- A valid state stays valid where its objects and entries change.
 use Rattle.std.specs.Prelude.{◌≡◌, ◌⊎◌, ℕ, ◌+◌, ◌≤◌, Bool, true, false, not, List, [], ◌∷◌, ◌++◌, Some, None, refl, length}
-use Rattle.std.specs.List.{AllByRecursion}
 use Rattle.std.specs.Option.{option_and_then}
-use Rattle.std.specs.Ordering.{eq_by_cmp, is_eq}
+use Rattle.std.specs.Ordering.{eq_by_cmp}
 use Rattle.std.specs.FinMap as map
 use Rattle.std.specs.FinMap.{FinMap}
 use Rattle.std.proofs.Common.{sym, ◌∙◌, ap, subst, arith, inl, inr}
 use Rattle.std.proofs.lemmas.Bool.{true≢false, and_parts, and_from, ltb-true, false_from_ne_true, not-true}
-use Rattle.std.proofs.lemmas.Cmp.{tied_itself}
 use Rattle.cap_bits.specs.State.{no_flags}
 use Rattle.fs_path.specs.Name.{Name, is_name}
 use Rattle.lab_lattice.specs.Label.{Label, dominates, label_cmp}
 use Rattle.lab_lattice.proofs.Labels.{label_cmp_total, label_cmp_exact}
 use Rattle.kern_model.specs.declared.limits.TheConstants.{MAX_FILE_BYTES, MAX_LINKS, MAX_OBJECTS, MAX_PIPE_BYTES}
-use Rattle.kern_model.specs.declared.calls.Ending.{Ending}
-use Rattle.kern_model.specs.declared.numbers.Pid.{Pid}
 use Rattle.kern_model.specs.declared.numbers.Oid.{Oid}
-use Rattle.kern_model.specs.declared.numbers.Did.{Did}
 use Rattle.kern_model.specs.declared.objects.Kind.TheVariants as kind
 use Rattle.kern_model.specs.declared.objects.Object.{Object}
 use Rattle.kern_model.specs.Create.{made, has_object_number}
@@ -24,23 +19,17 @@ use Rattle.kern_model.specs.Entries.{is_empty, is_held, is_removed, link_count}
 use Rattle.kern_model.specs.Keys.{Spot, oid_cmp, spot_cmp, same_oid}
 use Rattle.kern_model.specs.Kinds.{is_dir, is_mode}
 use Rattle.kern_model.specs.Maps.{any_entry}
-use Rattle.kern_model.specs.State.{State, Process, Description, DropEntry, SetEntry, changed, changed_by, drawn, next_object, look, object_at, stub_object, root}
-use Rattle.kern_model.specs.Valid.{IsValid, IsDir, IsDrawn, AreFew, IsReached, IsHeld, IsValidObject, IsValidEntry, IsValidEnd, IsValidProcess, IsValidDescription, leads}
+use Rattle.kern_model.specs.State.{State, Process, DropEntry, SetEntry, changed, changed_by, drawn, next_object, look, object_at, stub_object, root}
+use Rattle.kern_model.specs.Valid.{IsValid, IsDir, IsDrawn, AreFew, IsReached, IsValidObject, IsValidEntry, leads}
 use Rattle.kern_model.proofs.KeyLaws.{oid_cmp_total, oid_cmp_exact, spot_cmp_total, spot_cmp_exact}
 use Rattle.kern_model.proofs.MapLemmas.{same_key, some_same, never_some, each-remove, each-insert, get-insert_same, get-insert_kept, get_or-found, count_entries-none}
 use Rattle.kern_model.proofs.TableLemmas.{each_set_at}
-use Rattle.iso_laws.proofs.Leading.{leads_step, leads_kept, leads_on}
+use Rattle.iso_laws.proofs.PathLemmas.{leads_step, leads_still, leads_on}
 use Rattle.kern_model.proofs.Selections.{none_passes, none_pass, count_remove, count_insert, count_insert_other, get-remove_same, get-remove_other}
 use Rattle.kern_model.proofs.StateLemmas.{next_absent}
 use Rattle.iso_laws.proofs.ValidLemmas.{still_drawn, next_drawn, still_below}
-
--- different numbers compare unequal
-pub distinct : (a b : Oid) → (a ≡ b → ⊥) → same_oid a b ≡ false
-distinct a b other = false_from_ne_true _ (λ t. other (same_key oid_cmp_exact a b t))
-
--- numbers that compare unequal are different
-pub never_same : (a b : Oid) → same_oid a b ≡ false → a ≡ b → ⊥
-never_same a b other same = true≢false (ap is_eq (sym (tied_itself oid_cmp_total a)) ∙ ap (same_oid a) same ∙ other)
+use Rattle.iso_laws.proofs.KeyLemmas.{distinct, never_same}
+use Rattle.iso_laws.proofs.ValidIn.{alone_of, IsOfKind, itself_of_kind, held_in, description_in, process_in, object_in, content_of}
 
 -- an object that is no directory has no entries
 pub no_entries : (s : State) → IsValid s → (id : Oid) → is_dir (object_at s id).kind ≡ false → is_empty s id ≡ true
@@ -52,12 +41,12 @@ no_entries s valid id no_dir = ap not (none_pass spot_cmp_total spot_cmp_exact (
     cc)))
 
 -- an empty directory has no name
-pub none_in : (s : State) (dir : Oid) (name : Name) → is_empty s dir ≡ true → look s dir name ≡ None
-none_in s dir name empty =
+pub no_name_in : (s : State) (dir : Oid) (name : Name) → is_empty s dir ≡ true → look s dir name ≡ None
+no_name_in s dir name empty =
     elim (look s dir name) as (λ w. look s dir name ≡ w → w ≡ None) [
       | None ↦ λ _. refl
       | Some id ↦ λ e.
-          absurd (never_same dir dir (none_passes spot_cmp_total spot_cmp_exact (λ (spot : Spot) (at : Oid). same_oid spot.0 dir) s.entries (not-true _ empty) (dir, name) id e) refl)
+          absurd (never_same oid_cmp_total dir dir (none_passes spot_cmp_total spot_cmp_exact (λ (spot : Spot) (at : Oid). same_oid spot.0 dir) s.entries (not-true _ empty) (dir, name) id e) refl)
     ] refl
 
 -- ---- other objects and entries
@@ -66,25 +55,11 @@ module _ (s : State) (objects : FinMap oid_cmp Object) (entries : FinMap spot_cm
   abbrev pub with_tree : State
   with_tree = record s { objects = objects; entries = entries; object_numbers = object_numbers }
 
-  tree_ended : (es : List (Pid × Ending)) → AllByRecursion (IsValidEnd s) es → AllByRecursion (IsValidEnd with_tree) es
-  tree_ended [] h = tt
-  tree_ended (e ∷ es) h = (record { below = h.0.below; drawn_already = h.0.drawn_already }, tree_ended es h.1)
-
-  -- an object stays valid where it has room for its names and, as a directory, is reached or is removed and empty
+  -- an object stays valid where its names are few and, as a directory, is reached or is removed and empty
   pub tree_object : (id : Oid) (o : Object) → IsValidObject s id o → IsDrawn id.n (drawn object_numbers id.label) → (is_dir o.kind ≡ false → link_count with_tree id ≤ MAX_LINKS)
       → (o.kind ≡ kind.Dir → IsReached with_tree id ⊎ ((is_removed with_tree id ≡ true) × (is_empty with_tree id ≡ true))) → IsValidObject with_tree id o
-  tree_object id o valid drawn_already few_names reached = record {
-    below = valid.below;
-    drawn_already = drawn_already;
-    mode = valid.mode;
-    only_files = valid.only_files;
-    dir_bytes = valid.dir_bytes;
-    file_bytes = valid.file_bytes;
-    stream_bytes = valid.stream_bytes;
-    fifo_bytes = valid.fifo_bytes;
-    few_names = few_names;
-    reached = reached;
-  }
+  tree_object id o valid drawn_already few_names reached =
+      object_in s with_tree refl id o valid.below drawn_already (content_of s id o valid) valid.fifo_bytes few_names reached
 
   -- each object that was there is still there
   module _ (still : (id : Oid) (o : Object) → map.get s.objects id ≡ Some o → map.get objects id ≡ Some o) where
@@ -101,30 +76,8 @@ module _ (s : State) (objects : FinMap oid_cmp Object) (entries : FinMap spot_cm
       order = valid.order;
     }
 
-    tree_process : (who : Pid) (p : Process) → IsValidProcess s who p → IsValidProcess with_tree who p
-    tree_process who p valid = record {
-      below = valid.below;
-      drawn_already = valid.drawn_already;
-      within = valid.within;
-      umask = valid.umask;
-      few_groups = valid.few_groups;
-      cwd = record { object = valid.cwd.object; is = still p.cwd valid.cwd.object valid.cwd.is; dir = valid.cwd.dir };
-      parent = valid.parent;
-      ended = tree_ended p.ended valid.ended;
-      fds = valid.fds;
-    }
-
-    tree_held : (did : Did) → IsHeld s did → IsHeld with_tree did
-    tree_held did held = record { who = held.who; process = held.process; fd = held.fd; process_is = held.process_is; fd_is = held.fd_is }
-
-    tree_description : (did : Did) (d : Description) → IsValidDescription s did d → IsValidDescription with_tree did d
-    tree_description did d valid = record {
-      drawn_already = valid.drawn_already;
-      object = valid.object;
-      object_is = still d.object valid.object valid.object_is;
-      no_dir = valid.no_dir;
-      held = tree_held did valid.held;
-    }
+    of_same_kind : (id : Oid) (o : Object) → map.get s.objects id ≡ Some o → IsOfKind objects id o
+    of_same_kind id o e = itself_of_kind objects id o (still id o e)
 
     -- a state with other objects, entries and numbers is valid where each object and entry of it is
     pub valid_tree : IsValid s
@@ -139,8 +92,9 @@ module _ (s : State) (objects : FinMap oid_cmp Object) (entries : FinMap spot_cm
           objects = each_object;
           entries = each_entry;
           one_entry = one_entry;
-          procs = λ who p e. tree_process who p (valid.procs who p e);
-          descriptions = λ did d e. tree_description did d (valid.descriptions did d e);
+          procs = λ who p e. let old = valid.procs who p e in process_in s with_tree refl of_same_kind (λ label n h. h) who p (alone_of s who p old) old.parent old.fds;
+          descriptions = λ did d e.
+              let old = valid.descriptions did d e in description_in s with_tree refl of_same_kind did d old old.drawn_already (held_in s with_tree refl (λ who p e. e) did old.held);
           object_numbers = few;
           process_numbers = valid.process_numbers;
           description_numbers = valid.description_numbers;
@@ -167,7 +121,7 @@ module _ (s : State) (valid : IsValid s) (spot : Spot) (id : Oid) (is : map.get 
   ends_there : (names : List Name) (q : Oid) → leads s id names ≡ Some q → q ≡ id
   ends_there [] q h = sym (some_same id q h)
   ends_there (name ∷ names) q h =
-      let none : None ≡ Some q = sym (ap (option_and_then (λ (next : Oid). leads s next names)) (none_in s id name empty)) ∙ h in
+      let none : None ≡ Some q = sym (ap (option_and_then (λ (next : Oid). leads s next names)) (no_name_in s id name empty)) ∙ h in
       absurd (cc)
 
   -- names lead where they led, unless they led to what the removed entry leads to
@@ -230,21 +184,21 @@ module _ (s : State) (valid : IsValid s) (spot : Spot) (id : Oid) (is : map.get 
 
 -- ---- an entry is added where none was, in a directory that is not removed
 -- names lead to a directory that is not removed
-pub standing_reached : (s : State) → IsValid s → (dir : Oid) → IsDir s.objects dir → is_removed s dir ≡ false → IsReached s dir
-standing_reached s valid dir dir_is standing = elim ((valid.objects dir dir_is.object dir_is.is).reached dir_is.dir) as (λ w. IsReached s dir) [
+pub not_removed_reached : (s : State) → IsValid s → (dir : Oid) → IsDir s.objects dir → is_removed s dir ≡ false → IsReached s dir
+not_removed_reached s valid dir dir_is not_removed = elim ((valid.objects dir dir_is.object dir_is.is).reached dir_is.dir) as (λ w. IsReached s dir) [
   | inl r ↦ r
-  | inr gone ↦ absurd (true≢false (sym gone.0 ∙ standing))
+  | inr gone ↦ absurd (true≢false (sym gone.0 ∙ not_removed))
 ]
 
-module _ (s : State) (valid : IsValid s) (objects : FinMap oid_cmp Object) (object_numbers : FinMap label_cmp ℕ) (dir : Oid) (name : Name) (to : Oid) (dir_is : IsDir s.objects dir) (free : look s dir name ≡ None) (standing : is_removed s dir ≡ false) where
+module _ (s : State) (valid : IsValid s) (objects : FinMap oid_cmp Object) (object_numbers : FinMap label_cmp ℕ) (dir : Oid) (name : Name) (to : Oid) (dir_is : IsDir s.objects dir) (free : look s dir name ≡ None) (not_removed : is_removed s dir ≡ false) where
   abbrev added : FinMap spot_cmp Oid
   added = map.insert s.entries (dir, name) to
 
   abbrev more_state : State
   more_state = with_tree s objects added object_numbers
 
-  kept_entry : (at : Spot) (q : Oid) → map.get s.entries at ≡ Some q → map.get added at ≡ Some q
-  kept_entry = get-insert_kept spot_cmp_total spot_cmp_exact s.entries (dir, name) to free
+  entry_stays : (at : Spot) (q : Oid) → map.get s.entries at ≡ Some q → map.get added at ≡ Some q
+  entry_stays = get-insert_kept spot_cmp_total spot_cmp_exact s.entries (dir, name) to free
 
   -- an entry of something else was there before
   old_entry : (at : Spot) (q : Oid) → map.get added at ≡ Some q → (q ≡ to → ⊥) → map.get s.entries at ≡ Some q
@@ -255,10 +209,10 @@ module _ (s : State) (valid : IsValid s) (objects : FinMap oid_cmp Object) (obje
       (each-insert spot_cmp_total spot_cmp_exact (λ (at : Spot) (q : Oid). p at q ≡ false) s.entries (none_passes spot_cmp_total spot_cmp_exact p s.entries none) (dir, name) to unmet)
 
   dir_reached : IsReached s dir
-  dir_reached = standing_reached s valid dir dir_is standing
+  dir_reached = not_removed_reached s valid dir dir_is not_removed
 
   leads_more : (names : List Name) (q : Oid) → leads s root names ≡ Some q → leads more_state root names ≡ Some q
-  leads_more = leads_kept s more_state kept_entry root
+  leads_more = leads_still s more_state entry_stays root
 
   reached_now : IsReached more_state to
   reached_now = record {
@@ -272,15 +226,15 @@ module _ (s : State) (valid : IsValid s) (objects : FinMap oid_cmp Object) (obje
     | inr gone ↦
         let parts = and_parts (not (same_oid q root)) (not (is_held s q)) gone.0 in
         inr (
-          and_from _ _ parts.0 (ap not (none_more (λ (at : Spot) (x : Oid). same_oid x q) (not-true _ parts.1) (distinct to q other))),
-          ap not (none_more (λ (at : Spot) (x : Oid). same_oid at.0 q) (not-true _ gone.1) (distinct dir q (λ same.
-              let no : true ≡ false = sym gone.0 ∙ ap (is_removed s) (sym same) ∙ standing in
+          and_from _ _ parts.0 (ap not (none_more (λ (at : Spot) (x : Oid). same_oid x q) (not-true _ parts.1) (distinct oid_cmp_exact to q other))),
+          ap not (none_more (λ (at : Spot) (x : Oid). same_oid at.0 q) (not-true _ gone.1) (distinct oid_cmp_exact dir q (λ same.
+              let no : true ≡ false = sym gone.0 ∙ ap (is_removed s) (sym same) ∙ not_removed in
               cc))),
         )
   ]
 
   names_still : (q : Oid) → (to ≡ q → ⊥) → link_count more_state q ≤ link_count s q
-  names_still q other = count_insert_other spot_cmp_total spot_cmp_exact (λ (at : Spot) (x : Oid). same_oid x q) (dir, name) s.entries to free (distinct to q other)
+  names_still q other = count_insert_other spot_cmp_total spot_cmp_exact (λ (at : Spot) (x : Oid). same_oid x q) (dir, name) s.entries to free (distinct oid_cmp_exact to q other)
 
   names_more : link_count more_state to ≤ link_count s to + 1
   names_more = count_insert spot_cmp_total spot_cmp_exact (λ (at : Spot) (x : Oid). same_oid x to) (dir, name) s.entries to free
@@ -289,9 +243,9 @@ module _ (s : State) (valid : IsValid s) (objects : FinMap oid_cmp Object) (obje
 pub no_dir_is : (o : Object) → is_dir o.kind ≡ false → o.kind ≡ kind.Dir → ⊥
 no_dir_is o no_dir dir = let no : true ≡ false = ap is_dir (sym dir) ∙ no_dir in cc
 
-module _ (s : State) (valid : IsValid s) (dir : Oid) (name : Name) (id : Oid) (dir_is : IsDir s.objects dir) (free : look s dir name ≡ None) (standing : is_removed s dir ≡ false) (o : Object) (is : map.get s.objects id ≡ Some o) (no_dir : is_dir o.kind ≡ false) where
+module _ (s : State) (valid : IsValid s) (dir : Oid) (name : Name) (id : Oid) (dir_is : IsDir s.objects dir) (free : look s dir name ≡ None) (not_removed : is_removed s dir ≡ false) (o : Object) (is : map.get s.objects id ≡ Some o) (no_dir : is_dir o.kind ≡ false) where
   abbrev linked : State
-  linked = more_state s valid s.objects s.object_numbers dir name id dir_is free standing
+  linked = more_state s valid s.objects s.object_numbers dir name id dir_is free not_removed
 
   linked_object : link_count s id + 1 ≤ MAX_LINKS → (q : Oid) (x : Object) → map.get s.objects q ≡ Some x → IsValidObject linked q x
   linked_object few q x e =
@@ -300,19 +254,19 @@ module _ (s : State) (valid : IsValid s) (dir : Oid) (name : Name) (id : Oid) (d
         | true ↦ λ t.
             let same : q ≡ id = same_key oid_cmp_exact q id t in
             let is_o : x ≡ o = some_same x o (sym e ∙ ap (map.get s.objects) same ∙ is) in
-            let more : link_count linked id ≤ MAX_LINKS = omega (arith, few, names_more s valid s.objects s.object_numbers dir name id dir_is free standing) in
-            tree_object s s.objects (added s valid s.objects s.object_numbers dir name id dir_is free standing) s.object_numbers q x old old.drawn_already (λ _. subst (λ (z : Oid). link_count linked z ≤ MAX_LINKS) (sym same) more)
+            let more : link_count linked id ≤ MAX_LINKS = omega (arith, few, names_more s valid s.objects s.object_numbers dir name id dir_is free not_removed) in
+            tree_object s s.objects (added s valid s.objects s.object_numbers dir name id dir_is free not_removed) s.object_numbers q x old old.drawn_already (λ _. subst (λ (z : Oid). link_count linked z ≤ MAX_LINKS) (sym same) more)
             (λ q_dir. absurd (no_dir_is o no_dir (ap (λ (z : Object). z.kind) (sym is_o) ∙ q_dir)))
         | false ↦ λ t.
-            let other : id ≡ q → ⊥ = λ same. never_same q id t (sym same) in
-            let fewer = names_still s valid s.objects s.object_numbers dir name id dir_is free standing q other in
-            tree_object s s.objects (added s valid s.objects s.object_numbers dir name id dir_is free standing) s.object_numbers q x old old.drawn_already (λ nd. omega (arith, fewer, old.few_names nd))
-            (λ q_dir. reached_still s valid s.objects s.object_numbers dir name id dir_is free standing q x e q_dir other)
+            let other : id ≡ q → ⊥ = λ same. never_same oid_cmp_total q id t (sym same) in
+            let fewer = names_still s valid s.objects s.object_numbers dir name id dir_is free not_removed q other in
+            tree_object s s.objects (added s valid s.objects s.object_numbers dir name id dir_is free not_removed) s.object_numbers q x old old.drawn_already (λ nd. omega (arith, fewer, old.few_names nd))
+            (λ q_dir. reached_still s valid s.objects s.object_numbers dir name id dir_is free not_removed q x e q_dir other)
       ] refl
 
   pub valid_link : (o.kind ≡ kind.Pipe → ⊥) → link_count s id + 1 ≤ MAX_LINKS → dominates o.label dir_is.object.label ≡ true → is_name name ≡ true → IsValid (changed s (SetEntry (dir, name) id))
   valid_link no_pipe few order named =
-      let entries = added s valid s.objects s.object_numbers dir name id dir_is free standing in
+      let entries = added s valid s.objects s.object_numbers dir name id dir_is free not_removed in
       valid_tree s s.objects entries s.object_numbers (λ q x e. e) valid (linked_object few)
       (each-insert spot_cmp_total spot_cmp_exact (IsValidEntry linked) s.entries (λ at q e. tree_entry s s.objects entries s.object_numbers (λ x y g. g) at q (valid.entries at q e)) (dir, name) id (record {
         name = named;
@@ -327,7 +281,7 @@ module _ (s : State) (valid : IsValid s) (dir : Oid) (name : Name) (id : Oid) (d
       }))
       (λ a b q x e g q_is q_dir.
       let other : q ≡ id → ⊥ = λ same. no_dir_is o no_dir (ap (λ (z : Object). z.kind) (some_same o x (sym is ∙ ap (map.get s.objects) (sym same) ∙ q_is)) ∙ q_dir) in
-      valid.one_entry a b q x (old_entry s valid s.objects s.object_numbers dir name id dir_is free standing a q e other) (old_entry s valid s.objects s.object_numbers dir name id dir_is free standing b q g other) q_is q_dir)
+      valid.one_entry a b q x (old_entry s valid s.objects s.object_numbers dir name id dir_is free not_removed a q e other) (old_entry s valid s.objects s.object_numbers dir name id dir_is free not_removed b q g other) q_is q_dir)
       valid.object_numbers
 
 -- ---- an object that is made
@@ -339,7 +293,7 @@ pub record IsFresh (p : Process) (o : Object) : Type 0 where
   pub bytes : o.bytes ≡ []
   pub no_pipe : o.kind ≡ kind.Pipe → ⊥
 
-module _ (s : State) (valid : IsValid s) (p : Process) (dir : Oid) (name : Name) (o : Object) (fresh : IsFresh p o) (dir_is : IsDir s.objects dir) (free : look s dir name ≡ None) (standing : is_removed s dir ≡ false) where
+module _ (s : State) (valid : IsValid s) (p : Process) (dir : Oid) (name : Name) (o : Object) (fresh : IsFresh p o) (dir_is : IsDir s.objects dir) (free : look s dir name ≡ None) (not_removed : is_removed s dir ≡ false) where
   abbrev new : Oid
   new = next_object s p.label
 
@@ -350,10 +304,10 @@ module _ (s : State) (valid : IsValid s) (p : Process) (dir : Oid) (name : Name)
   more_numbers = map.insert s.object_numbers p.label (drawn s.object_numbers p.label + 1)
 
   abbrev entries_now : FinMap spot_cmp Oid
-  entries_now = added s valid more_objects more_numbers dir name new dir_is free standing
+  entries_now = added s valid more_objects more_numbers dir name new dir_is free not_removed
 
   abbrev made_state : State
-  made_state = more_state s valid more_objects more_numbers dir name new dir_is free standing
+  made_state = more_state s valid more_objects more_numbers dir name new dir_is free not_removed
 
   still : (q : Oid) (x : Object) → map.get s.objects q ≡ Some x → map.get more_objects q ≡ Some x
   still = get-insert_kept oid_cmp_total oid_cmp_exact s.objects new o (next_absent s valid p.label)
@@ -362,15 +316,15 @@ module _ (s : State) (valid : IsValid s) (p : Process) (dir : Oid) (name : Name)
   is_other q x e same = never_some (map.get s.objects new) x (next_absent s valid p.label) (ap (map.get s.objects) same ∙ e)
 
   no_names : link_count s new ≡ 0
-  no_names = count_entries-none spot_cmp_total spot_cmp_exact (λ (at : Spot) (x : Oid). same_oid x new) s.entries (λ at q e. let entry = valid.entries at q e in distinct q new (λ same. is_other q entry.object entry.object_is (sym same)))
+  no_names = count_entries-none spot_cmp_total spot_cmp_exact (λ (at : Spot) (x : Oid). same_oid x new) s.entries (λ at q e. let entry = valid.entries at q e in distinct oid_cmp_exact q new (λ same. is_other q entry.object entry.object_is (sym same)))
 
   made_object : dominates s.top p.label ≡ true → (q : Oid) (x : Object) → map.get more_objects q ≡ Some x → IsValidObject made_state q x
   made_object below = each-insert oid_cmp_total oid_cmp_exact (IsValidObject made_state) s.objects
       (λ q x e.
       let old : IsValidObject s q x = valid.objects q x e in
-      let fewer = names_still s valid more_objects more_numbers dir name new dir_is free standing q (is_other q x e) in
+      let fewer = names_still s valid more_objects more_numbers dir name new dir_is free not_removed q (is_other q x e) in
       tree_object s more_objects entries_now more_numbers q x old (still_drawn s.object_numbers p.label q.label q.n old.drawn_already) (λ nd. omega (arith, fewer, old.few_names nd))
-      (λ q_dir. reached_still s valid more_objects more_numbers dir name new dir_is free standing q x e q_dir (is_other q x e)))
+      (λ q_dir. reached_still s valid more_objects more_numbers dir name new dir_is free not_removed q x e q_dir (is_other q x e)))
       new o (record {
         below = ap (dominates s.top) fresh.label ∙ below;
         drawn_already = next_drawn s.object_numbers p.label;
@@ -380,8 +334,8 @@ module _ (s : State) (valid : IsValid s) (p : Process) (dir : Oid) (name : Name)
         file_bytes = λ _. subst (λ (xs : List ℕ). length xs ≤ MAX_FILE_BYTES) (sym fresh.bytes) (omega arith);
         stream_bytes = λ _. subst (λ (xs : List ℕ). length xs ≤ MAX_PIPE_BYTES) (sym fresh.bytes) (omega arith);
         fifo_bytes = λ _ _. fresh.bytes;
-        few_names = λ _. omega (arith, no_names, names_more s valid more_objects more_numbers dir name new dir_is free standing);
-        reached = λ _. inl (reached_now s valid more_objects more_numbers dir name new dir_is free standing);
+        few_names = λ _. omega (arith, no_names, names_more s valid more_objects more_numbers dir name new dir_is free not_removed);
+        reached = λ _. inl (reached_now s valid more_objects more_numbers dir name new dir_is free not_removed);
       })
 
   made_entry : dominates p.label dir_is.object.label ≡ true → is_name name ≡ true → (at : Spot) (q : Oid) → map.get entries_now at ≡ Some q → IsValidEntry made_state at q
@@ -408,8 +362,8 @@ module _ (s : State) (valid : IsValid s) (p : Process) (dir : Oid) (name : Name)
       elim (eq_by_cmp oid_cmp q new) as (λ v. eq_by_cmp oid_cmp q new ≡ v → a ≡ b) [
         | true ↦ λ t. let same = same_key oid_cmp_exact q new t in at_new a q e same ∙ sym (at_new b q g same)
         | false ↦ λ t.
-            let other : q ≡ new → ⊥ = never_same q new t in
-            valid.one_entry a b q x (old_entry s valid more_objects more_numbers dir name new dir_is free standing a q e other) (old_entry s valid more_objects more_numbers dir name new dir_is free standing b q g other) (was_there q x q_is other) q_dir
+            let other : q ≡ new → ⊥ = never_same oid_cmp_total q new t in
+            valid.one_entry a b q x (old_entry s valid more_objects more_numbers dir name new dir_is free not_removed a q e other) (old_entry s valid more_objects more_numbers dir name new dir_is free not_removed b q g other) (was_there q x q_is other) q_dir
       ] refl
 
   few_numbers : dominates s.top p.label ≡ true → has_object_number s p.label ≡ true → AreFew s.top more_numbers MAX_OBJECTS

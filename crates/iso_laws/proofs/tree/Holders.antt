@@ -1,12 +1,10 @@
 -- The directories above a directory: how many there may be, and that the part finds the same ones.
 use Rattle.std.specs.Prelude.{◌≡◌, ℕ, zero, suc, ◌+◌, ◌≤◌, ◌&&◌, ◌||◌, Bool, true, false, List, [], ◌∷◌, Some, None, refl, cond, length}
 use Rattle.std.specs.Option.{option_and_then}
-use Rattle.std.specs.Ordering.{is_eq}
 use Rattle.std.specs.FinMap as map
 use Rattle.std.specs.FinMap.{FinMap}
 use Rattle.std.proofs.Common.{sym, ◌∙◌, ap, subst, arith, inl, inr}
 use Rattle.std.proofs.lemmas.Bool.{true≢false, and_parts, and_from, or_left, or_right, true_from_ne_false, false_from_ne_true, not-true}
-use Rattle.std.proofs.lemmas.Cmp.{tied_itself}
 use Rattle.fs_path.specs.Name.{Name}
 use Rattle.lab_lattice.specs.Label.{Label}
 use Rattle.kern_model.specs.declared.numbers.Oid.{Oid}
@@ -20,10 +18,11 @@ use Rattle.kern_model.specs.State.{State, object_at, stub_object, look, root}
 use Rattle.kern_model.specs.Valid.{IsValid, IsDir, leads}
 use Rattle.kern_model.proofs.KeyLaws.{oid_cmp_total, oid_cmp_exact, spot_cmp_total, spot_cmp_exact}
 use Rattle.kern_model.proofs.MapLemmas.{same_key, some_same, never_some, each-remove, each-entries, get_or-found}
-use Rattle.iso_laws.proofs.Part.{by_number, shown, low_spot}
+use Rattle.iso_laws.proofs.Part.{part_by_number, shown_oid, low_spot}
 use Rattle.kern_model.proofs.Selections.{test_after, find_none, find_only, find-select, count_entries-select, none_passes, none_pass, count_removed, count_at_most, get-remove_other}
-use Rattle.iso_laws.proofs.tree.Changes.{never_same}
 use Rattle.iso_laws.proofs.tree.Entries.{leads_to, holder_low}
+use Rattle.iso_laws.proofs.KeyLemmas.{never_same}
+use Rattle.std.proofs.lemmas.Cmp.{eq_by_cmp_equiv}
 
 -- ---- who holds an object
 module _ (s : State) where
@@ -32,7 +31,7 @@ module _ (s : State) where
   no_holder id none = find_none (λ (e : Spot × Oid). same_oid e.1 id) (λ (e : Spot × Oid). e.0.0) (map.entries s.entries) none
 
   held_by : (spot : Spot) (id : Oid) → map.get s.entries spot ≡ Some id → is_held s id ≡ true
-  held_by spot id is = true_from_ne_false _ (λ none. never_same id id (none_passes spot_cmp_total spot_cmp_exact (λ (at : Spot) (to : Oid). same_oid to id) s.entries none spot id is) refl)
+  held_by spot id is = true_from_ne_false _ (λ none. never_same oid_cmp_total id id (none_passes spot_cmp_total spot_cmp_exact (λ (at : Spot) (to : Oid). same_oid to id) s.entries none spot id is) refl)
 
   -- an object to which one entry alone leads is held by the directory of that entry
   one_holder : (spot : Spot) (id : Oid) → map.get s.entries spot ≡ Some id → ((at : Spot) → map.get s.entries at ≡ Some id → at ≡ spot) → holder s id ≡ Some spot.0
@@ -53,18 +52,15 @@ module _ (s : State) where
     under_next : (n : ℕ) (id dir : Oid) → holder s id ≡ Some dir → is_under_within s (suc n) id top ≡ (same_oid id top || is_under_within s n dir top)
     under_next n id dir is = ap (λ w. same_oid id top || is_so_above (λ above. is_under_within s n above top) w) is
 
-  same_itself : (id : Oid) → same_oid id id ≡ true
-  same_itself id = ap is_eq (tied_itself oid_cmp_total id)
-
   under_itself : (n : ℕ) (id : Oid) → is_under_within s n id id ≡ true
-  under_itself zero id = same_itself id
-  under_itself (suc n) id = or_left _ _ (same_itself id)
+  under_itself zero id = (eq_by_cmp_equiv oid_cmp_total).refl id
+  under_itself (suc n) id = or_left _ _ ((eq_by_cmp_equiv oid_cmp_total).refl id)
 
   -- what is under a directory is under the directory that holds it
   under_more : (n : ℕ) (id dir top : Oid) → holder s dir ≡ Some top → is_under_within s n id dir ≡ true → is_under_within s (suc n) id top ≡ true
   under_more zero id dir top is under =
       let here : id ≡ dir = same_key oid_cmp_exact id dir under in
-      under_next top zero id top (ap (holder s) here ∙ is) ∙ or_right _ _ (same_itself top)
+      under_next top zero id top (ap (holder s) here ∙ is) ∙ or_right _ _ ((eq_by_cmp_equiv oid_cmp_total).refl top)
   under_more (suc n) id dir top is under =
       elim (same_oid id dir) as (λ b. same_oid id dir ≡ b → (b || is_so_above (λ above. is_under_within s n above dir) (holder s id)) ≡ true → is_under_within s (suc (suc n)) id top ≡ true) [
         | true ↦ λ same _. under_next top (suc n) id top (ap (holder s) (same_key oid_cmp_exact id dir same) ∙ is) ∙ or_right _ _ (under_itself (suc n) top)
@@ -194,8 +190,8 @@ module _ (s : State) (valid : IsValid s) where
       under_from names (length (map.entries s.entries)) from to (omega (arith, few)) lead to_dir
 
   -- no names lead from what is no directory, and from a directory none to what is not under it
-  pub not_led : (id to : Oid) → IsDir s.objects to → (is_dir (object_at s id).kind && is_under s to id) ≡ false → (names : List Name) → leads s id names ≡ Some to → ⊥
-  not_led id to to_dir outside names lead =
+  pub never_leads : (id to : Oid) → IsDir s.objects to → (is_dir (object_at s id).kind && is_under s to id) ≡ false → (names : List Name) → leads s id names ≡ Some to → ⊥
+  never_leads id to to_dir outside names lead =
       let dir = from_dir names id to lead to_dir in
       let reads : is_dir (object_at s id).kind ≡ true = ap (λ (o : Object). is_dir o.kind) (get_or-found s.objects id (stub_object s.top) dir.object dir.is) ∙ ap is_dir dir.dir in
       true≢false (sym (and_from _ _ reads (led_under names id to lead to_dir)) ∙ outside)
@@ -203,7 +199,7 @@ module _ (s : State) (valid : IsValid s) where
 -- ---- in the part of a label
 module _ (l : Label) (s : State) (kept : Kept l s) (valid : IsValid s) where
   abbrev part_s : State
-  part_s = by_number l s
+  part_s = part_by_number l s
 
   -- a Low directory
   record IsLowDir (id : Oid) : Type 0 where
@@ -217,17 +213,17 @@ module _ (l : Label) (s : State) (kept : Kept l s) (valid : IsValid s) where
   }
 
   same_holder : (id : Oid) → IsLowDir id → holder part_s id ≡ holder s id
-  unfolding holder by_number
+  unfolding holder part_by_number
   same_holder id low_dir =
-      find-select spot_cmp_total spot_cmp_exact (where_key (low_spot l) (shown l s.top)) (λ (spot : Spot) (to : Oid). same_oid to id) (λ (spot : Spot) (to : Oid). same_oid to id) s.entries
+      find-select spot_cmp_total spot_cmp_exact (where_key (low_spot l) (shown_oid l s.top)) (λ (spot : Spot) (to : Oid). same_oid to id) (λ (spot : Spot) (to : Oid). same_oid to id) s.entries
       (leads_to l s kept valid id (record { value = low_dir.dir.object; is = low_dir.dir.is }) low_dir.is_low) (λ (spot : Spot). spot.0)
 
   -- the part has no fewer entries than the state has at Low spots
   low_count : count_entries (λ (spot : Spot) (to : Oid). low_spot l spot) s.entries ≤ length (map.entries part_s.entries)
-  unfolding by_number
+  unfolding part_by_number
   low_count =
-      let counted = count_entries-select spot_cmp_total spot_cmp_exact (where_key (low_spot l) (shown l s.top)) (λ (spot : Spot) (to : Oid). low_spot l spot) (λ (spot : Spot) (to : Oid). true) s.entries (λ spot to _.
-      elim (low_spot l spot) as (λ b. test_after (λ (at : Spot) (x : Oid). true) spot (cond b (Some (shown l s.top to)) None) ≡ b) [ true ↦ refl | false ↦ refl ]) in
+      let counted = count_entries-select spot_cmp_total spot_cmp_exact (where_key (low_spot l) (shown_oid l s.top)) (λ (spot : Spot) (to : Oid). low_spot l spot) (λ (spot : Spot) (to : Oid). true) s.entries (λ spot to _.
+      elim (low_spot l spot) as (λ b. test_after (λ (at : Spot) (x : Oid). true) spot (cond b (Some (shown_oid l s.top to)) None) ≡ b) [ true ↦ refl | false ↦ refl ]) in
       omega (arith, counted, count_at_most (λ (spot : Spot) (to : Oid). true) part_s.entries)
 
   -- where it has enough steps, the search up from a Low directory finds the same in the part as in the state

@@ -16,17 +16,18 @@ use Rattle.kern_model.specs.Keys.{Spot, oid_cmp, spot_cmp, same_oid}
 use Rattle.kern_model.specs.Maps.{any_entry}
 use Rattle.kern_model.specs.State.{State, DropEntry, SetEntry, changed, changed_by, object_at, stub_object, look, root}
 use Rattle.kern_model.specs.Valid.{IsValid, IsDir, IsReached, IsValidObject, IsValidEntry, leads}
-use Rattle.kern_model.proofs.KeyLaws.{oid_cmp_exact, spot_cmp_total, spot_cmp_exact}
+use Rattle.kern_model.proofs.KeyLaws.{oid_cmp_total, oid_cmp_exact, spot_cmp_total, spot_cmp_exact}
 use Rattle.kern_model.proofs.MapLemmas.{same_key, some_same, never_some, each-remove, each-insert, get-insert_same, get-insert_kept, get_or-found}
-use Rattle.iso_laws.proofs.Leading.{leads_step, leads_kept, leads_on, leads_append}
+use Rattle.iso_laws.proofs.PathLemmas.{leads_step, leads_still, leads_on, leads_append}
 use Rattle.kern_model.proofs.Selections.{none_passes, none_pass, count_remove, count_removed, count_insert, count_insert_other, get-remove_same, get-remove_other, get-remove_none, insert-over_removed}
-use Rattle.iso_laws.proofs.tree.Changes.{with_tree, tree_object, tree_entry, valid_tree, valid_drop, standing_reached, distinct, never_same, none_in}
+use Rattle.iso_laws.proofs.tree.Changes.{with_tree, tree_object, tree_entry, valid_tree, valid_drop, not_removed_reached, no_name_in}
+use Rattle.iso_laws.proofs.KeyLemmas.{distinct, never_same}
 
 -- an entry may move to a spot of a directory that is neither removed nor below what moves; what is there is another thing, without entries
 pub record IsMove (s : State) (dir : Oid) (name : Name) (id into : Oid) (new : Name) : Type 0 where
   pub at : look s dir name ≡ Some id
   pub into_is : IsDir s.objects into
-  pub standing : is_removed s into ≡ false
+  pub not_removed : is_removed s into ≡ false
   pub apart : (names : List Name) → leads s id names ≡ Some into → ⊥
   pub gives_way : (t : Oid) → look s into new ≡ Some t → same_oid t id ≡ false × (is_empty s t ≡ true)
   pub order : dominates (object_at s id).label (object_at s into).label ≡ true
@@ -89,7 +90,7 @@ module _ (s : State) (valid : IsValid s) (dir : Oid) (name : Name) (id into : Oi
 
   into_reached : IsReached moved_state into
   into_reached =
-      let r : IsReached s into = standing_reached s valid into move.into_is move.standing in
+      let r : IsReached s into = not_removed_reached s valid into move.into_is move.not_removed in
       elim (leads_moved r.names root into r.lead) as (λ w. IsReached moved_state into) [
         | inl lead ↦ record { names = r.names; lead = lead }
         | inr led ↦ absurd (move.apart led.names led.before)
@@ -117,7 +118,7 @@ module _ (s : State) (valid : IsValid s) (dir : Oid) (name : Name) (id into : Oi
 
   still_empty : (q : Oid) → is_removed s q ≡ true → is_empty s q ≡ true → is_empty moved_state q ≡ true
   still_empty q gone empty =
-      ap not (none_moved (λ (at : Spot) (to : Oid). same_oid at.0 q) (not-true _ empty) (distinct into q (λ same. true≢false (sym gone ∙ ap (is_removed s) (sym same) ∙ move.standing))))
+      ap not (none_moved (λ (at : Spot) (to : Oid). same_oid at.0 q) (not-true _ empty) (distinct oid_cmp_exact into q (λ same. true≢false (sym gone ∙ ap (is_removed s) (sym same) ∙ move.not_removed))))
 
   moved_object : (q : Oid) (o : Object) → map.get s.objects q ≡ Some o → IsValidObject moved_state q o
   moved_object q o e =
@@ -164,7 +165,7 @@ module _ (s : State) (valid : IsValid s) (dir : Oid) (name : Name) (id into : Oi
             let id_is : map.get s.objects id ≡ Some o = ap (map.get s.objects) (sym same) ∙ is in
             one_new o id_is is_dir a q e same ∙ sym (one_new o id_is is_dir b q g same)
         | false ↦ λ t.
-            let other : q ≡ id → ⊥ = never_same q id t in
+            let other : q ≡ id → ⊥ = never_same oid_cmp_total q id t in
             valid.one_entry a b q o (old a q e other) (old b q g other) is is_dir
       ] refl
 
@@ -193,22 +194,22 @@ module _ (s : State) (valid : IsValid s) (dir : Oid) (name : Name) (id into : Oi
       get-remove_other spot_cmp_total s.entries (into, new) spot apart ∙ e
 
   -- the directory that gets the entry is not what gives way, for that has no entries
-  into_stands : is_removed cleared_state into ≡ false
-  into_stands = false_from_ne_true _ (λ gone.
+  into_not_removed : is_removed cleared_state into ≡ false
+  into_not_removed = false_from_ne_true _ (λ gone.
       let parts = and_parts (not (same_oid into root)) (not (is_held cleared_state into)) gone in
       let none : is_held s into ≡ false =
       none_pass spot_cmp_total spot_cmp_exact (λ (spot : Spot) (to : Oid). same_oid to into) s.entries (λ spot q e. false_from_ne_true (same_oid q into) (λ same.
       let leads_here : map.get s.entries spot ≡ Some into = e ∙ ap (λ (x : Oid). Some x) (same_key oid_cmp_exact q into same) in
-      let other : into ≡ t → ⊥ = λ is_t. never_some (look s t new) t (none_in s t new (move.gives_way t at).1) (ap (λ (x : Oid). look s x new) (sym is_t) ∙ at) in
-      never_same into into (none_passes spot_cmp_total spot_cmp_exact (λ (at_spot : Spot) (to : Oid). same_oid to into) cleared (not-true _ parts.1) spot into (elsewhere spot into other leads_here)) refl)) in
-      true≢false (sym (and_from _ _ parts.0 (ap not none)) ∙ move.standing))
+      let other : into ≡ t → ⊥ = λ is_t. never_some (look s t new) t (no_name_in s t new (move.gives_way t at).1) (ap (λ (x : Oid). look s x new) (sym is_t) ∙ at) in
+      never_same oid_cmp_total into into (none_passes spot_cmp_total spot_cmp_exact (λ (at_spot : Spot) (to : Oid). same_oid to into) cleared (not-true _ parts.1) spot into (elsewhere spot into other leads_here)) refl)) in
+      true≢false (sym (and_from _ _ parts.0 (ap not none)) ∙ move.not_removed))
 
   move_cleared : IsMove cleared_state dir name id into new
   move_cleared = record {
-    at = elsewhere (dir, name) id (λ same. never_same t id (move.gives_way t at).0 (sym same)) move.at;
+    at = elsewhere (dir, name) id (λ same. never_same oid_cmp_total t id (move.gives_way t at).0 (sym same)) move.at;
     into_is = move.into_is;
-    standing = into_stands;
-    apart = λ names lead. move.apart names (leads_kept cleared_state s was id names into lead);
+    not_removed = into_not_removed;
+    apart = λ names lead. move.apart names (leads_still cleared_state s was id names into lead);
     gives_way = λ x e. absurd (never_some (look cleared_state into new) x (get-remove_same spot_cmp_total s.entries (into, new)) e);
     order = move.order;
   }

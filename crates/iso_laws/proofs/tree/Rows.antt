@@ -25,51 +25,51 @@ use Rattle.kern_model.specs.TreeRows.{new_spot, make_object, make_row, mkfifo_ro
 use Rattle.kern_model.specs.Walk.{reach, dir_place}
 use Rattle.kern_model.proofs.MapLemmas.{some_same}
 use Rattle.iso_laws.proofs.Along.{WalksTo, ToEntry, ByWalk, IsEntry, along_cond, along_new_name, along_entry, along_entry_of_object, along_walk, along_reach}
-use Rattle.iso_laws.proofs.Effects.{Premise, OfKinds, of_reached, HasNames, CheckKind, Leaving, Effect, Reads, StandIn, RemoveEmpty, RemoveFile, Link, Move, Make}
+use Rattle.iso_laws.proofs.Effects.{Premise, OfKinds, of_reached, HasNames, CheckKind, RemovesEntry, Effect, NoChange, ChangeDir, RemoveEmpty, RemoveFile, Link, Move, Create}
 use Rattle.iso_laws.proofs.Effects.{masked_is_mode}
 
 module _ (Known : Check → Type 0) (Not : Bool → Type 0) (Given : Premise → Type 0) (s : State) (who : Pid) (p : Process) where
   -- the kinds of checks, and those of effects
-  abbrev C : Check → Type 0
-  C = CheckKind Given s who p
+  abbrev KindOfCheck : Check → Type 0
+  KindOfCheck = CheckKind Given s who p
 
-  abbrev K : List Change → Option Rec → Type 0
-  K = Effect Known Not Given s who p
+  abbrev KindOfEffect : List Change → Option Rec → Type 0
+  KindOfEffect = Effect Known Not Given s who p
 
   -- a check of an object that a walk led to
-  it : (name : CheckName) (holds : Bool) (id : Oid) (place : Place) → WalksTo s p id → C (on_object s name holds None id place)
-  it name holds id place walked = of_reached name holds id place (ByWalk id walked)
+  walked_check : (name : CheckName) (holds : Bool) (id : Oid) (place : Place) → WalksTo s p id → KindOfCheck (on_object s name holds None id place)
+  walked_check name holds id place walked = of_reached name holds id place (ByWalk id walked)
 
   -- ---- parts of rows
   -- the row goes on from what a path leads to
-  on_it : (path : PathValue) (k : Oid → Row) → ((id : Oid) → WalksTo s p id → OfKinds Known Not Given s who p (k id))
+  on_reached : (path : PathValue) (k : Oid → Row) → ((id : Oid) → WalksTo s p id → OfKinds Known Not Given s who p (k id))
       → OfKinds Known Not Given s who p (reach s p (λ n. First n) path k)
-  on_it = along_reach Known Not C K s p of_reached (λ n. First n)
+  on_reached = along_reach Known Not KindOfCheck KindOfEffect s p of_reached (λ n. First n)
 
   -- the row goes on from the spot of a new entry
-  on_new_spot : (place : ℕ → Place) (path : PathValue) (order : Oid → Place → Check) → ((dir : Oid) (at : Place) → WalksTo s p dir → C (order dir at))
+  on_new_spot : (place : ℕ → Place) (path : PathValue) (order : Oid → Place → Check) → ((dir : Oid) (at : Place) → WalksTo s p dir → KindOfCheck (order dir at))
       → (k : Spot → Row)
       → ((dir : Oid) (name : Name) → IsEntry Not s p path.names dir name None → Known (mac_write s p dir (dir_place place path))
       → Known (order dir (dir_place place path)) → Not (is_removed s dir) → OfKinds Known Not Given s who p (k (dir, name)))
       → OfKinds Known Not Given s who p (new_spot s p place path order k)
   on_new_spot place path order orders k h =
-      along_walk Known Not C K s p of_reached place path _ (along_new_name Known Not C K s p path.names _ (λ dir name entry. (
-        it _ _ dir _ entry.walked,
-        λ written. (it _ _ dir _ entry.walked, λ _. (orders dir _ entry.walked, λ order. (refl, λ standing. h dir name entry written order standing))),
+      along_walk Known Not KindOfCheck KindOfEffect s p of_reached place path _ (along_new_name Known Not KindOfCheck KindOfEffect s p path.names _ (λ dir name entry. (
+        walked_check _ _ dir _ entry.walked,
+        λ written. (walked_check _ _ dir _ entry.walked, λ _. (orders dir _ entry.walked, λ order. (refl, λ not_removed. h dir name entry written order not_removed))),
       )))
 
   -- the row goes on from an entry that may be taken away
   on_old_entry : (path : PathValue) (k : Oid × Name × Oid → Row)
-      → ((dir : Oid) (name : Name) (id : Oid) → WalksTo s p id → Leaving Known Not Given s who p dir name id (dir_place (λ n. First n) path)
+      → ((dir : Oid) (name : Name) (id : Oid) → WalksTo s p id → RemovesEntry Known Not Given s who p dir name id (dir_place (λ n. First n) path)
       → OfKinds Known Not Given s who p (k (dir, name, id)))
       → OfKinds Known Not Given s who p (old_entry s p path k)
   on_old_entry path k h =
-      along_walk Known Not C K s p of_reached (λ n. First n) path _ (along_entry_of_object Known Not C K s p path.names _ (λ dir name id entry.
+      along_walk Known Not KindOfCheck KindOfEffect s p of_reached (λ n. First n) path _ (along_entry_of_object Known Not KindOfCheck KindOfEffect s p path.names _ (λ dir name id entry.
       let walked : WalksTo s p id = ToEntry (dir, name) id entry.at in (
-        it _ _ dir _ entry.walked,
+        walked_check _ _ dir _ entry.walked,
         λ written. (
-          it _ _ dir _ entry.walked,
-          λ _. (it _ _ id _ walked, λ _. h dir name id walked (record { walked = entry.walked; dir_kind = entry.dir_kind; at = entry.at; written = written })),
+          walked_check _ _ dir _ entry.walked,
+          λ _. (walked_check _ _ id _ walked, λ _. h dir name id walked (record { walked = entry.walked; dir_kind = entry.dir_kind; at = entry.at; written = written })),
         ),
       )))
 
@@ -80,9 +80,9 @@ module _ (Known : Check → Type 0) (Not : Bool → Type 0) (Given : Premise →
       → OfKinds Known Not Given s who p (give_way s p id object place rest)
   give_way_kinds id None place rest walked h = h (λ t none. cc)
   give_way_kinds id (Some t) place rest walked h = (
-    it _ _ t place (walked t refl),
+    walked_check _ _ t place (walked t refl),
     λ _.
-        along_cond Known Not C K (same_oid t id) _ _ (λ _. Reads)
+        along_cond Known Not KindOfCheck KindOfEffect (same_oid t id) _ _ (λ _. NoChange)
         (λ other. (
           refl,
           λ _. (
@@ -100,16 +100,16 @@ module _ (Known : Check → Type 0) (Not : Bool → Type 0) (Given : Premise →
   make_kinds : (path : PathValue) (mode : ℕ) (b : Body) → bytes_of b ≡ [] → (kind_of b ≡ kind.Pipe → ⊥) → (Given HasNames → are_names path ≡ true)
       → OfKinds Known Not Given s who p (make_row s who p path mode b)
   make_kinds path mode b no_bytes no_pipe args =
-      on_new_spot (λ n. First n) path (created_order s p) (λ dir. it _ _ dir) (make_object s p mode b) (λ dir name entry written order standing. (
+      on_new_spot (λ n. First n) path (created_order s p) (λ dir. walked_check _ _ dir) (make_object s p mode b) (λ dir name entry written order not_removed. (
         refl,
         λ left.
-            Make dir name (object_with p.label (attr_of p (masked mode p.umask)) b) _ (record {
+            Create dir name (object_with p.label (attr_of p (masked mode p.umask)) b) _ (record {
               walked = entry.walked;
               dir_kind = entry.dir_kind;
               free = entry.at;
               written = written;
               order = order;
-              standing = standing;
+              not_removed = not_removed;
               left = left;
               fresh = record { label = refl; mode = masked_is_mode mode p.umask; caps = refl; bytes = no_bytes; no_pipe = no_pipe };
               named = λ given. entry.named (args given);
@@ -128,18 +128,18 @@ module _ (Known : Check → Type 0) (Not : Bool → Type 0) (Given : Premise →
 
   pub unlink_kinds : (path : PathValue) → OfKinds Known Not Given s who p (unlink_row s who p path)
   unlink_kinds path =
-      on_old_entry path (remove_name s path) (λ dir name id walked leaving. (it _ _ id _ walked, λ no_dir. RemoveFile dir name id _ _ leaving no_dir))
+      on_old_entry path (remove_name s path) (λ dir name id walked leaving. (walked_check _ _ id _ walked, λ no_dir. RemoveFile dir name id _ _ leaving no_dir))
 
   pub link_kinds : (path to : PathValue) → (Given HasNames → are_names to ≡ true) → OfKinds Known Not Given s who p (link_row s who p path to)
-  link_kinds path to args = on_it path _ (λ id walked. (
-    it _ _ id _ walked,
+  link_kinds path to args = on_reached path _ (λ id walked. (
+    walked_check _ _ id _ walked,
     λ _. (
-      it _ _ id _ walked,
+      walked_check _ _ id _ walked,
       λ no_dir. (
         refl,
-        λ few. on_new_spot (λ n. Second n) to (held_order s id) (λ dir. it _ _ dir) (add_entry id) (λ dir name entry written order standing.
+        λ few. on_new_spot (λ n. Second n) to (held_order s id) (λ dir. walked_check _ _ dir) (add_entry id) (λ dir name entry written order not_removed.
             Link dir name id _ _ walked
-            (record { walked = entry.walked; dir_kind = entry.dir_kind; written = written; order = order; standing = standing }) entry.at no_dir few
+            (record { walked = entry.walked; dir_kind = entry.dir_kind; written = written; order = order; not_removed = not_removed }) entry.at no_dir few
             (λ given. entry.named (args given))),
       ),
     ),
@@ -147,19 +147,19 @@ module _ (Known : Check → Type 0) (Not : Bool → Type 0) (Given : Premise →
 
   pub rename_kinds : (path to : PathValue) → (Given HasNames → are_names to ≡ true) → OfKinds Known Not Given s who p (rename_row s who p path to)
   rename_kinds path to args = on_old_entry path (move_to s p to) (λ dir name id _ leaving.
-      along_walk Known Not C K s p of_reached (λ n. Second n) to _ (along_entry Known Not C K s p to.names _ (λ into new object entry. (
-        it _ _ into _ entry.walked,
+      along_walk Known Not KindOfCheck KindOfEffect s p of_reached (λ n. Second n) to _ (along_entry Known Not KindOfCheck KindOfEffect s p to.names _ (λ into new object entry. (
+        walked_check _ _ into _ entry.walked,
         λ written. (
-          it _ _ into _ entry.walked,
+          walked_check _ _ into _ entry.walked,
           λ _. (
-            it _ _ into _ entry.walked,
+            walked_check _ _ into _ entry.walked,
             λ order. give_way_kinds id object _ _ (λ t e. ToEntry (into, new) t (entry.at ∙ e)) (λ other. (
               refl,
               λ outside. (
                 refl,
-                λ standing.
+                λ not_removed.
                     Move dir name id into new _ _ leaving
-                    (record { walked = entry.walked; dir_kind = entry.dir_kind; written = written; order = order; standing = standing }) outside
+                    (record { walked = entry.walked; dir_kind = entry.dir_kind; written = written; order = order; not_removed = not_removed }) outside
                     (λ t e. other t (sym entry.at ∙ e)) (λ given. entry.named (args given)),
               ),
             )),
@@ -169,10 +169,10 @@ module _ (Known : Check → Type 0) (Not : Bool → Type 0) (Given : Premise →
 
   -- ---- reading
   pub readdir_kinds : (path : PathValue) → OfKinds Known Not Given s who p (readdir_row s who p path)
-  readdir_kinds path = on_it path _ (λ id walked. (it _ _ id _ walked, λ _. (refl, λ _. (it _ _ id _ walked, λ _. Reads))))
+  readdir_kinds path = on_reached path _ (λ id walked. (walked_check _ _ id _ walked, λ _. (refl, λ _. (walked_check _ _ id _ walked, λ _. NoChange))))
 
   pub stat_kinds : (path : PathValue) → OfKinds Known Not Given s who p (stat_row s who p path)
-  stat_kinds path = on_it path _ (λ id walked. (it _ _ id _ walked, λ _. Reads))
+  stat_kinds path = on_reached path _ (λ id walked. (walked_check _ _ id _ walked, λ _. NoChange))
 
   pub chdir_kinds : (path : PathValue) → OfKinds Known Not Given s who p (chdir_row s who p path)
-  chdir_kinds path = on_it path _ (λ id walked. (it _ _ id _ walked, λ read. (refl, λ dir_kind. (it _ _ id _ walked, λ _. StandIn id _ walked read dir_kind))))
+  chdir_kinds path = on_reached path _ (λ id walked. (walked_check _ _ id _ walked, λ read. (refl, λ dir_kind. (walked_check _ _ id _ walked, λ _. ChangeDir id _ walked read dir_kind))))

@@ -1,4 +1,4 @@
-// The calls on the audit trail.
+// The calls `aud_write` and `aud_switch`.
 ghost use Rattle.std.specs.Prelude.{◌≡◌, IsSome, None, false};
 ghost use Rattle.std.specs.FinMap as map;
 ghost use Rattle.kern_model.specs.AuditRows.{aud_switch_row, aud_write_row};

@@ -1,16 +1,15 @@
-use Rattle.std.proofs.Common.{◌≡◌, ℕ, List, true, Result, Ok, Err, take, ap, subst, ◌∙◌}
+use Rattle.std.proofs.Common.{ℕ, List, Result, Ok, Err, ap, subst, ◌∙◌}
 use Rattle.std.specs.Prelude.{IfOk}
 use Rattle.lab_text.specs.Policy.{PolicyNames}
 use Rattle.aud_record.proofs.RoundTrip.{rec_round_trip, rec_is}
-use Rattle.aud_record.specs.Fits.{has_valid_labels}
 use Rattle.aud_record.proofs.FitLemmas.{fits_from, labels_from}
-use Rattle.aud_record.specs.Parsed.{parse_rec, Answers}
-use Rattle.aud_record.specs.Written.{rec_text}
+use Rattle.aud_record.specs.Parsed.{BeginsWithRec, is_no_memory, parse_rec}
+use Rattle.aud_record.specs.Results.{AnswersAs}
 use Rattle.aud_record.specs.declared.reading.ReadRec.{ReadRec}
 use Rattle.aud_record.specs.declared.reading.RecError.{RecError}
 use Rattle.aud_record.proofs.reading.rec_read.Goals as goal
 
-is_found : (p : PolicyNames) (text : List ℕ) (r : Result ReadRec RecError) → Answers r (parse_rec p text) → IfOk r (λ read. (take read.used text ≡ rec_text p read.call read.rec) × (has_valid_labels p read.rec ≡ true))
+is_found : (p : PolicyNames) (text : List ℕ) (r : Result ReadRec RecError) → AnswersAs is_no_memory (λ read. read) r (parse_rec p text) → IfOk r (BeginsWithRec p text)
 is_found p text (Ok read) parsed = let is = rec_is p text read parsed in (is.prefix, labels_from p read.rec is.fit)
 is_found p text (Err e) parsed = tt
 
@@ -19,4 +18,4 @@ returns-clause-found c = is_found c.args.policy.now c.args.text.now c.first_reco
 
 pub returns-clause-only : goal.returns-clause-only
 returns-clause-only c = λ call r rest valid range begins.
-    subst (Answers c.first_record.result) (ap (parse_rec c.args.policy.now) begins ∙ rec_round_trip c.args.policy.now call r rest c.levels-names.ensures.policy range.call_is (fits_from c.args.policy.now call r valid range)) c.first_record.ensures.parsed
+    subst (AnswersAs is_no_memory (λ read. read) c.first_record.result) (ap (parse_rec c.args.policy.now) begins ∙ rec_round_trip c.args.policy.now call r rest c.levels-names.ensures.policy range.call_is (fits_from c.args.policy.now call r valid range)) c.first_record.ensures.parsed

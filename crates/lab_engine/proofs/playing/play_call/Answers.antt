@@ -26,18 +26,18 @@ returns-in_err-outcome-clause-saw g c = none_seen _ _ _ _ _ c.requires.going c.f
 
 pub returns-clause-writes : goal.returns-clause-writes
 returns-clause-writes g c = λ source.
-    in_order c.saw.result _ _ _ _
+    in_order c.report_call.result _ _ _ _
     (ap (call_sends c.args.reporter.now.report c.args.reporter.now.texts.policy.now c.args.number) (played_on _ _ c.args.line.line.now c.args.line.at c.args.call.now _ c.who.ensures _ c.in_ok-outcome.ensures.played))
-    (c.saw.ensures.writes source)
+    (c.report_call.ensures.writes source)
 
 pub returns-clause-saw : goal.returns-clause-saw
 returns-clause-saw g c =
-    saw_equal c.saw.result _ _ _ _ _
+    saw_equal c.report_call.result _ _ _ _ _
     (ap (λ (p : CallRecord). p ∷ []) (played_on _ _ c.args.line.line.now c.args.line.at c.args.call.now _ c.who.ensures _ c.in_ok-outcome.ensures.played))
-    c.saw.ensures.saw
+    c.report_call.ensures.saw
 
 pub returns-clause-report : goal.returns-clause-report
 returns-clause-report g c =
-    subst (λ (p : CallRecord). OnOk c.saw.result (c.saw.new.self.report ≡ report_after_call c.args.reporter.now.report p))
+    subst (λ (p : CallRecord). OnOk c.report_call.result (c.report_call.new.self.report ≡ report_after_call c.args.reporter.now.report p))
     (played_on _ _ c.args.line.line.now c.args.line.at c.args.call.now _ c.who.ensures _ c.in_ok-outcome.ensures.played)
-    c.saw.ensures.report
+    c.report_call.ensures.report

@@ -9,14 +9,14 @@ pub loop-rec-init : goal.loop-rec-init
 unfolding to_trail
 loop-rec-init g c = record { written = λ source out. all_nothing _; readable = tt }
 
-pub returns-in_err-room-clause-writes : goal.returns-in_err-room-clause-writes
-returns-in_err-room-clause-writes g c = λ source out. piece_has_no_memory to_trail to_trail-append (rec_text c.args.texts.policy.now c.args.call) c.args.recs.now c.loop-rec.rec-index c.rec-item.result c.loop-rec-test.true
+pub returns-in_err-buffer-clause-writes : goal.returns-in_err-buffer-clause-writes
+returns-in_err-buffer-clause-writes g c = λ source out. piece_has_no_memory to_trail to_trail-append (rec_text c.args.texts.policy.now c.args.call) c.args.recs.now c.loop-rec.rec-index c.rec-item.result c.loop-rec-test.true
     _ _ _ (c.loop-rec.invariant.written source out) c.from_residual.ensures.1
 
 pub returns-in_err-note-clause-writes : goal.returns-in_err-note-clause-writes
 returns-in_err-note-clause-writes g c = λ source out. piece_stops to_trail to_trail-append (rec_text c.args.texts.policy.now c.args.call) c.args.recs.now c.loop-rec.rec-index c.rec-item.result c.loop-rec-test.true
     _ _ c.deref.result.now _ _ _
-    (c.deref.ensures.value ∙ c.in_ok-room.ensures.text ∙ ap (rec_text c.args.texts.policy.now c.args.call) c.rec-item.is)
+    (c.deref.ensures.value ∙ c.in_ok-buffer.ensures.text ∙ ap (rec_text c.args.texts.policy.now c.args.call) c.rec-item.is)
     (c.loop-rec.invariant.written source out) (c.in_err-note.ensures source out) c.from_residual-in_err-note.ensures.1
 
 pub loop-rec-preserved : goal.loop-rec-preserved
@@ -26,10 +26,10 @@ loop-rec-preserved g c =
     record {
       written = λ source out. one_more to_trail to_trail-append (rec_text policy c.args.call) c.args.recs.now c.loop-rec.rec-index c.rec-item.result c.loop-rec-test.true
           c.deref.result.now _ _ _
-          (c.deref.ensures.value ∙ c.in_ok-room.ensures.text ∙ ap (rec_text policy c.args.call) c.rec-item.is)
+          (c.deref.ensures.value ∙ c.in_ok-buffer.ensures.text ∙ ap (rec_text policy c.args.call) c.rec-item.is)
           (i.written source out) (c.in_ok-note.ensures source out);
       readable = readable_more policy c.args.call c.args.recs.now c.loop-rec.rec-index c.rec-item.result c.loop-rec-test.true i.readable
-          (readable_written policy c.args.call _ _ _ c.rec-item.is c.in_ok-room.ensures.text c.in_ok-room.ensures.round_trip);
+          (readable_written policy c.args.call _ _ _ c.rec-item.is c.in_ok-buffer.ensures.text c.in_ok-buffer.ensures.round_trip);
     }
 
 pub returns-clause-writes : goal.returns-clause-writes

@@ -13,4 +13,4 @@ returns c s id is =
     let o = object_at s id in
     need_goes (c.in_ok-chown.ensures s id is)
     (equal_mode id c.args.place o (ap (λ (m : Metadata). m.attr.mode) is)
-    (equal_keeping c.args.object.now.attr.mode id c.args.place o (ap not c.has_set_id.ensures) (c.mode_kept.ensures s id is)))
+    (equal_keeping c.args.object.now.attr.mode id c.args.place o (ap not c.has_set_id-by_right.ensures) (c.mode_kept.ensures s id is)))

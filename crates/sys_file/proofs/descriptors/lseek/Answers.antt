@@ -20,7 +20,7 @@ use Rattle.sys_file.proofs.descriptors.lseek.Goals as goal
 
 pub returns-in_err-opened : goal.returns-in_err-opened
 returns-in_err-opened c =
-    stops_row {rest = seek_opened c.args.shared.now c.args.from c.args.offset} c.from_residual.result c.from_residual.ensures.1 refl
+    stops_row {rest = seek_opened c.args.shared.now c.args.seek.from c.args.seek.offset} c.from_residual.result c.from_residual.ensures.1 refl
     (step_called (λ k. opened_to_seek k.state k.process c.args.fd) c.new-caller.ensures.caller c.in_err-opened.ensures.step)
 
 pub file_size-size-requires : goal.file_size-size-requires
@@ -37,13 +37,13 @@ returns-in-Some c =
     let f = c.in_ok-opened.opened in
     let log = c.opened_to_seek.new.checks in
     let size : c.file_size-size.result ≡ length (open_object s f).bytes = c.file_size-size.ensures ∙ (λ i. length (object_at s (c.opened.view_is i).description.object).bytes) in
-    let base : c.base_of.result ≡ base_of s f c.args.from = c.base_of.ensures s size in
-    let offset : to_z w64 (of_z w64 c.args.offset) ≡ c.args.offset = to_z-of_z w64 c.args.offset (search rules) in
-    let to : c.in-Some.to ≡ (pos (base_of s f c.args.from) +ℤ c.args.offset) = c.in-Some.ensures.some c.in-Some.to refl ∙ (λ i. pos (base i) +ℤ offset i) in
-    let passed : to_z w64 (of_z w64 c.in-Some.to) ≡ (pos (base_of s f c.args.from) +ℤ c.args.offset) = to_z-of_z w64 c.in-Some.to (search rules) ∙ to in
+    let base : c.base_of.result ≡ base_of s f c.args.seek.from = c.base_of.ensures s size in
+    let offset : to_z w64 (of_z w64 c.args.seek.offset) ≡ c.args.seek.offset = to_z-of_z w64 c.args.seek.offset (search rules) in
+    let to : c.in-Some.to ≡ (pos (base_of s f c.args.seek.from) +ℤ c.args.seek.offset) = c.in-Some.ensures.some c.in-Some.to refl ∙ (λ i. pos (base i) +ℤ offset i) in
+    let passed : to_z w64 (of_z w64 c.in-Some.to) ≡ (pos (base_of s f c.args.seek.from) +ℤ c.args.seek.offset) = to_z-of_z w64 c.in-Some.to (search rules) ∙ to in
     let r = c.move_to.result in
     let t = c.move_to.new.shared in
-    then_plays {rest = seek_opened s c.args.from c.args.offset}
+    then_plays {rest = seek_opened s c.args.seek.from c.args.seek.offset}
     (step_called (λ k. opened_to_seek k.state k.process c.args.fd) c.new-caller.ensures.caller c.in_ok-opened.ensures.step)
     (subst (λ (z : ℤ). PlaysRow s log (moves f z (length (open_object s f).bytes)) r t log) passed
     (subst (λ (n : ℕ). PlaysRow s log (moves f (to_z w64 (of_z w64 c.in-Some.to)) n) r t log) size
@@ -54,14 +54,14 @@ returns-in-None c =
     let s = c.args.shared.now in
     let f = c.in_ok-opened.opened in
     let size : c.file_size-size.result ≡ length (open_object s f).bytes = c.file_size-size.ensures ∙ (λ i. length (object_at s (c.opened.view_is i).description.object).bytes) in
-    let base : c.base_of.result ≡ base_of s f c.args.from = c.base_of.ensures s size in
-    let offset : to_z w64 (of_z w64 c.args.offset) ≡ c.args.offset = to_z-of_z w64 c.args.offset (search rules) in
+    let base : c.base_of.result ≡ base_of s f c.args.seek.from = c.base_of.ensures s size in
+    let offset : to_z w64 (of_z w64 c.args.seek.offset) ≡ c.args.seek.offset = to_z-of_z w64 c.args.seek.offset (search rules) in
     let no_stream = ap (λ (k : CallerView). is_stream (open_object k.state f).kind) (sym c.new-caller.ensures.caller) ∙ c.in_ok-opened.ensures.no_stream in
     let found = described s _ c.args.fd f (open_of c.args.fd _ c.new-caller.ensures.caller c.in_ok-opened.ensures.found) in
     let few : length (open_object s f).bytes ≤ MAX_FILE_BYTES = few_there s c.requires.valid f.did f.description found no_stream in
-    let past : is_past (pos (base_of s f c.args.from) +ℤ c.args.offset) (length (open_object s f).bytes) ≡ true =
+    let past : is_past (pos (base_of s f c.args.seek.from) +ℤ c.args.seek.offset) (length (open_object s f).bytes) ≡ true =
     (λ i. is_past (pos (sym base i) +ℤ sym offset i) (length (open_object s f).bytes)) ∙ c.in-None.ensures.none (length (open_object s f).bytes) few refl in
     let r : Result Effect Stop = Err (stop.Refused EINVAL) in
-    then_plays {rest = seek_opened s c.args.from c.args.offset}
+    then_plays {rest = seek_opened s c.args.seek.from c.args.seek.offset}
     (step_called (λ k. opened_to_seek k.state k.process c.args.fd) c.new-caller.ensures.caller c.in_ok-opened.ensures.step)
     (refuse_stops_row r refl refl (refuses past))

@@ -47,26 +47,26 @@ returns-in_err-may_open-clause-played c =
     let s = c.args.shared.now in
     let who = c.args.who.now in
     let q = process_at s who in
-    stops_row {rest = λ _. open_path s who q c.args.path.now c.args.flags (unwrap_or c.args.mode 0)} c.from_residual.result c.from_residual.ensures.1 refl (step_called (λ k (rest : ⊤ → Row). may_describe k.state k.process 1 (rest tt)) c.new-caller.ensures.caller (c.in_err-may_open.ensures.step c.args.checks.now))
+    stops_row {rest = λ _. open_path s who q c.args.opening.now.path.now c.args.opening.now.flags (unwrap_or c.args.opening.now.mode 0)} c.from_residual.result c.from_residual.ensures.1 refl (step_called (λ k (rest : ⊤ → Row). may_describe k.state k.process 1 (rest tt)) c.new-caller.ensures.caller (c.in_err-may_open.ensures.step c.args.checks.now))
 
 pub returns-in_err-id-clause-played : goal.returns-in_err-id-clause-played
 returns-in_err-id-clause-played c =
     let s = c.args.shared.now in
     let who = c.args.who.now in
     let q = process_at s who in
-    let mode = unwrap_or c.args.mode 0 in
-    then_plays {rest = λ _. open_path s who q c.args.path.now c.args.flags mode} (step_called (λ k (rest : ⊤ → Row). may_describe k.state k.process 1 (rest tt)) c.new-caller.ensures.caller (c.in_ok-may_open.ensures.step c.args.checks.now))
-    (stops_row {rest = open_found s who q c.args.path.now c.args.flags mode} c.from_residual-in_err-id.result c.from_residual-in_err-id.ensures.1 refl (step_called (λ k. walk k.state k.process (λ n. First n) c.args.path.now) c.new-caller.ensures.caller c.in_err-id.ensures.step))
+    let mode = unwrap_or c.args.opening.now.mode 0 in
+    then_plays {rest = λ _. open_path s who q c.args.opening.now.path.now c.args.opening.now.flags mode} (step_called (λ k (rest : ⊤ → Row). may_describe k.state k.process 1 (rest tt)) c.new-caller.ensures.caller (c.in_ok-may_open.ensures.step c.args.checks.now))
+    (stops_row {rest = open_found s who q c.args.opening.now.path.now c.args.opening.now.flags mode} c.from_residual-in_err-id.result c.from_residual-in_err-id.ensures.1 refl (step_called (λ k. walk k.state k.process (λ n. First n) c.args.opening.now.path.now) c.new-caller.ensures.caller c.in_err-id.ensures.step))
 
 pub returns-in_err-emptied-in-Start-clause-played : goal.returns-in_err-emptied-in-Start-clause-played
 returns-in_err-emptied-in-Start-clause-played c =
     let s = c.args.shared.now in
     let who = c.args.who.now in
     let q = process_at s who in
-    let path = c.args.path.now in
-    let flags = c.args.flags in
+    let path = c.args.opening.now.path.now in
+    let flags = c.args.opening.now.flags in
     let id = c.in-Start.id in
-    from_walk who path flags c.args.mode c.new-caller.ensures.caller (c.in_ok-may_open.ensures.step c.args.checks.now) c.in_ok-id.ensures.step c.in-Start.is
+    from_walk who path flags c.args.opening.now.mode c.new-caller.ensures.caller (c.in_ok-may_open.ensures.step c.args.checks.now) c.in_ok-id.ensures.step c.in-Start.is
     (at_end who path flags q id c.last_place-place.ensures
     (stops_row {rest = opens_present s who q flags id (object_at s id)} c.from_residual-in_err-emptied-in-Start.result c.from_residual-in_err-emptied-in-Start.ensures.1 refl (step_called (λ k. to_present k.process flags id c.last_place-place.result (object_at k.state id)) c.new-caller.ensures.caller c.in_err-emptied-in-Start.ensures.step)))
 
@@ -75,19 +75,19 @@ open_present-requires-clause-file c =
     let s = c.args.shared.now in
     let who = c.args.who.now in
     let q = process_at s who in
-    let path = c.args.path.now in
+    let path = c.args.opening.now.path.now in
     let is = subst (IsFound s (start_of q path)) c.in-Start.is (subst (λ (k : CallerView). IsFound k.state (start_of k.process path) c.in_ok-id.field-0) c.new-caller.ensures.caller c.in_ok-id.ensures.found) in
     can_be_emptied s c.requires.valid who q (process_there s who c.requires.living) path c.in-Start.id (inl is) c.in_ok-emptied-in-Start.emptied (subst (λ (k : CallerView). EmptiesFiles k.state c.in-Start.id c.in_ok-emptied-in-Start.emptied) c.new-caller.ensures.caller c.in_ok-emptied-in-Start.ensures.files)
 
-pub returns-in-Start-clause-played : goal.returns-in-Start-clause-played
-returns-in-Start-clause-played c =
+pub returns-in_ok-emptied-in-Start-clause-played : goal.returns-in_ok-emptied-in-Start-clause-played
+returns-in_ok-emptied-in-Start-clause-played c =
     let s = c.args.shared.now in
     let who = c.args.who.now in
     let q = process_at s who in
-    let path = c.args.path.now in
-    let flags = c.args.flags in
+    let path = c.args.opening.now.path.now in
+    let flags = c.args.opening.now.flags in
     let id = c.in-Start.id in
-    from_walk who path flags c.args.mode c.new-caller.ensures.caller (c.in_ok-may_open.ensures.step c.args.checks.now) c.in_ok-id.ensures.step c.in-Start.is
+    from_walk who path flags c.args.opening.now.mode c.new-caller.ensures.caller (c.in_ok-may_open.ensures.step c.args.checks.now) c.in_ok-id.ensures.step c.in-Start.is
     (at_end who path flags q id c.last_place-place.ensures
     (then_plays {rest = opens_present s who q flags id (object_at s id)} (step_called (λ k. to_present k.process flags id c.last_place-place.result (object_at k.state id)) c.new-caller.ensures.caller c.in_ok-emptied-in-Start.ensures.step)
     (c.open_present.ensures c.may_open-in-Start.new.checks)))
@@ -97,11 +97,11 @@ returns-in_err-emptied-in-Some-clause-played c =
     let s = c.args.shared.now in
     let who = c.args.who.now in
     let q = process_at s who in
-    let path = c.args.path.now in
-    let flags = c.args.flags in
+    let path = c.args.opening.now.path.now in
+    let flags = c.args.opening.now.flags in
     let id = c.in-Some.id in
     let is : c.in_ok-id.field-0 ≡ found.Entry c.in-Entry.dir c.in-Entry.name (Some id) = c.in-Entry.is ∙ ap (λ (o : Option Oid). found.Entry c.in-Entry.dir c.in-Entry.name o) c.in-Some.is in
-    from_walk who path flags c.args.mode c.new-caller.ensures.caller (c.in_ok-may_open.ensures.step c.args.checks.now) c.in_ok-id.ensures.step is
+    from_walk who path flags c.args.opening.now.mode c.new-caller.ensures.caller (c.in_ok-may_open.ensures.step c.args.checks.now) c.in_ok-id.ensures.step is
     (at_end who path flags q id c.last_place-place-in-Some.ensures
     (stops_row {rest = opens_present s who q flags id (object_at s id)} c.from_residual-in_err-emptied-in-Some.result c.from_residual-in_err-emptied-in-Some.ensures.1 refl (step_called (λ k. to_present k.process flags id c.last_place-place-in-Some.result (object_at k.state id)) c.new-caller.ensures.caller c.in_err-emptied-in-Some.ensures.step)))
 
@@ -110,21 +110,21 @@ open_present-requires-in-Some-clause-file c =
     let s = c.args.shared.now in
     let who = c.args.who.now in
     let q = process_at s who in
-    let path = c.args.path.now in
+    let path = c.args.opening.now.path.now in
     let entry : IsEntry s c.in-Entry.dir c.in-Entry.name c.in-Entry.object = subst (IsFound s (start_of q path)) c.in-Entry.is (subst (λ (k : CallerView). IsFound k.state (start_of k.process path) c.in_ok-id.field-0) c.new-caller.ensures.caller c.in_ok-id.ensures.found) in
     let led : HasEntry s c.in-Some.id = record { dir = c.in-Entry.dir; name = c.in-Entry.name; leads = entry.leads ∙ c.in-Some.is } in
     can_be_emptied s c.requires.valid who q (process_there s who c.requires.living) path c.in-Some.id (inr led) c.in_ok-emptied-in-Some.emptied (subst (λ (k : CallerView). EmptiesFiles k.state c.in-Some.id c.in_ok-emptied-in-Some.emptied) c.new-caller.ensures.caller c.in_ok-emptied-in-Some.ensures.files)
 
-pub returns-in-Some-clause-played : goal.returns-in-Some-clause-played
-returns-in-Some-clause-played c =
+pub returns-in_ok-emptied-in-Some-clause-played : goal.returns-in_ok-emptied-in-Some-clause-played
+returns-in_ok-emptied-in-Some-clause-played c =
     let s = c.args.shared.now in
     let who = c.args.who.now in
     let q = process_at s who in
-    let path = c.args.path.now in
-    let flags = c.args.flags in
+    let path = c.args.opening.now.path.now in
+    let flags = c.args.opening.now.flags in
     let id = c.in-Some.id in
     let is : c.in_ok-id.field-0 ≡ found.Entry c.in-Entry.dir c.in-Entry.name (Some id) = c.in-Entry.is ∙ ap (λ (o : Option Oid). found.Entry c.in-Entry.dir c.in-Entry.name o) c.in-Some.is in
-    from_walk who path flags c.args.mode c.new-caller.ensures.caller (c.in_ok-may_open.ensures.step c.args.checks.now) c.in_ok-id.ensures.step is
+    from_walk who path flags c.args.opening.now.mode c.new-caller.ensures.caller (c.in_ok-may_open.ensures.step c.args.checks.now) c.in_ok-id.ensures.step is
     (at_end who path flags q id c.last_place-place-in-Some.ensures
     (then_plays {rest = opens_present s who q flags id (object_at s id)} (step_called (λ k. to_present k.process flags id c.last_place-place-in-Some.result (object_at k.state id)) c.new-caller.ensures.caller c.in_ok-emptied-in-Some.ensures.step)
     (c.open_present-in-Some.ensures c.may_open-in-Some.new.checks)))
@@ -134,31 +134,31 @@ returns-in_err-may_make-in-None-clause-played c =
     let s = c.args.shared.now in
     let who = c.args.who.now in
     let q = process_at s who in
-    let path = c.args.path.now in
-    let flags = c.args.flags in
+    let path = c.args.opening.now.path.now in
+    let flags = c.args.opening.now.flags in
     let dir = c.in-Entry.dir in
     let name = c.in-Entry.name in
     let r = c.from_residual-in_err-may_make-in-None.result in
     let is : c.in_ok-id.field-0 ≡ found.Entry dir name None = c.in-Entry.is ∙ ap (λ (o : Option Oid). found.Entry dir name o) c.in-None.is in
-    from_walk who path flags c.args.mode c.new-caller.ensures.caller (c.in_ok-may_open.ensures.step c.args.checks.now) c.in_ok-id.ensures.step is
-    (subst (λ (at : Place). PlaysRow s c.walk.new.checks (open_absent s who q flags (unwrap_or c.args.mode 0) dir name at) r s c.may_make.new.checks) c.dir_place-place.ensures
+    from_walk who path flags c.args.opening.now.mode c.new-caller.ensures.caller (c.in_ok-may_open.ensures.step c.args.checks.now) c.in_ok-id.ensures.step is
+    (subst (λ (at : Place). PlaysRow s c.walk.new.checks (open_absent s who q flags (unwrap_or c.args.opening.now.mode 0) dir name at) r s c.may_make.new.checks) c.dir_place-place.ensures
     (item_stops_row (to_absent s q flags dir c.dir_place-place.result) r c.from_residual-in_err-may_make-in-None.ensures.1 refl (step_called (λ k (rest : ⊤ → Row). to_absent k.state k.process flags dir c.dir_place-place.result (rest tt)) c.new-caller.ensures.caller c.in_err-may_make-in-None.ensures.step)))
 
-pub returns-clause-played : goal.returns-clause-played
-returns-clause-played c =
+pub returns-in_ok-may_make-in-None-clause-played : goal.returns-in_ok-may_make-in-None-clause-played
+returns-in_ok-may_make-in-None-clause-played c =
     let s = c.args.shared.now in
     let who = c.args.who.now in
     let q = process_at s who in
-    let path = c.args.path.now in
-    let flags = c.args.flags in
+    let path = c.args.opening.now.path.now in
+    let flags = c.args.opening.now.flags in
     let dir = c.in-Entry.dir in
     let name = c.in-Entry.name in
     let r = c.open_new.result in
     let t = c.open_new.new.shared in
     let after = c.may_make.new.checks in
     let is : c.in_ok-id.field-0 ≡ found.Entry dir name None = c.in-Entry.is ∙ ap (λ (o : Option Oid). found.Entry dir name o) c.in-None.is in
-    from_walk who path flags c.args.mode c.new-caller.ensures.caller (c.in_ok-may_open.ensures.step c.args.checks.now) c.in_ok-id.ensures.step is
-    (subst (λ (at : Place). PlaysRow s c.walk.new.checks (open_absent s who q flags (unwrap_or c.args.mode 0) dir name at) r t after) c.dir_place-place.ensures
+    from_walk who path flags c.args.opening.now.mode c.new-caller.ensures.caller (c.in_ok-may_open.ensures.step c.args.checks.now) c.in_ok-id.ensures.step is
+    (subst (λ (at : Place). PlaysRow s c.walk.new.checks (open_absent s who q flags (unwrap_or c.args.opening.now.mode 0) dir name at) r t after) c.dir_place-place.ensures
     (item_plays (to_absent s q flags dir c.dir_place-place.result) (step_called (λ k (rest : ⊤ → Row). to_absent k.state k.process flags dir c.dir_place-place.result (rest tt)) c.new-caller.ensures.caller c.in_ok-may_make-in-None.ensures.step)
     (subst (λ (n : ℕ). PlaysRow s after (opens_new s who q flags n dir name) r t after) c.unwrap_or-mode.ensures
     (c.open_new.ensures after))))
@@ -183,7 +183,7 @@ open_new-requires-clause-left c = ap (λ (k : CallerView). has_descriptions k.st
 
 pub open_new-requires-clause-dir : goal.open_new-requires-clause-dir
 open_new-requires-clause-dir c =
-    let path = c.args.path.now in
+    let path = c.args.opening.now.path.now in
     let entry : IsEntry c.args.shared.now c.in-Entry.dir c.in-Entry.name c.in-Entry.object = subst (IsFound c.args.shared.now (start_of (process_at c.args.shared.now c.args.who.now) path)) c.in-Entry.is (subst (λ (k : CallerView). IsFound k.state (start_of k.process path) c.in_ok-id.field-0) c.new-caller.ensures.caller c.in_ok-id.ensures.found) in
     entry.is_dir
 
@@ -192,6 +192,6 @@ open_new-requires-clause-stands c = ap (λ (k : CallerView). is_removed k.state 
 
 pub open_new-requires-clause-absent : goal.open_new-requires-clause-absent
 open_new-requires-clause-absent c =
-    let path = c.args.path.now in
+    let path = c.args.opening.now.path.now in
     let entry : IsEntry c.args.shared.now c.in-Entry.dir c.in-Entry.name c.in-Entry.object = subst (IsFound c.args.shared.now (start_of (process_at c.args.shared.now c.args.who.now) path)) c.in-Entry.is (subst (λ (k : CallerView). IsFound k.state (start_of k.process path) c.in_ok-id.field-0) c.new-caller.ensures.caller c.in_ok-id.ensures.found) in
     entry.leads ∙ c.in-None.is

@@ -27,7 +27,7 @@ returns-in_err-id c = λ log.
     let s = c.args.shared.now in
     let who = c.args.who.now in
     let label_is = c.label-label.ensures ∙ ap (λ (k : CallerView). k.process.label) c.new-caller.ensures.caller in
-    stops_keeping {rest = opens_made s who (process_at s who) c.args.flags c.args.mode c.args.dir.now c.args.name.now} c.from_residual.result c.from_residual.ensures.1 c.in_err-id.ensures.kept
+    stops_keeping {rest = opens_made s who (process_at s who) c.args.flags c.args.file.mode c.args.spot.now.0 c.args.spot.now.1} c.from_residual.result c.from_residual.ensures.1 c.in_err-id.ensures.kept
     (number_of s label_is (c.in_err-id.ensures.step log))
 
 pub describe-requires-clause-living : goal.describe-requires-clause-living
@@ -47,14 +47,14 @@ returns c = λ log.
     let s = c.args.shared.now in
     let who = c.args.who.now in
     let p = process_at s who in
-    let dir = c.args.dir.now in
-    let name = c.args.name.now in
+    let dir = c.args.spot.now.0 in
+    let name = c.args.spot.now.1 in
     let id = c.in_ok-id.id in
     let label_is = c.label-label.ensures ∙ ap (λ (k : CallerView). k.process.label) c.new-caller.ensures.caller in
-    let attr_is = c.new_attr-attr.ensures ∙ ap (λ (k : CallerView). attr_of k.process (masked c.args.mode k.process.umask)) c.new-caller.ensures.caller in
-    let first = c.in_ok-id.ensures.made ∙ (λ i. changed_by s (made s (label_is i) dir name (object_with (label_is i) (attr_is i) (body.File (c.new.ensures i))))) in
-    then_plays {rest = opens_made s who p c.args.flags c.args.mode dir name}
+    let attr_is = c.new_attr-attr.ensures ∙ ap (λ (k : CallerView). attr_of k.process (masked c.args.file.mode k.process.umask)) c.new-caller.ensures.caller in
+    let first = c.in_ok-id.ensures.made ∙ (λ i. changed_by s (made s (label_is i) dir name (object_with (label_is i) (attr_is i) (c.requires.empty i)))) in
+    then_plays {rest = opens_made s who p c.args.flags c.args.file.mode dir name}
     (number_of s label_is (c.in_ok-id.ensures.step log))
-    (commits_as {changes = made s p.label dir name (new_file p c.args.mode) ++ opening s who p id c.args.flags}
+    (commits_as {changes = made s p.label dir name (new_file p c.args.file.mode) ++ opening s who p id c.args.flags}
     (answering c.answers.ensures (ap answer.Number (c.in_ok-fd.ensures.fd ∙ ap (λ (u : State). lowest_free (process_at u who).fds) first)))
     (c.in_ok-fd.ensures.described ∙ ap (λ (u : State). changed_by u (opening u who (process_at u who) id c.args.flags)) first))

@@ -13,14 +13,14 @@ create-requires c = sym c.can_create.ensures ∙ not_full c.can_create.result c.
 
 pub add_entry-requires-clause-dir : goal.add_entry-requires-clause-dir
 add_entry-requires-clause-dir c =
-    subst (λ (t : State). IsDir t.objects c.args.dir.now) (sym c.in_ok-id.ensures.drawn)
-    (dir_stays c.args.shared.now c.requires.valid c.args.label c.args.attr c.args.body c.requires.no_pipe c.args.dir.now c.requires.dir)
+    subst (λ (t : State). IsDir t.objects c.args.spot.now.0) (sym c.in_ok-id.ensures.drawn)
+    (dir_stays c.args.shared.now c.requires.valid c.args.label c.args.attr c.args.body c.requires.no_pipe c.args.spot.now.0 c.requires.dir)
 
 pub add_entry-requires-clause-stands : goal.add_entry-requires-clause-stands
-add_entry-requires-clause-stands c = ap (λ (t : State). is_removed t c.args.dir.now) c.in_ok-id.ensures.drawn ∙ c.requires.stands
+add_entry-requires-clause-stands c = ap (λ (t : State). is_removed t c.args.spot.now.0) c.in_ok-id.ensures.drawn ∙ c.requires.stands
 
 pub add_entry-requires-clause-absent : goal.add_entry-requires-clause-absent
-add_entry-requires-clause-absent c = ap (λ (t : State). look t c.args.dir.now c.args.name.now) c.in_ok-id.ensures.drawn ∙ c.requires.absent
+add_entry-requires-clause-absent c = ap (λ (t : State). look t c.args.spot.now.0 c.args.spot.now.1) c.in_ok-id.ensures.drawn ∙ c.requires.absent
 
 pub add_entry-requires-clause-may : goal.add_entry-requires-clause-may
 add_entry-requires-clause-may c =
@@ -42,4 +42,4 @@ returns-clause-step c = λ log.
 pub returns-clause-made : goal.returns-clause-made
 returns-clause-made c =
     c.in_ok-add_entry.ensures
-    ∙ (λ i. changed (c.in_ok-id.ensures.drawn i) (SetEntry (c.args.dir.now, c.args.name.now) (c.in_ok-id.ensures.id i)))
+    ∙ (λ i. changed (c.in_ok-id.ensures.drawn i) (SetEntry (c.args.spot.now.0, c.args.spot.now.1) (c.in_ok-id.ensures.id i)))

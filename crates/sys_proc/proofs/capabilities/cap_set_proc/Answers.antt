@@ -10,8 +10,8 @@ use Rattle.sys_lookup.proofs.CheckLemmas.{holds_where_passed}
 use Rattle.sys_lookup.proofs.PlayLemmas.{commits, need_plays, need_stops_row, step_called}
 use Rattle.sys_proc.proofs.capabilities.cap_set_proc.Goals as goal
 
-pub set_caps-requires-clause-may : goal.set_caps-requires-clause-may
-set_caps-requires-clause-may c =
+pub change_creds-requires-clause-allowed : goal.change_creds-requires-clause-allowed
+change_creds-requires-clause-allowed c =
     let is = c.cap_grow.ensures ∙ ap (λ (k : CallerView). cap_grow c.args.who.now k.process c.args.caps) c.new-caller.ensures.caller in
     sym (ap (λ (k : Check). k.holds) is) ∙ holds_where_passed c.args.checks.now c.must.new.checks c.cap_grow.result (ap (λ (k : Check). cap_of k.name) is) c.in_ok-must.ensures
 
@@ -24,4 +24,4 @@ pub returns : goal.returns
 returns c =
     need_plays
     (step_called (λ k rest. Need (cap_grow c.args.who.now k.process c.args.caps) (rest tt)) c.new-caller.ensures.caller (equal_check c.cap_grow.ensures c.in_ok-must.ensures))
-    (commits _ _ _ _ Nothing (Some (CapSetProc c.args.who.now c.args.caps)) c.set_caps.ensures)
+    (commits _ _ _ _ Nothing (Some (CapSetProc c.args.who.now c.args.caps)) c.change_creds.ensures)

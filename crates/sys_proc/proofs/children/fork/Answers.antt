@@ -9,13 +9,15 @@ use Rattle.kern_model.specs.Valid.{IsThere, IsValid}
 use Rattle.kern_model.proofs.KeyLaws.{pid_cmp_total}
 use Rattle.kern_model.proofs.MapLemmas.{get-insert_same}
 use Rattle.chk_rules.specs.declared.stop.Stop.TheVariants as stop
+use Rattle.fd_table.specs.Files.{OpenFiles, with_row}
 use Rattle.fd_table.specs.Rows.{row_of}
 use Rattle.proc_table.specs.declared.procs.ProcError.{ProcError}
 use Rattle.proc_table.specs.declared.procs.ProcError.TheVariants.{Full}
-use Rattle.proc_table.specs.Procs.{ProcTable, next_in}
+use Rattle.proc_table.specs.Procs.{ProcTable, next_in, with_new}
 use Rattle.sys_lookup.specs.Owners.{HasOwners}
+use Rattle.sys_lookup.proofs.OwnerLemmas.{owners_process, owners_row}
 use Rattle.sys_lookup.proofs.PlayLemmas.{no_memory_row}
-use Rattle.sys_proc.proofs.ChildLemmas.{forks, new_row, owners_copied, owners_forked, refuses_child}
+use Rattle.sys_proc.proofs.ChildLemmas.{forks, left_either, new_row, refuses_child}
 use Rattle.sys_proc.proofs.StandLemmas.{in_procs, stands_plays}
 use Rattle.sys_proc.proofs.children.fork.Goals.{After-copy_process, After-fork}
 use Rattle.sys_proc.proofs.children.fork.Goals as goal
@@ -26,8 +28,11 @@ fork-requires c = in_procs c.shared.inside c.args.shared.now c.shared.view_is c.
 -- whether or not a child was added, each descriptor has its process
 owners_after : (c : After-fork) → ∥ HasOwners c.fork.new.self.procs c.shared.inside.fds.rows ∥₁
 owners_after c =
-    let q = in_procs c.shared.inside c.args.shared.now c.shared.view_is c.args.who.now c.requires.living in
-    owners_forked c.shared.inside c.shared.invariant c.args.who.now q.value c.fork.result c.fork.new.self (c.fork.ensures.made q.value q.is) c.fork.ensures.err
+    let h = c.shared.inside in
+    let q = in_procs h c.args.shared.now c.shared.view_is c.args.who.now c.requires.living in
+    let child = child_of c.args.who.now q.value in
+    left_either (λ (t : ProcTable). ∥ HasOwners t.procs h.fds.rows ∥₁) c.fork.result (with_new h.procs child) h.procs c.fork.new.self (c.fork.ensures.made q.value q.is) c.fork.ensures.err
+    (owners_process h.procs.procs h.fds.rows (next_in h.procs q.value.label) child c.shared.invariant) c.shared.invariant
 
 pub invariant_of-shared : goal.invariant_of-shared
 invariant_of-shared c = owners_after c.before
@@ -65,8 +70,11 @@ owners_last c =
       value = child_of who q.value;
       is = ap (λ (t : ProcTable). map.get t.procs c.in-Ok.child) made ∙ ap (map.get (map.insert h.procs.procs next (child_of who q.value))) (c.in-Ok.ensures.who q.value q.is) ∙ get-insert_same pid_cmp_total h.procs.procs next (child_of who q.value);
     } in
-    owners_copied c.fork.new.self.procs h.fds c.copy_process.new.self c.in-Ok.child (row_of h.fds.rows who) c.copy_process.result there
-    (owners_forked h c.shared.invariant who q.value (Ok c.in-Ok.child) c.fork.new.self made tt) c.copy_process.ensures.ok c.copy_process.ensures.err
+    let procs = c.fork.new.self.procs in
+    let row = row_of h.fds.rows who in
+    let known : ∥ HasOwners procs h.fds.rows ∥₁ = subst (λ (t : ProcTable). ∥ HasOwners t.procs h.fds.rows ∥₁) (sym made) (owners_process h.procs.procs h.fds.rows next (child_of who q.value) c.shared.invariant) in
+    left_either (λ (t : OpenFiles). ∥ HasOwners procs t.rows ∥₁) c.copy_process.result (with_row h.fds c.in-Ok.child row) h.fds c.copy_process.new.self c.copy_process.ensures.ok c.copy_process.ensures.err
+    (owners_row procs h.fds.rows c.in-Ok.child row there known) known
 
 pub invariant_of-shared-in_err-copy_process : goal.invariant_of-shared-in_err-copy_process
 invariant_of-shared-in_err-copy_process c = owners_last c.before.before.before

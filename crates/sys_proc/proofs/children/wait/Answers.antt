@@ -1,7 +1,10 @@
 use Rattle.std.proofs.Common.{◌∙◌, ap, sym, drop, Err}
 use Rattle.kern_model.specs.ProcessRows.{wait_row}
 use Rattle.proc_table.specs.declared.procs.ReapError.{ReapError}
-use Rattle.sys_proc.proofs.ChildLemmas.{owners_reaped, waits_for_none, waits_taking, waits_without}
+use Rattle.proc_table.specs.Procs.{ProcTable, with_process}
+use Rattle.sys_lookup.specs.Owners.{HasOwners}
+use Rattle.sys_lookup.proofs.OwnerLemmas.{owners_process}
+use Rattle.sys_proc.proofs.ChildLemmas.{left_either, waits_for_none, waits_taking, waits_without}
 use Rattle.sys_proc.proofs.StandLemmas.{in_procs, stands_plays}
 use Rattle.sys_proc.proofs.children.wait.Goals.{in-Ok, in-Err-NoChild, in-Err-NoneEnded}
 use Rattle.sys_proc.proofs.children.wait.Goals as goal
@@ -14,7 +17,9 @@ invariant_of-shared c =
     let h = c.shared.inside in
     let who = c.args.who.now in
     let q = in_procs h c.args.shared.now c.shared.view_is who c.requires in
-    owners_reaped h c.shared.invariant who (record q.value { ended = drop 1 q.value.ended }) c.reap.result c.reap.new.self (c.reap.ensures.taken q.value q.is) c.reap.ensures.err
+    let rest = record q.value { ended = drop 1 q.value.ended } in
+    left_either (λ (t : ProcTable). ∥ HasOwners t.procs h.fds.rows ∥₁) c.reap.result (with_process h.procs who rest) h.procs c.reap.new.self (c.reap.ensures.taken q.value q.is) c.reap.ensures.err
+    (owners_process h.procs.procs h.fds.rows who rest c.shared.invariant) c.shared.invariant
 
 pub returns-clause-played : goal.returns-clause-played
 returns-clause-played c = λ log.

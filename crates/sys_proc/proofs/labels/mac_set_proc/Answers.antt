@@ -19,4 +19,4 @@ returns c =
     then_plays {rest = λ _. set_own_label who (process_at c.args.shared.now who) c.args.label}
     (step_called (λ k rest. asks_own_label who k.process c.args.label (rest tt)) c.new-caller.ensures.caller c.in_ok-may_get.ensures)
     (equal_record (ap (λ l. Some (MacSetProc who l c.args.label)) (c.label-old.ensures ∙ ap (λ (k : CallerView). k.process.label) c.new-caller.ensures.caller))
-    (commits _ _ _ _ Nothing (Some (MacSetProc who c.label-old.result c.args.label)) c.set_label.ensures))
+    (commits _ _ _ _ Nothing (Some (MacSetProc who c.label-old.result c.args.label)) c.change_creds.ensures))

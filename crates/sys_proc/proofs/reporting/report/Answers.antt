@@ -2,7 +2,6 @@ use Rattle.std.proofs.Common.{Ok, refl, subst, sym}
 use Rattle.kern_model.specs.Row.{Row}
 use Rattle.sys_lookup.specs.PlaysRow.{PlaysRow}
 use Rattle.sys_lookup.proofs.PlayLemmas.{commits_as, no_memory_row}
-use Rattle.sys_proc.proofs.OwnLemmas.{own_names}
 use Rattle.sys_proc.proofs.reporting.report.Goals as goal
 
 pub returns-clause-played : goal.returns-clause-played
@@ -11,9 +10,3 @@ returns-clause-played c = λ s log.
 
 pub returns-in_err-answer-clause-played : goal.returns-in_err-answer-clause-played
 returns-in_err-answer-clause-played c = λ s log. no_memory_row c.from_residual.result c.from_residual.ensures.1
-
-pub returns-in_err-answer-clause-names : goal.returns-in_err-answer-clause-names
-returns-in_err-answer-clause-names c = own_names c.args.call.now c.requires
-
-pub returns-clause-names : goal.returns-clause-names
-returns-clause-names c = own_names c.args.call.now c.requires

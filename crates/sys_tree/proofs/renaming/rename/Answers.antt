@@ -66,8 +66,8 @@ returns-then-moves-clause-played c =
     (then_plays {rest = if_moves row} (step_called (λ k. target_left k to e.2 c.in_ok-into.target) same (c.in_ok-moves.ensures c.in_ok-dir.ensures.object))
     (if_moves_plays row c.if-moves.true (c.move_entry.ensures e.2 c.give_way.new.checks (entry_in same c.in_ok-dir.ensures.entry).leads))))
 
-pub returns-clause-played : goal.returns-clause-played
-returns-clause-played c =
+pub returns-else-moves-clause-played : goal.returns-else-moves-clause-played
+returns-else-moves-clause-played c =
     let s = c.args.shared.now in
     let p = process_at s c.args.who.now in
     let to = c.args.to.now in

@@ -1,5 +1,6 @@
 use Rattle.std.specs.Prelude.{nat_lt}
 use Rattle.std.proofs.Common.{ap, ◌∙◌}
+use Rattle.num_table.specs.Keys.{by_did}
 use Rattle.fd_table.specs.declared.uses.UseCount.{UseCount}
 use Rattle.fd_table.specs.Descriptions.{SharedTable, has_user}
 use Rattle.fd_table.proofs.UseLemmas.{writer-count}
@@ -8,5 +9,5 @@ use Rattle.fd_table.proofs.descriptions.Descriptions.has_writer.Goals as goal
 pub returns : goal.returns
 returns c =
     ap (λ (n : UseCount). nat_lt 0 n.writers) c.count.ensures
-    ∙ writer-count c.self.inside.shared c.self.inside.uses c.self.invariant c.args.id.now
+    ∙ writer-count (by_did c.self.inside.shared) c.self.inside.uses c.self.invariant c.args.id.now
     ∙ ap (λ (m : SharedTable). has_user (λ s. s.how.writes) m c.args.id.now) c.self.view_is

@@ -12,12 +12,12 @@ use Rattle.fs_dirs.proofs.CountLemmas.{insert-remove}
 use Rattle.fs_dirs.proofs.TreeLemmas.{tree_moved}
 use Rattle.fs_dirs.proofs.tree.Tree.move_entry.Goals as goal
 
-pub returns-then-same_spot-clause-moved : goal.returns-then-same_spot-clause-moved
-returns-then-same_spot-clause-moved c id is =
+pub returns-then-is_same-clause-moved : goal.returns-then-is_same-clause-moved
+returns-then-is_same-clause-moved c id is =
     let tree = c.args.self.now in
     let spot : Spot = (c.args.from.now, c.args.old.now) in
     let new : Spot = (c.args.to.now, c.args.new.now) in
-    let one : spot ≡ new = same_key spot_cmp_exact spot new (sym c.same_spot.ensures ∙ c.if-same_spot.true) in
+    let one : spot ≡ new = same_key spot_cmp_exact spot new (sym c.is_same.ensures ∙ c.if-is_same.true) in
     let same : map.insert (map.remove tree.entries spot) new id ≡ tree.entries =
     ap (λ (q : Spot). map.insert (map.remove tree.entries spot) q id) (sym one) ∙ insert-remove spot_cmp_total spot_cmp_exact tree.entries spot id is in
     ap (λ (m : FinMap spot_cmp Oid). record tree { entries = m }) (sym same)
@@ -27,4 +27,4 @@ invariant_of-self-2 c =
     subst (λ (m : FinMap spot_cmp Oid). IsTree c.self.inside.nodes.table m) (sym c.in_ok-relocate.ensures.moved)
     (tree_moved c.self.inside.nodes.table c.self.inside.entries c.self.invariant c.args.from.now c.args.old.now c.args.to.now c.args.new.now c.in-Some.id
     (subst (λ (t : TreeView). IsDir t.nodes.table.objects c.args.to.now) (sym c.self.view_is) c.requires)
-    (sym c.look.ensures ∙ c.in-Some.is) (sym c.same_spot.ensures ∙ c.if-same_spot.false))
+    (sym c.look.ensures ∙ c.in-Some.is) (sym c.is_same.ensures ∙ c.if-is_same.false))

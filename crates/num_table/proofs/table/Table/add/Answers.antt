@@ -6,6 +6,7 @@ use Rattle.slab.specs.Slab.{Updates}
 use Rattle.num_table.specs.Numbers.{Num, num_cmp}
 use Rattle.num_table.specs.Slots.{IsPlaced, values_in}
 use Rattle.num_table.proofs.Outcomes.{where_err}
+use Rattle.num_table.proofs.NumberLaws.{num_cmp_exact, num_cmp_total}
 use Rattle.num_table.proofs.Slots.{absent_key, added_placed, added_value, reserved, reserved_values}
 use Rattle.num_table.proofs.table.Table.add.Goals as goal
 
@@ -25,8 +26,8 @@ invariant_of-self-2 g c =
     let placed = reserved c.self.inside.slots c.reserve.new.self c.self.inside.keys c.reserve.ensures.rest_kept c.self.invariant in
     let updates = subst (λ (key : ℕ). Updates c.reserve.new.self c.insert_reserved.new.self key (Some c.args.item)) (c.insert_reserved.ensures.key ∙ sym c.vacant_key-key.ensures.value) c.insert_reserved.ensures.updates in
     subst (λ (keys : FinMap num_cmp ℕ). IsPlaced c.insert_reserved.new.self keys) (sym c.in_ok-set.ensures.ok)
-    (added_placed placed num c.vacant_key-key.result c.insert_reserved.new.self c.args.item c.vacant_key-key.ensures.vacant updates
-    (absent_key c.self.inside.slots c.self.inside.keys c.args.self.now c.self.view_is num c.self.invariant c.requires) c.insert_reserved.ensures.len)
+    (added_placed num_cmp_total num_cmp_exact placed num c.vacant_key-key.result c.insert_reserved.new.self c.args.item c.vacant_key-key.ensures.vacant updates
+    (absent_key num_cmp_total num_cmp_exact c.self.inside.slots c.self.inside.keys c.args.self.now c.self.view_is num c.self.invariant c.requires) c.insert_reserved.ensures.len)
 
 pub returns-clause-ok : goal.returns-clause-ok
 returns-clause-ok g c =
@@ -34,5 +35,5 @@ returns-clause-ok g c =
     let placed = reserved c.self.inside.slots c.reserve.new.self c.self.inside.keys c.reserve.ensures.rest_kept c.self.invariant in
     let updates = subst (λ (key : ℕ). Updates c.reserve.new.self c.insert_reserved.new.self key (Some c.args.item)) (c.insert_reserved.ensures.key ∙ sym c.vacant_key-key.ensures.value) c.insert_reserved.ensures.updates in
     ap (values_in c.insert_reserved.new.self) c.in_ok-set.ensures.ok
-    ∙ added_value placed num c.vacant_key-key.result c.insert_reserved.new.self c.args.item c.vacant_key-key.ensures.vacant updates
+    ∙ added_value num_cmp_total num_cmp_exact placed num c.vacant_key-key.result c.insert_reserved.new.self c.args.item c.vacant_key-key.ensures.vacant updates
     ∙ ap (λ (m : FinMap num_cmp g.row.T.Denot). map.insert m num c.args.item) (reserved_values c.self.inside.slots c.reserve.new.self c.self.inside.keys c.reserve.ensures.rest_kept ∙ c.self.view_is)

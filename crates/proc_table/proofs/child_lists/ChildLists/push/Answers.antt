@@ -2,12 +2,14 @@ use Rattle.std.specs.Prelude.{List, [], ◌∷◌, ◌++◌}
 use Rattle.std.specs.FinMap as map
 use Rattle.std.specs.FinMap.{FinMap}
 use Rattle.std.proofs.Common.{ap, sym, ◌∙◌}
+use Rattle.std.proofs.lemmas.Result.{on_err_weaker, on_ok_weaker}
+use Rattle.kern_model.specs.Keys.{pid_cmp}
 use Rattle.kern_model.specs.declared.numbers.Pid.{Pid}
 use Rattle.kern_model.proofs.KeyLaws.{pid_cmp_total, pid_cmp_exact}
 use Rattle.kern_model.proofs.MapLemmas.{get_or-absent, get_or-found, insert-same}
+use Rattle.num_table.specs.Keys.{by_pid}
 use Rattle.num_table.specs.Numbers.{num_cmp}
-use Rattle.num_table.proofs.Keyed.{key_found, key_set, pids}
-use Rattle.num_table.proofs.Outcomes.{at_some, on_err, on_ok}
+use Rattle.num_table.proofs.Outcomes.{at_some}
 use Rattle.proc_table.proofs.child_lists.ChildLists.push.Goals as goal
 
 pub returns-in-Some-clause-ok : goal.returns-in-Some-clause-ok
@@ -15,10 +17,10 @@ returns-in-Some-clause-ok c =
     let lists = c.args.self.now in
     let parent = c.args.parent.now in
     let child = c.args.child.now in
-    let is = get_or-found lists parent [] c.in-Some.list.now (sym (key_found pid_cmp_total pid_cmp_exact pids c.self.inside.kept lists c.self.view_is parent _ c.in-Some.ensures.value)) in
-    on_ok c.push.result
+    let is = get_or-found lists parent [] c.in-Some.list.now (sym (c.in-Some.ensures.value ∙ ap (λ (m : FinMap pid_cmp (List Pid)). map.get m parent) c.self.view_is)) in
+    on_ok_weaker c.push.result
     (λ pushed.
-    key_set pid_cmp_total pid_cmp_exact pids c.self.inside.kept lists c.self.view_is parent (c.get_mut.follows.lender c.push.new.self) c.push.new.self (at_some c.in-Some.is (c.get_mut.follows.holds c.push.new.self))
+    at_some c.in-Some.is (c.get_mut_at.follows.holds c.push.new.self) ∙ ap (λ (m : FinMap pid_cmp (List Pid)). map.insert m parent c.push.new.self) c.self.view_is
     ∙ ap (λ (l : List Pid). map.insert lists parent l) (pushed ∙ ap (λ (l : List Pid). l ++ child ∷ []) (sym is)))
     c.push.ensures.ok
 
@@ -26,10 +28,10 @@ pub returns-in-Some-clause-err : goal.returns-in-Some-clause-err
 returns-in-Some-clause-err c =
     let lists = c.args.self.now in
     let parent = c.args.parent.now in
-    let there = sym (key_found pid_cmp_total pid_cmp_exact pids c.self.inside.kept lists c.self.view_is parent _ c.in-Some.ensures.value) in
-    on_err c.push.result
+    let there = sym (c.in-Some.ensures.value ∙ ap (λ (m : FinMap pid_cmp (List Pid)). map.get m parent) c.self.view_is) in
+    on_err_weaker c.push.result
     (λ same.
-    key_set pid_cmp_total pid_cmp_exact pids c.self.inside.kept lists c.self.view_is parent (c.get_mut.follows.lender c.push.new.self) c.push.new.self (at_some c.in-Some.is (c.get_mut.follows.holds c.push.new.self))
+    at_some c.in-Some.is (c.get_mut_at.follows.holds c.push.new.self) ∙ ap (λ (m : FinMap pid_cmp (List Pid)). map.insert m parent c.push.new.self) c.self.view_is
     ∙ ap (λ (l : List Pid). map.insert lists parent l) same ∙ insert-same pid_cmp_total pid_cmp_exact lists parent c.in-Some.list.now there)
     c.push.ensures.err
 
@@ -39,9 +41,9 @@ returns-clause-ok c =
     let parent = c.args.parent.now in
     let child = c.args.child.now in
     let list = c.new.result in
-    let none = get_or-absent lists parent [] (sym (key_found pid_cmp_total pid_cmp_exact pids c.self.inside.kept lists c.self.view_is parent _ c.in_default.ensures.value)) in
-    on_ok c.set.result
+    let none = get_or-absent lists parent [] (sym (c.in_default.ensures.value ∙ ap (λ (m : FinMap pid_cmp (List Pid)). map.get m parent) c.self.view_is)) in
+    on_ok_weaker c.set_at.result
     (λ set.
-    key_set pid_cmp_total pid_cmp_exact pids c.self.inside.kept lists c.self.view_is parent c.set.new.self list (set ∙ ap (λ (m : FinMap num_cmp (List Pid)). map.insert m (parent.label, parent.n) list) c.get_mut.follows.holds-at-none)
+    set ∙ ap (λ (m : FinMap num_cmp (List Pid)). map.insert (by_pid m) parent list) c.get_mut_at.follows.holds-at-none ∙ ap (λ (m : FinMap pid_cmp (List Pid)). map.insert m parent list) c.self.view_is
     ∙ ap (λ (l : List Pid). map.insert lists parent l) (c.new.ensures ∙ ap (λ (l : List Pid). l ++ child ∷ []) (sym none)))
-    c.set.ensures.ok
+    c.set_at.ensures.ok

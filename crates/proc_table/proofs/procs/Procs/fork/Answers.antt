@@ -1,5 +1,6 @@
 use Rattle.std.proofs.Common.{rules}
-use Rattle.proc_table.proofs.DrawnLemmas.{drawn_next, made_drawn, some_match}
+use Rattle.num_table.proofs.Outcomes.{some_match}
+use Rattle.proc_table.proofs.DrawnLemmas.{drawn_next, made_drawn}
 use Rattle.proc_table.proofs.procs.Procs.fork.Goals as goal
 
 pub invariant_of-self-2 : goal.invariant_of-self-2

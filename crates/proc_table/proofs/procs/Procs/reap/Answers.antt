@@ -6,9 +6,9 @@ use Rattle.kern_model.specs.declared.calls.Ending.{Ending}
 use Rattle.kern_model.specs.declared.numbers.Pid.{Pid}
 use Rattle.kern_model.specs.Keys.{pid_cmp}
 use Rattle.kern_model.specs.State.{Process}
+use Rattle.num_table.proofs.Outcomes.{none_match, some_match, where_err}
 use Rattle.proc_table.specs.Procs.{ProcTable, TakesEnded, has_living_child, reaped, with_process}
-use Rattle.proc_table.proofs.DrawnLemmas.{some_match}
-use Rattle.proc_table.proofs.ReapLemmas.{a_child, no_child, none_match, none_taken, on_err, taken_kept}
+use Rattle.proc_table.proofs.ReapLemmas.{a_child, no_child, none_taken, taken_kept}
 use Rattle.proc_table.proofs.procs.Procs.reap.Goals.{in-Some-first, in-None}
 use Rattle.proc_table.proofs.procs.Procs.reap.Goals as goal
 
@@ -60,5 +60,5 @@ returns-clause-err c =
     let table = c.self.inside.table in
     let there = ap (λ (t : ProcTable). map.get t.procs who) c.self.view_is ∙ c.requires.is in
     let taken : TakesEnded table.living c.take_ended.new.self who c.requires.value None = subst (λ (o : Option (Pid × Ending)). TakesEnded table.living c.take_ended.new.self who c.requires.value o) c.in_default.is (c.take_ended.ensures c.requires.value there) in
-    on_err c.match-first.result
+    where_err c.match-first.result
     (ap (λ (m : FinMap pid_cmp Process). record { procs = m; numbers = table.numbers }) (none_taken table.living c.take_ended.new.self who c.requires.value there taken) ∙ c.self.view_is)

@@ -3,11 +3,10 @@ use Rattle.std.specs.FinMap.{FinMap}
 use Rattle.std.proofs.Common.{ap, sym, ◌∙◌, subst, arith, refl}
 use Rattle.kern_model.specs.Keys.{pid_cmp}
 use Rattle.kern_model.specs.State.{Process}
+use Rattle.num_table.proofs.Outcomes.{none_match, some_match}
 use Rattle.proc_table.specs.Children.{IsKept, child_count}
 use Rattle.proc_table.specs.Procs.{all_parted}
-use Rattle.proc_table.proofs.DrawnLemmas.{some_match}
 use Rattle.proc_table.proofs.FinishLemmas.{kept_orphaned, none_parted, parted_orphaned}
-use Rattle.proc_table.proofs.ReapLemmas.{none_match}
 use Rattle.proc_table.proofs.table.Table.leave_children.Goals as goal
 
 pub loop-child-init : goal.loop-child-init

@@ -13,7 +13,7 @@ returns-in_err-enter-clause-step c =
 pub returns-clause-step : goal.returns-clause-step
 returns-clause-step c =
     item_goes (enter c.args.self.now.state c.args.self.now.process c.args.dir c.args.place) c.in_ok-enter.ensures.step
-    (gives (λ i. Entry c.args.dir (c.in_ok-copy.ensures i) (c.look-object.ensures i)))
+    (gives (λ i. Entry c.args.dir (c.new.ensures i) (c.look-object.ensures i)))
 
 pub returns-clause-found : goal.returns-clause-found
-returns-clause-found c = λ start. record { is_dir = c.in_ok-enter.ensures.dir; leads = ap (look c.args.self.now.state c.args.dir) c.in_ok-copy.ensures ∙ sym c.look-object.ensures }
+returns-clause-found c = λ start. record { is_dir = c.in_ok-enter.ensures.dir; leads = ap (look c.args.self.now.state c.args.dir) c.new.ensures ∙ sym c.look-object.ensures }
