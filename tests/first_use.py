@@ -254,7 +254,7 @@ class FirstUse(unittest.TestCase):
         self.assertIn(b"rt: io_ends NOT PROVED\n", done.stderr)
 
     def test_progress_on_a_terminal(self):
-        self.room.has_rt(seconds=0.8)
+        self.room.has_rt(seconds=2)
         master, slave = pty.openpty()
         started = self.room.start("check", stderr=slave)
         os.close(slave)
@@ -272,7 +272,7 @@ class FirstUse(unittest.TestCase):
 
     def interrupted(self, send, ends):
         """A build that is stopped by a signal, and goes on where it was. Its messages go to the second of the ends."""
-        self.room.has_rt(seconds=0.5)
+        self.room.has_rt(seconds=1)
         reader, writer = ends
         started = self.room.start("check", stderr=writer)
         os.close(writer)
