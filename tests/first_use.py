@@ -131,8 +131,8 @@ class Room:
         return subprocess.run(["sh", "-c", line, "sh", *self.command(words)], check=False, **how)
 
     def start(self, *words, **how):
-        """Starts the script in a session of its own, and waits until the stand-in runs."""
-        how = {"stdout": subprocess.PIPE, "stderr": subprocess.PIPE, "cwd": self.room, **how}
+        """Starts the script in a session of its own, and waits until the stand-in runs. An interrupt ends it, whoever runs the tests."""
+        how = {"stdout": subprocess.PIPE, "stderr": subprocess.PIPE, "cwd": self.room, "preexec_fn": not_ignoring_interrupts, **how}
         with self.world.open("rb") as world:
             started = subprocess.Popen(self.command(words), stdin=world, env=self.environment(), start_new_session=True, **how)
         while not (self.room / "pid").exists() or not (self.room / "pid").read_text():
@@ -154,6 +154,11 @@ class Room:
     def left(self):
         """What is left in the folder of temporary files."""
         return os.listdir(self.temporary)
+
+
+def not_ignoring_interrupts():
+    """A shell has the commands that it starts in the background ignore them."""
+    signal.signal(signal.SIGINT, signal.SIG_DFL)
 
 
 def limit_files():
